@@ -431,7 +431,7 @@ use Rattle.brk_sql.specs.Desk.{text, whole, perhaps, refers, table_of}
         uniques = ([] if rowkey else [f'({primary})']) + [f'({u} ∷ [])' for u in UNIQUE.get(t, [])]
         refs = lst(f'refers {spot(i)} ({q(r.split(".")[0])}) ({q(r.split(".")[1])})' for i, (c, k, _, r) in enumerate(cols) if r)
         out += f"""
--- The shape of {sql}, with its rows in the tree `tree`.
+-- The table {sql}: its columns, keys and foreign keys, with its rows at `tree`.
 abbrev pub {t} : ℕ → Table
 {t} tree = table_of ({q(sql)}) tree ({cs})
     {'(Some 0)' if rowkey else 'None'} ({primary}) ({lst(uniques)}) ({refs})
@@ -463,21 +463,21 @@ pub record RuleRow : Type 0 where
   pub id : ℕ
   pub day : ℕ
 
--- The cell of a natural number.
+-- The SQL value of a natural number, an INTEGER.
 abbrev pub nat : ℕ → Value
 nat n = Int (pos n)
 
--- The cell of a natural number, or null.
+-- The SQL value of a natural number, or NULL for `None`.
 abbrev pub maybe : Option ℕ → Value
 maybe = or_null (λ n. Int (pos n))
 
--- The cell of a truth value: 1 for true, 0 for false.
+-- The SQL value of a Boolean: 1 for true, 0 for false.
 abbrev pub flag : Bool → Value
 flag b = Int (pos (if b then 1 else 0))
 """
     for t, sql, w, row, key, rows, rowkey, cols in DATA:
         out += f"""
--- The cells of a row of {sql}, in the order of its columns.
+-- The SQL values of a row of {sql}, in the order of its columns.
 abbrev pub {t}_cells : {row} → Row
 {t}_cells r = {lst(e for _, _, e, _ in cols)}
 """
@@ -503,20 +503,20 @@ use Rattle.brk_tables_schema.specs.Order.{{by_key_values}}
 pub data Which : Type 0 where
 {both(lambda d: f'  {d[2]} : Which')}
 
--- The single row of DESK, in a schema.
+-- The single row of DESK in a schema, with the stamp `last` of the last command, or without one.
 abbrev pub desk_rows : Schema → Option ℕ → List DeskRow
 desk_rows schema last = record {{ id = 1; schema = schema.number; last = last }} ∷ []
 
--- The key of DESK: D_ID.
+-- The primary key of the row of DESK: D_ID.
 abbrev pub desk_key : DeskRow → List KeyPart
 desk_key r = number r.id ∷ []
 
--- The single row of SETTLE_RULE, or none.
+-- The single row of SETTLE_RULE with the settlement day, or no row if none is set.
 abbrev pub rule_rows : Option ℕ → List RuleRow
 rule_rows None = []
 rule_rows (Some day) = record {{ id = 1; day = day }} ∷ []
 
--- The key of SETTLE_RULE: SR_ID.
+-- The primary key of the row of SETTLE_RULE: SR_ID.
 abbrev pub rule_key : RuleRow → List KeyPart
 rule_key r = number r.id ∷ []
 
@@ -525,59 +525,60 @@ abbrev pub has_table : Schema → Which → Bool
 {chr(10).join(f'has_table schema {d[2]} = schema.{LATER[d[0]]}' for d in DATA if d[0] in LATER)}
 has_table schema w = true
 
--- The shape of a table, with its rows in the tree `n`.
+-- The definition of a table with its rows at a tree: its name, columns, keys and foreign keys.
 abbrev pub shape : Which → ℕ → Table
 {both(lambda d: f'shape {d[2]} = {d[0]}')}
 
--- The shape of a table in the tree `tree` has its rows there.
+-- The definition of a table with its rows at the tree `tree` has this tree.
 abbrev pub placed : (w : Which) (tree : ℕ) → (shape w tree).tree ≡ tree
 {both(lambda d: f'placed {d[2]} tree = refl')}
 
--- The type of the rows of a table.
+-- The type of the records of a table.
 abbrev pub Item : Which → Type 0
 {both(lambda d: f'Item {d[2]} = {d[3]}')}
 
--- The row of a table that encodes a record: its cells, column by column.
+-- The SQL row that encodes a record of a table: its values in the order of the columns.
 abbrev pub encode : (w : Which) → Item w → Row
 {both(lambda d: f'encode {d[2]} = {d[0]}_cells')}
 
--- The key of a row of a table.
+-- The primary key of a record of a table.
 abbrev pub key : (w : Which) → Item w → List KeyPart
 {both(lambda d: f'key {d[2]} = {d[4]}')}
 
--- The order of the rows of a table: by key, ascending.
+-- Compares two records of a table by their primary keys.
 abbrev pub order : (w : Which) → Item w → Item w → Ordering
 order w = by_key_values (key w)
 
--- The rows of a table of a desk with the tables `t`. Only the row of DESK depends on the schema.
+-- The records of the table `w` of a desk with the tables `t`. Only the one of DESK depends on the
+-- schema.
 abbrev pub list_in : Schema → (w : Which) → Tables → List (Item w)
 {both(lambda d: f'list_in schema {d[2]} t = {d[5]}')}
 
--- The rows of a table of a desk with the tables `t`, in the third schema, which an open desk has.
+-- The records of the table `w` of a desk in schema 3 with the tables `t`.
 abbrev pub list : (w : Which) → Tables → List (Item w)
 list = list_in third_schema
 
--- The tables of a desk in a schema, which may lack some of them.
+-- All tables of a desk, with the number of the given schema in the row of DESK.
 abbrev pub desk_in : Schema → Desk Which Tables
 desk_in schema = record {{ shape = shape; placed = placed; Item = Item; encode = encode; order = order; list = list_in schema }}
 
--- The tables of a desk in the third schema.
+-- All tables of a desk in schema 3.
 abbrev pub desk : Desk Which Tables
 desk = desk_in third_schema
 
--- All tables of the third schema.
+-- The list of all tables, which are those of schema 3.
 abbrev pub all_tables : List Which
 all_tables = {lst(d[2] for d in DATA)}
 
--- The tables of a schema.
+-- The list of the tables that a schema has.
 abbrev pub tables_in : Schema → List Which
 tables_in schema = filter (has_table schema) all_tables
 
--- The name of a table.
+-- The SQL name of a table.
 abbrev pub name_of : Which → List ℕ
 name_of w = (shape w 0).name
 
--- The names of all tables.
+-- The SQL names of all tables.
 abbrev pub names : List (List ℕ)
 names = map name_of all_tables
 """
@@ -685,11 +686,11 @@ use Rattle.brk_tables_create.specs.declared.table.Table.TheVariants as table
 abbrev pub which_of : Table → Which
 {chr(10).join(f'which_of table.{d[2]} = {d[2]}' for d in DATA)}
 
--- The text of the statement that creates a table.
+-- The text of the CREATE TABLE statement of a table.
 abbrev pub create_text : Which → List ℕ
 {chr(10).join(f'create_text {d[2]} = codes "{create_text(d)}"' for d in DATA)}
 
--- The text of a statement on a table, which is prepared and never run.
+-- The text of a DELETE on a table. It is prepared, to see if the table exists, and never run.
 abbrev pub probe_text : Which → List ℕ
 probe_text w = codes "DELETE FROM " ++ name_of w
 """
@@ -716,7 +717,7 @@ pub enum Table {{
 {chr(10).join(f'    /// {d[1]}{chr(10)}    {d[2]},' for d in DATA)}
 }}
 
-impl Table {{{function('create_text', 'Returns the text of the statement that creates the table.', 'create_text', create_text)}{function('probe_text', 'Returns the text of a statement on the table, which is prepared and never run.', 'probe_text', lambda d: f'DELETE FROM {d[1]}')}}}
+impl Table {{{function('create_text', 'Returns the text of the CREATE TABLE statement of the table.', 'create_text', create_text)}{function('probe_text', 'Returns the text of a DELETE on the table, which is prepared and never run.', 'probe_text', lambda d: f'DELETE FROM {d[1]}')}}}
 """
     for name, what, tables in by_schema():
         out += f"""
@@ -992,9 +993,9 @@ def named(tables):
     words = [d[1] for d in tables]
     return ', '.join(words[:-1]) + ' and ' + words[-1]
 
-def remark(text):
+def remark(text, mark='--'):
     """A comment of a specification"""
-    return '\n'.join(textwrap.wrap(text, 100, initial_indent='-- ', subsequent_indent='-- ', break_on_hyphens=False))
+    return '\n'.join(textwrap.wrap(text, 100, initial_indent=f'{mark} ', subsequent_indent=f'{mark} ', break_on_hyphens=False))
 
 def raw_field(d):
     """The field that holds the rows of a table as the database shows them"""
@@ -1029,7 +1030,8 @@ def rows_name(d):
 def read_whole(d):
     """The function that reads one whole table"""
     columns, keys = ', '.join(c[0] for c in d[7]), ', '.join(key_columns(d))
-    head = 'fn' if d[0] in LATER else f'/// Returns all rows of {d[1]}.\npub fn'
+    mark, kind = ('//', 'fn') if d[0] in LATER else ('///', 'pub fn')
+    head = f'{mark} Returns all rows of {d[1]}, sorted by key, ascending. Fails with `Store` only.\n{kind}'
     return f"""
 {head} {rows_name(d)}<S: Alter>(tx: &mut Transaction<'_, S>) -> Result<Vec<Row>, Fault>
     {SAME_REFERENCE}
@@ -1047,7 +1049,8 @@ def read_whole(d):
 def read_later_table(d):
     """The function that reads a table which not every schema has"""
     return f"""
-/// Returns all rows of {d[1]}, or no rows if `schema` lacks the table.
+/// Returns all rows of {d[1]}, sorted by key, or no rows if `schema` lacks the table. Fails
+/// with `Store` only.
 pub fn {rows_name(d)}_in<S: Alter>(
     tx: &mut Transaction<'_, S>,
     alloc: Global,
@@ -1101,6 +1104,7 @@ def read_group(word, field, tables):
     call = lambda d: f'{rows_name(d)}_in(tx, alloc, schema)?' if later else f'{rows_name(d)}(tx)?'
     fields = ''.join(f'        {raw_field(d)}: {call(d)},\n' for d in tables)
     return f"""
+{remark(f'Reads all rows of {named(tables)}. Fails with `Store` only.', '//')}
 fn read_{field}<S: Alter>{takes} -> Result<{word}Rows, Fault>
     {SAME_REFERENCE}
     ensures step {{ Steps S.Store tx.old tx.new result (λ raw. {shows} raw) }}
@@ -1138,7 +1142,8 @@ pub struct RawSheets {{
     out += ''.join(read_group(word, field, tables) for word, field, _, tables in groups())
     call = lambda word: '(tx, alloc, schema)?' if word == 'Later' else '(tx)?'
     out += f"""
-/// Reads the rows of all tables of `schema`. A table that it lacks has no rows.
+/// Reads all rows of the tables of `schema`, each list sorted by key. A table that it lacks has no
+/// rows. Fails with `Store` only.
 pub fn read_raw<S: Alter>(
     tx: &mut Transaction<'_, S>,
     alloc: Global,
@@ -1166,6 +1171,7 @@ def decode_group(word, field, tables):
 pub struct {word}Sheets {{
 {types}}}
 
+{remark(f'Decodes the rows of {named(tables)}. Fails with `Form` only if one is malformed, or with `Memory`.', '//')}
 #[tactic(auto, using(crate::proofs::Formless::first_fails, crate::proofs::Formless::last_fails))]
 fn decode_{field}(alloc: Global, {schema}raw: &{word}Rows) -> Result<{word}Sheets, DecodeError>
     ensures value {{ IfOk result (λ sheets. Is{word}{of_schema} sheets raw.now) }}
@@ -1199,8 +1205,7 @@ use std::alloc::Global;
     out += ''.join(decode_group(word, field, tables) for word, field, _, tables in groups())
     schema = lambda word: 'schema, ' if word == 'First' else ''
     out += f"""
-/// Returns the typed rows of all tables. Fails with `Form` if a column is malformed, or with
-/// `Memory`.
+/// Decodes the rows of all tables. Fails with `Form` only if a row is malformed, or with `Memory`.
 pub fn decode(alloc: Global, schema: Schema, raw: &RawSheets) -> Result<Sheets, DecodeError>
     ensures value {{ IfOk result (λ sheets. AreSheets (schema_of schema) sheets raw.now) }}
     ensures form {{ result ≡ Err Formless → formed (schema_of schema) raw.now ≡ false }}
@@ -1233,11 +1238,12 @@ use Rattle.brk_tables_scan.specs.Whole.{{ShowsAll, ShowsIf}}
 {declared('raw', 'Rows')}
 use Rattle.brk_tables_scan.specs.declared.raw.RawSheets.{{RawSheets}}
 
--- Nothing changed, and the database is open.
+-- The database was open, and its contents are unchanged.
 abbrev pub Stays : State → State → Type 0
 Stays old new = IsTrue old.is_open × (new.now ≡ old.now)
 
--- The reads show the rows of these four tables, whole, and change nothing.
+-- The lists are all rows of these four tables, sorted by key, and the reads changed nothing.
+-- Vacuous for a table that is not defined as a desk defines it.
 pub record ShowsFour (first second third fourth : Which) (a b c d : List Row) (old new : State) : Type 0 where
   pub stays : Stays old new
   pub one : ShowsAll first a old.now
@@ -1247,22 +1253,23 @@ pub record ShowsFour (first second third fourth : Which) (a b c d : List Row) (o
 """
     for word, _, _, tables in groups()[:-1]:
         out += f"""
-{remark(f'The reads show the rows of {named(tables)}, whole, and change nothing.')}
+{remark(f'The raw rows are all rows of {named(tables)}, sorted by key, and the reads changed nothing.')}
 abbrev pub Shows{word} : {word}Rows → State → State → Type 0
 Shows{word} raw = ShowsFour {' '.join(d[2] for d in tables)} {' '.join(f'raw.{raw_field(d)}.items' for d in tables)}
 """
     out += f"""
--- The reads show the rows of CASH_MOVE and of SETTLE_RULE, whole, each if the schema `desk` has the
--- table. They change nothing.
+-- The raw rows are all rows of CASH_MOVE and of SETTLE_RULE, sorted by key, or none of a table that
+-- the schema `desk` does not have. The reads changed nothing.
 pub record ShowsLater (desk : Schema) (raw : LaterRows) (old new : State) : Type 0 where
   pub same : new.now ≡ old.now
 {chr(10).join(f'  pub {raw_field(d)} : ShowsIf desk {d[2]} raw.{raw_field(d)}.items old.now' for d in groups()[-1][3])}
 
--- The raw rows of a table.
+-- Those of the raw rows that are of one table.
 abbrev pub raw_rows : RawSheets → Which → List Row
 {chr(10).join(f'raw_rows raw {d[2]} = raw.{field}.{raw_field(d)}.items' for _, field, _, tables in groups() for d in tables)}
 
--- The reads show each table of the schema `desk`, whole, and change nothing.
+-- The raw rows are all rows of each table of the schema `desk`, sorted by key, and none of other
+-- tables. The database was open, and the reads changed nothing.
 abbrev pub ShowsDesk : Schema → RawSheets → State → State → Type 0
 ShowsDesk desk raw old new = Stays old new × ((w : Which) → ShowsIf desk w (raw_rows raw w) old.now)
 """
@@ -1271,17 +1278,18 @@ ShowsDesk desk raw old new = Stays old new × ((w : Which) → ShowsIf desk w (r
 def decoded_group(word, field, tables):
     """That the sheets of a group are its rows in types, and whether these have their forms"""
     first = word == 'First'
+    counted = {'First': ' There is one row of DESK, with the number of the schema.', 'Later': ' There is at most one row of SETTLE_RULE.'}.get(word, '')
     rows = lambda d: VALUES[d[0]][2] if d[0] in VALUES else f'sheets.{sheet_field(d)}.items'
     shown = lambda d: f'{d[0]}_cells' if d[0] in VALUES else f'(λ r. {d[0]}_cells ({record_meaning(d)} r))'
     of = lambda d: f'({rows(d)})' if d[0] in VALUES else rows(d)
     form = lambda d: VALUES[d[0]][3] if d[0] in VALUES else f'list_all (all_formed {d[0]}_forms) raw.{raw_field(d)}.items'
     fields = '\n'.join(f'  pub {raw_field(d)} : map {shown(d)} {of(d)} ≡ raw.{raw_field(d)}.items' for d in tables)
     return f"""
-{remark(f'The raw rows of {named(tables)} encode the typed rows.')}
+{remark(f'The raw rows of {named(tables)} are, in order, the encodings of the typed rows.')}
 pub record Is{word} {'(schema : Schema) ' if first else ''}(sheets : {word}Sheets) (raw : {word}Rows) : Type 0 where
 {fields}
 
-{remark(f'True if each column of each raw row of {named(tables)} is well-formed.')}
+{remark(f'True if each column of each raw row of {named(tables)} is well-formed.' + counted)}
 abbrev pub formed_{field} : {'Schema → ' if first else ''}{word}Rows → Bool
 formed_{field} {'desk ' if first else ''}raw = {' && '.join(form(d) for d in tables)}
 """
@@ -1307,12 +1315,13 @@ use Rattle.brk_tables_scan.specs.declared.raw.RawSheets.{{RawSheets}}
     out += ''.join(decoded_group(word, field, tables) for word, field, _, tables in groups())
     desk = lambda word: 'desk ' if word == 'First' else ''
     out += f"""
--- True if each column of each raw row is well-formed, and the row of DESK is that of the schema
--- `desk`.
+-- True if each column of each raw row is well-formed, there is one row of DESK, with the number of
+-- the schema `desk`, and there is at most one row of SETTLE_RULE.
 abbrev pub formed : Schema → RawSheets → Bool
 formed desk raw = {' && '.join(f'formed_{field} {desk(word)}raw.{field}' for word, field, _ in GROUPS)}
 
--- The sheets are the typed rows of all tables: the raw rows encode them, in the schema `desk`.
+-- The raw rows of each table are, in order, the encodings of the typed rows `sheets`. The row of
+-- DESK has the number of the schema `desk`.
 abbrev pub AreSheets : Schema → Sheets → RawSheets → Type 0
 AreSheets desk sheets raw = (w : Which) → map (encode w) (list_in desk w (tables_in_sheets sheets)) ≡ raw_rows raw w
 """

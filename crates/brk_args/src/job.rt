@@ -1,7 +1,7 @@
 use brk_money::{Day, Id, Stamp};
 use std::alloc::AllocError;
 
-/// The job that the command-line arguments give.
+/// The job that the command-line arguments name.
 #[derive(Drop)]
 pub enum Job {
     /// A batch from standard input, on the file at `db` or a database in memory. Its timestamps are
@@ -45,7 +45,7 @@ pub enum Job {
     },
 }
 
-/// The reason why the arguments give no job.
+/// The reason why the arguments name no job.
 #[derive(Drop)]
 pub enum UsageFault {
     /// The arguments are wrong, for the reason in this text.

@@ -1,4 +1,4 @@
-//! The command-line arguments, and the job that they give.
+//! The command-line arguments, and the job that they name.
 #![tactic(auto)]
 
 pub mod job;

@@ -9,14 +9,14 @@ use std::alloc::{AllocError, Global};
 // what follows `rattle-kit-` in the output of `rt version`.
 const VERSION: &str = "0.1.0 (schema 3, kit 13f)";
 
-// Returns the argument of a file that is created if it is missing or empty.
+// Returns the optional argument for the path of a file that is created if it is missing or empty.
 fn made_file<'a>(alloc: Global) -> Arg<'a> {
     Arg::new(alloc, "db").long("db").value_name("FILE").help(
         "The file of the desk, created if it is missing or empty; without it the desk is in memory",
     )
 }
 
-// Returns the argument of a file that must exist.
+// Returns the required argument for the path of a file that must exist.
 fn kept_file<'a>(alloc: Global) -> Arg<'a> {
     Arg::new(alloc, "db")
         .long("db")
@@ -25,6 +25,7 @@ fn kept_file<'a>(alloc: Global) -> Arg<'a> {
         .required(true)
 }
 
+// Returns the optional argument for a timestamp in milliseconds.
 fn moment<'a>(alloc: Global) -> Arg<'a> {
     Arg::new(alloc, "at")
         .long("at")
@@ -35,6 +36,7 @@ fn moment<'a>(alloc: Global) -> Arg<'a> {
         )
 }
 
+// Returns a required argument for a day, with this name.
 fn day<'a>(alloc: Global, name: &'static str, help: &'static str) -> Arg<'a> {
     Arg::new(alloc, name)
         .long(name)
@@ -43,7 +45,7 @@ fn day<'a>(alloc: Global, name: &'static str, help: &'static str) -> Arg<'a> {
         .required(true)
 }
 
-// Returns the arguments of `brk batch`.
+// Returns the subcommand that executes a batch, with its arguments.
 fn batch<'a>(alloc: Global) -> Result<Command<'a>, AllocError> {
     Command::new(alloc, "batch")
         .about("Reads a batch from standard input and writes a line for each row")
@@ -52,6 +54,7 @@ fn batch<'a>(alloc: Global) -> Result<Command<'a>, AllocError> {
         .arg(moment(alloc))
 }
 
+// Returns the required argument for the id of an account.
 fn account<'a>(alloc: Global) -> Arg<'a> {
     Arg::new(alloc, "account")
         .long("account")
@@ -61,7 +64,7 @@ fn account<'a>(alloc: Global) -> Arg<'a> {
         .required(true)
 }
 
-// Returns the arguments of `brk statement`.
+// Returns the subcommand that prints a statement, with its arguments.
 fn statement<'a>(alloc: Global) -> Result<Command<'a>, AllocError> {
     Command::new(alloc, "statement")
         .about("Prints the statement of an account: its cash, day by day, and its lots")
@@ -72,7 +75,7 @@ fn statement<'a>(alloc: Global) -> Result<Command<'a>, AllocError> {
         .arg(day(alloc, "to", "The last day"))
 }
 
-// Returns the arguments of `brk audit`.
+// Returns the subcommand that audits a desk, with its argument.
 fn audit<'a>(alloc: Global) -> Result<Command<'a>, AllocError> {
     Command::new(alloc, "audit")
         .about("Recomputes every derived table of a desk, and prints ok if all are right")
@@ -80,7 +83,7 @@ fn audit<'a>(alloc: Global) -> Result<Command<'a>, AllocError> {
         .arg(kept_file(alloc))
 }
 
-// Returns an argument that is given or not.
+// Returns an argument without a value, with this name.
 fn flag<'a>(alloc: Global, name: &'static str, help: &'static str) -> Arg<'a> {
     Arg::new(alloc, name)
         .long(name)
@@ -88,6 +91,7 @@ fn flag<'a>(alloc: Global, name: &'static str, help: &'static str) -> Arg<'a> {
         .help(help)
 }
 
+// Returns the required argument with the name of a view.
 fn view<'a>(alloc: Global) -> Arg<'a> {
     Arg::new(alloc, "view")
         .value_name("VIEW")
@@ -95,6 +99,7 @@ fn view<'a>(alloc: Global) -> Arg<'a> {
         .required(true)
 }
 
+// Returns the argument with the arguments of a view, any number of them.
 fn arguments<'a>(alloc: Global) -> Arg<'a> {
     Arg::new(alloc, "arguments")
         .value_name("ARGUMENT")
@@ -102,7 +107,7 @@ fn arguments<'a>(alloc: Global) -> Arg<'a> {
         .help("The arguments of the view")
 }
 
-// Returns the arguments of `brk ask`.
+// Returns the subcommand that prints a view, with its arguments.
 fn ask<'a>(alloc: Global) -> Result<Command<'a>, AllocError> {
     Command::new(alloc, "ask")
         .about("Prints a view of a desk: a CSV row for each record")
@@ -118,7 +123,7 @@ fn ask<'a>(alloc: Global) -> Result<Command<'a>, AllocError> {
         .arg(arguments(alloc))
 }
 
-// Returns the arguments of `brk explain`.
+// Returns the subcommand that prints an explanation, with its arguments.
 fn explain<'a>(alloc: Global) -> Result<Command<'a>, AllocError> {
     let words = Arg::new(alloc, "words")
         .value_name("WORD")
@@ -131,6 +136,7 @@ fn explain<'a>(alloc: Global) -> Result<Command<'a>, AllocError> {
         .arg(words)
 }
 
+// Returns the required argument for a port: 1 to 65,535.
 fn port<'a>(alloc: Global) -> Arg<'a> {
     Arg::new(alloc, "port")
         .long("port")
@@ -140,6 +146,7 @@ fn port<'a>(alloc: Global) -> Arg<'a> {
         .required(true)
 }
 
+// Returns the argument for a number of streams: 1 to 1,000,000, and 1 by default.
 fn streams<'a>(alloc: Global) -> Arg<'a> {
     Arg::new(alloc, "streams")
         .long("streams")
@@ -149,7 +156,7 @@ fn streams<'a>(alloc: Global) -> Arg<'a> {
         .help("The number of streams that are served before the program ends")
 }
 
-// Returns the arguments of `brk serve`.
+// Returns the subcommand that serves a desk, with its arguments.
 fn serve<'a>(alloc: Global) -> Result<Command<'a>, AllocError> {
     Command::new(alloc, "serve")
         .about("Serves the desk over HTTP, one stream after the other")
@@ -160,8 +167,8 @@ fn serve<'a>(alloc: Global) -> Result<Command<'a>, AllocError> {
         .arg(streams(alloc))
 }
 
-// Adds a command to those of another. As a function of its own: one that holds several commands at
-// each place where it may return is proved in more than a minute.
+// Adds a subcommand to a command. It is a function of its own because a function that holds several
+// commands, at each place where it may return, takes the prover more than a minute.
 fn with<'a>(
     command: Result<Command<'a>, AllocError>,
     added: Result<Command<'a>, AllocError>,
@@ -169,7 +176,7 @@ fn with<'a>(
     command?.subcommand(added?)
 }
 
-// Returns the command `brk` without the commands that it has.
+// Returns the command `brk` without its subcommands.
 fn program<'a>(alloc: Global) -> Result<Command<'a>, AllocError> {
     Command::new(alloc, "brk")
         .version(VERSION)
@@ -179,7 +186,7 @@ fn program<'a>(alloc: Global) -> Result<Command<'a>, AllocError> {
         .bin_name("brk")
 }
 
-// Returns the arguments of `brk`.
+// Returns the command `brk` with its six subcommands.
 fn grammar<'a>(alloc: Global) -> Result<Command<'a>, AllocError> {
     let command = with(program(alloc), batch(alloc));
     let command = with(command, statement(alloc));
@@ -189,11 +196,12 @@ fn grammar<'a>(alloc: Global) -> Result<Command<'a>, AllocError> {
     with(command, serve(alloc))
 }
 
-// Returns the text that was given for `name`, or an empty text.
+// Returns a copy of the text of argument `name`, or an empty text if it is missing.
 fn text_of(alloc: Global, matches: &ArgMatches<'_>, name: &str) -> Result<String, AllocError> {
     String::from_str(alloc, matches.get_str(name).unwrap_or(""))
 }
 
+// Returns a copy of the path of the desk's file, or `None` if it is missing.
 fn file_of(alloc: Global, matches: &ArgMatches<'_>) -> Result<Option<String>, AllocError> {
     match matches.get_str("db") {
         Some(path) => Ok(Some(String::from_str(alloc, path)?)),
@@ -201,15 +209,19 @@ fn file_of(alloc: Global, matches: &ArgMatches<'_>) -> Result<Option<String>, Al
     }
 }
 
+// Returns the timestamp of the arguments, or `None` if it is missing.
 fn moment_of(matches: &ArgMatches<'_>) -> Option<Stamp> {
     matches.get_one::<i64>("at").and_then(Stamp::new)
 }
 
+// Parses the day of argument `name`. Fails with `Day` if it is not a day.
 fn day_of(matches: &ArgMatches<'_>, name: &str) -> Result<Day, UsageFault> {
     let text = matches.get_str(name).unwrap_or("");
     parse_day(text.as_bytes()).ok_or(UsageFault::Day)
 }
 
+// Returns the statement job of the matched arguments. Fails with `Day` or `Memory`, and with
+// `Words` if there is no account.
 fn statement_of(alloc: Global, matches: &ArgMatches<'_>) -> Result<Job, UsageFault> {
     let Some(account) = matches.get_one::<u64>("account").and_then(Id::new) else {
         return Err(UsageFault::Words(String::new(alloc)));
@@ -222,6 +234,7 @@ fn statement_of(alloc: Global, matches: &ArgMatches<'_>) -> Result<Job, UsageFau
     })
 }
 
+// Returns the serve job of the matched arguments. Fails with `Memory` only.
 fn serve_of(alloc: Global, matches: &ArgMatches<'_>) -> Result<Job, UsageFault> {
     Ok(Job::Serve {
         port: matches.get_one("port").unwrap_or(0),
@@ -231,7 +244,7 @@ fn serve_of(alloc: Global, matches: &ArgMatches<'_>) -> Result<Job, UsageFault> 
     })
 }
 
-// Returns the texts that were given for `name`, in order.
+// Returns copies of the texts of argument `name`, in order.
 fn texts_of(
     alloc: Global,
     matches: &ArgMatches<'_>,
@@ -244,6 +257,7 @@ fn texts_of(
     Ok(texts)
 }
 
+// Returns the ask job of the matched arguments. Fails with `Memory` only.
 fn ask_of(alloc: Global, matches: &ArgMatches<'_>) -> Result<Job, UsageFault> {
     Ok(Job::Ask {
         db: text_of(alloc, matches, "db")?,
@@ -254,6 +268,7 @@ fn ask_of(alloc: Global, matches: &ArgMatches<'_>) -> Result<Job, UsageFault> {
     })
 }
 
+// Returns the explain job of the matched arguments. Fails with `Memory` only.
 fn explain_of(alloc: Global, matches: &ArgMatches<'_>) -> Result<Job, UsageFault> {
     Ok(Job::Explain {
         db: text_of(alloc, matches, "db")?,
@@ -261,7 +276,8 @@ fn explain_of(alloc: Global, matches: &ArgMatches<'_>) -> Result<Job, UsageFault
     })
 }
 
-// Returns the job that the matched arguments give.
+// Returns the job of the subcommand `name` with its matched arguments. Every other name than those
+// of five subcommands is a batch.
 fn job_of(alloc: Global, name: &str, matches: &ArgMatches<'_>) -> Result<Job, UsageFault> {
     if name == "statement" {
         return statement_of(alloc, matches);
@@ -285,7 +301,8 @@ fn job_of(alloc: Global, name: &str, matches: &ArgMatches<'_>) -> Result<Job, Us
     })
 }
 
-// Returns the usage fault of an argument error.
+// Converts an error of the argument parser into a usage fault: `Help` for help and the version,
+// `Memory` if memory ran out, otherwise `Words` with the error's text.
 fn fault_of(alloc: Global, error: &Error) -> UsageFault {
     let kind = error.kind();
     if kind == ErrorKind::OutOfMemory {
@@ -301,7 +318,7 @@ fn fault_of(alloc: Global, error: &Error) -> UsageFault {
     }
 }
 
-/// Returns the fault of an argument that is not UTF-8.
+/// Returns the usage fault of an argument that is not UTF-8: `Words` with its text, or `Memory`.
 pub fn no_text(alloc: Global) -> UsageFault {
     match String::from_str(alloc, "error: a word that is no UTF-8\n") {
         Ok(text) => UsageFault::Words(text),
@@ -309,8 +326,10 @@ pub fn no_text(alloc: Global) -> UsageFault {
     }
 }
 
-/// Parses the command-line arguments, the program's own name first, and returns their job. Fails
-/// with `Help` and its text if help was requested.
+/// Parses the command-line arguments, the program's own name first, and returns their job.
+///
+/// Fails with `Help` and its text if help or the version was requested, otherwise with the reason
+/// why the arguments give no job.
 pub fn read_words(words: Vec<String>) -> Result<Job, UsageFault> {
     let alloc = *words.allocator();
     let command = grammar(alloc)?;

@@ -1,4 +1,4 @@
--- The postcondition of `ask`, which changes nothing.
+-- The postcondition of asking a desk for a view, which changes no table.
 use Rattle.std.specs.Prelude.{◌≡◌, ◌⊎◌, ℕ, List, Option, Result, Ok, Err, take}
 use Rattle.std.specs.Io.KnownBytes.{Appends}
 use Rattle.sqlite_trees.specs.declared.store.Store.{Ghosts}
@@ -17,34 +17,36 @@ use Rattle.brk_report_lines.specs.declared.fault.ReportFault.TheVariants.{Refuse
 use Rattle.brk_view.specs.Views.{fields_of}
 use Rattle.brk_view.specs.declared.view.View.{View}
 
--- Nothing was written, and the result is this fault.
+-- The writer's content is unchanged, and the result is this fault.
 abbrev pub Unwritten : Option Text → Option Text → Result (Unit {0}) ReportFault → ReportFault → Type 0
 Unwritten before after result fault = (after ≡ before) × (result ≡ Err fault)
 
 -- `text` was written, or writing it failed. `Desk`: memory ran out, and nothing was written.
--- `Write`: the first `k` bytes were written, for some `k`.
+-- `Write`: a prefix of `text` was written, perhaps all of it. It is never `Refused`.
 abbrev pub WritesText : Text → Option Text → Option Text → Result (Unit {0}) ReportFault → Type 0
 WritesText text before after (Ok u) = Appends before after text
 WritesText text before after (Err (Refused refusal)) = ⊥
 WritesText text before after (Err (Desk fault)) = (after ≡ before) × (fault ≡ Memory)
 WritesText text before after (Err Write) = (k : ℕ) × Appends before after (take k text)
 
--- The result of a query was written: its view. A refusal or a fault of the desk is returned, and
--- nothing is written.
+-- The view that a query returned was written, or writing it failed. If the desk returned a refusal
+-- or a fault instead, the result is this refusal or this fault, and nothing was written.
 abbrev pub WritesView : Form → Query → Result (Result View Refusal) Fault → Option Text → Option Text → Result (Unit {0}) ReportFault → Type 0
 WritesView form query (Ok (Ok view)) before after result = WritesText (printed_view form query (fields_of view)) before after result
 WritesView form query (Ok (Err refusal)) before after result = Unwritten before after result (Refused refusal)
 WritesView form query (Err fault) before after result = Unwritten before after result (Desk fault)
 
--- The desk was asked this query and nothing else, and its result was written. If the texts are no
--- query, the desk was not asked, and their refusal is returned.
+-- The desk executed this query and nothing else, and its view was written, or the reason why not
+-- was returned. If the texts are no query, the desk is unchanged, their refusal is the result, and
+-- nothing was written.
 abbrev pub IsQueryAnswered : {S : Type 0} → Ghosts S → Held S → Held S → Form → Read Query → Option Text → Option Text → Result (Unit {0}) ReportFault → Type 0
 IsQueryAnswered g old new form (Ok query) before after result =
     (seen : Result (Result View Refusal) Fault) × AskPost g old new query seen × WritesView form query seen before after result
 IsQueryAnswered g old new form (Err refusal) before after result = (new ≡ old) × Unwritten before after result (Refused refusal)
 
--- The desk was asked the query that the texts are; or memory ran out first, and the desk was not
--- asked.
+-- The postcondition of printing a view: the query was executed and its view written, or the reason
+-- why not was returned; or memory ran out before, and the desk and the writer's content are
+-- unchanged.
 abbrev pub PrintPost : {S : Type 0} → Ghosts S → Held S → Held S → Form → Read Query → Option Text → Option Text → Result (Unit {0}) ReportFault → Type 0
 PrintPost g old new form query before after result =
     IsQueryAnswered g old new form query before after result ⊎ ((new ≡ old) × Unwritten before after result (Desk Memory))

@@ -18,7 +18,7 @@ use sqlite::Alter;
 use std::alloc::Global;
 use std::io::Write;
 
-// Returns the text of a query's view.
+// Returns the text of a query's view in this form. Fails with `Memory` only.
 fn text(alloc: Global, query: &Query, view: &View, form: Form) -> Result<Vec<u8>, Fault>
     ensures text { IfOk result (λ text. text.items ≡ printed_view form (query_of query.now) (fields_of view.now)) }
     ensures fault { OnErr result (result ≡ Err Memory) }
@@ -37,7 +37,9 @@ fn text(alloc: Global, query: &Query, view: &View, form: Form) -> Result<Vec<u8>
     }
 }
 
-// Writes the view of a query.
+// Writes the text of a query's view in this form.
+//
+// Fails with `Desk(Memory)` and nothing written, or with `Write` after a prefix of the text.
 fn write_view<W: Write>(
     alloc: Global,
     query: &Query,
@@ -56,7 +58,9 @@ fn write_view<W: Write>(
     }
 }
 
-// Asks the desk a query, and writes its view.
+// Executes the query on the desk, and writes its view in this form.
+//
+// Fails with `Refused` or `Desk` and nothing written, or with `Write` after a prefix of the text.
 fn ask_query<W: Write, S: Alter>(
     alloc: Global,
     desk: &mut Desk<S>,
@@ -73,8 +77,8 @@ fn ask_query<W: Write, S: Alter>(
     }
 }
 
-/// Asks the desk the query of a view's name and its arguments, and writes its view. The desk is
-/// asked nothing else.
+/// Parses a query from a view's name and its arguments, executes it on the desk, and writes its
+/// view in this form. The desk executes nothing else.
 ///
 /// Fails with `Refused` 18 if the texts are no query, otherwise with the refusal of the query;
 /// nothing is then written. Fails with `Desk` and `Memory` or `Store`, and nothing is written; with

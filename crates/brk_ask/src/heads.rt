@@ -7,8 +7,8 @@ ghost use Rattle.brk_view.specs.Views.{record_of, records_of};
 use brk_desk::Query;
 use std::alloc::{AllocError, Global};
 
-// Returns the names of the fields that all records of a query's view have, or no name if its
-// records have different fields.
+// Returns the names of the fields of a query's view, or no name if its records have different
+// fields.
 fn field_names(query: &Query) -> &'static [&'static str]
     ensures { texts result.now ≡ names_of_fields (query_of query.now) }
 {
@@ -32,7 +32,7 @@ fn field_names(query: &Query) -> &'static [&'static str]
     }
 }
 
-// Returns owned copies of names.
+// Returns owned copies of names, in order.
 fn name_record(alloc: Global, names: &[&str]) -> Result<Vec<String>, AllocError>
     ensures { IfOk result (λ owned. record_of owned ≡ texts names.now) }
 {
@@ -43,8 +43,8 @@ fn name_record(alloc: Global, names: &[&str]) -> Result<Vec<String>, AllocError>
     Ok(owned)
 }
 
-/// Returns the record of the names of a view's fields, or no record if its records have different
-/// fields.
+/// Returns the list with one record of the names of a view's fields, or an empty list if its
+/// records have different fields.
 pub fn heads(alloc: Global, query: &Query) -> Result<Vec<Vec<String>>, AllocError>
     ensures { IfOk result (λ heads. records_of heads ≡ heads_of (query_of query.now)) }
 {

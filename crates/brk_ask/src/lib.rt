@@ -1,4 +1,4 @@
-//! Asks a desk one query, given as texts, and writes its view as CSV rows or as JSON.
+//! Executes one query, given as texts, on a desk, and writes its view as CSV rows or as JSON.
 #![tactic(auto)]
 
 pub mod asking;

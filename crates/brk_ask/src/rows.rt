@@ -8,7 +8,7 @@ use brk_http_engine::told_records;
 use csv::WriterBuilder;
 use std::alloc::{AllocError, Global};
 
-// Returns the bytes of the texts of a record, borrowed.
+// Returns the bytes of the texts of a record as borrowed slices, in order.
 fn fields(alloc: Global, texts: &[String]) -> Result<Vec<&[u8]>, AllocError>
     ensures { IfOk result (λ all. slices all.items ≡ map string_bytes texts.now) }
 {
@@ -19,7 +19,7 @@ fn fields(alloc: Global, texts: &[String]) -> Result<Vec<&[u8]>, AllocError>
     Ok(all)
 }
 
-// Returns a record as a row of CSV.
+// Returns a record as a row of CSV, with its line end.
 fn row(alloc: Global, texts: &[String]) -> Result<Vec<u8>, AllocError>
     ensures { IfOk result (λ row. row.items ≡ row_text default_writer (map string_bytes texts.now)) }
 {
@@ -47,7 +47,7 @@ pub fn rows(alloc: Global, records: &[Vec<String>]) -> Result<Vec<u8>, AllocErro
     Ok(text)
 }
 
-/// Returns records as one line of JSON.
+/// Returns records as one line of JSON, with its line feed.
 pub fn json(alloc: Global, records: &[Vec<String>]) -> Result<Vec<u8>, AllocError>
     ensures { IfOk result (λ text. text.items ≡ json_text (map record_of records.now)) }
 {

@@ -8,14 +8,15 @@ use Rattle.brk_money.specs.declared.tax_status.TaxStatus.TheVariants.{Untaxed}
 use Rattle.brk_ref.specs.declared.account.AccountRow.{AccountRow}
 use Rattle.brk_audit.specs.declared.account_terms.AccountTerms.{AccountTerms}
 
--- The terms of the account's row.
+-- The broker and the tax status in the account's row.
 abbrev pub terms_of : AccountRow → AccountTerms
 terms_of a = record { broker = a.account.broker; tax_status = a.account.tax_status }
 
--- The broker of the account in the map, or 0 if the map has no such account.
+-- The broker of the account in the map `terms`, or 0 if the map does not contain the account.
 abbrev pub broker_by : BTreeMap ℕ AccountTerms → ℕ → ℕ
 broker_by terms account = option_map_or (λ x. x.broker) (get nat_cmp terms account) 0
 
--- The tax status of the account in the map, or untaxed if the map has no such account.
+-- The tax status of the account in the map `terms`, or `Untaxed` if the map does not contain the
+-- account.
 abbrev pub tax_status_by : BTreeMap ℕ AccountTerms → ℕ → TaxStatus
 tax_status_by terms account = option_map_or (λ x. x.tax_status) (get nat_cmp terms account) Untaxed

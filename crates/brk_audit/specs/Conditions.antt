@@ -7,16 +7,16 @@ use Rattle.brk_model.specs.Ways.{has_status_rows}
 use Rattle.brk_changes.specs.Sheets.{tables_in_sheets}
 use Rattle.brk_changes.specs.declared.sheets.Sheets.{Sheets}
 
--- Each row is well-formed by the limits of some schema.
+-- The tables satisfy the condition `Form` by the limits of some schema.
 pub record HasSomeForm (t : Tables) : Type 0 where
   pub schema : Schema
   pub form : IsTrue (has_form schema t)
 
--- The typed rows are well-formed by the limits of some schema.
+-- The tables of the typed rows `s` satisfy the condition `Form` by the limits of some schema.
 abbrev pub HasForm : Sheets → Type 0
 HasForm s = HasSomeForm (tables_in_sheets s)
 
--- Each trade's history is a valid status sequence, and no two completions or movements have the
--- same stamp.
+-- The tables of the typed rows `s` satisfy the condition `Status`: each trade's history is a valid
+-- status sequence, and no two completions or movements have the same stamp.
 abbrev pub HasStatuses : Sheets → Type 0
 HasStatuses s = IsTrue (has_status_rows (tables_in_sheets s))

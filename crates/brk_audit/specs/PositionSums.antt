@@ -14,12 +14,13 @@ use Rattle.brk_model.specs.Tables.{Tables, SummaryRow, TradeRow}
 use Rattle.brk_audit.specs.Completed.{is_completed_row}
 use Rattle.brk_audit.specs.declared.tally.Posting.{Posting}
 
--- The number of shares that the completed trades of the position leave, negative if sold short.
+-- The number of shares that the completed trades of the account in the symbol sum to, negative if
+-- sold short.
 abbrev pub sum_of_position : Tables → ℕ → Text → ℤ
 sum_of_position t account symbol =
     total_by (λ r. signed (side_of r.kind) r.qty) (filter (λ r. is_completed_row r && ((r.account == account) && bytes_eq r.symbol symbol)) t.trades)
 
--- The number of shares of the position in the summaries.
+-- The sum of the quantities of the summaries of the account in the symbol.
 abbrev pub told_of_position : List SummaryRow → ℕ → Text → ℤ
 told_of_position rows account symbol = total_by (λ h. h.qty) (filter (λ h. (h.account == account) && bytes_eq h.symbol symbol) rows)
 
@@ -27,25 +28,26 @@ told_of_position rows account symbol = total_by (λ h. h.qty) (filter (λ h. (h.
 abbrev pub TellsShares : SummaryRow → Type 0
 TellsShares h = is_zero h.qty ≡ false
 
--- The summaries of each position of an existing account and security sum to its shares, and none of
--- them is 0.
+-- For each existing account and security, the summaries sum to the shares of the completed trades.
+-- No summary has the quantity 0.
 pub record SummariesHold (t : Tables) : Type 0 where
   pub sums : (account : ℕ) (symbol : Text) → has_account t account ≡ true → has_security t symbol ≡ true
       → sum_of_position t account symbol ≡ told_of_position t.summaries account symbol
   pub told : AllByRecursion TellsShares t.summaries
 
--- The order of positions, as the keys of a map.
+-- The order of positions: by account, then by the bytes of the symbol.
 abbrev pub position_cmp : ℕ × Bor (List ℕ) → ℕ × Bor (List ℕ) → Ordering
 position_cmp x y = ordering_then (nat_cmp x.0 y.0) (slice_cmp nat_cmp x.1.now y.1.now)
 
--- A posting at a position, as plain values: its symbol is borrowed.
+-- The posting with the bytes of its symbol in place of a reference to them.
 abbrev pub plain : Posting (ℕ × Bor (List ℕ)) → Posting (ℕ × Text)
 plain p = record { key = (p.key.0, p.key.1.now); amount = p.amount }
 
--- The posting of a completed trade's shares at its position, or `None` if it is not completed.
+-- The posting of the signed quantity of the trade at its account and symbol, or `None` if the trade
+-- is not completed.
 abbrev pub shares_posting : TradeRow → Option (Posting (ℕ × Text))
 shares_posting r = if is_completed_row r then Some (record { key = (r.account, r.symbol); amount = signed (side_of r.kind) r.qty }) else None
 
--- The posting of a summary's quantity at its position.
+-- The posting of the quantity of the summary at its account and symbol.
 abbrev pub told_posting : SummaryRow → Posting (ℕ × Text)
 told_posting h = record { key = (h.account, h.symbol); amount = h.qty }

@@ -2,6 +2,6 @@
 use Rattle.brk_audit.specs.Settling.{Posted}
 use Rattle.brk_audit.specs.declared.cash.Posted as declared
 
--- The abstract figures of a trade's cash row.
+-- The figures of the typed value `p`, as the specification has them.
 abbrev pub posted_of : declared.Posted → Posted
 posted_of p = record { account = p.account; trade = p.trade; stamp = p.stamp; amount = p.amount }

@@ -15,22 +15,24 @@ sum_of_broker t amount broker = total_by amount (filter (λ r. is_completed_row 
 abbrev pub sum_of_account : Tables → (TradeRow → ℤ) → ℕ → ℤ
 sum_of_account t amount account = total_by amount (filter (λ r. is_done_in_cash r && (r.account == account)) t.trades)
 
--- The posting of 1 at the broker of a completed trade's account.
+-- The posting of 1 at the broker of the trade's account, or `None` if the trade is not completed.
 abbrev pub count_posting : (ℕ → ℕ) → TradeRow → Option (Posting ℕ)
 count_posting brokers r = if is_completed_row r then Some (record { key = brokers r.account; amount = pos 1 }) else None
 
--- The posting of a completed trade's commission at the broker of its account.
+-- The posting of the trade's commission at the broker of its account, or `None` if the trade is not
+-- completed.
 abbrev pub commission_posting : (ℕ → ℕ) → TradeRow → Option (Posting ℕ)
 commission_posting brokers r = if is_completed_row r then Some (record { key = brokers r.account; amount = pos r.commission }) else None
 
--- The posting of a completed cash trade's settlement amount at its account.
+-- The posting of the trade's settlement amount at its account, or `None` if it is not a completed
+-- cash trade.
 abbrev pub cash_posting : (ℕ → TaxStatus) → TradeRow → Option (Posting ℕ)
 cash_posting statuses r = if is_done_in_cash r then Some (record { key = r.account; amount = amount_at (statuses r.account) r }) else None
 
--- The sum of the movements of the account.
+-- The sum of the amounts of the account's deposits and withdrawals; a withdrawal counts below 0.
 abbrev pub sum_of_movements : Tables → ℕ → ℤ
 sum_of_movements t account = total_by (λ r. r.amount) (filter (λ r. is_none r.trade && (r.account == account)) t.moves)
 
--- The posting of a movement's amount at its account.
+-- The posting of the row's amount at its account, or `None` if the row belongs to a trade.
 abbrev pub movement_posting : MoveRow → Option (Posting ℕ)
 movement_posting r = if is_none r.trade then Some (record { key = r.account; amount = r.amount }) else None

@@ -18,7 +18,8 @@ pub(crate) struct AccountTerms {
     pub tax_status: TaxStatus,
 }
 
-/// Returns the terms of each account by its id. Fails with `Memory` only.
+/// Returns a map from the id of each account to its broker and tax status. Fails with `Memory`
+/// only.
 pub(crate) fn terms_of_accounts(
     alloc: Global,
     accounts: &[AccountRow],
@@ -40,7 +41,7 @@ pub(crate) fn terms_of_accounts(
     Ok(terms)
 }
 
-/// Returns the broker of the account, or 0 if it is not in the map.
+/// Returns the broker of the account in the map, or 0 if the map does not contain the account.
 pub(crate) fn broker_of(terms: &BTreeMap<u64, AccountTerms>, account: Id) -> u64
     ensures { result ≡ broker_by terms.now account }
 {
@@ -51,7 +52,8 @@ pub(crate) fn broker_of(terms: &BTreeMap<u64, AccountTerms>, account: Id) -> u64
     }
 }
 
-/// Returns the tax status of the account, or untaxed if it is not in the map.
+/// Returns the tax status of the account in the map, or `Untaxed` if the map does not contain the
+/// account.
 pub(crate) fn tax_status_of(terms: &BTreeMap<u64, AccountTerms>, account: Id) -> TaxStatus
     ensures { result ≡ tax_status_by terms.now account }
 {

@@ -10,7 +10,7 @@ ghost use Rattle.brk_audit.specs.Settling.{amount_at};
 use brk_changes::TradeRow;
 use brk_money::{Amount, Price, Side, TaxStatus};
 
-// Returns the part of the tax that is withheld from the settlement, in cents.
+// Returns the part of the tax that is withheld from the settlement at the tax status, in cents.
 fn withheld(tax: Amount, tax_status: TaxStatus) -> u64
     ensures value { result ≡ (if takes_tax_off tax_status then tax else 0) }
     ensures high { result ≤ greatest_amount }
@@ -21,7 +21,7 @@ fn withheld(tax: Amount, tax_status: TaxStatus) -> u64
     }
 }
 
-// Returns the price in cents, or 0 if there is none.
+// Returns the price in cents, or 0 if it is `None`.
 fn cents_of(price: Option<Price>) -> u64
     ensures value { result ≡ unwrap_or price 0 }
     ensures high { result ≤ greatest_price }
@@ -32,7 +32,7 @@ fn cents_of(price: Option<Price>) -> u64
     }
 }
 
-// Returns the value of the shares at a price, in cents.
+// Returns the value of `qty` shares at a price, in cents.
 fn worth(qty: u32, cents: u64) -> u64
     requires qty { qty ≤ greatest_qty }
     requires cents { cents ≤ greatest_price }
@@ -42,8 +42,7 @@ fn worth(qty: u32, cents: u64) -> u64
     u64::from(qty) * cents
 }
 
-// Returns the proceeds of shares of this value less what is taken off, in cents. A purchase costs
-// the value.
+// Returns the value of a sale, or the negated value of a purchase, minus `taken_off`, in cents.
 fn settled(side: Side, value: u64, taken_off: u64) -> i64
     requires value { value ≤ greatest_qty * greatest_price }
     requires taken_off { taken_off ≤ 3 * greatest_amount }

@@ -20,7 +20,7 @@ use brk_money::{Condition, Fault};
 use std::alloc::Global;
 
 /// Returns the first condition of `schema` that the rows fail, in the order from `Form` to
-/// `Balance`, or `None` if they pass (the consistency conditions of TPC-E, and this project's own).
+/// `Balance`, or `None` if they pass the audit.
 ///
 /// Fails with `Memory` only.
 #[tactic(auto, using(crate::proofs::Chain::form_held, crate::proofs::Chain::statuses_held))]

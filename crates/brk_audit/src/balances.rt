@@ -36,7 +36,8 @@ fn posting_of(terms: &BTreeMap<u64, AccountTerms>, trade: &TradeRow) -> Option<P
     Some(Posting { key, amount })
 }
 
-// Returns the postings of all trades.
+// Returns the postings of the settlement amounts of all completed cash trades. Fails with `Memory`
+// only.
 fn postings_of(
     alloc: Global,
     terms: &BTreeMap<u64, AccountTerms>,
@@ -65,7 +66,7 @@ fn movement_of(row: &MoveRow) -> Option<Posting<u64>>
     Some(Posting { key, amount })
 }
 
-// Appends the postings of the deposits and withdrawals.
+// Appends the postings of the deposits and withdrawals. Fails with `Memory` only.
 fn add_movements(all: &mut Vec<Posting<u64>>, moves: &[MoveRow]) -> Result<(), Fault>
     ensures all { OnOk result (all.new.items ≡ all.old.items ++ filter_map (λ r. movement_posting (move_row_of r)) moves.now) }
     ensures fault { OnErr result (result ≡ Err Memory) }
@@ -78,20 +79,21 @@ fn add_movements(all: &mut Vec<Posting<u64>>, moves: &[MoveRow]) -> Result<(), F
     Ok(())
 }
 
-// Returns the balance less the opening balance.
+// Returns the balance minus the opening balance.
 fn difference(balance: i64, opening: i64) -> i128
     ensures { opening +ℤ result ≡ balance }
 {
     i128::from(balance) - i128::from(opening)
 }
 
+// Returns true if the two numbers are equal.
 fn is_same(one: i128, other: i128) -> bool
     ensures { IsTrue result ↔ (one ≡ other) }
 {
     one == other
 }
 
-// Returns whether the balance is the opening balance plus the amount that was moved.
+// Returns true if the balance is the opening balance plus the amount `moved`.
 fn is_after(balance: i64, opening: i64, moved: i128) -> bool
     ensures { IsTrue result ↔ (balance ≡ opening +ℤ moved) }
 {
@@ -99,7 +101,7 @@ fn is_after(balance: i64, opening: i64, moved: i128) -> bool
     is_same(left, moved)
 }
 
-// Returns whether the balance is the opening balance of its account plus its postings.
+// Returns true if the account's balance is its opening balance plus the sum at its id.
 fn is_balanced(sums: &BTreeMap<u64, i128>, row: &AccountRow) -> bool
     ensures { IsTrue result ↔ (row.now.balance ≡ row.now.account.opening +ℤ at_key nat_cmp sums.now row.now.account.id) }
 {
@@ -107,7 +109,7 @@ fn is_balanced(sums: &BTreeMap<u64, i128>, row: &AccountRow) -> bool
     is_after(row.balance.get(), row.account.opening.get(), moved)
 }
 
-// Returns whether each balance is the opening balance of its account plus its postings.
+// Returns true if the balance of each account is its opening balance plus the sum at its id.
 fn are_balanced(sums: &BTreeMap<u64, i128>, rows: &[AccountRow]) -> bool
     ensures { IsTrue result ↔ AllByRecursion (λ row. row.balance ≡ row.account.opening +ℤ at_key nat_cmp sums.now row.account.id) rows.now }
 {
@@ -119,7 +121,7 @@ fn are_balanced(sums: &BTreeMap<u64, i128>, rows: &[AccountRow]) -> bool
     true
 }
 
-/// Returns whether each balance is the opening balance of its account plus its cash trades,
+/// Returns true if the balance of each account is its opening balance plus its cash trades,
 /// deposits and withdrawals. Fails with `Memory` only.
 pub(crate) fn has_balances(alloc: Global, sheets: &Sheets) -> Result<bool, Fault>
     requires form { HasForm sheets.now }

@@ -20,7 +20,8 @@ use brk_money::{Cents, Fault, Id, Stamp, TaxStatus};
 use std::alloc::Global;
 use std::collections::BTreeMap;
 
-// Returns whether the cash row has the figures of the completed trade at its account's tax status.
+// Returns true if the row has the number, the stamp and the settlement amount of the completed
+// trade at the tax status of its account.
 fn is_cash_row_of(cash: &CashRow, trade: &TradeRow, tax_status: TaxStatus) -> bool
     ensures { IsTrue result ↔ ((cash.now.trade ≡ trade.now.id) × (cash.now.stamp ≡ trade.now.stamp) × (cash.now.amount ≡ amount_at tax_status (trade_row_of trade.now))) }
 {
@@ -29,15 +30,15 @@ fn is_cash_row_of(cash: &CashRow, trade: &TradeRow, tax_status: TaxStatus) -> bo
         && cash.amount.get() == amount_of_row(trade, tax_status)
 }
 
-// Returns whether the trade is a completed cash trade.
+// Returns true if the trade is completed and is a cash trade.
 fn moves_cash(trade: &TradeRow) -> bool
     ensures { result ≡ is_done_in_cash (trade_row_of trade.now) }
 {
     is_completed(trade.status) && trade.is_cash
 }
 
-// Returns the cash rows after that of `trade`, or all rows if it moves no cash. Returns `None` if
-// the first row is not that of `trade`.
+// Returns the cash rows after the row of `trade`, or all rows if `trade` is not a completed cash
+// trade. Returns `None` if the first row is not that of `trade`.
 fn left_after<'a>(
     cash: &'a [CashRow],
     trade: &TradeRow,
@@ -60,7 +61,7 @@ fn left_after<'a>(
     }
 }
 
-// Returns whether the cash rows are exactly those of the completed cash trades, in the order of the
+// Returns true if the rows are exactly those of the completed cash trades, in the order of the
 // trades.
 fn are_moved(cash: &[CashRow], trades: &[TradeRow], terms: &BTreeMap<u64, AccountTerms>) -> bool
     ensures { IsTrue result ↔ (map moved_in (map cash_row_of cash.now) ≡ map (posted_row (tax_status_by terms.now)) (filter is_done_in_cash (map trade_row_of trades.now))) }
@@ -75,7 +76,7 @@ fn are_moved(cash: &[CashRow], trades: &[TradeRow], terms: &BTreeMap<u64, Accoun
     rest.is_empty()
 }
 
-// The figures of a trade's cash row.
+// The account, the trade, the stamp and the amount of a trade's row of CASH_MOVE.
 #[derive(Clone, Copy, Drop)]
 struct Posted {
     account: Id,
@@ -84,7 +85,7 @@ struct Posted {
     amount: Cents,
 }
 
-// Returns the numbers of a row, or `None` if it belongs to no trade.
+// Returns the figures of the row, or `None` if it belongs to no trade.
 fn posted_by_row(row: &MoveRow) -> Option<Posted>
     ensures { option_map posted_of result ≡ posted_in (move_row_of row.now) }
 {
@@ -97,7 +98,7 @@ fn posted_by_row(row: &MoveRow) -> Option<Posted>
     })
 }
 
-// Returns the numbers of all rows that belong to trades.
+// Returns the figures of all rows that belong to trades, in order. Fails with `Memory` only.
 fn posted_rows(alloc: Global, moves: &[MoveRow]) -> Result<Vec<Posted>, Fault>
     ensures all { IfOk result (λ all. map posted_of all.items ≡ filter_map (λ r. posted_in (move_row_of r)) moves.now) }
     ensures fault { IfErr result (λ fault. fault ≡ Memory) }
@@ -111,7 +112,7 @@ fn posted_rows(alloc: Global, moves: &[MoveRow]) -> Result<Vec<Posted>, Fault>
     Ok(all)
 }
 
-// Returns whether a row has the numbers of a completed trade at its account's tax status.
+// Returns true if the figures are those of the completed trade at the tax status of its account.
 fn is_posted_by(row: Posted, trade: &TradeRow, tax_status: TaxStatus) -> bool
     ensures { IsTrue result ↔ ((row.account ≡ trade.now.account) × (row.trade ≡ trade.now.id) × (row.stamp ≡ trade.now.stamp) × (row.amount ≡ amount_at tax_status (trade_row_of trade.now))) }
 {
@@ -121,8 +122,8 @@ fn is_posted_by(row: Posted, trade: &TradeRow, tax_status: TaxStatus) -> bool
         && row.amount.get() == amount_of_row(trade, tax_status)
 }
 
-// Returns the rows after that of `trade`, or all rows if it moves no cash. Returns `None` if the
-// first row is not that of `trade`.
+// Returns the rows after the row of `trade`, or all rows if `trade` is not a completed cash trade.
+// Returns `None` if the first row is not that of `trade`.
 fn posted_after<'a>(
     rows: &'a [Posted],
     trade: &TradeRow,
@@ -145,7 +146,8 @@ fn posted_after<'a>(
     }
 }
 
-// Returns whether the rows are those of the completed cash trades, both in the order of the trades.
+// Returns true if the rows are exactly those of the completed cash trades, in the order of the
+// trades.
 fn are_posted(rows: &[Posted], trades: &[TradeRow], terms: &BTreeMap<u64, AccountTerms>) -> bool
     ensures { IsTrue result ↔ (map (λ p. p) (map posted_of rows.now) ≡ map (posted_by (tax_status_by terms.now)) (filter is_done_in_cash (map trade_row_of trades.now))) }
 {
@@ -159,14 +161,14 @@ fn are_posted(rows: &[Posted], trades: &[TradeRow], terms: &BTreeMap<u64, Accoun
     rest.is_empty()
 }
 
-// Returns whether a row has this number, and a stamp that is not less than `stamp`.
+// Returns true if the row has the number `number` and a stamp that is at least `stamp`.
 fn is_next(row: &MoveRow, number: u64, stamp: u64) -> bool
     ensures { result ≡ (row.now.id == number) && nat_le stamp row.now.stamp }
 {
     row.id.get() == number && stamp <= millis(row.stamp)
 }
 
-// Returns whether the rows are numbered from 1 without a gap, and their stamps do not decrease.
+// Returns true if the rows are numbered from 1 without a gap, and their stamps do not decrease.
 fn are_numbered_by_stamp(moves: &[MoveRow]) -> bool
     ensures { result ≡ is_in_turn 1 0 (map move_row_of moves.now) }
 {
@@ -180,9 +182,10 @@ fn are_numbered_by_stamp(moves: &[MoveRow]) -> bool
     true
 }
 
-/// Returns whether the cash rows are those of the completed cash trades. In schema 1 they are in
-/// CASH_TRANSACTION. In later schemas they are in CASH_MOVE, numbered from 1 by ascending stamp,
-/// deposits and withdrawals among them, and CASH_TRANSACTION is empty.
+/// Returns true if the cash rows are exactly those of the completed cash trades. In schema 1 they
+/// are in CASH_TRANSACTION. In later schemas they are in CASH_MOVE, which also has the deposits and
+/// withdrawals and is numbered from 1 by stamp, and CASH_TRANSACTION is empty. Fails with `Memory`
+/// only.
 pub(crate) fn has_cash_rows(alloc: Global, schema: Schema, sheets: &Sheets) -> Result<bool, Fault>
     requires form { ConditionHolds (schema_of schema) Form (tables_in_sheets sheets.now) }
     requires status { HasStatuses sheets.now }

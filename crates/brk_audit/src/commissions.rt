@@ -22,7 +22,8 @@ use brk_ref::BrokerRow;
 use std::alloc::Global;
 use std::collections::BTreeMap;
 
-// Returns the posting of the trade's commission at the broker, or `None` if it is not completed.
+// Returns the posting of the trade's commission at the broker of its account, or `None` if the
+// trade is not completed.
 fn posting_of(terms: &BTreeMap<u64, AccountTerms>, trade: &TradeRow) -> Option<Posting<u64>>
     ensures { result ≡ commission_posting (broker_by terms.now) (trade_row_of trade.now) }
 {
@@ -34,7 +35,7 @@ fn posting_of(terms: &BTreeMap<u64, AccountTerms>, trade: &TradeRow) -> Option<P
     Some(Posting { key, amount })
 }
 
-// Returns the postings of all trades.
+// Returns the postings of the commissions of all completed trades. Fails with `Memory` only.
 fn postings_of(
     alloc: Global,
     terms: &BTreeMap<u64, AccountTerms>,
@@ -50,7 +51,7 @@ fn postings_of(
     Ok(all)
 }
 
-// Returns whether the broker's row has the sum of its commissions.
+// Returns true if the broker's commission total is the sum at the broker's id.
 fn is_sum(sums: &BTreeMap<u64, i128>, row: &BrokerRow) -> bool
     ensures { IsTrue result ↔ (pos row.now.commissions ≡ at_key nat_cmp sums.now row.now.broker.id) }
 {
@@ -58,7 +59,7 @@ fn is_sum(sums: &BTreeMap<u64, i128>, row: &BrokerRow) -> bool
     i128::from(row.commissions) == sum
 }
 
-// Returns whether each broker's row has the sum of its commissions.
+// Returns true if the commission total of each broker is the sum at the broker's id.
 fn are_sums(sums: &BTreeMap<u64, i128>, rows: &[BrokerRow]) -> bool
     ensures { IsTrue result ↔ AllByRecursion (λ row. pos row.commissions ≡ at_key nat_cmp sums.now row.broker.id) rows.now }
 {
@@ -70,8 +71,8 @@ fn are_sums(sums: &BTreeMap<u64, i128>, rows: &[BrokerRow]) -> bool
     true
 }
 
-/// Returns whether each broker's commission total is the sum over the completed trades of the
-/// broker's accounts. Fails with `Memory` only.
+/// Returns true if each broker's commission total is the sum of the commissions of the completed
+/// trades of the broker's accounts. Fails with `Memory` only.
 pub(crate) fn has_commissions(alloc: Global, sheets: &Sheets) -> Result<bool, Fault>
     requires form { HasForm sheets.now }
     requires status { HasStatuses sheets.now }

@@ -22,7 +22,8 @@ use brk_ref::BrokerRow;
 use std::alloc::Global;
 use std::collections::BTreeMap;
 
-// Returns the posting of 1 at the broker, or `None` if the trade is not completed.
+// Returns the posting of 1 at the broker of the trade's account, or `None` if the trade is not
+// completed.
 fn posting_of(terms: &BTreeMap<u64, AccountTerms>, trade: &TradeRow) -> Option<Posting<u64>>
     ensures { result ≡ count_posting (broker_by terms.now) (trade_row_of trade.now) }
 {
@@ -33,7 +34,7 @@ fn posting_of(terms: &BTreeMap<u64, AccountTerms>, trade: &TradeRow) -> Option<P
     Some(Posting { key, amount: 1 })
 }
 
-// Returns the postings of all trades.
+// Returns the postings of 1 for all completed trades. Fails with `Memory` only.
 fn postings_of(
     alloc: Global,
     terms: &BTreeMap<u64, AccountTerms>,
@@ -49,7 +50,7 @@ fn postings_of(
     Ok(all)
 }
 
-// Returns whether the broker's row has the count of its trades.
+// Returns true if the broker's trade count is the sum at the broker's id.
 fn is_counted(sums: &BTreeMap<u64, i128>, row: &BrokerRow) -> bool
     ensures { IsTrue result ↔ (row.now.trades ≡ at_key nat_cmp sums.now row.now.broker.id) }
 {
@@ -57,7 +58,7 @@ fn is_counted(sums: &BTreeMap<u64, i128>, row: &BrokerRow) -> bool
     i128::from(row.trades) == count
 }
 
-// Returns whether each broker's row has the count of its trades.
+// Returns true if the trade count of each broker is the sum at the broker's id.
 fn are_counted(sums: &BTreeMap<u64, i128>, rows: &[BrokerRow]) -> bool
     ensures { IsTrue result ↔ AllByRecursion (λ row. row.trades ≡ at_key nat_cmp sums.now row.broker.id) rows.now }
 {
@@ -69,7 +70,7 @@ fn are_counted(sums: &BTreeMap<u64, i128>, rows: &[BrokerRow]) -> bool
     true
 }
 
-/// Returns whether each broker's trade count is the number of the completed trades of the broker's
+/// Returns true if each broker's trade count is the number of the completed trades of the broker's
 /// accounts. Fails with `Memory` only.
 pub(crate) fn has_counts(alloc: Global, sheets: &Sheets) -> Result<bool, Fault>
     requires form { HasForm sheets.now }

@@ -21,7 +21,8 @@ use brk_money::Fault;
 use std::alloc::Global;
 use std::cmp::Ordering;
 
-// Appends the lot changes of the trades of a position.
+// Appends the lot changes of the completed trades of one position, executed in order. Fails with
+// `Memory` only.
 fn add_moves(alloc: Global, rows: &mut Vec<DealTouch>, run: &[&TradeRow]) -> Result<(), Fault>
     requires priced { AllByRecursion (λ row. IsSome row.now.price) run.now }
     requires deals { AreDeals (map (λ row. row_deal (trade_row_of row.now)) run.now) }
@@ -33,7 +34,7 @@ fn add_moves(alloc: Global, rows: &mut Vec<DealTouch>, run: &[&TradeRow]) -> Res
     Ok(())
 }
 
-// Returns the lot changes of the completed trades, position by position.
+// Returns the lot changes of the completed trades, position by position. Fails with `Memory` only.
 fn moves_made(alloc: Global, done: &[&TradeRow]) -> Result<Vec<DealTouch>, Fault>
     requires order { IsSortedBy (λ one other. place_before (trade_row_of one.now) (trade_row_of other.now)) done.now }
     requires apart { IsDistinct clash (map (λ row. trade_row_of row.now) done.now) }
@@ -69,7 +70,7 @@ fn sort_by_lot(rows: &mut Vec<DealTouch>)
     rows.sort_unstable_by(|one, other| compare(one, other));
 }
 
-// Returns whether the row equals the lot change.
+// Returns true if the row of HOLDING_HISTORY equals the lot change.
 fn is_same_row(touch: &DealTouch, row: &LotChange) -> bool
     ensures { IsTrue result ↔ (plain_row touch.now ≡ lot_change_of row.now) }
 {
@@ -79,7 +80,7 @@ fn is_same_row(touch: &DealTouch, row: &LotChange) -> bool
         && touch.touch.after == row.after
 }
 
-// Returns whether the rows equal the lot changes.
+// Returns true if the rows of HOLDING_HISTORY equal the lot changes, in order.
 fn are_same_rows(touches: &[DealTouch], rows: &[LotChange]) -> bool
     ensures { IsTrue result ↔ (map plain_row touches.now ≡ map lot_change_of rows.now) }
 {
@@ -94,8 +95,8 @@ fn are_same_rows(touches: &[DealTouch], rows: &[LotChange]) -> bool
     true
 }
 
-/// Returns whether the history of the lots is exactly that of the completed trades. Fails with
-/// `Memory` only.
+/// Returns true if the rows of HOLDING_HISTORY are exactly the lot changes of the completed trades.
+/// Fails with `Memory` only.
 pub(crate) fn has_lot_history(alloc: Global, sheets: &Sheets) -> Result<bool, Fault>
     requires form { HasForm sheets.now }
     requires status { HasStatuses sheets.now }

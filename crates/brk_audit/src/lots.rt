@@ -17,7 +17,7 @@ use brk_lots::Lot;
 use brk_money::Fault;
 use std::alloc::Global;
 
-// Appends the lots of the trade's position.
+// Appends the lots, with the account and the symbol of the trade. Fails with `Memory` only.
 fn add_lots(held: &mut Vec<HoldingRow>, trade: &TradeRow, lots: &[Lot]) -> Result<(), Fault>
     ensures added { OnOk result (map holding_row_of held.new.items ≡ map holding_row_of held.old.items ++ map (lot_row (trade_row_of trade.now)) (map plain_lot lots.now)) }
     ensures fault { IfErr result (λ fault. fault ≡ Memory) }
@@ -35,7 +35,7 @@ fn add_lots(held: &mut Vec<HoldingRow>, trade: &TradeRow, lots: &[Lot]) -> Resul
     Ok(())
 }
 
-// Returns the lots that the completed trades leave, position by position.
+// Returns the lots that the completed trades leave, position by position. Fails with `Memory` only.
 fn lots_left(alloc: Global, done: &[&TradeRow]) -> Result<Vec<HoldingRow>, Fault>
     requires order { IsSortedBy (λ one other. place_before (trade_row_of one.now) (trade_row_of other.now)) done.now }
     requires apart { IsDistinct clash (map (λ row. trade_row_of row.now) done.now) }
@@ -55,7 +55,7 @@ fn lots_left(alloc: Global, done: &[&TradeRow]) -> Result<Vec<HoldingRow>, Fault
     Ok(held)
 }
 
-// Returns whether the two rows are equal.
+// Returns true if the two rows are equal.
 fn is_same_row(one: &HoldingRow, other: &HoldingRow) -> bool
     ensures { IsTrue result ↔ (holding_row_of one.now ≡ holding_row_of other.now) }
 {
@@ -67,7 +67,7 @@ fn is_same_row(one: &HoldingRow, other: &HoldingRow) -> bool
         && one.qty == other.qty
 }
 
-// Returns whether the two lists of rows are equal.
+// Returns true if the two lists of rows are equal.
 fn are_same_rows(rows: &[HoldingRow], others: &[HoldingRow]) -> bool
     ensures { IsTrue result ↔ (map holding_row_of rows.now ≡ map holding_row_of others.now) }
 {
@@ -82,8 +82,8 @@ fn are_same_rows(rows: &[HoldingRow], others: &[HoldingRow]) -> bool
     true
 }
 
-/// Returns whether the lots are exactly those that the completed trades leave. Fails with `Memory`
-/// only.
+/// Returns true if the rows of HOLDING are exactly the lots that the completed trades leave. Fails
+/// with `Memory` only.
 pub(crate) fn has_lots(alloc: Global, sheets: &Sheets) -> Result<bool, Fault>
     requires form { HasForm sheets.now }
     requires status { HasStatuses sheets.now }

@@ -16,7 +16,7 @@ use brk_money::{Fault, Status};
 use std::alloc::Global;
 use std::cmp::Ordering;
 
-// Returns the completed trades, in the order of their rows.
+// Returns the completed trades, in the order of their rows. Fails with `Memory` only.
 fn completed(alloc: Global, trades: &[TradeRow]) -> Result<Vec<&TradeRow>, Fault>
     ensures done { IfOk result (λ done. map (λ row. trade_row_of row.now) done.items ≡ filter is_completed_row (map trade_row_of trades.now)) }
     ensures fault { IfErr result (λ fault. fault ≡ Memory) }
@@ -44,7 +44,7 @@ fn compare(one: &TradeRow, other: &TradeRow) -> Ordering
     accounts.then(symbols.then(moments))
 }
 
-// Sorts trades by position, and those of a position by stamp.
+// Sorts the trades by account, then by symbol, then by stamp.
 fn sort_by_position(done: &mut Vec<&TradeRow>)
     ensures permutation { IsPermutation done.old.items done.new.items }
     ensures order { IsSortedBy (λ one other. place_before (trade_row_of one.now) (trade_row_of other.now)) done.new.items }
@@ -52,8 +52,8 @@ fn sort_by_position(done: &mut Vec<&TradeRow>)
     done.sort_unstable_by(|one, other| compare(one, other));
 }
 
-/// Returns the completed trades sorted by position, and those of a position sorted by stamp. Fails
-/// with `Memory` only.
+/// Returns the completed trades, sorted by account, then by symbol, then by stamp. Fails with
+/// `Memory` only.
 pub(crate) fn completed_by_position(
     alloc: Global,
     trades: &[TradeRow],
@@ -67,14 +67,15 @@ pub(crate) fn completed_by_position(
     Ok(done)
 }
 
-// Returns whether the two trades belong to one position.
+// Returns true if the two trades have the same account and symbol.
 fn is_beside(one: &TradeRow, other: &TradeRow) -> bool
     ensures { result ≡ same_place (trade_row_of one.now) (trade_row_of other.now) }
 {
     one.account == other.account && one.symbol.as_str() == other.symbol.as_str()
 }
 
-/// Returns the number of trades at the beginning of `done` that belong to the trade's position.
+/// Returns the number of trades at the beginning of `done` that have the account and the symbol of
+/// `trade`.
 pub(crate) fn position_len(trade: &TradeRow, done: &[&TradeRow]) -> usize
     ensures within { result ≤ length done.now }
     ensures same { AllByRecursion (λ other. same_place (trade_row_of trade.now) (trade_row_of other.now) ≡ true) (take result done.now) }
@@ -116,7 +117,8 @@ pub(crate) fn deals_of(alloc: Global, run: &[&TradeRow]) -> Result<Vec<Deal>, Fa
     Ok(deals)
 }
 
-/// Returns the position after its trades. Fails with `Memory` only.
+/// Returns the position after the completed trades `run`, executed in order. Fails with `Memory`
+/// only.
 pub(crate) fn position_after(alloc: Global, run: &[&TradeRow]) -> Result<Position, Fault>
     requires priced { AllByRecursion (λ row. IsSome row.now.price) run.now }
     requires deals { AreDeals (map (λ row. row_deal (trade_row_of row.now)) run.now) }

@@ -18,14 +18,14 @@ use brk_money::{Fault, Status, TradeType};
 use std::alloc::Global;
 use std::collections::BTreeMap;
 
-// Returns whether the two types of trade are equal.
+// Returns true if the two trade types are equal.
 fn is_kind(kind: TradeType, other: TradeType) -> bool
     ensures { result ≡ same_type kind other }
 {
     kind == other
 }
 
-// Returns whether the request has the symbol, the quantity and the bid of the trade.
+// Returns true if the request has the symbol, the quantity and the bid of the trade.
 fn asks_same(request: &RequestRow, trade: &TradeRow) -> bool
     ensures { IsTrue result ↔ ((request.now.symbol ≡ trade.now.symbol) × (request.now.qty ≡ trade.now.qty) × (request.now.bid ≡ trade.now.bid)) }
 {
@@ -34,7 +34,7 @@ fn asks_same(request: &RequestRow, trade: &TradeRow) -> bool
         && request.bid == trade.bid
 }
 
-// Returns whether the request is that of the trade with this broker.
+// Returns true if the request is exactly that of the trade with the broker `broker`.
 fn is_request_of(request: &RequestRow, trade: &TradeRow, broker: u64) -> bool
     ensures { IsTrue result ↔ (request_row_of request.now ≡ request_of (λ account. broker) (trade_row_of trade.now)) }
 {
@@ -44,15 +44,15 @@ fn is_request_of(request: &RequestRow, trade: &TradeRow, broker: u64) -> bool
         && request.broker.get() == broker
 }
 
-// Returns whether a trade of this status is pending.
+// Returns true if the status is `Pending`.
 fn is_pending(status: Status) -> bool
     ensures { result ≡ same_status status Pending }
 {
     status == Status::Pending
 }
 
-// Returns the requests after that of `trade`, or all requests if it is not pending. Returns `None`
-// if the first request is not that of `trade`.
+// Returns the requests after the request of `trade`, or all requests if `trade` is not pending.
+// Returns `None` if the first request is not that of `trade`.
 fn left_after<'a>(
     requests: &'a [RequestRow],
     trade: &TradeRow,
@@ -75,7 +75,7 @@ fn left_after<'a>(
     }
 }
 
-// Returns whether the requests are exactly those of the pending trades, in the order of the trades.
+// Returns true if the requests are exactly those of the pending trades, in the order of the trades.
 fn are_requested(
     requests: &[RequestRow],
     trades: &[TradeRow],
@@ -93,7 +93,7 @@ fn are_requested(
     rest.is_empty()
 }
 
-/// Returns whether the requests are exactly those of the pending trades. Fails with `Memory` only.
+/// Returns true if the requests are exactly those of the pending trades. Fails with `Memory` only.
 pub(crate) fn has_requests(alloc: Global, sheets: &Sheets) -> Result<bool, Fault>
     requires form { HasForm sheets.now }
     requires status { HasStatuses sheets.now }

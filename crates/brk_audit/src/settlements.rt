@@ -19,8 +19,8 @@ use brk_money::{Day, Fault, Stamp, TaxStatus, day_of};
 use std::alloc::Global;
 use std::collections::BTreeMap;
 
-// Returns whether a trade that is completed at `stamp` settles on `day`. `rule` is the settlement
-// day, if one is set.
+// Returns true if a trade that is completed at `stamp` settles on `day`, by the settlement day
+// `rule` if one is set.
 fn is_due(day: Day, rule: Option<Day>, stamp: Stamp) -> bool
     ensures { IsTrue result ↔ (day ≡ due_after rule stamp) }
 {
@@ -28,8 +28,8 @@ fn is_due(day: Day, rule: Option<Day>, stamp: Stamp) -> bool
     day.get() == completed.get() + i32::from(settlement_days(rule, completed))
 }
 
-// Returns whether the settlement has the figures of the completed trade at its account's tax
-// status.
+// Returns true if the settlement has the number, the due day and the settlement amount of the
+// completed trade, by the settlement day `rule` and the tax status of its account.
 fn is_settlement_of(
     settlement: &SettlementRow,
     trade: &TradeRow,
@@ -44,8 +44,8 @@ fn is_settlement_of(
         && settlement.amount.get() == amount_of_row(trade, tax_status)
 }
 
-// Returns the settlements after that of `trade`, or all settlements if it is not completed. Returns
-// `None` if the first settlement is not that of `trade`.
+// Returns the settlements after the settlement of `trade`, or all settlements if `trade` is not
+// completed. Returns `None` if the first settlement is not that of `trade`.
 fn left_after<'a>(
     settlements: &'a [SettlementRow],
     trade: &TradeRow,
@@ -69,7 +69,7 @@ fn left_after<'a>(
     }
 }
 
-// Returns whether the settlements are exactly those of the completed trades, in the order of the
+// Returns true if the settlements are exactly those of the completed trades, in the order of the
 // trades.
 fn are_settled(
     settlements: &[SettlementRow],
@@ -89,7 +89,7 @@ fn are_settled(
     rest.is_empty()
 }
 
-/// Returns whether the settlements are exactly those of the completed trades. Fails with `Memory`
+/// Returns true if the settlements are exactly those of the completed trades. Fails with `Memory`
 /// only.
 pub(crate) fn has_settlements(alloc: Global, sheets: &Sheets) -> Result<bool, Fault>
     requires form { HasForm sheets.now }

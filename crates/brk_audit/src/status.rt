@@ -19,7 +19,7 @@ use brk_money::{Fault, Id, Stamp, Status};
 use std::alloc::Global;
 use std::collections::BTreeSet;
 
-/// Returns whether a trade of this status is completed.
+/// Returns true if the status is `Completed`.
 pub(crate) fn is_completed(status: Status) -> bool
     ensures { result ≡ same_status status Completed }
 {
@@ -33,29 +33,29 @@ pub(crate) fn millis(stamp: Stamp) -> u64
     stamp.get().unsigned_abs()
 }
 
-// Returns whether the first stamp is before the second.
+// Returns true if the first stamp is before the second.
 fn is_before(first: Stamp, second: Stamp) -> bool
     ensures { result ≡ nat_lt first second }
 {
     first.get() < second.get()
 }
 
-// Returns whether a trade can begin with the status.
+// Returns true if a trade can begin with the status: `Submitted` or `Pending`.
 fn is_first(status: Status) -> bool
     ensures { result ≡ spec.is_first status }
 {
     matches!(status, Status::Submitted | Status::Pending)
 }
 
-// Returns whether the trade's row has the status and the stamp of the history row.
+// Returns true if the trade's row has the status and the stamp of the history row.
 fn is_at(trade: &TradeRow, row: HistoryRow) -> bool
     ensures { result ≡ spec.is_at (trade_row_of trade.now) (history_row_of row) }
 {
     trade.status == row.status && trade.stamp == row.stamp
 }
 
-// Returns whether the two history rows, sorted by the codes of their statuses, are a valid status
-// sequence, and the trade's row has the last of them.
+// Returns true if the history of the two rows, sorted by status code, is a valid status sequence by
+// their stamps, and the trade's row has the status and the stamp of its last row.
 fn goes_two(trade: &TradeRow, a: HistoryRow, b: HistoryRow) -> bool
     ensures { result ≡ spec.are_valid_two (trade_row_of trade.now) (history_row_of a) (history_row_of b) }
 {
@@ -68,8 +68,8 @@ fn goes_two(trade: &TradeRow, a: HistoryRow, b: HistoryRow) -> bool
     }
 }
 
-// Returns whether the three history rows, sorted by the codes of their statuses, are a valid status
-// sequence, and the trade's row has the last of them.
+// Returns true if the history of the three rows, sorted by status code, is a valid status sequence
+// by their stamps, and the trade's row has the status and the stamp of its last row.
 fn goes_three(trade: &TradeRow, a: HistoryRow, b: HistoryRow, c: HistoryRow) -> bool
     ensures { result ≡ spec.are_valid_three (trade_row_of trade.now) (history_row_of a) (history_row_of b) (history_row_of c) }
 {
@@ -81,8 +81,8 @@ fn goes_three(trade: &TradeRow, a: HistoryRow, b: HistoryRow, c: HistoryRow) -> 
     }
 }
 
-// Returns whether the history rows of a trade, sorted by the codes of their statuses, are a valid
-// status sequence, and the trade's row has the last of them.
+// Returns true if the history rows of the trade, sorted by status code, are a valid status sequence
+// by their stamps, and the trade's row has the status and the stamp of the last one.
 fn goes_way(trade: &TradeRow, rows: &[HistoryRow]) -> bool
     ensures { result ≡ spec.is_valid_history (trade_row_of trade.now) (map history_row_of rows.now) }
 {
@@ -106,8 +106,8 @@ fn leading_rows(history: &[HistoryRow], trade: Id) -> usize
     history.len()
 }
 
-// Returns whether the history rows of each trade are a valid status sequence. The rows are in the
-// order of the trades.
+// Returns true if the history rows of each trade are a valid status sequence. The history rows are
+// listed in the order of the trades.
 fn all_go(trades: &[TradeRow], history: &[HistoryRow]) -> bool
     ensures { result ≡ spec.all_valid (map trade_row_of trades.now) (map history_row_of history.now) }
 {
@@ -122,8 +122,8 @@ fn all_go(trades: &[TradeRow], history: &[HistoryRow]) -> bool
     true
 }
 
-// Adds the stamp of a completion to `seen`. Returns false if the stamp was seen before, otherwise
-// true; a row of another status adds nothing.
+// Inserts the stamp of the row into `seen` if the row is a completion. Returns false if the stamp
+// was in the set before, otherwise true. Fails with `Memory` only.
 fn is_new(seen: &mut BTreeSet<u64>, row: &HistoryRow) -> Result<bool, Fault>
     ensures new { IfOk result (λ new. new ≡ not (same_status row.now.status Completed && contains nat_cmp seen.old row.now.stamp)) }
     ensures seen { OnOk result ((q : ℕ) → contains nat_cmp seen.new q ≡ contains nat_cmp seen.old q || (same_status row.now.status Completed && (row.now.stamp == q))) }
@@ -136,8 +136,8 @@ fn is_new(seen: &mut BTreeSet<u64>, row: &HistoryRow) -> Result<bool, Fault>
     Ok(new)
 }
 
-// Adds the stamp of a deposit or a withdrawal to `seen`. Returns false if the stamp was seen
-// before, otherwise true; a row of a trade adds nothing.
+// Inserts the stamp of the row into `seen` if the row is a deposit or a withdrawal. Returns false
+// if the stamp was in the set before, otherwise true. Fails with `Memory` only.
 fn is_new_movement(seen: &mut BTreeSet<u64>, row: &MoveRow) -> Result<bool, Fault>
     ensures new { IfOk result (λ new. new ≡ not (is_none row.now.trade && contains nat_cmp seen.old row.now.stamp)) }
     ensures seen { OnOk result ((q : ℕ) → contains nat_cmp seen.new q ≡ contains nat_cmp seen.old q || (is_none row.now.trade && (row.now.stamp == q))) }
@@ -150,7 +150,8 @@ fn is_new_movement(seen: &mut BTreeSet<u64>, row: &MoveRow) -> Result<bool, Faul
     Ok(new)
 }
 
-// Returns whether no two completions, deposits or withdrawals have the same stamp.
+// Returns true if no two completions, deposits or withdrawals have the same stamp. Fails with
+// `Memory` only.
 fn are_apart(alloc: Global, history: &[HistoryRow], moves: &[MoveRow]) -> Result<bool, Fault>
     ensures told { IfOk result (λ apart. apart ≡ all_distinct (spec.completion_stamps_of (map history_row_of history.now) ++ spec.moved_stamps_of (map move_row_of moves.now))) }
     ensures fault { IfErr result (λ fault. fault ≡ Memory) }
@@ -169,8 +170,8 @@ fn are_apart(alloc: Global, history: &[HistoryRow], moves: &[MoveRow]) -> Result
     Ok(true)
 }
 
-/// Returns whether each trade's history is a valid status sequence, and no two completions,
-/// deposits or withdrawals have the same stamp.
+/// Returns true if each trade's history is a valid status sequence, and no two completions,
+/// deposits or withdrawals have the same stamp. Fails with `Memory` only.
 pub(crate) fn has_statuses(alloc: Global, sheets: &Sheets) -> Result<bool, Fault>
     requires form { HasForm sheets.now }
     ensures told { IfOk result (λ holds. (schema : Schema) → IsTrue holds ↔ ConditionHolds schema condition.Status (tables_in_sheets sheets.now)) }

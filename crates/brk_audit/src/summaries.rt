@@ -19,7 +19,7 @@ use brk_money::{Fault, Side};
 use std::alloc::Global;
 use std::collections::BTreeMap;
 
-// Returns the shares that a trade adds to its position, negative for a sale.
+// Returns the quantity as a signed number: below 0 for a sale.
 fn shares_of(side: Side, qty: u32) -> i64
     ensures { result ≡ signed side qty }
 {
@@ -29,7 +29,8 @@ fn shares_of(side: Side, qty: u32) -> i64
     }
 }
 
-// Returns the posting of the trade's shares at its position, or `None` if it is not completed.
+// Returns the posting of the trade's signed quantity at its account and symbol, or `None` if the
+// trade is not completed.
 fn posting_of(trade: &TradeRow) -> Option<Posting<(u64, &str)>>
     ensures { option_map plain result ≡ shares_posting (trade_row_of trade.now) }
 {
@@ -41,7 +42,7 @@ fn posting_of(trade: &TradeRow) -> Option<Posting<(u64, &str)>>
     Some(Posting { key, amount })
 }
 
-// Returns the postings of all trades.
+// Returns the postings of the signed quantities of all completed trades. Fails with `Memory` only.
 fn postings_of<'a>(
     alloc: Global,
     trades: &'a [TradeRow],
@@ -58,7 +59,7 @@ fn postings_of<'a>(
     Ok(all)
 }
 
-// Returns the posting of the summary's quantity at its position.
+// Returns the posting of the summary's quantity at its account and symbol.
 fn told_by(row: &SummaryRow) -> Posting<(u64, &str)>
     ensures { plain result ≡ told_posting (summary_row_of row.now) }
 {
@@ -67,7 +68,7 @@ fn told_by(row: &SummaryRow) -> Posting<(u64, &str)>
     Posting { key, amount }
 }
 
-// Returns the postings of all summaries.
+// Returns the postings of the quantities of all summaries. Fails with `Memory` only.
 fn told_of<'a>(alloc: Global, rows: &'a [SummaryRow]) -> Result<Vec<Posting<(u64, &'a str)>>, Fault>
     ensures all { IfOk result (λ all. map plain all.items ≡ map (λ r. told_posting (summary_row_of r)) rows.now) }
     ensures fault { IfErr result (λ fault. fault ≡ Memory) }
@@ -79,7 +80,7 @@ fn told_of<'a>(alloc: Global, rows: &'a [SummaryRow]) -> Result<Vec<Posting<(u64
     Ok(all)
 }
 
-// Returns whether the two tallies are equal at each key of the postings.
+// Returns true if the two maps have equal sums at the key of each posting.
 fn agree<K: Ord + Copy>(
     sums: &BTreeMap<K, i128>,
     told: &BTreeMap<K, i128>,
@@ -95,14 +96,14 @@ fn agree<K: Ord + Copy>(
     true
 }
 
-// Returns whether the quantity of a summary is not 0.
+// Returns true if the quantity is not 0.
 fn tells_shares(qty: i64) -> bool
     ensures { IsTrue result ↔ (is_zero qty ≡ false) }
 {
     qty != 0
 }
 
-// Returns whether no summary is 0.
+// Returns true if no summary has the quantity 0.
 fn tell_shares(rows: &[SummaryRow]) -> bool
     ensures { IsTrue result ↔ AllByRecursion (λ r. is_zero r.qty ≡ false) rows.now }
 {
@@ -114,15 +115,15 @@ fn tell_shares(rows: &[SummaryRow]) -> bool
     true
 }
 
-/// Returns whether all three tests passed.
+/// Returns true if all three conditions are true.
 pub(crate) fn all_three(one: bool, other: bool, last: bool) -> bool
     ensures { IsTrue result ↔ (IsTrue one × IsTrue other × IsTrue last) }
 {
     one && other && last
 }
 
-/// Returns whether the summaries are exactly the sums, other than 0, of the shares that the
-/// completed trades leave. Fails with `Memory` only.
+/// Returns true if the summaries of each position sum to the shares of its completed trades, and no
+/// summary has the quantity 0. Fails with `Memory` only.
 pub(crate) fn has_summaries(alloc: Global, sheets: &Sheets) -> Result<bool, Fault>
     requires form { HasForm sheets.now }
     requires status { HasStatuses sheets.now }

@@ -9,14 +9,14 @@ use brk_money::Fault;
 use std::alloc::Global;
 use std::collections::BTreeMap;
 
-/// An amount that is added at a key.
+/// An amount that is added to the sum at a key.
 #[derive(Drop)]
 pub(crate) struct Posting<K> {
     pub key: K,
     pub amount: i64,
 }
 
-// Returns the sum plus one more amount.
+// Returns the sum of `sum` and `amount`.
 fn plus(sum: i128, amount: i64) -> i128
     requires room { nat_abs sum + 2 ^ 63 < 2 ^ 127 }
     ensures sum { result ≡ sum +ℤ amount }
@@ -25,7 +25,7 @@ fn plus(sum: i128, amount: i64) -> i128
     sum + i128::from(amount)
 }
 
-// Adds the posting's amount at its key.
+// Adds the amount of the posting to the sum at its key. Fails with `Memory` only.
 fn post<K: Ord + Copy>(tally: &mut BTreeMap<K, i128>, posting: &Posting<K>) -> Result<(), Fault>
     requires room { nat_abs (at_key K.cmp tally.old posting.now.key) + 2 ^ 63 < 2 ^ 127 }
     ensures more { OnOk result ((q : K) → at_key K.cmp tally.new q ≡ at_key K.cmp tally.old q +ℤ cond (is_eq (K.cmp posting.now.key q)) posting.now.amount (pos 0)) }
@@ -39,7 +39,7 @@ fn post<K: Ord + Copy>(tally: &mut BTreeMap<K, i128>, posting: &Posting<K>) -> R
     Ok(())
 }
 
-/// Returns the sum of the amounts at each key. Fails with `Memory` only.
+/// Returns a map from each key of the postings to the sum of its amounts. Fails with `Memory` only.
 pub(crate) fn tally<K: Ord + Copy>(
     alloc: Global,
     postings: &[Posting<K>],
@@ -54,7 +54,7 @@ pub(crate) fn tally<K: Ord + Copy>(
     Ok(tally)
 }
 
-/// Returns the sum at the key, or 0 if nothing was added there.
+/// Returns the sum at the key, or 0 if the map does not contain the key.
 pub(crate) fn sum_at<K: Ord + Copy>(tally: &BTreeMap<K, i128>, key: K) -> i128
     ensures { result ≡ at_key K.cmp tally.now key }
 {

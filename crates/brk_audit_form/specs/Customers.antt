@@ -5,14 +5,15 @@ use Rattle.std.specs.BTreeMap.{BTreeMap, get}
 use Rattle.std.specs.Option.{option_map_or}
 use Rattle.brk_model.specs.Tables.{Tables}
 
--- The sum at the number, or 0 if there is none.
+-- The sum at the id `q` in the map `sums`, or 0 if the map does not contain the id.
 abbrev pub sum_at : BTreeMap ℕ ℕ → ℕ → ℕ
 sum_at sums q = unwrap_or (get nat_cmp sums q) 0
 
--- The rate of the tax, or 0 if the tax does not exist.
+-- The rate of the tax rate with the id `tax`, or 0 if it does not exist.
 abbrev pub rate_in : Tables → ℕ → ℕ
 rate_in t tax = option_map_or (λ r. r.rate) (find (λ r. r.id == tax) t.tax_rates) 0
 
--- The sum of the tax rates that the customer pays.
+-- The sum of the rates of the taxes that the customer pays. A tax rate that does not exist counts
+-- 0.
 abbrev pub rates_in : Tables → ℕ → ℕ
 rates_in t customer = sum_by (λ x. rate_in t x.tax) (filter (λ x. x.customer == customer) t.customer_taxes)

@@ -66,7 +66,8 @@ trading_forms schema s =
     && list_all (λ r. holding_history_form (tables_in_sheets s) (lot_change_of r)) s.holding_history.items
     && list_all (λ r. settlement_form (tables_in_sheets s) (settlement_row_of r)) s.settlements.items
 
--- The checks that do not allocate.
+-- True if the typed rows pass those checks of the condition `Form` that do not allocate: all but
+-- those of tax ids, of the limits of customers, and of cash rows.
 abbrev pub plain_form : Schema → Sheets → Bool
 plain_form schema s =
     has_keys (tables_in_sheets s) && reference_forms schema s && option_map_or (λ last. nat_le last last_stamp) s.last true && trading_forms schema s

@@ -6,14 +6,14 @@ use Rattle.std.specs.Ordering.{nat_cmp, ordering_then}
 use Rattle.std.specs.Cmp.Lexicographic.{slice_cmp}
 use Rattle.brk_model.specs.Keys.{KeyPart, number, word}
 
--- The order of two parts of a key. A number is before a text.
+-- The order of two parts of a key: numbers by size, texts by bytes, and a number before a text.
 abbrev pub part_cmp : KeyPart → KeyPart → Ordering
 part_cmp (number m) (number n) = nat_cmp m n
 part_cmp (word s) (word t) = slice_cmp nat_cmp s t
 part_cmp (number m) (word t) = Less
 part_cmp (word s) (number n) = Greater
 
--- The order of two keys: that of the first parts that differ.
+-- The lexicographic order of two keys.
 abbrev pub key_cmp : List KeyPart → List KeyPart → Ordering
 key_cmp [] [] = Equal
 key_cmp [] (k ∷ ks) = Less

@@ -8,8 +8,9 @@ ghost use Rattle.brk_ref.specs.Records.{band_of};
 use brk_changes::Schema;
 use brk_ref::{Band, share_quantity};
 
-/// Returns whether no two bands share a quantity. It compares neighbours only: the bands are sorted
-/// by key, and the bounds of each are sorted too.
+/// Returns true if no two bands of a tier, a type and an exchange share a quantity. Compares
+/// neighbours only, since the bands are sorted by key and the bounds of each are in ascending
+/// order.
 pub(crate) fn are_apart(schema: Schema, bands: &[Band]) -> bool
     requires keys { IsTrue (form.rises band_key (map band_of bands.now)) }
     requires bounds { IsTrue (list_all (form.band_form (schema_of schema)) (map band_of bands.now)) }

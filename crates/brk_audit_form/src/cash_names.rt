@@ -28,15 +28,15 @@ fn security_name<'a>(sheets: &'a Sheets, symbol: &Symbol) -> &'a str
     }
 }
 
-// Appends a space, the quantity and `words`.
+// Appends a space, the quantity and `words`. Fails if an allocation is refused.
 fn add_shares(name: &mut String, qty: Qty, words: &str) -> Result<(), AllocError>
     ensures { OnOk result (string_bytes name.new ≡ string_bytes name.old ++ (32 ∷ decimal qty ++ words.now)) }
 {
     write!(name, " {}{}", qty.get(), words)
 }
 
-// Returns the cash text of the trade, with `words` between its quantity and the name of its
-// security.
+// Returns the cash text of the trade: its type, its quantity, `words` and the name `security`.
+// Fails with `Memory` only.
 fn cash_name(alloc: Global, trade: &TradeRow, words: &str, security: &str) -> Result<String, Fault>
     ensures name { IfOk result (λ name. string_bytes name ≡ type_name trade.now.kind ++ 32 ∷ decimal trade.now.qty ++ words.now ++ security.now) }
     ensures fault { IfErr result (λ fault. fault ≡ Memory) }
@@ -47,7 +47,7 @@ fn cash_name(alloc: Global, trade: &TradeRow, words: &str, security: &str) -> Re
     Ok(name)
 }
 
-// Returns whether the name is one of the two texts of the trade's cash row.
+// Returns true if the name is one of the two cash texts of the trade. Fails with `Memory` only.
 fn is_name_of(alloc: Global, sheets: &Sheets, trade: &TradeRow, name: &str) -> Result<bool, Fault>
     requires { HasKeys sheets.now }
     ensures told { IfOk result (λ holds. holds ≡ form.is_cash_name (tables_in_sheets sheets.now) name.now (trade_row_of trade.now)) }
@@ -62,8 +62,8 @@ fn is_name_of(alloc: Global, sheets: &Sheets, trade: &TradeRow, name: &str) -> R
     Ok(name == second.as_str())
 }
 
-// Returns whether the name is one of the two texts of this trade's cash row; false if the trade
-// does not exist.
+// Returns true if the trade exists and the name is one of its two cash texts. Fails with `Memory`
+// only.
 fn is_name_of_trade(alloc: Global, sheets: &Sheets, id: Id, name: &str) -> Result<bool, Fault>
     requires { HasKeys sheets.now }
     ensures told { IfOk result (λ holds. holds ≡ option_map_or (form.is_cash_name (tables_in_sheets sheets.now) name.now) (trade_in (tables_in_sheets sheets.now) id) false) }
@@ -75,7 +75,7 @@ fn is_name_of_trade(alloc: Global, sheets: &Sheets, id: Id, name: &str) -> Resul
     is_name_of(alloc, sheets, trade, name)
 }
 
-// Returns whether a row of CASH_TRANSACTION is well-formed.
+// Returns true if the row of CASH_TRANSACTION is well-formed. Fails with `Memory` only.
 fn is_cash_row(alloc: Global, sheets: &Sheets, row: &CashRow) -> Result<bool, Fault>
     requires { HasKeys sheets.now }
     ensures told { IfOk result (λ holds. holds ≡ form.cash_form (tables_in_sheets sheets.now) (cash_row_of row.now)) }
@@ -85,15 +85,16 @@ fn is_cash_row(alloc: Global, sheets: &Sheets, row: &CashRow) -> Result<bool, Fa
     Ok(is_named && is_stamp(sheets, row.stamp) && is_balance(row.amount))
 }
 
-// Returns whether this is a deposit with an amount above 0, or a withdrawal with one below 0.
+// Returns true if the name is "Deposit" and the amount is above 0, or the name is "Withdrawal" and
+// the amount is below 0.
 fn is_movement(name: &str, amount: Cents) -> bool
     ensures { result ≡ form.is_movement name.now amount }
 {
     (name == "Deposit" && 0 < amount.get()) || (name == "Withdrawal" && amount.get() < 0)
 }
 
-// Returns whether the name of a row of CASH_MOVE is one of the two of its trade or, if it has no
-// trade, fits the sign of its amount.
+// Returns true if the name of the row is one of the two cash texts of its trade or, if it has no
+// trade, fits the sign of its amount. Fails with `Memory` only.
 fn is_named(alloc: Global, sheets: &Sheets, row: &MoveRow) -> Result<bool, Fault>
     requires { HasKeys sheets.now }
     ensures told { IfOk result (λ holds. holds
@@ -106,7 +107,7 @@ fn is_named(alloc: Global, sheets: &Sheets, row: &MoveRow) -> Result<bool, Fault
     }
 }
 
-// Returns whether a row of CASH_MOVE is well-formed.
+// Returns true if the row of CASH_MOVE is well-formed. Fails with `Memory` only.
 fn is_move_row(alloc: Global, sheets: &Sheets, row: &MoveRow) -> Result<bool, Fault>
     requires { HasKeys sheets.now }
     ensures told { IfOk result (λ holds. holds ≡ form.move_form (tables_in_sheets sheets.now) (move_row_of row.now)) }
@@ -122,7 +123,7 @@ fn is_move_row(alloc: Global, sheets: &Sheets, row: &MoveRow) -> Result<bool, Fa
     )
 }
 
-/// Returns whether each row of CASH_TRANSACTION is well-formed. Fails with `Memory` only.
+/// Returns true if each row of CASH_TRANSACTION is well-formed. Fails with `Memory` only.
 pub(crate) fn are_cash_rows(alloc: Global, sheets: &Sheets) -> Result<bool, Fault>
     requires { HasKeys sheets.now }
     ensures told { IfOk result (λ holds. holds ≡ list_all (form.cash_form (tables_in_sheets sheets.now)) (map cash_row_of sheets.now.cash.items)) }
@@ -137,7 +138,7 @@ pub(crate) fn are_cash_rows(alloc: Global, sheets: &Sheets) -> Result<bool, Faul
     Ok(true)
 }
 
-/// Returns whether each row of CASH_MOVE is well-formed. Fails with `Memory` only.
+/// Returns true if each row of CASH_MOVE is well-formed. Fails with `Memory` only.
 pub(crate) fn are_move_rows(alloc: Global, sheets: &Sheets) -> Result<bool, Fault>
     requires { HasKeys sheets.now }
     ensures told { IfOk result (λ holds. holds ≡ list_all (form.move_form (tables_in_sheets sheets.now)) (map move_row_of sheets.now.moves.items)) }

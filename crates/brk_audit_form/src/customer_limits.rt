@@ -17,7 +17,7 @@ use std::collections::BTreeMap;
 // The greatest number of accounts of a customer.
 const MOST_ACCOUNTS: u128 = 10;
 
-// Adds to the sum of the customer.
+// Adds `more` to the sum of the customer. Fails with `Memory` only.
 fn add(sums: &mut BTreeMap<u64, u128>, customer: Id, more: u32) -> Result<(), Fault>
     requires room { sum_at sums.old customer + 2 ^ 32 < 2 ^ 128 }
     ensures more { OnOk result ((q : ℕ) → sum_at sums.new q ≡ sum_at sums.old q + cond (customer == q) more 0) }
@@ -29,7 +29,7 @@ fn add(sums: &mut BTreeMap<u64, u128>, customer: Id, more: u32) -> Result<(), Fa
     Ok(())
 }
 
-// Returns the number of accounts of each customer.
+// Returns a map from each customer to the number of its accounts. Fails with `Memory` only.
 fn count_accounts(alloc: Global, accounts: &[AccountRow]) -> Result<BTreeMap<u64, u128>, Fault>
     ensures counts { IfOk result (λ counts. (q : ℕ) → sum_at counts q ≡ length (filter (λ a. a.account.customer == q) accounts.now)) }
     ensures fault { IfErr result (λ fault. fault ≡ Memory) }
@@ -41,7 +41,7 @@ fn count_accounts(alloc: Global, accounts: &[AccountRow]) -> Result<BTreeMap<u64
     Ok(counts)
 }
 
-// Returns the rate of the tax, or 0 if it does not exist.
+// Returns the rate of the tax rate, or 0 if it does not exist.
 fn rate_of(sheets: &Sheets, tax: Id) -> u32
     requires { HasKeys sheets.now }
     ensures rate { result ≡ rate_in (tables_in_sheets sheets.now) tax }
@@ -53,7 +53,7 @@ fn rate_of(sheets: &Sheets, tax: Id) -> u32
     }
 }
 
-// Returns the sum of the tax rates that each customer pays.
+// Returns a map from each customer to the sum of the rates that it pays. Fails with `Memory` only.
 fn sum_rates(alloc: Global, sheets: &Sheets) -> Result<BTreeMap<u64, u128>, Fault>
     requires { HasKeys sheets.now }
     ensures sums { IfOk result (λ sums. (q : ℕ) → sum_at sums q ≡ rates_in (tables_in_sheets sheets.now) q) }
@@ -67,7 +67,7 @@ fn sum_rates(alloc: Global, sheets: &Sheets) -> Result<BTreeMap<u64, u128>, Faul
     Ok(sums)
 }
 
-// Returns whether the customer is within both limits.
+// Returns true if the customer's number of accounts and sum of rates are within their limits.
 fn is_within(counts: &BTreeMap<u64, u128>, sums: &BTreeMap<u64, u128>, customer: &Customer) -> bool
     ensures { result ≡ (nat_le (sum_at counts.now customer.now.id) limits.most_accounts && nat_le (sum_at sums.now customer.now.id) limits.greatest_tax_rate) }
 {
@@ -77,7 +77,7 @@ fn is_within(counts: &BTreeMap<u64, u128>, sums: &BTreeMap<u64, u128>, customer:
     count <= MOST_ACCOUNTS && sum <= u128::from(TaxRate::GREATEST)
 }
 
-// Returns whether each customer is within both limits.
+// Returns true if each customer's number of accounts and sum of rates are within their limits.
 fn all_within(
     counts: &BTreeMap<u64, u128>,
     sums: &BTreeMap<u64, u128>,
@@ -90,8 +90,8 @@ fn all_within(
         .all(|customer| is_within(counts, sums, customer))
 }
 
-/// Returns whether each customer has at most ten accounts, and pays at most the greatest tax rate
-/// in all. Fails with `Memory` only.
+/// Returns true if each customer has at most 10 accounts, and pays at most the greatest tax rate in
+/// total. Fails with `Memory` only.
 pub(crate) fn are_within(alloc: Global, sheets: &Sheets) -> Result<bool, Fault>
     requires { HasKeys sheets.now }
     ensures told { IfOk result (λ holds. holds ≡ list_all (form.customer_limits (tables_in_sheets sheets.now)) (tables_in_sheets sheets.now).customers) }

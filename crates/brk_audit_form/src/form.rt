@@ -20,7 +20,7 @@ use brk_changes::{Schema, Sheets};
 use brk_money::{Day, Fault, Stamp};
 use std::alloc::Global;
 
-// Returns whether the last stamp, if there is one, is within the calendar.
+// Returns true if there is no last stamp, or if it is within the calendar.
 fn is_last(last: Option<Stamp>) -> bool
     ensures { result ≡ option_map_or (λ last. nat_le last last_stamp) last true }
 {
@@ -30,7 +30,7 @@ fn is_last(last: Option<Stamp>) -> bool
     }
 }
 
-// Returns whether the settlement day, if one is set, is within the calendar.
+// Returns true if no settlement day is set, or if it is within the calendar.
 fn is_rule(rule: Option<Day>) -> bool
     ensures { result ≡ option_map_or (λ day. nat_le day last_day) rule true }
 {
@@ -40,16 +40,17 @@ fn is_rule(rule: Option<Day>) -> bool
     }
 }
 
-// Returns whether the tables that a schema lacks have no rows.
+// Returns true if the tables that the schema does not have are empty: CASH_MOVE and the settlement
+// day.
 fn fits(schema: Schema, sheets: &Sheets) -> bool
     ensures { result ≡ lacks_later_rows (schema_of schema) (tables_in_sheets sheets.now) }
 {
     (schema.has_moves() || sheets.moves.is_empty()) && (schema.has_rule() || sheets.rule.is_none())
 }
 
-// Runs the checks that do not allocate: the keys, the forms of the rows except the cash rows, the
-// bands, the numbers of the trades, the number of movements, the last stamp, the settlement day,
-// and the tables that the schema lacks.
+// Returns true if the rows pass the checks of `Form` that do not allocate: of the keys, of the
+// columns except those of cash rows, of bands, of the numbers of trades and movements, of the last
+// stamp, of the settlement day, and of the tables that the schema does not have.
 fn has_plain_form(schema: Schema, sheets: &Sheets) -> bool
     ensures { result ≡ plain_form (schema_of schema) sheets.now }
 {
@@ -68,8 +69,9 @@ fn has_plain_form(schema: Schema, sheets: &Sheets) -> bool
         && fits(schema, sheets)
 }
 
-/// Returns whether the rows meet the condition `Form` of `schema`: each is well-formed and within
-/// the limits of the schema, whatever it names exists, and no key occurs twice.
+/// Returns true if the rows satisfy the condition `Form` of `schema`: each row is well-formed and
+/// within the limits of the schema, each record that a row refers to exists, and no key occurs
+/// twice.
 ///
 /// Fails with `Memory` only.
 pub fn has_form(alloc: Global, schema: Schema, sheets: &Sheets) -> Result<bool, Fault>

@@ -9,7 +9,7 @@ use brk_money::Id;
 use brk_ref::{Form, Text};
 use std::cmp::Ordering;
 
-/// A row with a key.
+/// A row with a sort key.
 pub(crate) trait Keyed {
     ghost key: { Self → List KeyPart };
 
@@ -18,7 +18,7 @@ pub(crate) trait Keyed {
         ensures { result ≡ key_cmp (key self.now) (key other.now) };
 }
 
-/// Compares two ids.
+/// Compares two ids by size.
 pub(crate) fn compare_ids(one: Id, other: Id) -> Ordering
     ensures { result ≡ nat_cmp one other }
 {
@@ -32,7 +32,7 @@ pub(crate) fn compare_texts<F: Form>(one: &Text<F>, other: &Text<F>) -> Ordering
     one.as_str().cmp(other.as_str())
 }
 
-/// Returns whether the rows are sorted by key, and no key occurs twice.
+/// Returns true if the rows are sorted by key, and no key occurs twice.
 pub(crate) fn rises<R: Keyed>(rows: &[R]) -> bool
     ensures { result ≡ form.rises R.key rows.now }
 {

@@ -8,63 +8,63 @@ use brk_changes::{Schema, Sheets};
 use brk_money::{Amount, Cents, Id, MoveId, Price, Qty, Stamp};
 use brk_ref::{ChargeAmount, Form, Text, Tier};
 
-/// Returns whether the id is within its limits.
+/// Returns true if the id is within its limits.
 pub(crate) fn is_id(id: Id) -> bool
     ensures { result ≡ form.is_id id }
 {
     1 <= id.get() && id.get() <= Id::GREATEST
 }
 
-/// Returns whether the number of a cash row is within its limits.
+/// Returns true if the number of a cash row is within its limits.
 pub(crate) fn is_move_id(id: MoveId) -> bool
     ensures { result ≡ form.is_move_id id }
 {
     1 <= id.get() && id.get() <= MoveId::GREATEST
 }
 
-/// Returns whether a quantity is within the limits of a schema.
+/// Returns true if the quantity is within the limits of the schema.
 pub(crate) fn is_qty(schema: Schema, qty: Qty) -> bool
     ensures { result ≡ form.is_qty (schema_of schema) qty }
 {
     1 <= qty.get() && qty.get() <= schema.greatest_qty()
 }
 
-/// Returns whether the price is within its limits.
+/// Returns true if the price is within its limits.
 pub(crate) fn is_price(price: Price) -> bool
     ensures { result ≡ form.is_price price }
 {
     1 <= price.get() && price.get() <= Price::GREATEST
 }
 
-/// Returns whether the tier is within its limits.
+/// Returns true if the customer tier is within its limits.
 pub(crate) fn is_tier(tier: Tier) -> bool
     ensures { result ≡ form.is_tier tier }
 {
     1 <= tier.get() && tier.get() <= 3
 }
 
-/// Returns whether the signed amount is within its limits, in cents.
+/// Returns true if the signed amount is within its limits.
 pub(crate) fn is_balance(cents: Cents) -> bool
     ensures { result ≡ form.is_amount cents }
 {
     cents.get().unsigned_abs() <= Cents::GREATEST
 }
 
-/// Returns whether the unsigned amount is within its limit, in cents.
+/// Returns true if the unsigned amount is within its limit.
 pub(crate) fn is_amount(amount: Amount) -> bool
     ensures { result ≡ nat_le amount limits.greatest_amount }
 {
     amount.get() <= Amount::GREATEST
 }
 
-/// Returns whether the charge is within its limit.
+/// Returns true if the charge is within its limit.
 pub(crate) fn is_charge(charge: ChargeAmount) -> bool
     ensures { result ≡ nat_le charge limits.greatest_charge }
 {
     charge.get() <= ChargeAmount::GREATEST
 }
 
-/// Returns whether the stamp is at most the last stamp; false if there is no last stamp.
+/// Returns true if the stamp is at most the last stamp. Returns false if there is no last stamp.
 pub(crate) fn is_stamp(sheets: &Sheets, stamp: Stamp) -> bool
     ensures { result ≡ form.is_stamp (tables_in_sheets sheets.now) stamp }
 {
@@ -74,7 +74,7 @@ pub(crate) fn is_stamp(sheets: &Sheets, stamp: Stamp) -> bool
     stamp.get() <= last.get()
 }
 
-/// Returns whether the text is well-formed.
+/// Returns true if the text is well-formed.
 pub(crate) fn is_text<F: Form>(text: &Text<F>) -> bool
     ensures { result ≡ F.form text.now }
 {

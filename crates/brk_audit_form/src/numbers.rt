@@ -6,7 +6,7 @@ ghost use Rattle.brk_model.specs.Limits.{greatest_id};
 use brk_changes::{MoveRow, TradeRow};
 use brk_money::Id;
 
-/// Returns whether the trades are numbered from 1 without a gap.
+/// Returns true if the trades are numbered from 1 without a gap.
 pub(crate) fn are_numbered(trades: &[TradeRow]) -> bool
     ensures { result ≡ form.same_numbers (map (λ row. row.id) trades.now) (range_with_len 1 (length trades.now)) }
 {
@@ -18,7 +18,7 @@ pub(crate) fn are_numbered(trades: &[TradeRow]) -> bool
     true
 }
 
-/// Returns whether there are at most `Id::GREATEST` deposits and withdrawals.
+/// Returns true if there are at most `Id::GREATEST` deposits and withdrawals in total.
 pub(crate) fn are_within_movement_limit(moves: &[MoveRow]) -> bool
     ensures { result ≡ nat_le (length (filter (λ r. is_none r.trade) moves.now)) greatest_id }
 {

@@ -12,8 +12,8 @@ use brk_money::{Fault, Id};
 use std::alloc::Global;
 use std::collections::BTreeSet;
 
-// Adds the trade of a cash row to `seen`. Returns false if it was seen before, otherwise true; a
-// row without a trade adds nothing.
+// Inserts the trade of a cash row into `seen`, if the row has one. Returns false if the trade was
+// in the set before, otherwise true. Fails with `Memory` only.
 fn is_new(seen: &mut BTreeSet<u64>, trade: Option<Id>) -> Result<bool, Fault>
     ensures new { IfOk result (λ new. new ≡ not (option_map_or (λ id. contains nat_cmp seen.old id) trade false)) }
     ensures seen { OnOk result ((q : ℕ) → contains nat_cmp seen.new q ≡ contains nat_cmp seen.old q || option_map_or (λ id. id == q) trade false) }
@@ -26,7 +26,7 @@ fn is_new(seen: &mut BTreeSet<u64>, trade: Option<Id>) -> Result<bool, Fault>
     Ok(new)
 }
 
-/// Returns whether no trade has two rows of CASH_MOVE. Fails with `Memory` only.
+/// Returns true if no trade has two rows of CASH_MOVE. Fails with `Memory` only.
 pub(crate) fn has_distinct_trades(alloc: Global, moves: &[MoveRow]) -> Result<bool, Fault>
     ensures told { IfOk result (λ own. own ≡ all_distinct (trades_moved (map move_row_of moves.now))) }
     ensures fault { IfErr result (λ fault. fault ≡ Memory) }

@@ -16,6 +16,7 @@ use brk_ref::{
 impl Formed for Kept {
     ghost form = { λ schema tables row. form.kept_form (of.kept_of row) };
 
+    // Returns true if the batch name and the row number of the key are well-formed.
     fn is_formed(&self, _schema: Schema, _sheets: &Sheets) -> bool {
         is_text(&self.key.batch)
             && 1 <= self.key.row.get()
@@ -26,6 +27,8 @@ impl Formed for Kept {
 impl Formed for BrokerRow {
     ghost form = { λ schema tables row. form.broker_form (of.broker_row_of row) };
 
+    // Returns true if the id and the name are well-formed, and the commission total is within the
+    // limit.
     fn is_formed(&self, _schema: Schema, _sheets: &Sheets) -> bool {
         is_id(self.broker.id) && is_text(&self.broker.name) && self.commissions <= Amount::GREATEST
     }
@@ -34,6 +37,7 @@ impl Formed for BrokerRow {
 impl Formed for Customer {
     ghost form = { λ schema tables row. form.customer_form (of.customer_of row) };
 
+    // Returns true if the id, the tier, the tax id and both names are well-formed.
     fn is_formed(&self, _schema: Schema, _sheets: &Sheets) -> bool {
         is_id(self.id)
             && is_tier(self.tier)
@@ -46,6 +50,8 @@ impl Formed for Customer {
 impl Formed for AccountRow {
     ghost form = { λ schema tables row. form.account_form tables (of.account_row_of row) };
 
+    // Returns true if the id, the name and both amounts are well-formed, and the customer and the
+    // broker exist.
     fn is_formed(&self, _schema: Schema, sheets: &Sheets) -> bool {
         is_id(self.account.id)
             && has_customer(sheets, self.account.customer)
@@ -59,6 +65,8 @@ impl Formed for AccountRow {
 impl Formed for Permission {
     ghost form = { λ schema tables row. form.permission_form tables (of.permission_of row) };
 
+    // Returns true if the access control list, the tax id and both names are well-formed, and the
+    // account exists.
     fn is_formed(&self, _schema: Schema, sheets: &Sheets) -> bool {
         has_account(sheets, self.account)
             && is_text(&self.acl)
@@ -71,6 +79,7 @@ impl Formed for Permission {
 impl Formed for Security {
     ghost form = { λ schema tables row. form.security_form tables (of.security_of row) };
 
+    // Returns true if the four texts are well-formed, and the symbol has a row of LAST_TRADE.
     fn is_formed(&self, _schema: Schema, sheets: &Sheets) -> bool {
         is_text(&self.symbol)
             && is_text(&self.name)
@@ -83,6 +92,8 @@ impl Formed for Security {
 impl Formed for LastTrade {
     ghost form = { λ schema tables row. form.last_trade_form tables (of.last_trade_of row) };
 
+    // Returns true if the security exists, and the stamp, the price and the volume are within their
+    // limits.
     fn is_formed(&self, _schema: Schema, sheets: &Sheets) -> bool {
         has_security(sheets, &self.symbol)
             && is_stamp(sheets, self.stamp)
@@ -94,6 +105,7 @@ impl Formed for LastTrade {
 impl Formed for Charge {
     ghost form = { λ schema tables row. form.charge_form (of.charge_of row) };
 
+    // Returns true if the tier and the amount are within their limits.
     fn is_formed(&self, _schema: Schema, _sheets: &Sheets) -> bool {
         is_tier(self.tier) && is_charge(self.amount)
     }
@@ -102,6 +114,8 @@ impl Formed for Charge {
 impl Formed for Band {
     ghost form = { λ schema tables row. form.band_form schema (of.band_of row) };
 
+    // Returns true if the tier, the exchange, both bounds and the rate are well-formed, and the
+    // lower bound is at most the upper.
     fn is_formed(&self, schema: Schema, _sheets: &Sheets) -> bool {
         is_tier(self.tier)
             && is_text(&self.exchange)
@@ -115,6 +129,7 @@ impl Formed for Band {
 impl Formed for Tax {
     ghost form = { λ schema tables row. form.tax_rate_form (of.tax_of row) };
 
+    // Returns true if the id, the name and the rate are well-formed.
     fn is_formed(&self, _schema: Schema, _sheets: &Sheets) -> bool {
         is_id(self.id) && is_text(&self.name) && self.rate.get() <= TaxRate::GREATEST
     }
@@ -123,6 +138,7 @@ impl Formed for Tax {
 impl Formed for CustomerTax {
     ghost form = { λ schema tables row. form.customer_tax_form tables (of.customer_tax_of row) };
 
+    // Returns true if the customer and the tax rate exist.
     fn is_formed(&self, _schema: Schema, sheets: &Sheets) -> bool {
         has_customer(sheets, self.customer) && has_tax(sheets, self.tax)
     }

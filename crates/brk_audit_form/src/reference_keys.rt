@@ -11,6 +11,7 @@ use std::cmp::Ordering;
 impl Keyed for Kept {
     ghost key = { λ row. keys.kept_key (of.kept_of row) };
 
+    // Compares the rows by batch name, then by row number.
     fn compare(&self, other: &Kept) -> Ordering {
         compare_texts(&self.key.batch, &other.key.batch).then(
             self.key.row.get().cmp(&other.key.row.get()),
@@ -21,6 +22,7 @@ impl Keyed for Kept {
 impl Keyed for BrokerRow {
     ghost key = { λ row. keys.broker_key (of.broker_row_of row) };
 
+    // Compares the rows by id.
     fn compare(&self, other: &BrokerRow) -> Ordering {
         compare_ids(self.broker.id, other.broker.id)
     }
@@ -29,6 +31,7 @@ impl Keyed for BrokerRow {
 impl Keyed for Customer {
     ghost key = { λ row. keys.customer_key (of.customer_of row) };
 
+    // Compares the rows by id.
     fn compare(&self, other: &Customer) -> Ordering {
         compare_ids(self.id, other.id)
     }
@@ -37,6 +40,7 @@ impl Keyed for Customer {
 impl Keyed for AccountRow {
     ghost key = { λ row. keys.account_key (of.account_row_of row) };
 
+    // Compares the rows by id.
     fn compare(&self, other: &AccountRow) -> Ordering {
         compare_ids(self.account.id, other.account.id)
     }
@@ -45,6 +49,7 @@ impl Keyed for AccountRow {
 impl Keyed for Permission {
     ghost key = { λ row. keys.permission_key (of.permission_of row) };
 
+    // Compares the rows by account, then by tax id.
     fn compare(&self, other: &Permission) -> Ordering {
         compare_ids(self.account, other.account).then(compare_texts(&self.tax_id, &other.tax_id))
     }
@@ -53,6 +58,7 @@ impl Keyed for Permission {
 impl Keyed for Security {
     ghost key = { λ row. keys.security_key (of.security_of row) };
 
+    // Compares the rows by symbol.
     fn compare(&self, other: &Security) -> Ordering {
         compare_texts(&self.symbol, &other.symbol)
     }
@@ -61,6 +67,7 @@ impl Keyed for Security {
 impl Keyed for LastTrade {
     ghost key = { λ row. keys.last_trade_key (of.last_trade_of row) };
 
+    // Compares the rows by symbol.
     fn compare(&self, other: &LastTrade) -> Ordering {
         compare_texts(&self.symbol, &other.symbol)
     }
@@ -69,6 +76,7 @@ impl Keyed for LastTrade {
 impl Keyed for Charge {
     ghost key = { λ row. keys.charge_key (of.charge_of row) };
 
+    // Compares the rows by trade type, then by tier.
     fn compare(&self, other: &Charge) -> Ordering {
         self.kind
             .code()
@@ -80,6 +88,7 @@ impl Keyed for Charge {
 impl Keyed for Band {
     ghost key = { λ row. keys.band_key (of.band_of row) };
 
+    // Compares the rows by tier, then by trade type, then by exchange, then by lower bound.
     fn compare(&self, other: &Band) -> Ordering {
         let bound = self.from_qty.get().cmp(&other.from_qty.get());
         let exchange = compare_texts(&self.exchange, &other.exchange).then(bound);
@@ -91,6 +100,7 @@ impl Keyed for Band {
 impl Keyed for Tax {
     ghost key = { λ row. keys.tax_rate_key (of.tax_of row) };
 
+    // Compares the rows by id.
     fn compare(&self, other: &Tax) -> Ordering {
         compare_ids(self.id, other.id)
     }
@@ -99,6 +109,7 @@ impl Keyed for Tax {
 impl Keyed for CustomerTax {
     ghost key = { λ row. keys.customer_tax_key (of.customer_tax_of row) };
 
+    // Compares the rows by customer, then by tax rate.
     fn compare(&self, other: &CustomerTax) -> Ordering {
         compare_ids(self.customer, other.customer).then(compare_ids(self.tax, other.tax))
     }

@@ -15,7 +15,7 @@ use brk_changes::{Sheets, TradeRow};
 use brk_money::{Id, Status};
 use brk_ref::{Security, Symbol, Tax};
 
-/// Returns whether the broker exists.
+/// Returns true if the broker exists.
 pub(crate) fn has_broker(sheets: &Sheets, id: Id) -> bool
     requires { HasKeys sheets.now }
     ensures { result ≡ form.has_broker (tables_in_sheets sheets.now) id }
@@ -27,7 +27,7 @@ pub(crate) fn has_broker(sheets: &Sheets, id: Id) -> bool
         .is_ok()
 }
 
-/// Returns whether the customer exists.
+/// Returns true if the customer exists.
 pub(crate) fn has_customer(sheets: &Sheets, id: Id) -> bool
     requires { HasKeys sheets.now }
     ensures { result ≡ form.has_customer (tables_in_sheets sheets.now) id }
@@ -39,7 +39,7 @@ pub(crate) fn has_customer(sheets: &Sheets, id: Id) -> bool
         .is_ok()
 }
 
-/// Returns whether the account exists.
+/// Returns true if the account exists.
 pub(crate) fn has_account(sheets: &Sheets, id: Id) -> bool
     requires { HasKeys sheets.now }
     ensures { result ≡ form.has_account (tables_in_sheets sheets.now) id }
@@ -51,7 +51,7 @@ pub(crate) fn has_account(sheets: &Sheets, id: Id) -> bool
         .is_ok()
 }
 
-/// Returns whether the trade exists.
+/// Returns true if the trade exists.
 pub(crate) fn has_trade(sheets: &Sheets, id: Id) -> bool
     requires { HasKeys sheets.now }
     ensures { result ≡ form.has_trade (tables_in_sheets sheets.now) id }
@@ -63,7 +63,7 @@ pub(crate) fn has_trade(sheets: &Sheets, id: Id) -> bool
         .is_ok()
 }
 
-/// Returns whether the tax rate exists.
+/// Returns true if the tax rate exists.
 pub(crate) fn has_tax(sheets: &Sheets, id: Id) -> bool
     requires { HasKeys sheets.now }
     ensures { result ≡ list_any (λ r. r.id == id) (tables_in_sheets sheets.now).tax_rates }
@@ -75,7 +75,7 @@ pub(crate) fn has_tax(sheets: &Sheets, id: Id) -> bool
         .is_ok()
 }
 
-/// Returns whether the security exists.
+/// Returns true if the security exists.
 pub(crate) fn has_security(sheets: &Sheets, symbol: &Symbol) -> bool
     requires { HasKeys sheets.now }
     ensures { result ≡ form.has_security (tables_in_sheets sheets.now) symbol.now }
@@ -86,7 +86,7 @@ pub(crate) fn has_security(sheets: &Sheets, symbol: &Symbol) -> bool
         .is_ok()
 }
 
-/// Returns whether the security has a last trade.
+/// Returns true if the symbol has a row of LAST_TRADE.
 pub(crate) fn has_last_trade(sheets: &Sheets, symbol: &Symbol) -> bool
     requires { HasKeys sheets.now }
     ensures { result ≡ list_any (λ l. bytes_eq l.symbol symbol.now) (tables_in_sheets sheets.now).last_trades }
@@ -97,7 +97,7 @@ pub(crate) fn has_last_trade(sheets: &Sheets, symbol: &Symbol) -> bool
         .is_ok()
 }
 
-/// Returns whether the trade has a completion in its history.
+/// Returns true if the trade has a completion in its history.
 pub(crate) fn has_completion(sheets: &Sheets, id: Id) -> bool
     requires { HasKeys sheets.now }
     ensures { result ≡ list_any (λ h. same_status h.status Completed) (joins.history_in (tables_in_sheets sheets.now) id) }

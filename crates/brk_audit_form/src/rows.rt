@@ -8,18 +8,19 @@ ghost use Rattle.brk_audit_form.specs.Conditions.{HasKeys};
 
 use brk_changes::{Schema, Sheets};
 
-/// A row of a table.
+/// A row of a table whose columns can be checked.
 pub(crate) trait Formed {
     ghost form: { schemas.Schema → Tables → Self → Bool };
 
-    /// Returns whether its columns are well-formed and within the limits of a schema, and whatever
-    /// it names exists.
+    /// Returns true if the columns of the row are well-formed and within the limits of the schema,
+    /// and each record that it refers to exists.
     fn is_formed(&self, schema: Schema, sheets: &Sheets) -> bool
         requires { HasKeys sheets.now }
         ensures { result ≡ form (schema_of schema) (tables_in_sheets sheets.now) self.now };
 }
 
-/// Returns whether each row is well-formed.
+/// Returns true if each row is well-formed and within the limits of the schema, and each record
+/// that it refers to exists.
 pub(crate) fn are_formed<R: Formed>(schema: Schema, sheets: &Sheets, rows: &[R]) -> bool
     requires { HasKeys sheets.now }
     ensures { result ≡ list_all (R.form (schema_of schema) (tables_in_sheets sheets.now)) rows.now }

@@ -9,7 +9,7 @@ use crate::keys::rises;
 use crate::rows::are_formed;
 use brk_changes::{Schema, Sheets};
 
-// Returns whether each table of reference data is sorted by key, and no key occurs twice.
+// Returns true if each table of reference data is sorted by key, and no key occurs twice.
 fn has_reference_keys(sheets: &Sheets) -> bool
     ensures { result ≡ reference_keys sheets.now }
 {
@@ -26,7 +26,7 @@ fn has_reference_keys(sheets: &Sheets) -> bool
         && rises(&sheets.customer_taxes)
 }
 
-// Returns whether each table of trades is sorted by key, and no key occurs twice.
+// Returns true if each table of trades is sorted by key, and no key occurs twice.
 fn has_trading_keys(sheets: &Sheets) -> bool
     ensures { result ≡ trading_keys sheets.now }
 {
@@ -41,14 +41,14 @@ fn has_trading_keys(sheets: &Sheets) -> bool
         && rises(&sheets.moves)
 }
 
-/// Returns whether each table is sorted by key, and no key occurs twice.
+/// Returns true if each table is sorted by key, and no key occurs twice.
 pub(crate) fn has_keys(sheets: &Sheets) -> bool
     ensures { result ≡ form.has_keys (tables_in_sheets sheets.now) }
 {
     has_reference_keys(sheets) && has_trading_keys(sheets)
 }
 
-/// Returns whether the rows of reference data are well-formed.
+/// Returns true if the rows of reference data are well-formed.
 pub(crate) fn has_reference_forms(schema: Schema, sheets: &Sheets) -> bool
     requires { HasKeys sheets.now }
     ensures { result ≡ reference_forms (schema_of schema) sheets.now }
@@ -66,7 +66,8 @@ pub(crate) fn has_reference_forms(schema: Schema, sheets: &Sheets) -> bool
         && are_formed(schema, sheets, &sheets.customer_taxes)
 }
 
-/// Returns whether the rows of trades are well-formed; cash rows are not checked.
+/// Returns true if the rows of trades are well-formed. Rows of CASH_TRANSACTION and CASH_MOVE are
+/// not checked.
 pub(crate) fn has_trading_forms(schema: Schema, sheets: &Sheets) -> bool
     requires { HasKeys sheets.now }
     ensures { result ≡ trading_forms (schema_of schema) sheets.now }

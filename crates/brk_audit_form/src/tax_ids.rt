@@ -8,7 +8,7 @@ use brk_ref::Customer;
 use std::alloc::Global;
 use std::collections::BTreeSet;
 
-/// Returns whether no two customers have one tax id. Fails with `Memory` only.
+/// Returns true if no two customers have the same tax id. Fails with `Memory` only.
 pub(crate) fn has_own_tax_ids(alloc: Global, customers: &[Customer]) -> Result<bool, Fault>
     ensures told { IfOk result (λ holds. holds ≡ form.distinct_tax_ids (map customer_of customers.now)) }
     ensures fault { IfErr result (λ fault. fault ≡ Memory) }

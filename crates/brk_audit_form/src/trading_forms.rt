@@ -19,7 +19,8 @@ use brk_changes::{
 };
 use brk_money::{Day, Stamp, Status};
 
-// Returns whether the trade has a well-formed price if it is completed, and no price otherwise.
+// Returns true if the trade has a completion in its history and a well-formed price, or neither a
+// completion nor a price.
 fn has_its_price(sheets: &Sheets, row: &TradeRow) -> bool
     requires { HasKeys sheets.now }
     ensures { result ≡ form.price_form (tables_in_sheets sheets.now) (of.trade_row_of row.now) }
@@ -30,14 +31,16 @@ fn has_its_price(sheets: &Sheets, row: &TradeRow) -> bool
     }
 }
 
-// Returns whether a completion has its settlement day within the calendar; true for other statuses.
+// Returns true if the due day of a completion at `stamp` is within the calendar, by the settlement
+// day `rule`. Returns true for other statuses.
 fn settles(rule: Option<Day>, status: Status, stamp: Stamp) -> bool
     ensures { result ≡ (not (same_status status Completed) || nat_le (derived.due_after rule stamp) last_day) }
 {
     status != Status::Completed || due_after(rule, stamp).is_some()
 }
 
-// Returns whether the settlement text is one of the two of its kind of trade.
+// Returns true if the settlement text is one of the two texts of a cash trade, or of a margin trade
+// if `is_cash` is false.
 fn is_word_of(is_cash: bool, word: CashType) -> bool
     ensures { result ≡ form.is_cash_type is_cash (of.cash_type_word word) }
 {
@@ -50,6 +53,8 @@ fn is_word_of(is_cash: bool, word: CashType) -> bool
 impl Formed for TradeRow {
     ghost form = { λ schema tables row. form.trade_form schema tables (of.trade_row_of row) };
 
+    // Returns true if the numbers and the stamp are within their limits, the account and the
+    // security exist, and it has a price if and only if it has a completion.
     fn is_formed(&self, schema: Schema, sheets: &Sheets) -> bool {
         is_id(self.id)
             && is_stamp(sheets, self.stamp)
@@ -67,6 +72,8 @@ impl Formed for TradeRow {
 impl Formed for HistoryRow {
     ghost form = { λ schema tables row. form.history_form tables (of.history_row_of row) };
 
+    // Returns true if the trade exists, and the stamp and the due day of a completion are within
+    // their limits.
     fn is_formed(&self, _schema: Schema, sheets: &Sheets) -> bool {
         has_trade(sheets, self.trade)
             && is_stamp(sheets, self.stamp)
@@ -77,6 +84,8 @@ impl Formed for HistoryRow {
 impl Formed for RequestRow {
     ghost form = { λ schema tables row. form.request_form schema tables (of.request_row_of row) };
 
+    // Returns true if the quantity and the bid are within their limits, and the trade, the security
+    // and the broker exist.
     fn is_formed(&self, schema: Schema, sheets: &Sheets) -> bool {
         has_trade(sheets, self.trade)
             && has_security(sheets, &self.symbol)
@@ -89,6 +98,8 @@ impl Formed for RequestRow {
 impl Formed for HoldingRow {
     ghost form = { λ schema tables row. form.holding_form tables (of.holding_row_of row) };
 
+    // Returns true if the stamp and the price are within their limits, and the trade, the account
+    // and the security exist.
     fn is_formed(&self, _schema: Schema, sheets: &Sheets) -> bool {
         has_trade(sheets, self.trade)
             && has_account(sheets, self.account)
@@ -101,6 +112,8 @@ impl Formed for HoldingRow {
 impl Formed for SummaryRow {
     ghost form = { λ schema tables row. form.summary_form schema tables (of.summary_row_of row) };
 
+    // Returns true if the account and the security exist, and the quantity is within the limit of
+    // the schema.
     fn is_formed(&self, schema: Schema, sheets: &Sheets) -> bool {
         has_account(sheets, self.account)
             && has_security(sheets, &self.symbol)
@@ -111,6 +124,7 @@ impl Formed for SummaryRow {
 impl Formed for LotChange {
     ghost form = { λ schema tables row. form.holding_history_form tables (of.lot_change_of row) };
 
+    // Returns true if the trade of the lot and the trade that changed it exist.
     fn is_formed(&self, _schema: Schema, sheets: &Sheets) -> bool {
         has_trade(sheets, self.lot) && has_trade(sheets, self.trade)
     }
@@ -119,6 +133,8 @@ impl Formed for LotChange {
 impl Formed for SettlementRow {
     ghost form = { λ schema tables row. form.settlement_form tables (of.settlement_row_of row) };
 
+    // Returns true if the trade exists, the text fits the kind of trade, and the due day and the
+    // amount are within their limits.
     fn is_formed(&self, _schema: Schema, sheets: &Sheets) -> bool {
         let Some(trade) = find_trade(sheets, self.trade) else {
             return false;

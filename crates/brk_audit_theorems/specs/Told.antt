@@ -7,11 +7,11 @@ use Rattle.brk_model.specs.Keys.{KeyPart, number, word, by_key, band_key, charge
 use Rattle.brk_model.specs.Base.{Base, is_completed}
 use Rattle.brk_model.specs.Ways.{is_rising, is_valid_sequence}
 
--- The stamps of the trade's statuses are in ascending order.
+-- The stamps of the trade's status changes are in strictly ascending order.
 abbrev pub StampsRise : Trade → Type 0
 StampsRise t = is_rising (map (λ m. m.stamp) t.marks) ≡ true
 
--- The statuses of the trade are a valid status sequence.
+-- The statuses of the trade's history form a valid status sequence.
 abbrev pub HasValidTransitions : Trade → Type 0
 HasValidTransitions t = is_valid_sequence (map (λ m. m.status) t.marks) ≡ true
 
@@ -21,27 +21,28 @@ pub record HasNoStrayTexts (t : Trade) : Type 0 where
   pub settled : is_completed t ≡ false → t.cash_type ≡ []
   pub moved : is_completed t && t.is_cash ≡ false → t.cash_name ≡ []
 
--- The trades have valid histories and no stray texts, and the movements are in ascending order of
--- their stamps.
+-- Each trade has a valid status sequence in ascending order of stamps and no stray texts, and the
+-- movements are in ascending order of stamps.
 pub record HasValidHistories (base : Base) : Type 0 where
   pub stamps : AllByRecursion StampsRise base.trades
   pub ways : AllByRecursion HasValidTransitions base.trades
   pub words : AllByRecursion HasNoStrayTexts base.trades
   pub movements : is_rising (map (λ m. m.stamp) base.movements) ≡ true
 
--- The key of a broker.
+-- The sort key of a broker: its id.
 abbrev pub broker_id : Broker → List KeyPart
 broker_id b = number b.id ∷ []
 
--- The key of an account.
+-- The sort key of an account: its id.
 abbrev pub account_id : Account → List KeyPart
 account_id a = number a.id ∷ []
 
--- The key of a security.
+-- The sort key of a security: its symbol.
 abbrev pub symbol_key : Security → List KeyPart
 symbol_key s = word s.symbol ∷ []
 
--- The base with its reference records and stored replies sorted by key. Trades keep their order.
+-- The base with its reference records and stored replies sorted by key. Its trades and movements
+-- are unchanged.
 abbrev pub sorted : Base → Base
 sorted b = record b {
   brokers = by_key broker_id b.brokers;

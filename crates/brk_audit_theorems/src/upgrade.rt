@@ -10,17 +10,17 @@ ghost use Rattle.brk_model.specs.Sheets.{sheets};
 ghost use Rattle.brk_audit_theorems.specs.Upgrade.{AreUpgradedRows, IsNarrower};
 ghost use Rattle.brk_audit_theorems.specs.Passing.{Passes};
 
-/// Proves that rows that pass the audit of an older schema, by its own limits, are upgraded to the
-/// tables of the base that they describe, and that these pass in the third schema.
+/// Proves that rows that pass the audit of a schema, whose limits are no greater than those of the
+/// third, are upgraded to the tables of the base that they describe. The upgraded rows pass the
+/// audit of the third schema. The first and the second schema are such schemas.
 pub fn upgraded_rows_are_tables()
     ensures first { (rows : Tables) → Passes first_schema rows → AreUpgradedRows rows }
     ensures second { (rows : Tables) → Passes second_schema rows → AreUpgradedRows rows }
     ensures narrower { (schema : Schema) (rows : Tables) → IsNarrower schema → Passes schema rows → AreUpgradedRows rows }
 {}
 
-/// Proves that the upgrade from a schema whose rows pass results in the upgraded rows, which are
-/// the tables of the base that the rows describe. Rows of a schema that numbers its cash rows are
-/// unchanged by the upgrade.
+/// Proves that the upgrade from a schema whose audit the rows pass equals the function `upgraded`
+/// of the rows, and is the tables of the base that the rows describe.
 pub fn rows_upgraded_from_a_schema_are_tables()
     ensures same { (schema : Schema) (rows : Tables) → Passes schema rows → upgraded_from schema rows ≡ upgraded rows }
     ensures tables { (schema : Schema) (rows : Tables) → Passes schema rows → upgraded_from schema rows ≡ sheets (base_of rows) }

@@ -12,51 +12,54 @@ use Rattle.brk_batch_engine.specs.Script.{MakesCall}
 use Rattle.brk_batch_engine.specs.declared.answer.RowAnswer.{RowAnswer}
 use Rattle.brk_batch_engine.specs.declared.answer.RowAnswer.TheVariants as given
 
--- The model's answer of an answer, where `reply` gives the model's reply of a reply.
+-- The model's answer that a row's answer represents; `reply` maps a reply to the model's reply.
 abbrev pub answer_in_model : {R : Type 0} → (R → Reply) → RowAnswer R → Answer
 answer_in_model reply (given.Done told) = Done (reply told)
 answer_in_model reply (given.Again line) = Again (string_bytes line)
 answer_in_model reply (given.Refused refusal) = Refused refusal
 
--- The model's outcome of a call with a row, where `reply` gives the model's reply of a reply.
+-- The model's outcome that the result of a row's call represents: its answer or its fault; `reply`
+-- maps a reply to the model's reply.
 abbrev pub outcome_in_model : {R : Type 0} → (R → Reply) → Result (RowAnswer R) Fault → Outcome
 outcome_in_model reply (Ok answer) = Did (answer_in_model reply answer)
 outcome_in_model reply (Err fault) = Failed fault
 
--- The call refines the step: under the disk assumption (`honest`), for every base that the desk
--- represented, the answer is that of `step`, and the desk represents the base after it.
+-- The call with `command` under `key` refines `step`: for every base that the desk represented
+-- before, `step` from this base has this answer, and the desk represents the base after it. Vacuous
+-- if the disk assumption (`honest`) fails.
 abbrev pub Acts : {D S X : Type 0} → (D → Type 0) → (D → S → Type 0) → RowStep S X → D → D → ℕ → X → Key → Answer → Type 0
 Acts {S = S} honest stands step old new now command key answer =
     honest new → (base : S) → stands old base → (after : S) × stands new after × (step base now command key ≡ (answer, after))
 
--- Under the disk assumption (`honest`), the desk represents every base that it represented before.
+-- The desk still represents every base that it represented before. Vacuous if the disk assumption
+-- (`honest`) fails.
 abbrev pub Keeps : {D S : Type 0} → (D → Type 0) → (D → S → Type 0) → D → D → Type 0
 Keeps {S = S} honest stands old new = honest new → (base : S) → stands old base → stands new base
 
--- The desk represents `base`. If the flag is true, a crash also exposes only this base.
+-- The desk represents `base`, and, if the flag is true, a crash exposes only this base.
 abbrev pub RepresentsDurably : {D S : Type 0} → (D → S → Type 0) → (D → S → S → Type 0) → Bool → D → S → Type 0
 RepresentsDurably stands leaves false desk base = stands desk base
 RepresentsDurably stands leaves true desk base = stands desk base × leaves desk base base
 
--- Crash safety of a call that failed, under the disk assumption (`honest`): if a crash before it
--- exposed only a base that the desk represented, a crash after it exposes that base or the one
--- after the command.
+-- Crash safety of a failed call: for every base that the desk represented before, if a crash before
+-- the call exposed only this base, a crash after it exposes this base or the one after `command`.
+-- Vacuous if the disk assumption (`honest`) fails.
 abbrev pub MayAct : {D S X : Type 0} → (D → Type 0) → (D → S → Type 0) → (D → S → S → Type 0) → RowStep S X → D → D → ℕ → X → Key → Type 0
 MayAct {S = S} honest stands leaves step old new now command key =
     honest new → (base : S) → stands old base → leaves old base base → leaves new base (step base now command key).1
 
--- Row `n` has this answer. A malformed row is refused, without reading the clock or calling the
--- desk. A command reads the clock once and is one call of the desk, under the key of the row, which
--- refines the step.
+-- Row `n` of `batch` has this answer. A malformed row is refused with its refusal, and the desk and
+-- the clock are unchanged. A command reads the clock once and is one call of the desk, under the
+-- key of the row, which refines `step`.
 abbrev pub AnsweredBy : {D S X C : Type 0} → (D → Type 0) → (Bool → D → S → Type 0) → MakesCall D X → RowStep S X → (C → ℕ → C → Type 0) → Read X → Text → ℕ → Answer → D → D → C → C → Type 0
 AnsweredBy honest stands acts step gives (Err refusal) batch n answer old new clock later = (answer ≡ Refused refusal) × (new ≡ old) × (later ≡ clock)
 AnsweredBy honest stands acts step gives (Ok command) batch n answer old new clock later =
     (moment : ℕ) × gives clock moment later × acts old moment (command, record { batch = batch; row = n }) (Did answer) new
     × ((sure : Bool) → Acts honest (stands sure) step old new moment command (record { batch = batch; row = n }) answer)
 
--- Row `n` failed with this fault. Either memory ran out, the clock was not read and the desk not
--- called, or the row is a command that read the clock once and was one call of the desk, under the
--- key of the row, which failed.
+-- Row `n` of `batch` failed with this fault. Either the fault is `Memory`, and the desk and the
+-- clock are unchanged; or the row is a command that read the clock once and was one call of the
+-- desk, under the key of the row, which failed, with the crash safety of `MayAct`.
 abbrev pub FailedBy : {D S X C : Type 0} → (D → Type 0) → (D → S → Type 0) → (D → S → S → Type 0) → MakesCall D X → RowStep S X → (C → ℕ → C → Type 0) → Read X → Text → ℕ → Fault → D → D → C → C → Type 0
 FailedBy {X = X} honest stands leaves acts step gives read batch n fault old new clock later =
     ((new ≡ old) × (later ≡ clock) × (fault ≡ Memory))

@@ -11,8 +11,8 @@ use Rattle.brk_io.specs.declared.batch_fault.FaultKind.{FaultKind}
 use Rattle.brk_io.specs.declared.batch_fault.FaultKind.TheVariants as kinds
 use Rattle.brk_batch_engine.specs.declared.counts.Counts.{Counts}
 
--- Writing the line `text` failed with this fault. `Write`: the writer has its first `k` bytes, for
--- some `k`. `Desk`: memory ran out, and nothing was written. No other fault is possible.
+-- Writing the line `text` failed with this fault. `Write`: the writer got a prefix of the line,
+-- perhaps all of it. `Desk`: memory ran out, and nothing was written. No other fault is possible.
 abbrev pub Part : Option Text → Option Text → Text → FaultKind → Type 0
 Part old new text kinds.Write = (k : ℕ) × Appends old new (take k text)
 Part old new text (kinds.Desk fault) = (fault ≡ Memory) × Appends old new []
@@ -21,9 +21,9 @@ Part old new text kinds.BadHeader = ⊥
 Part old new text kinds.NoEnd = ⊥
 Part old new text kinds.BadEnd = ⊥
 
--- The end record `row` after `n` rows failed with this fault. `BadEnd`: the record is wrong and
--- nothing was written. `Write`: it is correct, and the writer has the first `k` bytes of the end
--- line, for some `k`. `Desk`: memory ran out, and nothing was written.
+-- The end record `row` after `n` rows failed with this fault. `BadEnd`: the record is wrong, and
+-- nothing was written. `Write`: the record is correct, and the writer got a prefix of the end line,
+-- perhaps all of it. `Desk`: memory ran out, and nothing was written. No other fault is possible.
 abbrev pub EndPart : Option Text → Option Text → Fields → ℕ → Counts → FaultKind → Type 0
 EndPart old new row n counts kinds.BadEnd = (row ≡ end_of n → ⊥) × Appends old new []
 EndPart old new row n counts kinds.Write = (row ≡ end_of n) × ((k : ℕ) × Appends old new (take k (counts_line counts)))
@@ -33,8 +33,8 @@ EndPart old new row n counts kinds.BadHeader = ⊥
 EndPart old new row n counts kinds.NoEnd = ⊥
 
 -- A row without a record after it ended the batch with this fault. `NoEnd`: its line `text` was
--- written. `Write`: the writer has the first `k` bytes of it, for some `k`. `Desk`: memory ran out,
--- and nothing was written.
+-- written. `Write`: the writer got a prefix of the line, perhaps all of it. `Desk`: memory ran out,
+-- and nothing was written. No other fault is possible.
 abbrev pub CutPart : Option Text → Option Text → Text → FaultKind → Type 0
 CutPart old new text kinds.NoEnd = Appends old new text
 CutPart old new text kinds.Write = (k : ℕ) × Appends old new (take k text)
@@ -44,7 +44,7 @@ CutPart old new text kinds.BadHeader = ⊥
 CutPart old new text kinds.BadEnd = ⊥
 
 -- Reading the header failed with this fault. `BadHeader`: the text has no header. `Desk`: memory
--- ran out. `Read` says nothing of the text.
+-- ran out. `Read`: nothing is known of the text. No other fault is possible.
 abbrev pub HeaderPart : Option Text → FaultKind → Type 0
 HeaderPart text kinds.BadHeader = HasNoHeader text
 HeaderPart text kinds.Read = Unit {0}

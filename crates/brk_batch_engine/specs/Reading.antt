@@ -8,13 +8,13 @@ use Rattle.csv.specs.declared.parser.State.TheVariants as st
 use Rattle.brk_money.specs.Spelling.{Text}
 use Rattle.brk_model.specs.Answers.{Fields}
 
--- The reader reads records as a batch needs them: untrimmed, in the default CSV format, of any
--- number of fields, starting with the next record.
+-- The reader is set up for a batch and is before a record: it does not trim, uses the default CSV
+-- format, and accepts records of any number of fields.
 abbrev pub ReadsBatch : {R : Type 0} → Reader R → Type 0
 ReadsBatch reader = (reader_trim reader ≡ trim.None) × Ready reader × (reader_config reader ≡ default_config) × (is_flexible reader ≡ true)
 
--- The text begins with the records `front`, and a reader in `state` has the bytes `left` of it to
--- read. If the text is unknown, it holds of every state.
+-- The text begins with the records `front`, and a reader in `state` still has the bytes `left` of
+-- it to read. Vacuous if the text is unknown.
 abbrev pub Stands : Option Text → List Fields → State → Option Text → Type 0
 Stands None front state left = Unit {0}
 Stands (Some text) front state None = ⊥

@@ -24,7 +24,7 @@ pub enum RowAnswer<R> {
     Refused(Refusal),
 }
 
-// Returns the key of row `n` of a batch. Fails with `Memory` only.
+// Returns the key of row `n` of a batch: its name and `n`. Fails with `Memory` only.
 fn row_key(batch: &BatchName, n: u64) -> Result<Key, Fault>
     requires first { 1 ≤ n }
     requires last { n ≤ 67108864 }

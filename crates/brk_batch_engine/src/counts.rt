@@ -24,7 +24,7 @@ impl Counts {
         no: 0,
     };
 
-    // Returns the counts with one more answer.
+    // Returns the counts with 1 added to that of the answer's kind.
     pub(crate) fn with<R>(self, answer: &RowAnswer<R>) -> Counts
         requires ok { self.ok + 1 < 2 ^ 64 }
         requires again { self.again + 1 < 2 ^ 64 }

@@ -25,7 +25,9 @@ use std::alloc::Global;
 use std::io::{Read, Take, Write};
 use std::mem;
 
-// Writes the line of row `n`.
+// Writes the line of the answer to row `n`.
+//
+// Fails with `Write`, after a prefix of the line, or with `Desk(Memory)` and nothing written.
 fn tell<W: Write, D: Rows>(
     alloc: Global,
     writer: &mut W,
@@ -44,7 +46,8 @@ fn tell<W: Write, D: Rows>(
     }
 }
 
-// Writes the refusal of row `n`, which has no record after it, and returns the fault.
+// Writes the refusal of row `n`, which has no record after it. Returns `NoEnd`, or the fault of
+// writing the line.
 fn cut_off<W: Write, D: Rows>(alloc: Global, writer: &mut W, n: u64) -> FaultKind
     ensures { CutPart (W.contents writer.old) (W.contents writer.new) (answer_line n (Refused BadText)) result }
 {
@@ -54,7 +57,10 @@ fn cut_off<W: Write, D: Rows>(alloc: Global, writer: &mut W, n: u64) -> FaultKin
     }
 }
 
-// Checks the end record of a batch of `n` rows and writes the last line.
+// Checks the end record of a batch of `n` rows and writes the end line.
+//
+// Fails with `BadEnd` or `Desk(Memory)` and nothing written, or with `Write` after a prefix of the
+// line.
 fn finish<W: Write>(
     alloc: Global,
     writer: &mut W,
@@ -79,6 +85,8 @@ fn finish<W: Write>(
 }
 
 // Reads the header and returns the name of the batch.
+//
+// Fails with `BadHeader`, `Read` or `Desk(Memory)`.
 fn read_header<R: Read>(alloc: Global, records: &mut Reader<R>) -> Result<BatchName, FaultKind>
     requires { ReadsBatch records.old }
     ensures setup { OnOk result (ReadsBatch records.new) }
@@ -99,8 +107,9 @@ fn read_header<R: Read>(alloc: Global, records: &mut Reader<R>) -> Result<BatchN
     }
 }
 
-// Executes the rows after the header of the batch `name`, and writes their lines. A record takes at
-// least one byte, so there are not more rows than bytes.
+// Executes the rows after the header of the batch `name`, writes their lines and the end line, and
+// returns the counts of the answers. A record takes at least one byte, so there are not more rows
+// than bytes.
 fn run_rows<R: Read, W: Write, C: Clock, D: Rows>(
     alloc: Global,
     records: &mut Reader<R>,
@@ -173,8 +182,8 @@ fn run_rows<R: Read, W: Write, C: Clock, D: Rows>(
     })
 }
 
-/// Reads a batch, executes its rows and writes their lines. Returns the counts of the answers after
-/// the last line.
+/// Reads a batch, executes its rows in order, and writes their lines and the end line. Returns the
+/// counts of the answers.
 ///
 /// A fault reports the number of decided rows, whose changes remain. After a fault of the desk, a
 /// crash may still find the next row committed.

@@ -1,7 +1,7 @@
 //! Executes a batch of CSV rows on any desk, and answers each row with a line.
 //!
-//! The rows are executed in order, and their lines are written in order. A row is executed only if a
-//! record follows it.
+//! The rows are executed in order, and their lines are written in order. A row is executed only if
+//! a record follows it.
 #![tactic(auto)]
 
 mod answer;

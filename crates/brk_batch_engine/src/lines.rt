@@ -10,7 +10,7 @@ use crate::rows::Rows;
 use itoa::Buffer;
 use std::alloc::{AllocError, Global};
 
-// Returns the word of an answer and its fields, joined by commas.
+// Returns the text of an answer: its word, and its fields, separated by commas.
 fn answer_text<D: Rows>(alloc: Global, answer: &RowAnswer<D::Reply>) -> Result<String, AllocError>
     ensures { IfOk result (λ text. string_bytes text ≡ answer_text (answer_in_model D.told answer.now)) }
 {
@@ -24,7 +24,7 @@ fn answer_text<D: Rows>(alloc: Global, answer: &RowAnswer<D::Reply>) -> Result<S
     }
 }
 
-/// Returns the line of row `n`, with its line feed.
+/// Returns the line of row `n` with this answer, with its line feed.
 pub fn line_of<D: Rows>(
     alloc: Global,
     n: u64,
@@ -41,7 +41,7 @@ pub fn line_of<D: Rows>(
     Ok(line)
 }
 
-/// Returns the last line of a complete batch, with its line feed.
+/// Returns the end line of a batch with these counts, with its line feed.
 pub fn last_line(alloc: Global, counts: Counts) -> Result<Vec<u8>, AllocError>
     ensures { IfOk result (λ line. line.items ≡ counts_line counts) }
 {

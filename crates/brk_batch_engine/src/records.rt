@@ -19,8 +19,8 @@ use std::io::{Read, Take};
 /// The largest number of bytes that is read of an input. A longer input is cut there.
 pub const MOST_BYTES: u64 = 67_108_864;
 
-/// Opens the records of the first `MOST_BYTES` bytes of an input: comma-separated, of any number of
-/// fields, with no header row.
+/// Returns a reader of the records in the first `MOST_BYTES` bytes of an input. Records are
+/// comma-separated, have any number of fields, and none of them is a header row.
 pub fn open_records<R: Read + Drop>(alloc: Global, reader: R) -> Reader<Take<R>>
     ensures setup { ReadsBatch result }
     ensures start { Stands (option_map text_of (R.remaining reader)) [] (reader_state result) (source_of (take_remaining R.remaining) result) }
@@ -31,7 +31,7 @@ pub fn open_records<R: Read + Drop>(alloc: Global, reader: R) -> Reader<Take<R>>
         .from_reader(alloc, reader.take(MOST_BYTES))
 }
 
-/// Reads the next record into `row`. Returns `false` if there is none.
+/// Reads the next record into `row`, and returns `true`, or `false` if there is none.
 ///
 /// Fails with `Read` or `Desk(Memory)`.
 pub fn read_record<R: Read>(
@@ -80,7 +80,7 @@ fn field_is(row: &ByteRecord, i: usize, text: &[u8]) -> bool
     }
 }
 
-// Returns true if a record has exactly these two fields.
+// Returns true if a record has exactly two fields, `first` and `second`.
 #[tactic(auto, using(crate::proofs::Reading::pair_found, crate::proofs::Reading::pair_fields))]
 fn is_pair(row: &ByteRecord, first: &[u8], second: &[u8]) -> bool
     ensures { IsTrue result ↔ (fields_of row.now ≡ first.now ∷ second.now ∷ []) }
@@ -94,7 +94,7 @@ fn is_pair(row: &ByteRecord, first: &[u8], second: &[u8]) -> bool
     field_is(row, 1, second)
 }
 
-/// Returns true if a record is an end record, correct or not.
+/// Returns true if the first field of a record is `end`, whether or not the rest is correct.
 pub fn is_end(row: &ByteRecord) -> bool
     ensures { IsTrue result ↔ IsEnd (fields_of row.now) }
 {

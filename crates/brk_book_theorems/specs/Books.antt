@@ -11,73 +11,77 @@ use Rattle.brk_model.specs.Base.{Base, completed, find_account, has_status, mome
 use Rattle.brk_model.specs.Names.{NumberedFrom}
 use Rattle.brk_model.specs.Tests.{bands_meet}
 
--- No two accounts have one id.
+-- No two accounts of the list have the same id.
 abbrev pub DistinctAccounts : List Account → Type 0
 DistinctAccounts [] = ⊤
 DistinctAccounts (a ∷ rest) = AllByRecursion (λ b. (b.id == a.id) ≡ false) rest × DistinctAccounts rest
 
--- No account has two permissions for one tax id.
+-- No two permissions of the list have the same account and the same tax id.
 abbrev pub DistinctPermissions : List Permission → Type 0
 DistinctPermissions [] = ⊤
 DistinctPermissions (p ∷ ps) = AllByRecursion (λ q. ((q.account == p.account) && bytes_eq q.tax_id p.tax_id) ≡ false) ps × DistinctPermissions ps
 
--- No two securities have one symbol.
+-- No two securities of the list have the same symbol.
 abbrev pub DistinctSymbols : List Security → Type 0
 DistinctSymbols [] = ⊤
 DistinctSymbols (s ∷ ss) = AllByRecursion (λ u. bytes_eq u.symbol s.symbol ≡ false) ss × DistinctSymbols ss
 
--- The volume of the security is within the limit.
+-- The volume of the security is at most the greatest amount.
 abbrev pub HasVolume : Security → Type 0
 HasVolume s = s.volume ≤ greatest_amount
 
--- The list holds exactly one status change.
+-- The list has exactly one status change.
 abbrev pub IsOne : List StatusChange → Type 0
 IsOne [] = ⊥
 IsOne (m ∷ []) = ⊤
 IsOne (m ∷ n ∷ marks) = ⊥
 
--- A pending trade has exactly one status change.
+-- If the trade is pending, its history has exactly one status change. Vacuous for a trade of
+-- another status.
 abbrev pub WaitsFirst : Trade → Type 0
 WaitsFirst t = has_status Pending t ≡ true → IsOne t.marks
 
--- The status change is not a completion.
+-- The status of the status change is not `Completed`.
 abbrev pub IsNoCompletion : StatusChange → Type 0
 IsNoCompletion m = same_status m.status Completed ≡ false
 
--- A submitted trade was never completed.
+-- If the trade is submitted, no status change of its history is a completion. Vacuous for a trade
+-- of another status.
 abbrev pub CompletesFirst : Trade → Type 0
 CompletesFirst t = has_status Submitted t ≡ true → AllByRecursion IsNoCompletion t.marks
 
--- The stamp of the trade's last status is at most the last stamp; it fails if there is no last
--- stamp.
+-- The stamp of the trade's last status change is at most the last stamp `last`. False if `last` is
+-- `None`.
 abbrev pub IsEarly : Option ℕ → Trade → Type 0
 IsEarly None t = ⊥
 IsEarly (Some last) t = moment_of t ≤ last
 
--- No two trades have the same stamp of their last status.
+-- No two trades of the list have the same stamp of their last status change.
 abbrev pub DistinctMoments : List Trade → Type 0
 DistinctMoments [] = ⊤
 DistinctMoments (t ∷ ts) = AllByRecursion (λ u. (moment_of u == moment_of t) ≡ false) ts × DistinctMoments ts
 
--- The account of the movement exists.
+-- The account of the movement is one of `accounts`.
 abbrev pub HasHolder : List Account → Movement → Type 0
 HasHolder accounts m = is_some (find_account accounts m.account) ≡ true
 
--- The stamp of the movement is at most the last stamp; it fails if there is no last stamp.
+-- The stamp of the movement is at most the last stamp `last`. False if `last` is `None`.
 abbrev pub IsMadeBy : Option ℕ → Movement → Type 0
 IsMadeBy None m = ⊥
 IsMadeBy (Some last) m = m.stamp ≤ last
 
--- The stamp of the trade's last status is not `stamp`.
+-- The stamp of the trade's last status change is not `stamp`.
 abbrev pub IsOtherwhen : ℕ → Trade → Type 0
 IsOtherwhen stamp t = (moment_of t == stamp) ≡ false
 
--- No movement has the stamp of another movement, or of the last status of a trade of `done`.
+-- No two movements of the list have the same stamp, and no movement has the stamp of the last
+-- status change of a trade of `done`.
 abbrev pub MovementsApart : List Trade → List Movement → Type 0
 MovementsApart done [] = ⊤
 MovementsApart done (m ∷ ms) = AllByRecursion (IsOtherwhen m.stamp) done × AllByRecursion (λ n. (n.stamp == m.stamp) ≡ false) ms × MovementsApart done ms
 
--- The movements are consistent with the accounts, the last stamp and the completed trades `done`.
+-- The part of the books invariant that concerns movements: the accounts of `all_movements` exist,
+-- and their stamps fit the last stamp `last` and the completed trades `done`.
 pub record AreMovementsInOrder (all_accounts : List Account) (last : Option ℕ) (done : List Trade) (all_movements : List Movement) : Type 0 where
   -- The account of each movement exists.
   pub holders : AllByRecursion (HasHolder all_accounts) all_movements
@@ -90,28 +94,29 @@ pub record AreMovementsInOrder (all_accounts : List Account) (last : Option ℕ)
 abbrev pub HasBounds : Band → Type 0
 HasBounds b = nat_le b.from_qty b.to_qty ≡ true
 
--- No two bands of a tier, a type and an exchange share a quantity.
+-- No two bands of the list that have the same tier, type and exchange share a quantity.
 abbrev pub BandsApart : List Band → Type 0
 BandsApart [] = ⊤
 BandsApart (b ∷ bs) = AllByRecursion (λ c. bands_meet b c ≡ false) bs × BandsApart bs
 
--- The broker of the account exists.
+-- The broker of the account is one of `brokers`.
 abbrev pub HasBroker : List Broker → Account → Type 0
 HasBroker brokers a = is_some (find (λ b. b.id == a.broker) brokers) ≡ true
 
--- The customer of the account exists.
+-- The customer of the account is one of `customers`.
 abbrev pub HasCustomer : List Customer → Account → Type 0
 HasCustomer customers a = is_some (find (λ c. c.id == a.customer) customers) ≡ true
 
--- The account of the trade exists.
+-- The account of the trade is one of `accounts`.
 abbrev pub HasAccount : List Account → Trade → Type 0
 HasAccount accounts t = is_some (find (λ a. a.id == t.account) accounts) ≡ true
 
--- The security of the trade exists.
+-- The symbol of the trade is that of one of `securities`.
 abbrev pub HasSecurity : List Security → Trade → Type 0
 HasSecurity securities t = is_some (find (λ s. bytes_eq s.symbol t.symbol) securities) ≡ true
 
--- The accounts and their permissions are consistent.
+-- The part of the books invariant that concerns accounts and permissions: brokers and customers of
+-- accounts exist, and ids of accounts and permissions of an account are unique.
 pub record ArePartiesInOrder (all_brokers : List Broker) (all_customers : List Customer) (all_accounts : List Account) (all_permissions : List Permission) : Type 0 where
   -- The broker and the customer of each account exist.
   pub brokers : AllByRecursion (HasBroker all_brokers) all_accounts
@@ -121,7 +126,8 @@ pub record ArePartiesInOrder (all_brokers : List Broker) (all_customers : List C
   -- An account has at most one permission for a tax id, so this one alone decides on its executor.
   pub permissions : DistinctPermissions all_permissions
 
--- The securities and the bands are consistent.
+-- The part of the books invariant that concerns securities and bands: symbols are unique, volumes
+-- are within the limit, and bands are disjoint.
 pub record IsMarketInOrder (all_securities : List Security) (all_bands : List Band) : Type 0 where
   -- No two securities have one symbol, so a tick changes one last trade.
   pub symbols : DistinctSymbols all_securities
@@ -132,7 +138,9 @@ pub record IsMarketInOrder (all_securities : List Security) (all_bands : List Ba
   -- A quantity is in at most one band of a tier, a type and an exchange.
   pub apart : BandsApart all_bands
 
--- The trades are consistent with the accounts and the securities.
+-- The part of the books invariant that concerns trades: their accounts and securities exist, their
+-- numbers are 1, 2, 3 and so on, and the histories of pending and submitted trades fit their
+-- status.
 pub record AreTradesInOrder (all_accounts : List Account) (all_securities : List Security) (all_trades : List Trade) : Type 0 where
   -- The account and the security of each trade exist.
   pub accounts : AllByRecursion (HasAccount all_accounts) all_trades
@@ -144,7 +152,8 @@ pub record AreTradesInOrder (all_accounts : List Account) (all_securities : List
   -- A submitted trade was never completed, so its completion is new in its history.
   pub completions : AllByRecursion CompletesFirst all_trades
 
--- The stamps of the completed trades `done` and the last stamp are consistent.
+-- The part of the books invariant that concerns stamps: the completed trades `done` have distinct
+-- stamps, none after the last stamp `last`, and `last` is within the range of stamps.
 pub record AreMomentsInOrder (last : Option ℕ) (done : List Trade) : Type 0 where
   -- No trade was completed after the last stamp, so the next completion is the last of its
   -- position.
@@ -154,8 +163,8 @@ pub record AreMomentsInOrder (last : Option ℕ) (done : List Trade) : Type 0 wh
   -- The last stamp, if there is one, is within the range of stamps.
   pub clock : IfSome last (λ last. last ≤ last_stamp)
 
--- The books invariant: the base is consistent. Each part concerns its own lists only, so it is
--- preserved if these do not change.
+-- The books invariant of the base. Each part concerns only the lists of the base that it names, so
+-- a command that does not change these lists preserves the part.
 pub record BooksInvariant (base : Base) : Type 0 where
   pub parties : ArePartiesInOrder base.brokers base.customers base.accounts base.permissions
   pub open parties use *

@@ -6,26 +6,29 @@ use Rattle.brk_model.specs.Lists.{sort_by}
 use Rattle.brk_model.specs.LookupView.{touch_stamp}
 use Rattle.brk_model.specs.Tables.{HoldingHistoryRow, Tables, touch_of_row}
 
--- The changes of the lot `lot`, sorted by the stamp of the trades that made them.
+-- The rows of HOLDING_HISTORY of the lot `lot`, sorted by the stamp of the trade that changed the
+-- lot.
 abbrev pub changes_in : Tables → ℕ → List HoldingHistoryRow
 changes_in t lot = sort_by (λ a b. nat_lt (touch_stamp t a) (touch_stamp t b)) (filter (λ h. h.lot == lot) t.holding_history)
 
--- The quantity left of the lot `lot`, or 0 if it has no row.
+-- The quantity of the lot `lot` in HOLDING, or 0 if the lot has no row there.
 abbrev pub left_in : Tables → ℕ → ℤ
 left_in t lot = option_map_or (λ h. h.qty) (find (λ h. h.trade == lot) t.holdings) (pos 0)
 
--- The first row, if there is one, was made by the trade that opened the lot.
+-- The first row is a change by the trade `lot`, which is the trade that opened the lot. Vacuous if
+-- there is no row.
 abbrev pub IsOpened : ℕ → List HoldingHistoryRow → Type 0
 IsOpened lot [] = ⊤
 IsOpened lot (row ∷ rows) = row.trade ≡ lot
 
--- The changes of the lot form a chain. Its own trade makes the first, from 0 to the quantity that
--- it opened. Each later change brings the quantity nearer to 0, down to the quantity left. A lot
--- without changes has no quantity left.
+-- The rows of HOLDING_HISTORY of the lot `lot` form a chain. The first row is a change by the lot's
+-- own trade and starts at 0. Each later row starts where the row before it ended and ends strictly
+-- nearer to 0. The last row ends at the quantity in HOLDING. If there are no rows, that quantity is
+-- 0.
 pub record IsLotLife (t : Tables) (lot : ℕ) : Type 0 where
   pub opened : IsOpened lot (changes_in t lot)
   pub life : IsLife (map touch_of_row (changes_in t lot)) (left_in t lot)
 
--- The changes of every lot form a chain (`IsLotLife`).
+-- The rows of HOLDING_HISTORY of every lot form a chain (`IsLotLife`).
 abbrev pub LotsLive : Tables → Type 0
 LotsLive t = (lot : ℕ) → IsLotLife t lot

@@ -13,15 +13,15 @@ use Rattle.brk_book_theorems.specs.TradeReads.{position_in}
 
 -- ---- lookups
 
--- The last price of the symbol, or `None` if it has no last trade.
+-- The last price of the symbol, or `None` if the symbol has no row of LAST_TRADE.
 abbrev pub last_price_in : Tables → Text → Option ℕ
 last_price_in t symbol = option_map (λ r. r.price) (find (λ r. bytes_eq r.symbol symbol) t.last_trades)
 
--- The charge of the type and the tier, or `None` if there is none.
+-- The charge for the trade type and the customer tier, or `None` if there is no such charge.
 abbrev pub charge_in : Tables → TradeType → ℕ → Option ℕ
 charge_in t kind tier = option_map (λ r. r.amount) (find (λ r. same_type r.kind kind && (r.tier == tier)) t.charges)
 
--- The number of the last trade, or `None` if there are no trades.
+-- The number of the last row of TRADE, or `None` if there are no trades.
 abbrev pub last_trade_id_in : Tables → Option ℕ
 last_trade_id_in t = option_map (λ r. r.id) (slice_get (reverse t.trades) 0)
 
@@ -32,10 +32,11 @@ IfCustomer t account holds = IfSome (account_in t account) (λ a. IfSome (find (
 
 -- ---- lots
 
--- The lot of the row.
+-- The lot of a typed row of HOLDING: the row without its account and symbol.
 abbrev pub lot_in : HoldingRow → Lot
 lot_in r = record { trade = r.trade; price = r.price; qty = r.qty; stamp = r.stamp }
 
--- The lots of the account in the symbol, from the end that `lifo` chooses, satisfy `given`.
+-- The lots of the account in the symbol satisfy `given`. They are listed from the oldest on, or
+-- from the newest on if `lifo` is true.
 abbrev pub GivesLots : Tables → ℕ → Text → Bool → (List Lot → Type 0) → Type 0
 GivesLots t account symbol lifo given = given (from_end lifo (position_in t account symbol))

@@ -14,42 +14,43 @@ use Rattle.brk_model.specs.Tests.{next_stamp}
 use Rattle.brk_book_theorems.specs.Books.{BooksInvariant}
 use Rattle.brk_book_theorems.specs.Sums.{SumsMatch}
 
--- The base has a completed trade with this id, and its tax is `tax`.
+-- The trade with the number `id` exists in the base, is completed, and has the tax `tax`.
 pub record IsTaxed (id tax : ℕ) (base : Base) : Type 0 where
   pub trade : Trade
   pub found : trade_with base id ≡ Some trade
   pub completed : is_completed trade ≡ true
   pub taxed : trade.tax ≡ tax
 
--- The row of the trade with this id has the tax `tax`.
+-- The row of the trade with the number `id` exists in the tables and has the tax `tax`.
 pub record HasTax (t : Tables) (id tax : ℕ) : Type 0 where
   pub row : TradeRow
   pub found : trade_in t id ≡ Some row
   pub taxed : row.tax ≡ tax
 
--- The tax on the trade if it is completed at the clock reading `now` and this price: of exactly the
--- shares that it then closes, at the rates of the base.
+-- The tax of the trade `t` if it is completed at the clock reading `now` and the price `price`. It
+-- is the tax on exactly the shares that the trade then closes, at the rates of the base.
 abbrev pub tax_upon : Base → ℕ → ℕ → Trade → ℕ
 tax_upon base now price t = tax_on_deal base t.account (result_deal (next_stamp base now) price t) (shares_in (completed base) t.account t.symbol)
 
--- If the call is an accepted result, with or without a key, its trade's row in the tables `later`
--- has the tax of its completion. Vacuous for other calls and outcomes.
+-- If the call is an accepted result, the row of its trade in the tables `later` has the tax of its
+-- completion from `base` at the clock reading `now`. Vacuous for other calls and for other
+-- outcomes.
 abbrev pub KeepsTax : Tables → Base → ℕ → Call → Outcome → Type 0
 KeepsTax later base now (Do (CompleteTrade id price) key) (Did (Done reply)) =
     (t : Trade) × (trade_with base id ≡ Some t) × HasTax later id (tax_upon base now price t)
 KeepsTax later base now call outcome = ⊤
 
--- The trade of each accepted result of a run from `base` has in the tables `later` the tax of its
--- completion (`KeepsTax`).
+-- For each accepted result of a run from `base`, the row of its trade in the tables `later` has the
+-- tax of its completion. Vacuous for other calls and for other outcomes.
 abbrev pub KeepTaxes : Tables → Base → List (ℕ × Call) → List Outcome → Type 0
 KeepTaxes later base (call ∷ calls) (outcome ∷ outcomes) =
     KeepsTax later base call.0 call.1 outcome
     × ((mid : Base) × Answers base call.0 call.1 outcome mid × KeepTaxes later mid calls outcomes)
 KeepTaxes later base calls outcomes = ⊤
 
--- The calls can have these outcomes and lead to `after`, which is consistent. The sums in its
--- tables equal those of their rows. Each accepted result was taxed on exactly the shares that it
--- closed.
+-- The calls can have these outcomes and lead from `base` to `after`, which satisfies the books
+-- invariant. The sums in its tables match their rows, and the trade of each accepted result has the
+-- tax of its completion.
 pub record RunAddsUp (base : Base) (calls : List (ℕ × Call)) (outcomes : List Outcome) (after : Base) : Type 0 where
   pub run : Run base calls outcomes after
   pub order : BooksInvariant after

@@ -1,4 +1,4 @@
--- The sums in the tables: broker totals, balances and summaries, each of the rows that it counts.
+-- The sums in the tables (broker totals, balances and summaries) and the rows that they count.
 use Rattle.std.specs.Prelude.{◌≡◌, ◌≢◌, ℕ, ◌==◌, ◌&&◌, Bool, true, false, List, filter, is_some, length, sum_by, ℤ, pos, ◌+ℤ◌, bytes_eq}
 use Rattle.std.specs.List.{AllByRecursion}
 use Rattle.std.specs.Option.{option_map_or}
@@ -12,39 +12,40 @@ use Rattle.brk_model.specs.Tables.{AccountRow, BrokerRow, MoveRow, HoldingRow, S
 use Rattle.brk_book_theorems.specs.Lives.{LotsLive}
 use Rattle.brk_book_theorems.specs.TradeReads.{position_in, summary_in}
 
--- The cash rows of the account.
+-- The rows of CASH_MOVE of the account, in the order of the table.
 abbrev pub cash_of_account : Tables → ℕ → List MoveRow
 cash_of_account t account = filter (λ r. r.account == account) t.moves
 
--- True if the trade is completed and the broker of its account is `broker`.
+-- True if the trade `r` is completed and the broker of its account is `broker`.
 abbrev pub is_of_broker : Tables → ℕ → TradeRow → Bool
 is_of_broker t broker r = same_status r.status Completed && (option_map_or (λ a. a.broker) (account_in t r.account) 0 == broker)
 
--- The completed trades of the broker's accounts.
+-- The completed trades of the broker's accounts, in the order of the table.
 abbrev pub done_of_broker : Tables → ℕ → List TradeRow
 done_of_broker t broker = filter (is_of_broker t broker) t.trades
 
--- True if the lot belongs to the account and the symbol.
+-- True if the row of HOLDING belongs to the account and the symbol.
 abbrev pub is_lot_of : ℕ → Text → HoldingRow → Bool
 is_lot_of account symbol h = (h.account == account) && bytes_eq h.symbol symbol
 
--- The holding of the account in the symbol: the sum of its lots.
+-- The sum of the quantities of the lots of the account in the symbol.
 abbrev pub held_in : Tables → ℕ → Text → ℤ
 held_in t account symbol = total_by (λ h. h.qty) (filter (is_lot_of account symbol) t.holdings)
 
 -- ---- all rows of a kind
 
--- The broker totals equal the number of the completed trades of the broker's accounts, and the sum
--- of their commissions.
+-- The trade count and the commission total of the broker's row equal the number of completed trades
+-- of the broker's accounts and the sum of their commissions.
 pub record IsBrokerSum (t : Tables) (b : BrokerRow) : Type 0 where
   pub trades : b.trades ≡ pos (length (done_of_broker t b.id))
   pub commissions : b.commissions ≡ sum_by (λ r. r.commission) (done_of_broker t b.id)
 
--- The balance equals the opening balance plus the cash rows of its account.
+-- The balance of the account's row equals its opening balance plus the amounts of its cash rows.
 abbrev pub IsBalance : Tables → AccountRow → Type 0
 IsBalance t a = a.balance ≡ a.opening +ℤ total_by (λ c. c.amount) (cash_of_account t a.id)
 
--- The summary equals the sum of the lots of its account in its symbol, and is not 0.
+-- The quantity of the summary equals the sum of the lots of its account in its symbol, and is not
+-- 0.
 pub record IsSummary (t : Tables) (s : SummaryRow) : Type 0 where
   pub sum : s.qty ≡ held_in t s.account s.symbol
   pub some : s.qty ≢ pos 0
@@ -53,7 +54,9 @@ pub record IsSummary (t : Tables) (s : SummaryRow) : Type 0 where
 abbrev pub IsSummed : Tables → HoldingRow → Type 0
 IsSummed t h = is_some (summary_in t h.account h.symbol) ≡ true
 
--- The sums in the tables equal those of their rows.
+-- The broker totals, balances and summaries in the tables equal the sums of the rows that they
+-- count. Each lot has a summary, the lots of an account in a symbol form a position, and the
+-- changes of each lot form a chain.
 pub record SumsMatch (t : Tables) : Type 0 where
   pub brokers : AllByRecursion (IsBrokerSum t) t.brokers
   pub balances : AllByRecursion (IsBalance t) t.accounts
@@ -63,5 +66,5 @@ pub record SumsMatch (t : Tables) : Type 0 where
   -- The lots of an account in a symbol form a position: none is 0, and all have one side.
   pub positions : (account : ℕ) (symbol : Text) → IsPosition (position_in t account symbol)
   -- The changes of each lot form a chain: from 0 to the quantity that its own trade opened, then
-  -- ever nearer to 0, down to the quantity left.
+  -- strictly nearer to 0, and at last to the remaining quantity.
   pub lives : LotsLive t

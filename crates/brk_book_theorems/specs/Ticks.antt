@@ -6,14 +6,15 @@ use Rattle.brk_model.specs.Tables.{Tables}
 use Rattle.brk_model.specs.Commands.{Tick}
 use Rattle.brk_book_theorems.specs.TradeReads.{last_volume_in}
 
--- The total quantity of the ticks of the symbol.
+-- The sum of the quantities of the ticks of the symbol.
 abbrev pub qty_fed : Text → List Tick → ℕ
 qty_fed symbol ticks = sum_by (λ tick. tick.qty) (filter (λ tick. bytes_eq tick.symbol symbol) ticks)
 
--- True if the symbol of the tick has no last trade.
+-- True if the symbol of the tick has no row of LAST_TRADE.
 abbrev pub is_unknown : Tables → Tick → Bool
 is_unknown t tick = is_none (find (λ r. bytes_eq r.symbol tick.symbol) t.last_trades)
 
--- True if the volume of the tick's symbol would exceed the limit with all its ticks of the feed.
+-- True if the volume of the tick's symbol plus the quantities of all `ticks` of this symbol exceeds
+-- the greatest amount.
 abbrev pub exceeds_volume : Tables → List Tick → Tick → Bool
 exceeds_volume t ticks tick = nat_lt greatest_amount (last_volume_in t tick.symbol + qty_fed tick.symbol ticks)

@@ -8,12 +8,13 @@ ghost use Rattle.brk_model.specs.Records.{Account, Band, Broker, Charge, Custome
 ghost use Rattle.brk_book_theorems.specs.Books.{BooksInvariant};
 ghost use Rattle.brk_book_theorems.specs.Steps.{LeavesBooks};
 
-/// Proves that the empty base is consistent.
+/// Proves that the empty base satisfies the books invariant.
 pub fn the_empty_base_is_in_order()
     ensures { BooksInvariant empty_base }
 {}
 
-/// Proves that an accepted record preserves the books invariant.
+/// Proves that each accepted command that adds a record of reference data preserves the books
+/// invariant.
 pub fn records_preserve_the_invariant()
     ensures broker { (base : Base) (now : ℕ) (b : Broker) → LeavesBooks base now (AddBroker b) }
     ensures customer { (base : Base) (now : ℕ) (c : Customer) → LeavesBooks base now (AddCustomer c) }
@@ -46,14 +47,16 @@ pub fn results_preserve_the_invariant()
     ensures { (base : Base) (now id price : ℕ) → LeavesBooks base now (CompleteTrade id price) }
 {}
 
-/// Proves that an accepted deposit, withdrawal or settlement day preserves the books invariant.
+/// Proves that an accepted deposit, an accepted withdrawal and an accepted settlement day preserve
+/// the books invariant.
 pub fn movements_preserve_the_invariant()
     ensures deposit { (base : Base) (now account amount : ℕ) → LeavesBooks base now (DepositCash account amount) }
     ensures withdrawal { (base : Base) (now account amount : ℕ) → LeavesBooks base now (WithdrawCash account amount) }
     ensures one_day { (base : Base) (now day : ℕ) → LeavesBooks base now (SetOneDay day) }
 {}
 
-/// Proves that storing a reply under its key preserves the books invariant.
+/// Proves that storing a command and its reply, under a key or under none, preserves the books
+/// invariant.
 pub fn kept_rows_preserve_the_invariant()
     ensures { (base : Base) (key : Option Key) (command : Command) (reply : Reply) → BooksInvariant base → BooksInvariant (keeping key command reply base) }
 {}

@@ -1,4 +1,4 @@
-//! Theorems: the tables after an accepted command are those before it with its rows changed.
+//! Theorems: an accepted command changes only its own rows of the tables.
 
 ghost use Rattle.std.specs.Prelude.{◌≡◌, ℕ, List, None, Some, not};
 ghost use Rattle.std.specs.List.{AllByRecursion};
@@ -22,13 +22,13 @@ ghost use Rattle.brk_book_theorems.specs.Movements.{rows_of_movement};
 ghost use Rattle.brk_book_theorems.specs.Results.{result_rows, rows_of_result};
 ghost use Rattle.brk_book_theorems.specs.Trading.{cancel_rows, fed_trades, feed_rows, order_rows};
 
-/// Proves that the empty base has no rows.
+/// Proves that the tables of the empty base have no rows.
 pub fn the_empty_base_has_no_rows()
     ensures { sheets empty_base ≡ no_rows }
 {}
 
-/// Proves that an accepted record adds one row, a security two, and sets the last stamp. No other
-/// row changes.
+/// Proves that an accepted command of reference data adds one row, a security two, and sets the
+/// last stamp. No other row changes, if the base satisfies the books invariant.
 pub fn records_are_rows()
     ensures broker { (base : Base) (now : ℕ) (b : Broker) → ChangesRows base now (AddBroker b) (with_broker b) }
     ensures customer { (base : Base) (now : ℕ) (c : Customer) → ChangesRows base now (AddCustomer c) (with_customer c) }
@@ -41,22 +41,24 @@ pub fn records_are_rows()
     ensures customer_tax { (base : Base) (now : ℕ) (x : CustomerTax) → ChangesRows base now (AddCustomerTax x) (with_customer_tax x) }
 {}
 
-/// Proves that an accepted order adds its row of TRADE, one of TRADE_HISTORY and, if it is pending,
-/// one of TRADE_REQUEST with its account's broker. No other row changes.
+/// Proves that an accepted order adds its row of TRADE, one row of TRADE_HISTORY and, if it is
+/// pending, one row of TRADE_REQUEST with the broker of its account, and sets the last stamp. No
+/// other row changes, if the base satisfies the books invariant.
 pub fn orders_are_rows()
     ensures { (base : Base) (now : ℕ) (o : Order)
         → ChangesRows base now (PlaceOrder o) (order_rows (trade_row (ordered_trade base (next_stamp base now) o)) (not (is_market (kind_of o.order_type))) (broker_of_account base o.account)) }
 {}
 
-/// Proves that an accepted cancel changes its trade's status, adds a row of TRADE_HISTORY and
-/// deletes that of TRADE_REQUEST. No other row changes.
+/// Proves that an accepted cancel sets its trade's status, adds a row of TRADE_HISTORY, deletes the
+/// trade's row of TRADE_REQUEST, and sets the last stamp. No other row changes, if the base
+/// satisfies the books invariant.
 pub fn cancels_are_rows()
     ensures { (base : Base) (now id : ℕ) → ChangesRows base now (CancelTrade id) (cancel_rows (next_stamp base now) id) }
 {}
 
-/// Proves that an accepted feed sets, tick by tick, the last trade of a symbol, and submits the
-/// trades whose requests its price triggers. Each tick is applied to the tables after the ticks
-/// before it. These trades are the triggered trades of the model.
+/// Proves that an accepted feed, tick by tick, sets the last trade of the symbol and submits the
+/// trades whose requests the price triggers, and sets the last stamp. No other row changes, if the
+/// base satisfies the books invariant. The submitted trades are the triggered trades of the model.
 pub fn feeds_are_rows()
     ensures rows { (base : Base) (now : ℕ) (ticks : List Tick) → ChangesRows base now (FeedTicks ticks) (feed_rows (next_stamp base now) ticks) }
     ensures triggered { (base : Base) (now : ℕ) (ticks : List Tick) → BooksInvariant base → refusal_of base now (FeedTicks ticks) ≡ None
@@ -64,16 +66,18 @@ pub fn feeds_are_rows()
 {}
 
 /// Proves that an accepted result completes its trade and adds the completion to its history. It
-/// changes the lots that it closes from and adds the one that it opens, with their history. It
-/// moves the summary of its position, settles the trade, adds the cash row of a cash trade with the
-/// balance of its account, and adds to the broker totals. No other row changes.
+/// changes the lots that the trade closes and adds the lot that it opens, with their history. It
+/// sets the summary, adds the settlement, adds the cash row of a cash trade and sets its balance,
+/// adds to the broker totals, and sets the last stamp. No other row changes, if the base satisfies
+/// the books invariant.
 pub fn results_are_rows()
     ensures { (base : Base) (now id price : ℕ) (t : Trade) → trade_with base id ≡ Some t
         → ChangesRows base now (CompleteTrade id price) (result_rows (rows_of_result base (next_stamp base now) price t)) }
 {}
 
-/// Proves that an accepted deposit or withdrawal adds a cash row with the next number and sets the
-/// balance of its account. No other row changes.
+/// Proves that an accepted deposit or withdrawal adds a cash row with the next number, sets the
+/// balance of its account, and sets the last stamp. No other row changes, if the base satisfies the
+/// books invariant.
 pub fn movements_are_rows()
     ensures deposit { (base : Base) (now account amount : ℕ)
         → ChangesRows base now (DepositCash account amount) (rows_of_movement base (deposit (next_stamp base now) account amount)) }
@@ -81,15 +85,17 @@ pub fn movements_are_rows()
         → ChangesRows base now (WithdrawCash account amount) (rows_of_movement base (withdrawal (next_stamp base now) account amount)) }
 {}
 
-/// Proves that an accepted settlement day changes its own row only: the trades completed before
-/// keep their due days.
+/// Proves that an accepted settlement day sets only its own value and the last stamp, if the base
+/// satisfies the books invariant. The due days of the trades that were completed before do not
+/// change.
 pub fn a_settlement_day_is_a_row()
     ensures row { (base : Base) (now day : ℕ) → ChangesRows base now (SetOneDay day) (with_rule day) }
     ensures due_days { (base : Base) (now day : ℕ) → BooksInvariant base → refusal_of base now (SetOneDay day) ≡ None
         → AllByRecursion (λ t. due_day (Some day) t ≡ due_day base.rule t) (completed base) }
 {}
 
-/// Proves that storing a reply under a new key adds one row. No other row changes.
+/// Proves that storing a command and its reply under a new key adds one row of KEPT. No other row
+/// changes.
 pub fn kept_rows_are_rows()
     ensures { (base : Base) (key : Key) (command : Command) (reply : Reply) → kept_under base key ≡ None
         → sheets (keeping (Some key) command reply base) ≡ with_kept (kept_row key command reply) (sheets base) }

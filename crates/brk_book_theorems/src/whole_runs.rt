@@ -1,5 +1,5 @@
-//! Theorems about consistent bases and about any run of calls from one. The empty base is
-//! consistent.
+//! Theorems about bases that satisfy the books invariant, such as the empty base, and about any run
+//! of calls from one.
 
 ghost use Rattle.std.specs.Prelude.{◌+ℤ◌, ◌≡◌, [], ℕ, List, None, Option, Some, map};
 ghost use Rattle.brk_lots.specs.Books.{deals_total, gains, lots_cost, lots_total, spent};
@@ -22,8 +22,8 @@ ghost use Rattle.brk_book_theorems.specs.Runs.{HasTax, IsTaxed, RunAddsUp, KeepT
 ghost use Rattle.brk_book_theorems.specs.Sums.{SumsMatch};
 ghost use Rattle.brk_book_theorems.specs.TradeReads.{position_in};
 
-/// Proves that every accepted command preserves the books invariant, and so does any run of calls.
-/// After a run from the empty base it holds.
+/// Proves that every accepted command and every run of calls preserves the books invariant. A base
+/// that a run reaches from the empty base satisfies it.
 pub fn runs_preserve_the_invariant()
     ensures command { (base : Base) (now : ℕ) (command : Command) → LeavesBooks base now command }
     ensures run { (base : Base) (calls : List (ℕ × Call)) (outcomes : List Outcome) (after : Base)
@@ -32,9 +32,10 @@ pub fn runs_preserve_the_invariant()
         → Run empty_base calls outcomes after → BooksInvariant after }
 {}
 
-/// Proves that after any run the lots of an account in a symbol form a position, the oldest first.
-/// Their shares are those that the completed trades leave, replayed in the order of their
-/// completion, so they are the lots of these shares. The changes of each lot form a chain.
+/// Proves that after any run from a base that satisfies the books invariant, the lots of an account
+/// in a symbol, the oldest first, form a position. The shares of the lots are the shares that the
+/// completed trades leave, replayed in the order of their completion. The lots are the lots of
+/// these shares, and the changes of each lot form a chain.
 pub fn lots_match_the_shares()
     ensures position { (base after : Base) (calls : List (ℕ × Call)) (outcomes : List Outcome) (account : ℕ) (symbol : Text)
         → BooksInvariant base → Run base calls outcomes after → IsPosition (position_in (sheets after) account symbol) }
@@ -50,8 +51,9 @@ pub fn lots_match_the_shares()
         (lot_qty (replay (deals_in (completed after) account symbol)) lot) }
 {}
 
-/// Proves that after any run the quantities of the lots of an account in a symbol sum to purchases
-/// - sales. Their cost is purchases - sales + realised gains.
+/// Proves that after any run from a base that satisfies the books invariant, the quantities of the
+/// lots of an account in a symbol total purchases - sales. Their cost basis is purchases - sales +
+/// realised gains.
 pub fn lots_balance()
     ensures quantities { (base after : Base) (calls : List (ℕ × Call)) (outcomes : List Outcome) (account : ℕ) (symbol : Text)
         → BooksInvariant base → Run base calls outcomes after
@@ -62,8 +64,8 @@ pub fn lots_balance()
         ≡ gains (deals_in (completed after) account symbol) [] +ℤ spent (deals_in (completed after) account symbol) }
 {}
 
-/// Proves that the sums in the tables of a consistent base equal those of their rows, and that this
-/// holds after any run.
+/// Proves that the sums in the tables of a base that satisfies the books invariant match their
+/// rows, and also those after any run from such a base.
 pub fn tables_add_up()
     ensures base { (base : Base) → BooksInvariant base → SumsMatch (sheets base) }
     ensures run { (base after : Base) (calls : List (ℕ × Call)) (outcomes : List Outcome)
@@ -71,7 +73,8 @@ pub fn tables_add_up()
 {}
 
 /// Proves that an accepted result, with or without a key, is taxed on exactly the shares that it
-/// closes, at the rates before it. Any run preserves the tax, and the row of the trade has it.
+/// closes, at the rates of the base before it, if that base satisfies the books invariant. Any run
+/// preserves this tax, and the row of the trade has it.
 pub fn results_are_taxed()
     ensures taxed { (base : Base) (now id price : ℕ) (t : Trade)
         → BooksInvariant base → trade_with base id ≡ Some t → refusal_of base now (CompleteTrade id price) ≡ None
@@ -86,9 +89,9 @@ pub fn results_are_taxed()
         → BooksInvariant base → Run base calls outcomes after → KeepTaxes (sheets after) base calls outcomes }
 {}
 
-/// Proves that a run from a consistent base, or from the empty one, leads to a consistent base. The
-/// sums in its tables match their rows, and each accepted result was taxed on exactly the shares
-/// that it closed.
+/// Proves that a run from the empty base, or from a base that satisfies the books invariant, leads
+/// to a base that satisfies it. The sums in its tables match their rows, and each accepted result
+/// was taxed on exactly the shares that it closed.
 pub fn runs_add_up()
     ensures run { (base after : Base) (calls : List (ℕ × Call)) (outcomes : List Outcome)
         → BooksInvariant base → Run base calls outcomes after → RunAddsUp base calls outcomes after }

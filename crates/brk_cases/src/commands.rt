@@ -1,4 +1,4 @@
-//! The commands of transcripts.
+//! The commands of transcripts, each of which appends its output lines.
 
 use crate::escape::{Piece, add_line, add_written};
 use crate::failed::Failed;
@@ -16,7 +16,7 @@ use brk_report::{ReportFault, statement};
 use sqlite::{Connection, MemStore};
 use std::alloc::{AllocError, Global};
 
-// A clock that stands still.
+// A clock that always returns one timestamp.
 #[derive(Drop)]
 struct Still {
     at: Stamp,
@@ -28,14 +28,14 @@ impl Clock for Still {
     }
 }
 
-// The clock of a command by its word; 1970 if it is no moment.
+// Returns the clock that always returns this timestamp, or 0 if the word is no timestamp.
 fn clock_of(moment: &str) -> Still {
     Still {
         at: parse_stamp(moment.as_bytes()).unwrap_or(Stamp::nearest(0)),
     }
 }
 
-// The block of input lines.
+// Returns the bytes of all input lines, with their line feeds.
 fn block(alloc: Global, pieces: &[Piece]) -> Result<Vec<u8>, AllocError> {
     let mut bytes = Vec::new(alloc);
     for piece in pieces {
@@ -47,7 +47,7 @@ fn block(alloc: Global, pieces: &[Piece]) -> Result<Vec<u8>, AllocError> {
     Ok(bytes)
 }
 
-// The word of a batch that did not end well.
+// Returns the word for a fault of a batch.
 fn kind_word(kind: FaultKind) -> &'static str {
     match kind {
         FaultKind::BadHeader => "bad header",
@@ -59,7 +59,7 @@ fn kind_word(kind: FaultKind) -> &'static str {
     }
 }
 
-// Runs a batch.
+// Runs the input as a batch, and appends its lines and its fault.
 fn batch(
     alloc: Global,
     out: &mut String,
@@ -76,7 +76,8 @@ fn batch(
     Ok(())
 }
 
-// Serves a stream.
+// Serves the input as a stream of requests, and appends the replies and the number of requests, or
+// the fault.
 fn http(
     alloc: Global,
     out: &mut String,
@@ -94,7 +95,8 @@ fn http(
     Ok(())
 }
 
-// Writes a statement: its words are an account and two days.
+// Writes a statement, of the account and the two days in `words`, and appends its lines, its
+// refusal or its fault.
 fn state(
     alloc: Global,
     out: &mut String,
@@ -120,7 +122,7 @@ fn state(
     }
 }
 
-// Writes an explanation: its words are those of the command.
+// Writes the explanation that `words` name, and appends its lines, its refusal or its fault.
 fn explained(
     alloc: Global,
     out: &mut String,
@@ -145,7 +147,7 @@ fn explained(
     }
 }
 
-// Adds the answer of an audit or of an adoption.
+// Appends the result of an audit or of an adoption.
 fn add_audited(out: &mut String, audited: Result<(), Fault>) -> Result<(), Failed> {
     match audited {
         Ok(()) => add_line(out, "ok"),
@@ -157,7 +159,7 @@ fn add_audited(out: &mut String, audited: Result<(), Fault>) -> Result<(), Faile
     }
 }
 
-// Audits what is open.
+// Audits the open desk or database, and appends the result. A database remains without a desk.
 fn audit(alloc: Global, out: &mut String, place: Place) -> Result<Place, Failed> {
     match place {
         Place::Open(mut desk) => {
@@ -173,7 +175,7 @@ fn audit(alloc: Global, out: &mut String, place: Place) -> Result<Place, Failed>
     }
 }
 
-// What is open without its desk.
+// Returns the open database without its desk.
 fn closed(place: Place) -> Place {
     match place.into_conn() {
         Some(conn) => Place::Database(conn),
@@ -181,7 +183,7 @@ fn closed(place: Place) -> Place {
     }
 }
 
-// Adopts the database.
+// Adopts the open database, appends the result, and returns its desk or the database.
 fn adopt_here(alloc: Global, out: &mut String, place: Place) -> Result<Place, Failed> {
     match place.into_conn() {
         Some(conn) => {
@@ -193,7 +195,7 @@ fn adopt_here(alloc: Global, out: &mut String, place: Place) -> Result<Place, Fa
     }
 }
 
-// Runs a statement of another program.
+// Executes an SQL statement of another program, and appends a line if it fails.
 fn run_sql(out: &mut String, conn: &mut Connection<MemStore>, bytes: &[u8]) -> Result<(), Failed> {
     let done = match str::from_utf8(bytes) {
         Ok(sql) => conn.execute(sql, &[]).is_ok(),
@@ -202,7 +204,7 @@ fn run_sql(out: &mut String, conn: &mut Connection<MemStore>, bytes: &[u8]) -> R
     if done { Ok(()) } else { add_line(out, "! sql") }
 }
 
-// Runs statements of another program; no desk is open then.
+// Executes the input lines as SQL statements of another program, on the database without its desk.
 fn sql(out: &mut String, place: Place, pieces: &[Piece]) -> Result<Place, Failed> {
     match place.into_conn() {
         Some(mut conn) => {
@@ -215,7 +217,7 @@ fn sql(out: &mut String, place: Place, pieces: &[Piece]) -> Result<Place, Failed
     }
 }
 
-// Shows the tables of the open desk, which stays open.
+// Appends the rows of all tables, and adopts the database again.
 fn show_tables(alloc: Global, out: &mut String, place: Place) -> Result<Place, Failed> {
     match place.into_conn() {
         Some(mut conn) => {
@@ -227,7 +229,7 @@ fn show_tables(alloc: Global, out: &mut String, place: Place) -> Result<Place, F
     }
 }
 
-// Executes a command that takes an open desk.
+// Executes a command that needs an open desk, and appends its output lines.
 fn at_desk(
     alloc: Global,
     out: &mut String,
@@ -247,7 +249,8 @@ fn at_desk(
     }
 }
 
-/// Executes a command on what is open, adds its output lines, and returns what is open then.
+/// Executes a command on the open desk or database, appends its output lines, and returns the desk
+/// or database that is open after it.
 pub fn execute(
     alloc: Global,
     out: &mut String,

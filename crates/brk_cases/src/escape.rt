@@ -1,9 +1,9 @@
-//! The escapes of transcripts, there and back.
+//! Escaping and unescaping of the lines of transcripts.
 
 use crate::failed::Failed;
 use std::alloc::{AllocError, Global};
 
-/// The bytes that an input line stands for.
+/// The bytes of an input line.
 #[derive(Drop)]
 pub struct Piece {
     pub bytes: Vec<u8>,
@@ -11,7 +11,7 @@ pub struct Piece {
     pub has_feed: bool,
 }
 
-// What has been read of an escape.
+// The part of an escape that was read.
 #[derive(Clone, Copy)]
 enum Escape {
     Nothing,
@@ -26,7 +26,8 @@ fn digit(byte: u8) -> u8 {
     u8::try_from(value).unwrap_or(0)
 }
 
-// Reads the next byte of an input line: adds what it completes, and returns what it begins.
+// Reads one byte of an input line: appends the byte that it completes, and returns the escape that
+// it begins or continues.
 fn read_byte(bytes: &mut Vec<u8>, read: Escape, byte: u8) -> Result<Escape, AllocError> {
     match (read, byte) {
         (Escape::Nothing, b'\\') => return Ok(Escape::Backslash),
@@ -39,7 +40,8 @@ fn read_byte(bytes: &mut Vec<u8>, read: Escape, byte: u8) -> Result<Escape, Allo
     Ok(Escape::Nothing)
 }
 
-/// Returns the bytes of an input line. A single backslash at its end says that no line feed follows.
+/// Returns the bytes of an input line without its escapes. A single backslash at its end means that
+/// no line feed follows.
 pub fn unescaped(alloc: Global, text: &str) -> Result<Piece, AllocError> {
     let mut bytes = Vec::new(alloc);
     let mut read = Escape::Nothing;
@@ -52,7 +54,7 @@ pub fn unescaped(alloc: Global, text: &str) -> Result<Piece, AllocError> {
     })
 }
 
-// Adds text as an output line has it; within a record a bar is escaped too.
+// Appends text with the escapes of an output line; within a record a bar is escaped too.
 fn add_text(out: &mut String, text: &str, in_record: bool) -> Result<(), Failed> {
     for c in text.chars() {
         match c {
@@ -66,8 +68,8 @@ fn add_text(out: &mut String, text: &str, in_record: bool) -> Result<(), Failed>
     Ok(())
 }
 
-/// Adds bytes as an output line has them; within a record a bar is escaped too. A byte that is no
-/// part of a character in UTF-8 is escaped.
+/// Appends bytes with the escapes of an output line; within a record a bar is escaped too, and so
+/// is a byte that is no part of a UTF-8 character.
 pub fn add_escaped(out: &mut String, bytes: &[u8], in_record: bool) -> Result<(), Failed> {
     let mut rest = bytes;
     for _ in 0..bytes.len() {
@@ -86,8 +88,8 @@ pub fn add_escaped(out: &mut String, bytes: &[u8], in_record: bool) -> Result<()
     Ok(())
 }
 
-/// Adds bytes that were written as output lines: one for each line feed, and one that ends in a
-/// single backslash for what follows the last.
+/// Appends written bytes as output lines: one for each line feed, and one that ends in a single
+/// backslash for the bytes after the last.
 pub fn add_written(out: &mut String, bytes: &[u8]) -> Result<(), Failed> {
     for piece in bytes.split_inclusive(|byte| *byte == b'\n') {
         out.push_str("> ")?;
@@ -103,7 +105,7 @@ pub fn add_written(out: &mut String, bytes: &[u8]) -> Result<(), Failed> {
     Ok(())
 }
 
-/// Adds an output line.
+/// Appends an output line.
 pub fn add_line(out: &mut String, line: &str) -> Result<(), Failed> {
     writeln!(out, "> {line}")?;
     Ok(())

@@ -13,7 +13,7 @@ pub enum Failed {
 }
 
 impl Failed {
-    /// The line for standard error.
+    /// Returns the line for standard error.
     pub fn word(self) -> &'static str {
         match self {
             Failed::Input => "brk_cases: input\n",

@@ -1,4 +1,4 @@
-//! What a transcript works on.
+//! The database and the desk that a transcript works on.
 
 use brk_import::brk_desk::Desk;
 use brk_import::brk_desk::brk_store::Store;
@@ -6,7 +6,7 @@ use brk_money::Fault;
 use sqlite::{Connection, MemStore};
 use std::alloc::Global;
 
-/// What is open.
+/// The database or the desk that is open, if any.
 #[derive(Drop)]
 pub enum Place {
     Nothing,
@@ -16,7 +16,7 @@ pub enum Place {
 }
 
 impl Place {
-    /// A new database without tables; nothing if memory is out.
+    /// Returns a new database without tables, or nothing if memory ran out.
     pub fn empty(alloc: Global) -> Place {
         match Connection::open_in_memory(alloc) {
             Ok(conn) => Place::Database(conn),
@@ -24,7 +24,7 @@ impl Place {
         }
     }
 
-    /// A new desk; nothing if memory is out.
+    /// Returns a new desk, or nothing if memory ran out.
     pub fn desk(alloc: Global) -> Place {
         let Ok(conn) = Connection::open_in_memory(alloc) else {
             return Place::Nothing;
@@ -35,7 +35,7 @@ impl Place {
         }
     }
 
-    /// The database, without its desk.
+    /// Returns the connection to the open database, without its desk, or `None` if nothing is open.
     pub fn into_conn(self) -> Option<Connection<MemStore>> {
         match self {
             Place::Nothing => None,
@@ -45,8 +45,8 @@ impl Place {
     }
 }
 
-/// Adopts a database: a desk is open if its rows pass, otherwise the database without a desk, with
-/// the reason.
+/// Adopts the database of a connection. Returns its desk if its rows pass the audit, otherwise the
+/// database with the fault.
 pub fn adopt(alloc: Global, conn: Connection<MemStore>) -> (Place, Result<(), Fault>) {
     match Store::adopt(alloc, conn) {
         Ok(store) => (Place::Open(Desk::new(store)), Ok(())),

@@ -1,4 +1,4 @@
-//! A transcript, line by line.
+//! The replay of a transcript, line by line.
 
 use crate::commands::execute;
 use crate::escape::{Piece, unescaped};
@@ -6,14 +6,15 @@ use crate::failed::Failed;
 use crate::place::Place;
 use std::alloc::Global;
 
-// A command and its input lines, of which the output lines are due.
+// A command and its input lines, which is executed at its next other line.
 #[derive(Drop)]
 struct Due<'a> {
     command: &'a str,
     pieces: Vec<Piece>,
 }
 
-// Executes the command that is due, if there is one.
+// Executes the pending command, if there is one, and returns the desk or database that is open
+// after it.
 fn settle(
     alloc: Global,
     out: &mut String,
@@ -26,12 +27,12 @@ fn settle(
     }
 }
 
-// Whether a line is a comment or empty.
+// Returns true if a line is a comment or empty.
 fn is_note(line: &str) -> bool {
     line.is_empty() || line.starts_with('#')
 }
 
-// A replay under way.
+// The state of a replay: the open desk or database, and the pending command.
 #[derive(Drop)]
 struct Replay<'a> {
     place: Place,
@@ -39,7 +40,7 @@ struct Replay<'a> {
 }
 
 impl<'a> Replay<'a> {
-    // Adds an input line to the command that is due.
+    // Adds an input line to the pending command, if there is one.
     fn add_input(self, alloc: Global, text: &str) -> Result<Replay<'a>, Failed> {
         let Replay { place, due } = self;
         let Some(mut due) = due else {
@@ -52,7 +53,8 @@ impl<'a> Replay<'a> {
         })
     }
 
-    // Executes what is due, and begins with a line that is none of its lines.
+    // Executes the pending command, copies the line, and makes it the pending command unless it is
+    // a comment or empty.
     fn begin(self, alloc: Global, out: &mut String, line: &'a str) -> Result<Replay<'a>, Failed> {
         let Replay { place, due } = self;
         let place = settle(alloc, out, place, due)?;
@@ -68,7 +70,8 @@ impl<'a> Replay<'a> {
         Ok(Replay { place, due })
     }
 
-    // Takes the next line.
+    // Processes the next line: drops an output line, adds an input line to the pending command, and
+    // begins with any other line.
     fn take(self, alloc: Global, out: &mut String, line: &'a str) -> Result<Replay<'a>, Failed> {
         if line.starts_with("> ") {
             return Ok(self);
@@ -83,7 +86,10 @@ impl<'a> Replay<'a> {
     }
 }
 
-/// Returns the transcript with the output lines of its commands as they are answered now.
+/// Returns the transcript with the output lines that its commands have now in place of the old
+/// ones.
+///
+/// Fails if memory ran out.
 pub fn replayed(alloc: Global, text: &str) -> Result<String, Failed> {
     let mut out = String::new(alloc);
     let mut replay = Replay {

@@ -1,4 +1,4 @@
-//! The rows of all tables as records.
+//! The rows of all tables as the records of transcripts.
 
 use crate::escape::add_escaped;
 use crate::failed::Failed;
@@ -7,7 +7,8 @@ use sqlite::types::ValueRef;
 use sqlite::{Connection, MemStore, Row};
 use std::alloc::Global;
 
-// Adds a column of a row, with a bar before each but the first.
+// Appends the value of a column, with a bar before each but the first. A null or any value that is
+// neither a whole number nor text is `\x00`.
 fn add_column(out: &mut String, row: &Row, at: usize) -> Result<(), Failed> {
     if at > 0 {
         out.push_str("|")?;
@@ -20,7 +21,7 @@ fn add_column(out: &mut String, row: &Row, at: usize) -> Result<(), Failed> {
     Ok(())
 }
 
-// Adds a row of a table.
+// Appends a row of a table as an output line.
 fn add_row(out: &mut String, table: &str, row: &Row) -> Result<(), Failed> {
     write!(out, "> {table} ")?;
     for at in 0..row.column_count() {
@@ -30,7 +31,7 @@ fn add_row(out: &mut String, table: &str, row: &Row) -> Result<(), Failed> {
     Ok(())
 }
 
-// Adds the rows of a table, sorted by its key.
+// Appends the rows of a table, sorted by its key, or a line if there is no such table.
 fn add_table(
     alloc: Global,
     out: &mut String,
@@ -50,7 +51,7 @@ fn add_table(
     Ok(())
 }
 
-/// Adds the rows of all tables, each sorted by its key.
+/// Appends the rows of all tables, each sorted by its key.
 pub fn add_tables(
     alloc: Global,
     out: &mut String,

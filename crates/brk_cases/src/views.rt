@@ -1,4 +1,4 @@
-//! Views as records.
+//! Views as the records of transcripts.
 
 use crate::escape::{Piece, add_escaped, add_line, add_written};
 use crate::failed::Failed;
@@ -10,13 +10,13 @@ use brk_view_text::view_fields;
 use sqlite::MemStore;
 use std::alloc::{AllocError, Global};
 
-/// Adds the output line of a refusal.
+/// Appends the output line of a refusal.
 pub fn add_refusal(out: &mut String, refusal: Refusal) -> Result<(), Failed> {
     writeln!(out, "> no {}", refusal.number())?;
     Ok(())
 }
 
-// Adds a record.
+// Appends a record as an output line.
 fn add_record(out: &mut String, record: &[String]) -> Result<(), Failed> {
     let mut sign = "> ";
     for field in record {
@@ -28,7 +28,7 @@ fn add_record(out: &mut String, record: &[String]) -> Result<(), Failed> {
     Ok(())
 }
 
-// Adds the records of a view.
+// Appends the records of a view as output lines.
 fn add_view(alloc: Global, out: &mut String, view: &View) -> Result<(), Failed> {
     match view_fields(alloc, view) {
         Ok(records) => {
@@ -41,7 +41,7 @@ fn add_view(alloc: Global, out: &mut String, view: &View) -> Result<(), Failed> 
     }
 }
 
-// The texts of input lines.
+// Returns the bytes of the input lines, in order.
 fn texts(alloc: Global, pieces: &[Piece]) -> Result<Vec<&[u8]>, AllocError> {
     let mut texts = Vec::new(alloc);
     for piece in pieces {
@@ -50,7 +50,7 @@ fn texts(alloc: Global, pieces: &[Piece]) -> Result<Vec<&[u8]>, AllocError> {
     Ok(texts)
 }
 
-// Asks a desk for a view.
+// Parses a query from a view's name and its arguments, and executes it on a desk.
 fn answer(
     alloc: Global,
     desk: &mut Desk<MemStore>,
@@ -63,7 +63,8 @@ fn answer(
     }
 }
 
-/// Asks a desk for a view, with the input lines as its arguments.
+/// Executes the query of a view on a desk, with the input lines as its arguments, and appends the
+/// records, the refusal or the fault.
 pub fn ask(
     alloc: Global,
     out: &mut String,
@@ -79,7 +80,8 @@ pub fn ask(
     }
 }
 
-// The form of a printed view by its word.
+// Returns the form of a printed view: as JSON for `json` and `json-heads`, with the names of the
+// fields for `csv-heads` and `json-heads`.
 fn form_of(word: &str) -> Form {
     Form {
         json: word == "json" || word == "json-heads",
@@ -87,7 +89,8 @@ fn form_of(word: &str) -> Form {
     }
 }
 
-/// Prints a view of a desk: its words are the form and the view, its input lines the arguments.
+/// Prints a view of a desk and appends the text: the words are the form and the view, the input
+/// lines the arguments.
 pub fn print(
     alloc: Global,
     out: &mut String,

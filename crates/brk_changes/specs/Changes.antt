@@ -13,15 +13,15 @@ use Rattle.brk_changes.specs.Rows.{trade_row_of, history_row_of, request_row_of,
 use Rattle.brk_changes.specs.declared.change.Change.{Change}
 use Rattle.brk_changes.specs.declared.change.Change.TheVariants.{AddBroker, AddCustomer, AddAccount, AddPermission, AddSecurity, AddLastTrade, AddCharge, AddBand, AddTaxRate, AddCustomerTax, AddTrade, SetStatus, AddHistory, AddRequest, RemoveRequest, SetLastTrade, CompleteTrade, AddLot, SetLot, RemoveLot, AddLotChange, AddSummary, SetSummary, RemoveSummary, AddSettlement, AddMove, SetBalance, SetBrokerNumbers, SetExecutor, SetCashType, SetCashName, SetRule, Keep, SetLast}
 
--- The tables with `b` inserted, without trades and commissions.
+-- The tables `t` with the broker `b` inserted, with 0 completed trades and no commissions.
 abbrev pub with_broker : Broker → Tables → Tables
 with_broker b t = record t { brokers = insert_row broker_key (record { id = b.id; name = b.name; trades = pos 0; commissions = 0 }) t.brokers }
 
--- The tables with the customer `c` inserted.
+-- The tables `t` with the customer `c` inserted.
 abbrev pub with_customer : Customer → Tables → Tables
 with_customer c t = record t { customers = insert_row customer_key c t.customers }
 
--- The tables with the account `a` inserted, whose balance is its opening balance.
+-- The tables `t` with the account `a` inserted, whose balance is its opening balance.
 abbrev pub with_account : Account → Tables → Tables
 with_account a t = record t {
   accounts = insert_row account_key
@@ -29,136 +29,144 @@ with_account a t = record t {
       t.accounts;
 }
 
--- The tables with the permission `p` inserted.
+-- The tables `t` with the permission `p` inserted.
 abbrev pub with_permission : Permission → Tables → Tables
 with_permission p t = record t { permissions = insert_row permission_key p t.permissions }
 
--- The tables with the security `s` inserted.
+-- The tables `t` with the security `s` inserted.
 abbrev pub with_security : SecurityRow → Tables → Tables
 with_security s t = record t { securities = insert_row security_key s t.securities }
 
--- The tables with the last trade `l` of a security inserted.
+-- The tables `t` with the LAST_TRADE row `l` inserted.
 abbrev pub with_last_trade : LastTradeRow → Tables → Tables
 with_last_trade l t = record t { last_trades = insert_row last_trade_key l t.last_trades }
 
--- The tables with the charge `c` inserted.
+-- The tables `t` with the charge `c` inserted.
 abbrev pub with_charge : Charge → Tables → Tables
 with_charge c t = record t { charges = insert_row charge_key c t.charges }
 
--- The tables with the commission band `b` inserted.
+-- The tables `t` with the commission band `b` inserted.
 abbrev pub with_band : Band → Tables → Tables
 with_band b t = record t { bands = insert_row band_key b t.bands }
 
--- The tables with the tax rate `r` inserted.
+-- The tables `t` with the tax rate `r` inserted.
 abbrev pub with_tax_rate : TaxRate → Tables → Tables
 with_tax_rate r t = record t { tax_rates = insert_row tax_rate_key r t.tax_rates }
 
--- The tables with the tax `x` of a customer inserted.
+-- The tables `t` with the tax `x` of a customer inserted.
 abbrev pub with_customer_tax : CustomerTax → Tables → Tables
 with_customer_tax x t = record t { customer_taxes = insert_row customer_tax_key x t.customer_taxes }
 
--- The tables with the trade `r` inserted.
+-- The tables `t` with the TRADE row `r` inserted.
 abbrev pub with_trade : TradeRow → Tables → Tables
 with_trade r t = record t { trades = insert_row trade_key r t.trades }
 
--- The tables with another status and stamp of the trade `id`.
+-- The tables `t` with the status and the stamp of the trade `id` set to `status` and `stamp`. They
+-- are unchanged if there is no such trade.
 abbrev pub with_status : ℕ → Status → ℕ → Tables → Tables
 with_status id status stamp t = record t { trades = update_where (λ r. r.id == id) (λ r. record r { status = status; stamp = stamp }) t.trades }
 
--- The tables with the status change `r` of a trade inserted.
+-- The tables `t` with the TRADE_HISTORY row `r` inserted.
 abbrev pub with_history : HistoryRow → Tables → Tables
 with_history r t = record t { history = insert_row history_key r t.history }
 
--- The tables with the request `r` inserted.
+-- The tables `t` with the TRADE_REQUEST row `r` inserted.
 abbrev pub with_request : RequestRow → Tables → Tables
 with_request r t = record t { requests = insert_row request_key r t.requests }
 
--- The tables without the request of the trade.
+-- The tables `t` without the request of `trade`.
 abbrev pub without_request : ℕ → Tables → Tables
 without_request trade t = record t { requests = filter (λ r. not (r.trade == trade)) t.requests }
 
--- The tables with the row of the security `l.symbol` in LAST_TRADE replaced by `l`. They are
--- unchanged if it has none.
+-- The tables `t` with the stamp, the price and the volume of the symbol of `l` in LAST_TRADE set to
+-- those of `l`. They are unchanged if the symbol has no row.
 abbrev pub with_last_trade_set : LastTradeRow → Tables → Tables
 with_last_trade_set l t =
     record t { last_trades = update_where (λ r. bytes_eq r.symbol l.symbol) (λ r. record r { stamp = l.stamp; price = l.price; volume = l.volume }) t.last_trades }
 
--- The tables with the trade `id` completed: its status, stamp, price, commission and tax are set.
+-- The tables `t` with the status of the trade `id` set to `Completed` and its stamp, price,
+-- commission and tax to these. They are unchanged if there is no such trade.
 abbrev pub with_completion : (id stamp price commission tax : ℕ) → Tables → Tables
 with_completion id stamp price commission tax t = record t {
   trades = update_where (λ r. r.id == id)
       (λ r. record r { status = Completed; stamp = stamp; price = Some price; commission = commission; tax = tax }) t.trades;
 }
 
--- The tables with the lot `r` inserted.
+-- The tables `t` with the HOLDING row `r` inserted.
 abbrev pub with_lot : HoldingRow → Tables → Tables
 with_lot r t = record t { holdings = insert_row holding_key r t.holdings }
 
--- The tables with another quantity of the lot that the trade opened.
+-- The tables `t` with the quantity of the lot that `trade` opened set to `qty`. They are unchanged
+-- if there is no such lot.
 abbrev pub with_lot_set : ℕ → ℤ → Tables → Tables
 with_lot_set trade qty t = record t { holdings = update_where (λ r. r.trade == trade) (λ r. record r { qty = qty }) t.holdings }
 
--- The tables without the lot that the trade opened.
+-- The tables `t` without the lot that `trade` opened.
 abbrev pub without_lot : ℕ → Tables → Tables
 without_lot trade t = record t { holdings = filter (λ r. not (r.trade == trade)) t.holdings }
 
--- The tables with the lot change `r` inserted.
+-- The tables `t` with the HOLDING_HISTORY row `r` inserted.
 abbrev pub with_lot_change : HoldingHistoryRow → Tables → Tables
 with_lot_change r t = record t { holding_history = insert_row holding_history_key r t.holding_history }
 
--- The tables with the summary `r` inserted.
+-- The tables `t` with the HOLDING_SUMMARY row `r` inserted.
 abbrev pub with_summary : SummaryRow → Tables → Tables
 with_summary r t = record t { summaries = insert_row summary_key r t.summaries }
 
--- The tables with another quantity in the summary of the account and security of `s`. They are
--- unchanged if there is none.
+-- The tables `t` with the quantity of the summary of the account and the symbol of `s` set to that
+-- of `s`. They are unchanged if there is no such summary.
 abbrev pub with_summary_set : SummaryRow → Tables → Tables
 with_summary_set s t =
     record t { summaries = update_where (λ r. (r.account == s.account) && bytes_eq r.symbol s.symbol) (λ r. record r { qty = s.qty }) t.summaries }
 
--- The tables without the summary of the account and security.
+-- The tables `t` without the summary of `account` in `symbol`.
 abbrev pub without_summary : ℕ → Text → Tables → Tables
 without_summary account symbol t = record t { summaries = filter (λ r. not ((r.account == account) && bytes_eq r.symbol symbol)) t.summaries }
 
--- The tables with the settlement `r` inserted.
+-- The tables `t` with the SETTLEMENT row `r` inserted.
 abbrev pub with_settlement : SettlementRow → Tables → Tables
 with_settlement r t = record t { settlements = insert_row settlement_key r t.settlements }
 
--- The tables with the cash row `r` inserted.
+-- The tables `t` with the CASH_MOVE row `r` inserted.
 abbrev pub with_move : MoveRow → Tables → Tables
 with_move r t = record t { moves = insert_row move_key r t.moves }
 
--- The tables with another balance of the account.
+-- The tables `t` with the balance of `account` set to `balance`. They are unchanged if there is no
+-- such account.
 abbrev pub with_balance : ℕ → ℤ → Tables → Tables
 with_balance account balance t = record t { accounts = update_where (λ r. r.id == account) (λ r. record r { balance = balance }) t.accounts }
 
--- The tables with other totals of the broker: its completed trades and their commissions.
+-- The tables `t` with the number of completed trades and the commissions of `broker` set to
+-- `trades` and `commissions`. They are unchanged if there is no such broker.
 abbrev pub with_broker_numbers : ℕ → ℤ → ℕ → Tables → Tables
 with_broker_numbers broker trades commissions t =
     record t { brokers = update_where (λ r. r.id == broker) (λ r. record r { trades = trades; commissions = commissions }) t.brokers }
 
--- The tables with another executor name of the trade.
+-- The tables `t` with the executor's name of `trade` set to `name`. They are unchanged if there is
+-- no such trade.
 abbrev pub with_executor : ℕ → Text → Tables → Tables
 with_executor trade name t = record t { trades = update_where (λ r. r.id == trade) (λ r. record r { executor = name }) t.trades }
 
--- The tables with another cash type of the trade's settlement.
+-- The tables `t` with the cash type of the settlement of `trade` set to `word`. They are unchanged
+-- if the trade has no settlement.
 abbrev pub with_cash_type : ℕ → Text → Tables → Tables
 with_cash_type trade word t = record t { settlements = update_where (λ r. r.trade == trade) (λ r. record r { cash_type = word }) t.settlements }
 
--- The tables with another text of the trade's cash row.
+-- The tables `t` with the text of the cash row of `trade` set to `name`. They are unchanged if the
+-- trade has no cash row.
 abbrev pub with_cash_name : ℕ → Text → Tables → Tables
 with_cash_name trade name t = record t { moves = update_where (is_cash_of trade) (λ r. record r { name = name }) t.moves }
 
--- The tables with `day` as the settlement day: the first day whose completions settle after one
--- day.
+-- The tables `t` with the settlement day, the first day whose completions settle after one day, set
+-- to `day`.
 abbrev pub with_rule : ℕ → Tables → Tables
 with_rule day t = record t { rule = Some day }
 
--- The tables with the stored reply `k` inserted.
+-- The tables `t` with the KEPT row `k` inserted: a stored request and its stored reply.
 abbrev pub with_kept : Kept → Tables → Tables
 with_kept k t = record t { kept = insert_row kept_key k t.kept }
 
--- The tables with another stamp of the last accepted command.
+-- The tables `t` with the stamp of the last accepted command set to `stamp`.
 abbrev pub with_last : ℕ → Tables → Tables
 with_last stamp t = record t { last = Some stamp }
 
@@ -199,6 +207,6 @@ after_change (SetRule day) = with_rule day
 after_change (Keep kept) = with_kept (kept_of kept)
 after_change (SetLast stamp) = with_last stamp
 
--- The tables after a list of row changes, applied in order.
+-- The tables `t` after the row changes `changes`, applied in sequence.
 abbrev pub after_changes : List Change → Tables → Tables
 after_changes changes t = fold (λ t change. after_change change t) t changes

@@ -7,14 +7,16 @@ use Rattle.brk_model.specs.Joins.{oldest_first_rows}
 use Rattle.brk_model.specs.LookupView.{is_between}
 use Rattle.brk_model.specs.Tables.{Tables, TradeRow}
 
--- The first twenty completed trades that pass the test, the oldest first.
+-- The first twenty completed trades that pass `test`, sorted by stamp, then by id, ascending.
 abbrev pub first_completed : (TradeRow → Bool) → Tables → List TradeRow
 first_completed test t = take 20 (oldest_first_rows (filter (λ r. same_status r.status Completed && test r) t.trades))
 
--- The first twenty trades of the account that were completed between two stamps, both included.
+-- The first twenty trades of `account` that were completed from the stamp `first` to the stamp
+-- `last`, both included, sorted by stamp, then by id, ascending.
 abbrev pub completed_of_account : (account first last : ℕ) → Tables → List TradeRow
 completed_of_account account first last = first_completed (λ r. (r.account == account) && is_between first last r)
 
--- The first twenty cash trades of the symbol that were completed between two stamps, both included.
+-- The first twenty cash trades of `symbol` that were completed from the stamp `first` to the stamp
+-- `last`, both included, sorted by stamp, then by id, ascending.
 abbrev pub completed_cash_of_symbol : Text → (first last : ℕ) → Tables → List TradeRow
 completed_cash_of_symbol symbol first last = first_completed (λ r. (r.is_cash && bytes_eq r.symbol symbol) && is_between first last r)

@@ -15,7 +15,7 @@ use Rattle.brk_changes.specs.declared.move_row.MoveRow as move
 use Rattle.brk_changes.specs.declared.cash_type.CashType.{CashType}
 use Rattle.brk_changes.specs.declared.cash_type.CashType.TheVariants.{CashAccount, Cash, Margin, MarginAccount}
 
--- The abstract TRADE row of a trade's row.
+-- The model's TRADE row with the values of the typed row `r`.
 abbrev pub trade_row_of : trade.TradeRow → TradeRow
 trade_row_of r = record {
   id = r.id;
@@ -35,23 +35,23 @@ trade_row_of r = record {
   is_lifo = r.is_lifo;
 }
 
--- The abstract TRADE_HISTORY row of a status change.
+-- The model's TRADE_HISTORY row with the values of the typed row `r`.
 abbrev pub history_row_of : history.HistoryRow → HistoryRow
 history_row_of r = record { trade = r.trade; status = r.status; stamp = r.stamp }
 
--- The abstract TRADE_REQUEST row of a request.
+-- The model's TRADE_REQUEST row with the values of the typed row `r`.
 abbrev pub request_row_of : request.RequestRow → RequestRow
 request_row_of r = record { trade = r.trade; kind = r.kind; symbol = r.symbol; qty = r.qty; bid = r.bid; broker = r.broker }
 
--- The abstract HOLDING row of a lot.
+-- The model's HOLDING row with the values of the typed row `r`.
 abbrev pub holding_row_of : holding.HoldingRow → HoldingRow
 holding_row_of r = record { trade = r.trade; account = r.account; symbol = r.symbol; stamp = r.stamp; price = r.price; qty = r.qty }
 
--- The abstract HOLDING_SUMMARY row of a summary.
+-- The model's HOLDING_SUMMARY row with the values of the typed row `r`.
 abbrev pub summary_row_of : summary.SummaryRow → SummaryRow
 summary_row_of r = record { account = r.account; symbol = r.symbol; qty = r.qty }
 
--- The abstract HOLDING_HISTORY row of a lot change.
+-- The model's HOLDING_HISTORY row with the values of the typed lot change `r`.
 abbrev pub lot_change_of : lot_change.LotChange → HoldingHistoryRow
 lot_change_of r = record { lot = r.lot; trade = r.trade; before = r.before; after = r.after }
 
@@ -62,22 +62,23 @@ cash_type_word Cash = codes "Cash"
 cash_type_word Margin = codes "Margin"
 cash_type_word MarginAccount = codes "Margin Account"
 
--- The abstract SETTLEMENT row of a settlement.
+-- The model's SETTLEMENT row with the values of the typed row `r`, and the text of its cash type.
 abbrev pub settlement_row_of : settlement.SettlementRow → SettlementRow
 settlement_row_of r = record { trade = r.trade; cash_type = cash_type_word r.cash_type; due_day = r.due_day; amount = r.amount }
 
--- The abstract CASH_TRANSACTION row of a cash row of schema 1.
+-- The model's CASH_TRANSACTION row (schema 1) with the values of the typed row `r`.
 abbrev pub cash_row_of : cash.CashRow → CashRow
 cash_row_of r = record { trade = r.trade; stamp = r.stamp; amount = r.amount; name = string_bytes r.name }
 
--- The abstract CASH_MOVE row of a cash row.
+-- The model's CASH_MOVE row with the values of the typed row `r`.
 abbrev pub move_row_of : move.MoveRow → MoveRow
 move_row_of r = record { id = r.id; account = r.account; trade = r.trade; stamp = r.stamp; amount = r.amount; name = string_bytes r.name }
 
--- The age of a lot: the stamp at which it was opened, then the trade that opened it.
+-- The key by which lots are sorted by age: the stamp at which the lot `r` was opened, then the
+-- trade that opened it.
 abbrev pub age_key : HoldingRow → List KeyPart
 age_key r = number r.stamp ∷ number r.trade ∷ []
 
--- The lots in order of age, the oldest first.
+-- The lots sorted by age (`age_key`), ascending: the oldest first.
 abbrev pub oldest_lots_first : List HoldingRow → List HoldingRow
 oldest_lots_first = by_key age_key

@@ -3,7 +3,7 @@ use Rattle.brk_model.specs.Schemas.{Schema, first_schema, second_schema, third_s
 use Rattle.brk_changes.specs.declared.schema.Schema as declared
 use Rattle.brk_changes.specs.declared.schema.Schema.TheVariants.{First, Second, Third}
 
--- The abstract schema of a schema value.
+-- The model's schema for a typed schema: the first, the second or the third.
 abbrev pub schema_of : declared.Schema → Schema
 schema_of First = first_schema
 schema_of Second = second_schema

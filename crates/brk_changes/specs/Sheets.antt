@@ -5,7 +5,7 @@ use Rattle.brk_ref.specs.Records.{kept_of, broker_row_of, customer_of, account_r
 use Rattle.brk_changes.specs.Rows.{trade_row_of, history_row_of, request_row_of, holding_row_of, summary_row_of, lot_change_of, settlement_row_of, cash_row_of, move_row_of}
 use Rattle.brk_changes.specs.declared.sheets.Sheets.{Sheets}
 
--- The tables of the model with these typed rows.
+-- The model's tables with the values of the typed rows `s`.
 abbrev pub tables_in_sheets : Sheets → Tables
 tables_in_sheets s = record {
   last = s.last;

@@ -1,7 +1,7 @@
 use crate::trade_count::TradeCount;
 use brk_money::Amount;
 
-/// A broker's totals.
+/// The totals of a broker: its completed trades and their commissions.
 #[derive(Clone, Copy, PartialEq, Eq)]
 pub struct BrokerNumbers {
     /// The number of completed trades of the broker's accounts (B_NUM_TRADES).

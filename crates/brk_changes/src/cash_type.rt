@@ -1,7 +1,7 @@
 ghost use Rattle.std.specs.Prelude.{◌≡◌};
 ghost use Rattle.brk_changes.specs.Rows.{cash_type_word};
 
-/// How a trade is settled (SE_CASH_TYPE): in cash or on margin, each with two texts.
+/// The settlement text of a trade (SE_CASH_TYPE): in cash or on margin, each with two texts.
 #[derive(Clone, Copy, PartialEq, Eq)]
 pub enum CashType {
     /// In cash, as a completion records it.
@@ -15,7 +15,7 @@ pub enum CashType {
 }
 
 impl CashType {
-    /// Returns its text in tables and replies.
+    /// Returns the text of the cash type in the column SE_CASH_TYPE and in replies.
     pub fn word(self) -> &'static str
         ensures { result.now ≡ cash_type_word self }
     {

@@ -25,7 +25,7 @@ pub struct TradeRow {
     pub is_lifo: bool,
 }
 
-/// Returns true if the status of the trade is submitted.
+/// Returns true if the status of the trade is `Submitted`.
 pub fn is_submitted(trade: &TradeRow) -> bool
     ensures { result ≡ same_status trade.now.status Submitted }
 {

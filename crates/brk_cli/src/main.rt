@@ -9,7 +9,9 @@ use std::env;
 use std::io::ErrorKind;
 use std::process::ExitCode;
 
-// Returns the command-line arguments.
+// Returns the command-line arguments, the program's own name first.
+//
+// Fails with `Memory`, or with `Words` if an argument is not UTF-8.
 fn given_words(rt: &HostRuntime) -> Result<Vec<String>, UsageFault> {
     match env::args(rt) {
         Ok(words) => {
@@ -23,7 +25,8 @@ fn given_words(rt: &HostRuntime) -> Result<Vec<String>, UsageFault> {
     }
 }
 
-// Executes the job of the command-line arguments, from standard input to standard output.
+// Executes the job of the command-line arguments, from standard input to standard output, and
+// returns the outcome.
 fn executed(rt: &HostRuntime) -> Ending {
     match given_words(rt) {
         Ok(words) => run(rt, words, rt.reader(), &mut rt.stdout()),
@@ -31,6 +34,8 @@ fn executed(rt: &HostRuntime) -> Ending {
     }
 }
 
+// Runs the program: executes its job, writes the error line of the outcome to standard error, and
+// returns the exit status.
 fn main(rt: HostRuntime) -> ExitCode {
     let ending = executed(&rt);
     let mut errors = rt.stderr();

@@ -12,13 +12,13 @@ use Rattle.brk_clock.specs.declared.moments.Moments.TheVariants as moments
 abbrev pub stamp_at : SystemTime → ℕ
 stamp_at time = min (system_time_nanos time / 1000000) last_stamp
 
--- The clock that always returns the given timestamp, or the machine's clock if none is given.
+-- The clock that always returns the timestamp, or the machine's clock if there is no timestamp.
 abbrev pub clock_of : {R : Type 0} → Bor R → Option ℕ → Moments R
 clock_of machine (Some stamp) = moments.At stamp
 clock_of machine None = moments.Machine machine
 
--- The clock returned `moment` and did not change. A clock that always returns one timestamp
--- returned that one. Nothing is known of a reading of the machine's clock.
+-- The clock returned `moment` and did not change. A clock with a fixed timestamp returned this
+-- timestamp; of a reading of the machine's clock nothing is known.
 abbrev pub Gives : {R : Type 0} → Moments R → ℕ → Moments R → Type 0
 Gives (moments.At stamp) moment new = (moment ≡ stamp) × (new ≡ moments.At stamp)
 Gives (moments.Machine machine) moment new = new ≡ moments.Machine machine

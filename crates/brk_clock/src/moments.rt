@@ -29,7 +29,7 @@ pub fn stamp_of(time: SystemTime) -> Stamp
     }
 }
 
-// Returns the reading of the machine's clock, or 0 if it cannot be read.
+// Reads the machine's clock. Returns its stamp, or 0 if the clock cannot be read.
 fn reading<R: rt::Clock>(clock: &R) -> Stamp {
     match SystemTime::now(clock) {
         Ok(time) => stamp_of(time),

@@ -5,7 +5,7 @@ use Rattle.brk_orders.specs.Records.{movement_of, order_of, result_of, ticks_of,
 use Rattle.brk_commands.specs.declared.command.Command as told
 use Rattle.brk_commands.specs.declared.command.Command.TheVariants as command
 
--- The command of the model that a command represents.
+-- The model's command with the values of a typed command.
 abbrev pub command_of : told.Command → Command
 command_of (command.Add reference) = books.adding_command reference
 command_of (command.Order order) = PlaceOrder (order_of order)

@@ -15,6 +15,7 @@ use brk_plans::{Completed, Estimate, Ordered, Reply};
 use itoa::Buffer;
 use std::alloc::{AllocError, Global};
 
+// Returns the text of a stamp, which is the line of a `Booked` reply. Fails if memory runs out.
 fn stamp_text(alloc: Global, stamp: Stamp) -> Result<String, AllocError>
     ensures { IfOk result (λ line. string_bytes line ≡ model.line_text (replies.Booked stamp)) }
 {
@@ -22,7 +23,7 @@ fn stamp_text(alloc: Global, stamp: Stamp) -> Result<String, AllocError>
     String::from_str(alloc, digits.format(stamp.get().unsigned_abs()))
 }
 
-// Appends the seven numbers of an estimate.
+// Appends the seven fields of an estimate, each after a comma. Fails if memory runs out.
 fn add_estimate(line: &mut String, estimate: &Estimate) -> Result<(), AllocError>
     ensures { OnOk result (string_bytes line.new ≡ string_bytes line.old ++ more_fields 44 (model.estimate_fields (estimate_of estimate.now))) }
 {
@@ -39,7 +40,8 @@ fn add_estimate(line: &mut String, estimate: &Estimate) -> Result<(), AllocError
     )
 }
 
-// Returns the stamp, the trade and the status of an order.
+// Returns the stamp, the id and the status of a placed order, joined by commas. Fails if memory
+// runs out.
 fn placed_text(alloc: Global, ordered: &Ordered) -> Result<String, AllocError>
     ensures { IfOk result (λ line. string_bytes line ≡ model.line_of (decimal ordered.now.stamp ∷ decimal ordered.now.trade ∷ status_code ordered.now.status ∷ [])) }
 {
@@ -51,6 +53,7 @@ fn placed_text(alloc: Global, ordered: &Ordered) -> Result<String, AllocError>
     )
 }
 
+// Returns the line of an `Ordered` reply. Fails if memory runs out.
 fn ordered_text(alloc: Global, ordered: &Ordered) -> Result<String, AllocError>
     ensures { IfOk result (λ line. string_bytes line ≡ model.line_text (replies.Ordered ordered.now.stamp ordered.now.trade ordered.now.status (estimate_of ordered.now.estimate))) }
 {
@@ -59,13 +62,15 @@ fn ordered_text(alloc: Global, ordered: &Ordered) -> Result<String, AllocError>
     Ok(line)
 }
 
-// Appends the field of a trade.
+// Appends a comma and the id of a trade. Fails if memory runs out.
 fn add_trade(line: &mut String, trade: Id) -> Result<(), AllocError>
     ensures { OnOk result (string_bytes line.new ≡ string_bytes line.old ++ (44 ∷ decimal trade)) }
 {
     write!(line, ",{}", trade.get())
 }
 
+// Returns the line of a `Ticked` reply: the stamp, and the triggered trades. Fails if memory runs
+// out.
 fn ticked_text(alloc: Global, stamp: Stamp, triggered: &[Id]) -> Result<String, AllocError>
     ensures { IfOk result (λ line. string_bytes line ≡ model.line_text (replies.Ticked stamp triggered.now)) }
 {
@@ -76,6 +81,7 @@ fn ticked_text(alloc: Global, stamp: Stamp, triggered: &[Id]) -> Result<String, 
     Ok(line)
 }
 
+// Returns the line of a `Canceled` reply. Fails if memory runs out.
 fn canceled_text(alloc: Global, stamp: Stamp) -> Result<String, AllocError>
     ensures { IfOk result (λ line. string_bytes line ≡ model.line_text (replies.CanceledTrade stamp)) }
 {
@@ -94,7 +100,8 @@ pub fn day_text(alloc: Global, day: Day) -> Result<String, Fault>
     Ok(text)
 }
 
-// Appends the commission, the tax and the settlement amount.
+// Appends the commission, the tax and the settlement amount of a completed trade, each after a
+// comma. Fails if memory runs out.
 fn add_dues(line: &mut String, completed: &Completed) -> Result<(), AllocError>
     ensures { OnOk result (string_bytes line.new ≡ string_bytes line.old ++ more_fields 44 (take 3 (model.completion_fields (completion_of completed.now)))) }
 {
@@ -107,14 +114,15 @@ fn add_dues(line: &mut String, completed: &Completed) -> Result<(), AllocError>
     )
 }
 
-// Appends the field of a day.
+// Appends a comma and the text of a day. Fails if memory runs out.
 fn add_day(line: &mut String, day: &str) -> Result<(), AllocError>
     ensures { OnOk result (string_bytes line.new ≡ string_bytes line.old ++ more_fields 44 (day.now ∷ [])) }
 {
     write!(line, ",{day}")
 }
 
-// Appends the buy value and the sell value of the closed shares, and the balance.
+// Appends the buy value and the sell value of the closed shares, and the balance, each after a
+// comma. Fails if memory runs out.
 fn add_values(line: &mut String, completed: &Completed) -> Result<(), AllocError>
     ensures { OnOk result (string_bytes line.new ≡ string_bytes line.old ++ more_fields 44 (drop 4 (model.completion_fields (completion_of completed.now)))) }
 {
@@ -127,6 +135,7 @@ fn add_values(line: &mut String, completed: &Completed) -> Result<(), AllocError
     )
 }
 
+// Returns the line of a `Completed` reply. Fails with `Memory` only.
 fn completed_text(alloc: Global, completed: &Completed) -> Result<String, Fault>
     ensures line { IfOk result (λ line. string_bytes line ≡ model.line_text (replies.CompletedTrade completed.now.stamp (completion_of completed.now))) }
     ensures fault { OnErr result (result ≡ Err Memory) }
@@ -139,12 +148,16 @@ fn completed_text(alloc: Global, completed: &Completed) -> Result<String, Fault>
     Ok(line)
 }
 
+// Returns the line of a `Changed` reply: the stamp, and the number of trades. Fails if memory runs
+// out.
 fn changed_text(alloc: Global, stamp: Stamp, count: usize) -> Result<String, AllocError>
     ensures { IfOk result (λ line. string_bytes line ≡ model.line_text (replies.Changed stamp count)) }
 {
     format!(in alloc; "{},{count}", stamp.get().unsigned_abs())
 }
 
+// Returns the line of a `Moved` reply: the stamp, the id of the cash row, and the balance. Fails if
+// memory runs out.
 fn moved_text(
     alloc: Global,
     stamp: Stamp,

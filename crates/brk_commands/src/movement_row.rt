@@ -14,6 +14,7 @@ use brk_orders::{Direction, Movement};
 use brk_ref::MovedAmount;
 use std::alloc::{AllocError, Global};
 
+// Returns the row of a deposit, its fields joined by byte 31. Fails if memory runs out.
 fn deposit_text(alloc: Global, account: Id, amount: MovedAmount) -> Result<String, AllocError>
     ensures { IfOk result (λ row. string_bytes row ≡ model.row_text (DepositCash account amount)) }
 {
@@ -24,6 +25,7 @@ fn deposit_text(alloc: Global, account: Id, amount: MovedAmount) -> Result<Strin
     )
 }
 
+// Returns the row of a withdrawal, its fields joined by byte 31. Fails if memory runs out.
 fn withdrawal_text(alloc: Global, account: Id, amount: MovedAmount) -> Result<String, AllocError>
     ensures { IfOk result (λ row. string_bytes row ≡ model.row_text (WithdrawCash account amount)) }
 {
@@ -34,7 +36,8 @@ fn withdrawal_text(alloc: Global, account: Id, amount: MovedAmount) -> Result<St
     )
 }
 
-/// Returns the row of a deposit or a withdrawal, its fields joined by byte 31.
+/// Returns the row of a deposit or a withdrawal, its fields joined by byte 31. Fails if memory runs
+/// out.
 pub fn movement_text(alloc: Global, movement: &Movement) -> Result<String, AllocError>
     ensures { IfOk result (λ row. string_bytes row ≡ model.row_text (movement_of movement.now)) }
 {
@@ -44,7 +47,7 @@ pub fn movement_text(alloc: Global, movement: &Movement) -> Result<String, Alloc
     }
 }
 
-// Joins the kind `oneday` and the text of its day.
+// Returns the kind `oneday` and the text of a day, joined by byte 31. Fails if memory runs out.
 fn kept_day(alloc: Global, day: &str) -> Result<String, AllocError>
     ensures { IfOk result (λ row. string_bytes row ≡ join_with_byte 31 (codes "oneday" ∷ day.now ∷ [])) }
 {

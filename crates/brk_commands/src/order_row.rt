@@ -28,7 +28,8 @@ pub fn end_word(is_lifo: bool) -> &'static str
     if is_lifo { "lifo" } else { "fifo" }
 }
 
-// Returns the kind of an order and its first four fields: account, type, symbol and quantity.
+// Returns the kind of an order and its first four fields, joined by byte 31: account, type, symbol
+// and quantity. Fails if memory runs out.
 fn asked_text(alloc: Global, order: &Order) -> Result<String, AllocError>
     ensures { IfOk result (λ row. string_bytes row ≡ join_with_byte 31 (codes "order" ∷ take 4 (model.order_fields (order_of order.now)))) }
 {
@@ -41,7 +42,8 @@ fn asked_text(alloc: Global, order: &Order) -> Result<String, AllocError>
     )
 }
 
-// Appends the price that an order asks for, or an empty field if it asks for none.
+// Appends byte 31 and the price that an order asks for, or byte 31 alone if it asks for none. Fails
+// if memory runs out.
 fn add_price(row: &mut String, order_type: OrderType) -> Result<(), AllocError>
     ensures { OnOk result (string_bytes row.new ≡ string_bytes row.old ++ more_fields 31 (option_map_or model.price_text (price_asked order_type) [] ∷ [])) }
 {
@@ -51,8 +53,8 @@ fn add_price(row: &mut String, order_type: OrderType) -> Result<(), AllocError>
     }
 }
 
-// Appends the last five fields of an order: its account type, the end of its lots, and its
-// executor.
+// Appends the last five fields of an order, each after byte 31: cash or margin, the end from which
+// it closes lots, and the names and the tax id of its executor. Fails if memory runs out.
 fn add_manner(row: &mut String, order: &Order) -> Result<(), AllocError>
     ensures { OnOk result (string_bytes row.new ≡ string_bytes row.old ++ more_fields 31 (drop 5 (model.order_fields (order_of order.now)))) }
 {
@@ -68,7 +70,7 @@ fn add_manner(row: &mut String, order: &Order) -> Result<(), AllocError>
 }
 
 /// Returns the row of an order, its fields joined by byte 31. PRICE is empty if the order asks for
-/// none.
+/// none. Fails if memory runs out.
 pub fn order_text(alloc: Global, order: &Order) -> Result<String, AllocError>
     ensures { IfOk result (λ row. string_bytes row ≡ model.row_text (PlaceOrder (order_of order.now))) }
 {
@@ -78,7 +80,7 @@ pub fn order_text(alloc: Global, order: &Order) -> Result<String, AllocError>
     Ok(row)
 }
 
-// Appends the fields of a tick.
+// Appends the three fields of a tick, each after byte 31. Fails if memory runs out.
 fn add_tick(row: &mut String, tick: &Tick) -> Result<(), AllocError>
     ensures { OnOk result (string_bytes row.new ≡ string_bytes row.old ++ more_fields 31 (model.tick_fields (tick_of tick.now))) }
 {
@@ -91,7 +93,8 @@ fn add_tick(row: &mut String, tick: &Tick) -> Result<(), AllocError>
     )
 }
 
-/// Returns the row of a feed of these ticks, its fields joined by byte 31.
+/// Returns the row of a feed of these ticks, its fields joined by byte 31. Fails if memory runs
+/// out.
 pub fn feed_text(alloc: Global, ticks: &[Tick]) -> Result<String, AllocError>
     ensures { IfOk result (λ row. string_bytes row ≡ model.row_text (FeedTicks (ticks_of ticks.now))) }
 {
@@ -102,14 +105,14 @@ pub fn feed_text(alloc: Global, ticks: &[Tick]) -> Result<String, AllocError>
     Ok(row)
 }
 
-/// Returns the row that cancels a trade, its fields joined by byte 31.
+/// Returns the row that cancels a trade, its fields joined by byte 31. Fails if memory runs out.
 pub fn cancel_text(alloc: Global, trade: Id) -> Result<String, AllocError>
     ensures { IfOk result (λ row. string_bytes row ≡ model.row_text (CancelTrade trade)) }
 {
     format!(in alloc; "cancel\x1f{}", trade.get())
 }
 
-/// Returns the row that completes a trade, its fields joined by byte 31.
+/// Returns the row that completes a trade, its fields joined by byte 31. Fails if memory runs out.
 pub fn result_text(alloc: Global, completion: &Completion) -> Result<String, AllocError>
     ensures { IfOk result (λ row. string_bytes row ≡ model.row_text (result_of completion.now)) }
 {

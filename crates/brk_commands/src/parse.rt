@@ -15,6 +15,8 @@ use brk_ref::{
 };
 use std::alloc::Global;
 
+// Parses the command that adds a broker, or returns the refusal of malformed fields. Fails with
+// `Memory` only.
 fn parse_broker(alloc: Global, fields: &[&[u8]]) -> Planned<Command>
     ensures read { IfOk result (λ read. ParsesAs command_of read (read_as AddBroker read_broker (texts fields.now))) }
     ensures fault { OnErr result (result ≡ Err Memory) }
@@ -25,6 +27,8 @@ fn parse_broker(alloc: Global, fields: &[&[u8]]) -> Planned<Command>
     }
 }
 
+// Parses the command that adds a customer, or returns the refusal of malformed fields. Fails with
+// `Memory` only.
 fn parse_customer(alloc: Global, fields: &[&[u8]]) -> Planned<Command>
     ensures read { IfOk result (λ read. ParsesAs command_of read (read_as AddCustomer read_customer (texts fields.now))) }
     ensures fault { OnErr result (result ≡ Err Memory) }
@@ -35,6 +39,8 @@ fn parse_customer(alloc: Global, fields: &[&[u8]]) -> Planned<Command>
     }
 }
 
+// Parses the command that adds an account, or returns the refusal of malformed fields. Fails with
+// `Memory` only.
 fn parse_account(alloc: Global, fields: &[&[u8]]) -> Planned<Command>
     ensures read { IfOk result (λ read. ParsesAs command_of read (read_as AddAccount read_account (texts fields.now))) }
     ensures fault { OnErr result (result ≡ Err Memory) }
@@ -45,6 +51,8 @@ fn parse_account(alloc: Global, fields: &[&[u8]]) -> Planned<Command>
     }
 }
 
+// Parses the command that adds a permission, or returns the refusal of malformed fields. Fails with
+// `Memory` only.
 fn parse_permission(alloc: Global, fields: &[&[u8]]) -> Planned<Command>
     ensures read { IfOk result (λ read. ParsesAs command_of read (read_as AddPermission read_permission (texts fields.now))) }
     ensures fault { OnErr result (result ≡ Err Memory) }
@@ -55,6 +63,8 @@ fn parse_permission(alloc: Global, fields: &[&[u8]]) -> Planned<Command>
     }
 }
 
+// Parses the command that lists a security, or returns the refusal of malformed fields. Fails with
+// `Memory` only.
 fn parse_security(alloc: Global, fields: &[&[u8]]) -> Planned<Command>
     ensures read { IfOk result (λ read. ParsesAs command_of read (read_as AddSecurity read_security (texts fields.now))) }
     ensures fault { OnErr result (result ≡ Err Memory) }
@@ -65,6 +75,7 @@ fn parse_security(alloc: Global, fields: &[&[u8]]) -> Planned<Command>
     }
 }
 
+// Parses the command that adds a charge, or returns the refusal of malformed fields.
 fn parse_charge(fields: &[&[u8]]) -> Result<Command, Refusal>
     ensures { ParsesAs command_of result (read_as AddCharge read_charge (texts fields.now)) }
 {
@@ -74,6 +85,8 @@ fn parse_charge(fields: &[&[u8]]) -> Result<Command, Refusal>
     }
 }
 
+// Parses the command that adds a commission band, or returns the refusal of malformed fields. Fails
+// with `Memory` only.
 fn parse_band(alloc: Global, fields: &[&[u8]]) -> Planned<Command>
     ensures read { IfOk result (λ read. ParsesAs command_of read (read_as AddBand read_band (texts fields.now))) }
     ensures fault { OnErr result (result ≡ Err Memory) }
@@ -84,6 +97,8 @@ fn parse_band(alloc: Global, fields: &[&[u8]]) -> Planned<Command>
     }
 }
 
+// Parses the command that adds a tax with its rate, or returns the refusal of malformed fields.
+// Fails with `Memory` only.
 fn parse_tax_rate(alloc: Global, fields: &[&[u8]]) -> Planned<Command>
     ensures read { IfOk result (λ read. ParsesAs command_of read (read_as AddTaxRate read_tax_rate (texts fields.now))) }
     ensures fault { OnErr result (result ≡ Err Memory) }
@@ -94,6 +109,7 @@ fn parse_tax_rate(alloc: Global, fields: &[&[u8]]) -> Planned<Command>
     }
 }
 
+// Parses the command that adds a tax of a customer, or returns the refusal of malformed fields.
 fn parse_customer_tax(fields: &[&[u8]]) -> Result<Command, Refusal>
     ensures { ParsesAs command_of result (read_as AddCustomerTax read_customer_tax (texts fields.now)) }
 {
@@ -103,7 +119,8 @@ fn parse_customer_tax(fields: &[&[u8]]) -> Result<Command, Refusal>
     }
 }
 
-// Parses a command on terms (permission, security, charge, band, tax), or of a later kind.
+// Parses a command of the kind `permission`, `security`, `charge`, `band`, `taxrate` or `custtax`,
+// or of a kind of `parse_trading`. Refuses any other kind with `BadText`. Fails with `Memory` only.
 fn parse_term(alloc: Global, kind: &[u8], fields: &[&[u8]]) -> Planned<Command>
     ensures read { IfOk result (λ read. ParsesAs command_of read (parse_by (term_readers ++ order_readers ++ result_readers ++ update_readers ++ movement_readers) (kind.now ∷ texts fields.now))) }
     ensures fault { OnErr result (result ≡ Err Memory) }
@@ -129,7 +146,8 @@ fn parse_term(alloc: Global, kind: &[u8], fields: &[&[u8]]) -> Planned<Command>
     parse_trading(alloc, kind, fields)
 }
 
-// Parses a command of a kind from the fields after it.
+// Parses a command of `kind` from the fields after it. Refuses an unknown kind with `BadText`.
+// Fails with `Memory` only.
 fn parse_kind(alloc: Global, kind: &[u8], fields: &[&[u8]]) -> Planned<Command>
     ensures read { IfOk result (λ read. ParsesAs command_of read (parse_by readers (kind.now ∷ texts fields.now))) }
     ensures fault { OnErr result (result ≡ Err Memory) }
@@ -146,8 +164,8 @@ fn parse_kind(alloc: Global, kind: &[u8], fields: &[&[u8]]) -> Planned<Command>
     parse_term(alloc, kind, fields)
 }
 
-/// Parses the command of a row from its fields, the kind first, or returns the refusal of their
-/// form. Refuses an unknown kind with `BadText`. Fails with `Memory` only.
+/// Parses the command of a row from its fields, the kind first, or returns the refusal of malformed
+/// fields. Refuses an unknown kind with `BadText`. Fails with `Memory` only.
 pub fn parse_row(alloc: Global, fields: &[&[u8]]) -> Planned<Command>
     ensures read { IfOk result (λ read. ParsesAs command_of read (parse_by readers (texts fields.now))) }
     ensures fault { OnErr result (result ≡ Err Memory) }

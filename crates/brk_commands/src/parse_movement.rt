@@ -9,6 +9,7 @@ use crate::command::Command;
 use brk_money::Refusal;
 use brk_orders::{Direction, check_move, check_oneday};
 
+// Parses the command of a deposit or a withdrawal, or returns the refusal of malformed fields.
 fn parse_move(direction: Direction, fields: &[&[u8]]) -> Result<Command, Refusal>
     ensures { ParsesAs command_of result (read_movement (moved_by direction) (texts fields.now)) }
 {
@@ -18,6 +19,7 @@ fn parse_move(direction: Direction, fields: &[&[u8]]) -> Result<Command, Refusal
     }
 }
 
+// Parses the command that sets the settlement day, or returns the refusal of malformed fields.
 fn parse_oneday(fields: &[&[u8]]) -> Result<Command, Refusal>
     ensures { ParsesAs command_of result (read_as SetOneDay read_oneday (texts fields.now)) }
 {
@@ -27,7 +29,8 @@ fn parse_oneday(fields: &[&[u8]]) -> Result<Command, Refusal>
     }
 }
 
-// Parses a deposit, a withdrawal or a settlement day. Refuses any other kind with `BadText`.
+// Parses a command of the kind `deposit`, `withdraw` or `oneday`. Refuses any other kind with
+// `BadText`.
 pub(crate) fn parse_movement(kind: &[u8], fields: &[&[u8]]) -> Result<Command, Refusal>
     ensures { ParsesAs command_of result (parse_by movement_readers (kind.now ∷ texts fields.now)) }
 {

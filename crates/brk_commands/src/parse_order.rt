@@ -11,6 +11,8 @@ use brk_money::{Planned, Refusal};
 use brk_orders::{check_cancel, check_feed, check_order, check_result};
 use std::alloc::Global;
 
+// Parses the command of an order, or returns the refusal of malformed fields. Fails with `Memory`
+// only.
 fn parse_order(alloc: Global, fields: &[&[u8]]) -> Planned<Command>
     ensures read { IfOk result (λ read. ParsesAs command_of read (read_as PlaceOrder read_order (texts fields.now))) }
     ensures fault { OnErr result (result ≡ Err Memory) }
@@ -21,6 +23,8 @@ fn parse_order(alloc: Global, fields: &[&[u8]]) -> Planned<Command>
     }
 }
 
+// Parses the command of a market feed, or returns the refusal of malformed fields. Fails with
+// `Memory` only.
 fn parse_feed(alloc: Global, fields: &[&[u8]]) -> Planned<Command>
     ensures read { IfOk result (λ read. ParsesAs command_of read (read_as FeedTicks read_feed (texts fields.now))) }
     ensures fault { OnErr result (result ≡ Err Memory) }
@@ -31,6 +35,7 @@ fn parse_feed(alloc: Global, fields: &[&[u8]]) -> Planned<Command>
     }
 }
 
+// Parses the command of a cancel, or returns the refusal of malformed fields.
 fn parse_cancel(fields: &[&[u8]]) -> Result<Command, Refusal>
     ensures { ParsesAs command_of result (read_as CancelTrade read_cancel (texts fields.now)) }
 {
@@ -40,6 +45,7 @@ fn parse_cancel(fields: &[&[u8]]) -> Result<Command, Refusal>
     }
 }
 
+// Parses the command that completes a trade, or returns the refusal of malformed fields.
 fn parse_result(fields: &[&[u8]]) -> Result<Command, Refusal>
     ensures { ParsesAs command_of result (read_result (texts fields.now)) }
 {
@@ -49,7 +55,8 @@ fn parse_result(fields: &[&[u8]]) -> Result<Command, Refusal>
     }
 }
 
-// Parses an order, a feed, a cancel or a result, or a command of a later kind.
+// Parses a command of the kind `order`, `feed`, `cancel` or `result`, or of a kind of
+// `parse_update`. Refuses any other kind with `BadText`. Fails with `Memory` only.
 pub(crate) fn parse_trading(alloc: Global, kind: &[u8], fields: &[&[u8]]) -> Planned<Command>
     ensures read { IfOk result (λ read. ParsesAs command_of read (parse_by (order_readers ++ result_readers ++ update_readers ++ movement_readers) (kind.now ∷ texts fields.now))) }
     ensures fault { OnErr result (result ≡ Err Memory) }

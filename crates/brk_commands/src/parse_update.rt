@@ -12,6 +12,8 @@ use brk_money::{Planned, Refusal};
 use brk_orders::{check_upcash, check_upname, check_uptext};
 use std::alloc::Global;
 
+// Parses the command that updates executors' names, or returns the refusal of malformed fields.
+// Fails with `Memory` only.
 fn parse_upname(alloc: Global, fields: &[&[u8]]) -> Planned<Command>
     ensures read { IfOk result (λ read. ParsesAs command_of read (read_as ChangeExecutors read_ids (texts fields.now))) }
     ensures fault { OnErr result (result ≡ Err Memory) }
@@ -22,6 +24,7 @@ fn parse_upname(alloc: Global, fields: &[&[u8]]) -> Planned<Command>
     }
 }
 
+// Parses the command that updates cash types, or returns the refusal of malformed fields.
 fn parse_upcash(fields: &[&[u8]]) -> Result<Command, Refusal>
     ensures { ParsesAs command_of result (read_upcash (texts fields.now)) }
 {
@@ -31,6 +34,8 @@ fn parse_upcash(fields: &[&[u8]]) -> Result<Command, Refusal>
     }
 }
 
+// Parses the command that updates cash texts, or returns the refusal of malformed fields. Fails
+// with `Memory` only.
 fn parse_uptext(alloc: Global, fields: &[&[u8]]) -> Planned<Command>
     ensures read { IfOk result (λ read. ParsesAs command_of read (read_uptext (texts fields.now))) }
     ensures fault { OnErr result (result ≡ Err Memory) }
@@ -41,7 +46,8 @@ fn parse_uptext(alloc: Global, fields: &[&[u8]]) -> Planned<Command>
     }
 }
 
-// Parses a text update, a deposit, a withdrawal or a settlement day.
+// Parses a command of the kind `upname`, `upcash` or `uptext`, or of a kind of `parse_movement`.
+// Refuses any other kind with `BadText`. Fails with `Memory` only.
 pub(crate) fn parse_update(alloc: Global, kind: &[u8], fields: &[&[u8]]) -> Planned<Command>
     ensures read { IfOk result (λ read. ParsesAs command_of read (parse_by (update_readers ++ movement_readers) (kind.now ∷ texts fields.now))) }
     ensures fault { OnErr result (result ≡ Err Memory) }

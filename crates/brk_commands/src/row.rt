@@ -18,12 +18,14 @@ use brk_plans::Reference;
 use brk_ref::{Account, Band, Broker, Charge, Customer, CustomerTax, Listing, Permission, Tax};
 use std::alloc::{AllocError, Global};
 
+// Returns the row that adds a broker, its fields joined by byte 31. Fails if memory runs out.
 fn broker_text(alloc: Global, broker: &Broker) -> Result<String, AllocError>
     ensures { IfOk result (λ row. string_bytes row ≡ model.row_text (AddBroker (broker_of broker.now))) }
 {
     format!(in alloc; "broker\x1f{}\x1f{}", broker.id.get(), broker.name.as_str())
 }
 
+// Returns the row that adds a customer, its fields joined by byte 31. Fails if memory runs out.
 fn customer_text(alloc: Global, customer: &Customer) -> Result<String, AllocError>
     ensures { IfOk result (λ row. string_bytes row ≡ model.row_text (AddCustomer (customer_of customer.now))) }
 {
@@ -37,6 +39,7 @@ fn customer_text(alloc: Global, customer: &Customer) -> Result<String, AllocErro
     )
 }
 
+// Returns the row that adds an account, its fields joined by byte 31. Fails if memory runs out.
 fn account_text(alloc: Global, account: &Account) -> Result<String, AllocError>
     ensures { IfOk result (λ row. string_bytes row ≡ model.row_text (AddAccount (account_of account.now))) }
 {
@@ -51,6 +54,7 @@ fn account_text(alloc: Global, account: &Account) -> Result<String, AllocError>
     )
 }
 
+// Returns the row that adds a permission, its fields joined by byte 31. Fails if memory runs out.
 fn permission_text(alloc: Global, permission: &Permission) -> Result<String, AllocError>
     ensures { IfOk result (λ row. string_bytes row ≡ model.row_text (AddPermission (permission_of permission.now))) }
 {
@@ -64,6 +68,7 @@ fn permission_text(alloc: Global, permission: &Permission) -> Result<String, All
     )
 }
 
+// Returns the row that lists a security, its fields joined by byte 31. Fails if memory runs out.
 fn security_text(alloc: Global, listing: &Listing) -> Result<String, AllocError>
     ensures { IfOk result (λ row. string_bytes row ≡ model.row_text (AddSecurity (listing_of listing.now))) }
 {
@@ -78,6 +83,7 @@ fn security_text(alloc: Global, listing: &Listing) -> Result<String, AllocError>
     )
 }
 
+// Returns the row that adds a charge, its fields joined by byte 31. Fails if memory runs out.
 fn charge_text(alloc: Global, charge: &Charge) -> Result<String, AllocError>
     ensures { IfOk result (λ row. string_bytes row ≡ model.row_text (AddCharge (charge_of charge.now))) }
 {
@@ -89,6 +95,8 @@ fn charge_text(alloc: Global, charge: &Charge) -> Result<String, AllocError>
     )
 }
 
+// Returns the row that adds a commission band, its fields joined by byte 31. Fails if memory runs
+// out.
 fn band_text(alloc: Global, band: &Band) -> Result<String, AllocError>
     ensures { IfOk result (λ row. string_bytes row ≡ model.row_text (AddBand (band_of band.now))) }
 {
@@ -103,6 +111,8 @@ fn band_text(alloc: Global, band: &Band) -> Result<String, AllocError>
     )
 }
 
+// Returns the row that adds a tax with its rate, its fields joined by byte 31. Fails if memory runs
+// out.
 fn tax_rate_text(alloc: Global, tax: &Tax) -> Result<String, AllocError>
     ensures { IfOk result (λ row. string_bytes row ≡ model.row_text (AddTaxRate (tax_of tax.now))) }
 {
@@ -114,13 +124,16 @@ fn tax_rate_text(alloc: Global, tax: &Tax) -> Result<String, AllocError>
     )
 }
 
+// Returns the row that adds a tax of a customer, its fields joined by byte 31. Fails if memory runs
+// out.
 fn customer_tax_text(alloc: Global, pays: &CustomerTax) -> Result<String, AllocError>
     ensures { IfOk result (λ row. string_bytes row ≡ model.row_text (AddCustomerTax (customer_tax_of pays.now))) }
 {
     format!(in alloc; "custtax\x1f{}\x1f{}", pays.customer.get(), pays.tax.get())
 }
 
-/// Returns the row of a reference record, its fields joined by byte 31.
+/// Returns the row that adds a record of reference data, its fields joined by byte 31. Fails if
+/// memory runs out.
 pub fn reference_text(alloc: Global, reference: &Reference) -> Result<String, AllocError>
     ensures { IfOk result (λ row. string_bytes row ≡ model.row_text (books.adding_command reference.now)) }
 {

@@ -11,13 +11,15 @@ use brk_orders::{Span, Update};
 use brk_ref::Symbol;
 use std::alloc::{AllocError, Global};
 
-// Appends the field of a trade.
+// Appends byte 31 and the id of a trade. Fails if memory runs out.
 fn add_trade(row: &mut String, trade: Id) -> Result<(), AllocError>
     ensures { OnOk result (string_bytes row.new ≡ string_bytes row.old ++ 31 ∷ decimal trade) }
 {
     write!(row, "\x1f{}", trade.get())
 }
 
+// Returns the row that updates the executors' names of trades, its fields joined by byte 31. Fails
+// if memory runs out.
 fn upname_text(alloc: Global, trades: &[Id]) -> Result<String, AllocError>
     ensures { IfOk result (λ row. string_bytes row ≡ model.row_text (ChangeExecutors trades.now)) }
 {
@@ -28,6 +30,8 @@ fn upname_text(alloc: Global, trades: &[Id]) -> Result<String, AllocError>
     Ok(row)
 }
 
+// Returns the row that updates the cash types of an account, its fields joined by byte 31. Fails if
+// memory runs out.
 fn upcash_text(alloc: Global, account: Id, span: Span) -> Result<String, AllocError>
     ensures { IfOk result (λ row. string_bytes row ≡ model.row_text (ChangeCashTypes account span.first span.last)) }
 {
@@ -39,6 +43,8 @@ fn upcash_text(alloc: Global, account: Id, span: Span) -> Result<String, AllocEr
     )
 }
 
+// Returns the row that updates the cash texts of a symbol, its fields joined by byte 31. Fails if
+// memory runs out.
 fn uptext_text(alloc: Global, symbol: &Symbol, span: Span) -> Result<String, AllocError>
     ensures { IfOk result (λ row. string_bytes row ≡ model.row_text (ChangeCashNames symbol.now span.first span.last)) }
 {
@@ -50,7 +56,7 @@ fn uptext_text(alloc: Global, symbol: &Symbol, span: Span) -> Result<String, All
     )
 }
 
-/// Returns the row of a text update, its fields joined by byte 31.
+/// Returns the row of a text update, its fields joined by byte 31. Fails if memory runs out.
 pub fn update_text(alloc: Global, update: &Update) -> Result<String, AllocError>
     ensures { IfOk result (λ row. string_bytes row ≡ model.row_text (update_of update.now)) }
 {

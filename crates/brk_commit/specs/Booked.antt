@@ -18,29 +18,32 @@ use Rattle.brk_store.specs.Holds.{AreTreesOf, IsSame, OnlyCrashState}
 use Rattle.brk_commit.specs.Answers.{BookedNothing, WasBooked, answer_of}
 use Rattle.brk_commit.specs.declared.answer.Answer as booked
 
--- The call refines the step: for every base that the store represented, the answer is that of the
--- keyed step, and the store represents the base after it.
+-- For every base that the store represented before the call, `answer` is the answer of the model's
+-- step with this key (`keyed_step`) at the clock reading `now`, and the store represents the base
+-- after this step.
 abbrev pub RefinesStep : {S : Type 0} → Ghosts S → Held S → Held S → ℕ → Command → Option Key → booked.Answer → Type 0
 RefinesStep g old new now command key answer =
     (base : Base) → Represents g old base → (after : Base) × Represents g new after × (keyed_step base now command key ≡ (answer_of answer, after))
 
--- The store represents every base that it represented.
+-- The store `new` represents every base that the store `old` represents.
 abbrev pub StillKeeps : {S : Type 0} → Ghosts S → Held S → Held S → Type 0
 StillKeeps g old new = (base : Base) → Represents g old base → Represents g new base
 
--- The base after a command under its key.
+-- The base after the command was executed on `base` at the clock reading `now` under its key, or
+-- without one.
 abbrev pub base_after_call : Base → ℕ → Command → Option Key → Base
 base_after_call base now command key = (keyed_step base now command key).1
 
--- The store was open, and for every base that it represented the trees have the tables after the
--- command, with texts in UTF-8.
+-- The store was open, and for every base that it represented the trees contain the tables of the
+-- base after the command, and these have texts in UTF-8.
 abbrev pub MayBeCommitted : {S : Type 0} → Ghosts S → Held S → ℕ → Command → Option Key → Trees → Type 0
 MayBeCommitted g old now command key trees =
     IsTrue (state g old).is_open × ((base : Base) → Represents g old base → AreTreesOf (sheets (base_after_call base now command key)) trees)
     × ((base : Base) → Represents g old base → IsTrue (has_texts (sheets (base_after_call base now command key))))
 
--- The postcondition of a call: the command is answered as by the keyed step of the model, or fails
--- and changes nothing.
+-- The postcondition of a call that executes a command: at `Ok` it refines the model's step with the
+-- key of the command; at an error it leaves the open store unchanged, although a crash may expose
+-- the command as committed.
 pub record CallPost {S : Type 0} (g : Ghosts S) (old new : Held S) (now : ℕ) (command : Command) (key : Option Key) (result : Result booked.Answer Fault) : Type 0 where
   -- At `Ok` the call refines the step. Says nothing if the disk assumption fails.
   pub answered : HasCleanDisk (state g new) → IfOk result (RefinesStep g old new now command key)
@@ -48,13 +51,15 @@ pub record CallPost {S : Type 0} (g : Ghosts S) (old new : Held S) (now : ℕ) (
   pub kept : OnErr result (StillKeeps g old new)
   -- The error is `Memory` or `Store`.
   pub fault : IfErr result MayFail
-  -- A crash exposes a state that was possible before the call, or the tables after the command.
+  -- A crash exposes a state that a crash before the call could expose, or the tables after the
+  -- command.
   pub survives : Survives (state g old) (state g new) (MayBeCommitted g old now command key)
   -- At `Done` a crash exposes only the tables after the command.
   pub durable : HasCleanDisk (state g new) → WasBooked result → (base : Base) → Represents g old base → OnlyCrashState g new (AreTreesOf (sheets (base_after_call base now command key)))
   -- At `Done` the store was open, is open, and has committed its current state.
   pub opened : HasCleanDisk (state g new) → WasBooked result → IsTrue (state g old).is_open × IsTrue (state g new).is_open × ((state g new).committed ≡ (state g new).now)
-  -- If nothing was booked, the database was open and is unchanged, if it is open after the call.
+  -- If the result is a refusal, a stored reply or a fault, and the database is open after the call,
+  -- it was open before and is unchanged.
   pub same : HasCleanDisk (state g new) → IsTrue (state g new).is_open → BookedNothing result → IsSame (state g old) (state g new)
   -- If the disk assumption holds after the call, it held before.
   pub clean : HasCleanDisk (state g new) → HasCleanDisk (state g old)

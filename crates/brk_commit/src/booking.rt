@@ -30,18 +30,22 @@ fn are_in_form(command: &Command, key: Option<&Key>)
 }
 
 /// Executes `command` at the clock reading `now` and, if it is accepted, commits it with its key in
-/// one transaction.
+/// one transaction. Returns:
 ///
-/// Returns `Done` with the reply after the commit, `Refused` with the first reason that applies,
-/// or, if `key` was accepted before, `Again` with the stored reply (same command) or refusal 19
-/// (another command).
+/// - `Done` with the reply, after the commit, if the command is accepted;
+/// - `Again` with the stored reply, if this same command was accepted before under `key`;
+/// - `Refused` with refusal 19, if another command was accepted before under `key`;
+/// - `Refused` with the first reason that applies, if the command is refused.
 ///
 /// Fails with `Memory` or `Store` only. A refusal, a stored reply or a fault changes nothing in the
 /// open store and records no key.
 ///
-/// A crash exposes a state that was possible before the call, or the tables after the command;
-/// after `Done` only the latter. After a fault too, a crash may find the command committed: retry
-/// under the same key.
+/// A crash exposes a state that a crash before the call could expose, or the tables after the
+/// command; after `Done` only the latter.
+///
+/// After a fault, too, a crash may expose the command as committed. With a key, retry under the
+/// same key: the command is then executed at most once. Without a key a retry may execute it twice,
+/// so read the tables before it.
 pub fn book<S: Alter>(
     alloc: Global,
     store: &mut Store<S>,

@@ -14,6 +14,7 @@ use brk_orders::{Direction, Movement, Order, Tick, Update};
 use brk_plans::Reference;
 use brk_ref::{Account, Band, Broker, Charge, Customer, Key, Listing, Permission, Tax};
 
+// States that the command that adds a broker is well-formed. Proof-only: does nothing at run time.
 fn broker_is_in_form(broker: &Broker)
     ensures { IsInForm (AddBroker (broker_of broker.now)) }
 {
@@ -21,6 +22,8 @@ fn broker_is_in_form(broker: &Broker)
     broker.name.keeps_form();
 }
 
+// States that the command that adds a customer is well-formed. Proof-only: does nothing at run
+// time.
 fn customer_is_in_form(customer: &Customer)
     ensures { IsInForm (AddCustomer (customer_of customer.now)) }
 {
@@ -31,6 +34,8 @@ fn customer_is_in_form(customer: &Customer)
     customer.first_name.keeps_form();
 }
 
+// States that the command that adds an account is well-formed. Proof-only: does nothing at run
+// time.
 fn account_is_in_form(account: &Account)
     ensures { IsInForm (AddAccount (account_of account.now)) }
 {
@@ -39,6 +44,8 @@ fn account_is_in_form(account: &Account)
     let _ = account.opening.get();
 }
 
+// States that the command that adds a permission is well-formed. Proof-only: does nothing at run
+// time.
 fn permission_is_in_form(permission: &Permission)
     ensures { IsInForm (AddPermission (permission_of permission.now)) }
 {
@@ -48,6 +55,7 @@ fn permission_is_in_form(permission: &Permission)
     permission.first_name.keeps_form();
 }
 
+// States that the command that adds a listing is well-formed. Proof-only: does nothing at run time.
 fn listing_is_in_form(listing: &Listing)
     ensures { IsInForm (AddSecurity (listing_of listing.now)) }
 {
@@ -58,6 +66,7 @@ fn listing_is_in_form(listing: &Listing)
     let _ = listing.price.get();
 }
 
+// States that the command that adds a charge is well-formed. Proof-only: does nothing at run time.
 fn charge_is_in_form(charge: &Charge)
     ensures { IsInForm (AddCharge (charge_of charge.now)) }
 {
@@ -65,6 +74,7 @@ fn charge_is_in_form(charge: &Charge)
     let _ = charge.amount.get();
 }
 
+// States that the command that adds a band is well-formed. Proof-only: does nothing at run time.
 fn band_is_in_form(band: &Band)
     ensures { IsInForm (AddBand (band_of band.now)) }
 {
@@ -75,6 +85,7 @@ fn band_is_in_form(band: &Band)
     let _ = band.rate.get();
 }
 
+// States that the command that adds a tax is well-formed. Proof-only: does nothing at run time.
 fn tax_is_in_form(tax: &Tax)
     ensures { IsInForm (AddTaxRate (tax_of tax.now)) }
 {
@@ -83,6 +94,8 @@ fn tax_is_in_form(tax: &Tax)
     let _ = tax.rate.get();
 }
 
+// States that the command that adds a reference record is well-formed. Proof-only: does nothing at
+// run time.
 fn reference_is_in_form(reference: &Reference)
     ensures { IsInForm (books.adding_command reference.now) }
 {
@@ -99,6 +112,7 @@ fn reference_is_in_form(reference: &Reference)
     }
 }
 
+// States that an order is well-formed. Proof-only: does nothing at run time.
 fn order_is_in_form(order: &Order)
     ensures { IsOrderInForm (order_of order.now) }
 {
@@ -108,6 +122,7 @@ fn order_is_in_form(order: &Order)
     }
 }
 
+// States that each of the ticks is well-formed. Proof-only: does nothing at run time.
 fn ticks_are_in_form(ticks: &[Tick])
     ensures { AllByRecursion IsTickInForm (ticks_of ticks.now) }
 {
@@ -116,6 +131,7 @@ fn ticks_are_in_form(ticks: &[Tick])
     }
 }
 
+// States that a text update is well-formed. Proof-only: does nothing at run time.
 fn update_is_in_form(update: &Update)
     ensures { IsInForm (update_of update.now) }
 {
@@ -124,6 +140,7 @@ fn update_is_in_form(update: &Update)
     }
 }
 
+// States that a deposit or a withdrawal is well-formed. Proof-only: does nothing at run time.
 fn movement_is_in_form(movement: &Movement)
     ensures { IsInForm (movement_of movement.now) }
 {

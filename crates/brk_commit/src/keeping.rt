@@ -24,8 +24,8 @@ use brk_trade::{Change, Plan};
 use sqlite::Alter;
 use std::alloc::Global;
 
-// Returns the row stored under a key, or `None` if there is no key or no row. Fails with `Memory`
-// or `Store` only.
+// Reads the row of KEPT under a key. Returns `None` if there is no key or no such row. Fails with
+// `Memory` or `Store` only.
 pub(crate) fn find_kept<S: Alter>(
     store: &mut Store<S>,
     key: Option<&Key>,
@@ -39,8 +39,8 @@ pub(crate) fn find_kept<S: Alter>(
     }
 }
 
-// Returns the answer to a command whose key was accepted before: the stored reply if the command is
-// the same, otherwise refusal 19. Fails with `Memory` only.
+// Returns the answer to a command under whose key `kept` is stored: the stored reply if the command
+// is the same, otherwise refusal 19. Fails with `Memory` only.
 pub(crate) fn repeat(alloc: Global, command: &Command, kept: Kept) -> Result<Answer, Fault>
     ensures answer { IfOk result (λ answer. (base : Base) → repeated base (command_of command.now) (kept_of kept) ≡ (answer_of answer, base)) }
     ensures fault { OnErr result (result ≡ Err Memory) }
@@ -53,8 +53,8 @@ pub(crate) fn repeat(alloc: Global, command: &Command, kept: Kept) -> Result<Ans
     }
 }
 
-// Adds to the plan of a command the row that stores it under its key, if it has one. Fails with
-// `Memory` only.
+// Returns the plan with one more change, which stores the command and its reply under the key;
+// without a key, the plan itself. Fails with `Memory` only.
 pub(crate) fn keep(
     alloc: Global,
     plan: Plan,

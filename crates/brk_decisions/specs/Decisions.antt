@@ -17,14 +17,16 @@ use Rattle.brk_plans.specs.declared.plan.Plan.{Plan}
 use Rattle.brk_book_theorems.specs.Books.{BooksInvariant}
 use Rattle.brk_trade_theorems.specs.Plans.{DoesCommand}
 
--- The decision refines the step of the model: it returns a plan that does the command, or the
--- refusal that the step returns. Vacuous if the rows are not the tables of a consistent base.
+-- For every base that satisfies the books invariant and whose tables are the rows `t`: a plan does
+-- the model's step for `command` at the clock reading `now` (`DoesCommand`), and a refusal is the
+-- one with which this step refuses the command. Vacuous if `t` are the tables of no such base.
 abbrev pub Decides : ℕ → Command → Result Plan Refusal → Tables → Type 0
 Decides now command planned t =
     (base : Base) → BooksInvariant base → t ≡ sheets base → MatchResult planned (DoesCommand base now command) (λ refusal. step base now command ≡ Err refusal)
 
--- The estimate equals that of the model, which is the view of its query, or the query is refused
--- with this refusal. Vacuous if the rows are not the tables of a consistent base.
+-- For every base that satisfies the books invariant and whose tables are the rows `t`: the estimate
+-- equals that of the model for the order and is the view of the order's query, or the refusal is
+-- that of this query. Vacuous if `t` are the tables of no such base.
 abbrev pub IsEstimateTold : Order → Result Estimate Refusal → Tables → Type 0
 IsEstimateTold order planned t =
     (base : Base) → BooksInvariant base → t ≡ sheets base

@@ -17,37 +17,42 @@ use Rattle.brk_book_theorems.specs.TradeReads.{band_in, permission_in, summary_i
 use Rattle.brk_decisions.specs.declared.tested.OrderFacts.{OrderFacts}
 use Rattle.brk_decisions.specs.declared.amounts.Amounts.{Amounts}
 
--- The customer with this id exists and is `customer`.
+-- The customer with the id `id` exists in the tables, and its row equals `customer`.
 abbrev pub IsCustomer : Tables → ℕ → Customer → Type 0
 IsCustomer t id customer = find (λ r. r.id == id) t.customers ≡ Some (customer_of customer)
 
--- The facts are those of the tables for an order of the customer's account. The rate is specified
--- only if the order's security exists.
+-- The facts on which an order of the customer is tested, last price, permission, charge and
+-- commission rate, agree with the tables. The rate is specified only if the order's security
+-- exists.
 pub record AreTested (t : Tables) (order : Order) (customer : Customer) (tested : OrderFacts) : Type 0 where
   pub last_price : tested.last_price ≡ last_price_in t order.symbol
   pub is_permitted : tested.is_permitted ≡ permitted (customer_of customer) (permission_in t order.account order.executor.tax_id) (executor_of order.executor)
   pub charge : tested.charge ≡ charge_in t (kind_of order.order_type) customer.tier
   pub rate : IfSome (security_in t order.symbol) (λ s. tested.rate ≡ option_map (λ b. b.rate) (band_in t customer.tier (kind_of order.order_type) s.exchange order.qty))
 
--- The market value of a summary, at the last price of its symbol.
+-- The market value of a holding summary: its shares times the last price of its symbol. Shares sold
+-- short count below 0.
 abbrev pub worth_in : Tables → SummaryRow → ℤ
 worth_in t row = row.qty *ℤ pos (price_in t row.symbol)
 
--- The market value of the account's summaries.
+-- The market value of all holding summaries of an account, at last prices.
 abbrev pub worth_of : Tables → ℕ → ℤ
 worth_of t account = total_by (worth_in t) (filter (λ row. row.account == account) t.summaries)
 
--- The amounts are those of the tables for the estimate of an order of the account.
+-- The amounts for the estimate of an order of the account agree with the tables: the sum of the
+-- customer's tax rates, the account's balance plus the market value of its holdings, and its shares
+-- in the order's security.
 pub record AreAmounts (t : Tables) (account : AccountRow) (order : Order) (amounts : Amounts) : Type 0 where
   pub rates : amounts.rates ≡ rates_of_customer t account.account.customer
   pub assets : amounts.assets ≡ account.balance +ℤ worth_of t account.account.id
   pub summary : amounts.summary ≡ option_map (λ r. r.qty) (summary_in t order.account order.symbol)
 
--- The facts for an order whose account does not exist.
+-- The facts for the decision on an order whose account does not exist.
 abbrev pub no_facts : OrderFound
 no_facts = record { account = None; last_price = None; is_permitted = false; charge = None; rate = None; rates = 0; assets = pos 0; summary = None; last_trade = None }
 
--- The facts for an order of the account, except the last trade.
+-- The facts for the decision on an order of the account: its broker and tax status, the facts
+-- `tested` and the amounts `amounts`, and no last trade.
 abbrev pub found_of : AccountRow → OrderFacts → Amounts → OrderFound
 found_of account tested amounts = record {
   account = Some (record { broker = account.account.broker; tax_status = account.account.tax_status });
@@ -61,7 +66,7 @@ found_of account tested amounts = record {
   last_trade = None;
 }
 
--- If the row is that of the order's account, the facts are those of the tables for the order's
--- estimate.
+-- The facts that the estimate of the order needs agree with the tables (`IsFoundForEstimate`).
+-- Vacuous if `account` is not the row of the order's account.
 abbrev pub IsOrderFoundOf : Tables → Order → AccountRow → OrderFound → Type 0
 IsOrderFoundOf t order account found = Some (account_row_of account) ≡ account_in t order.account → IsFoundForEstimate t order found

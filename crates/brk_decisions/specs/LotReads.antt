@@ -9,7 +9,7 @@ use Rattle.brk_store.specs.Resting.{Rests, lent}
 use Rattle.brk_store.specs.declared.pages.Page.{Page}
 use Rattle.brk_store.specs.declared.pages.Pages.{Pages}
 
--- The lots `ls` are those that the pages had to return before the reads, and the disk assumption
--- holds after them.
+-- The lots `ls` are those that the source of pages `old` had yet to return, and the disk assumption
+-- holds in the store of the source `new`, which is the same source after its reads.
 abbrev pub LotsGiven : {S : Type 0} → Ghosts S → (old new : Pages S Page) → List Lot → Type 0
 LotsGiven g old new ls = AsTold (HasCleanDisk (state g (lent new).now)) (Rests g old) ls

@@ -30,8 +30,8 @@ pub struct Amounts {
     pub summary: Option<i64>,
 }
 
-// Returns the sum of the tax rates that a customer pays. Fails with `Memory` or `Store` only; with
-// `Store` also if the sum exceeds the greatest rate.
+// Returns the sum of the tax rates that a customer pays. Changes nothing. Fails with `Memory` or
+// `Store` only; with `Store` also if the sum exceeds the greatest rate.
 pub(crate) fn find_rates<S: Alter>(
     alloc: Global,
     store: &mut Store<S>,
@@ -59,7 +59,8 @@ fn with_worth(amount: Wide, row: &SummaryRow, price: Price) -> Option<Wide>
     }
 }
 
-// Returns an amount plus the market value of a summary at the last price of its symbol.
+// Returns an amount plus the market value of a summary at the last price of its symbol. Changes
+// nothing. Fails with `Memory` or `Store` only.
 fn add_worth<S: Alter>(store: &mut Store<S>, amount: Wide, row: &SummaryRow) -> Result<Wide, Fault>
     ensures read { ReadPost S.Store store.old store.new result (λ sum t. sum ≡ amount +ℤ worth_in t (summary_row_of row.now)) }
     ensures fault { IfErr result MayFail }
@@ -72,7 +73,7 @@ fn add_worth<S: Alter>(store: &mut Store<S>, amount: Wide, row: &SummaryRow) -> 
 }
 
 /// Returns the market value of an account's holdings at last prices, in cents. Shares sold short
-/// count below 0. Fails with `Memory` or `Store` only.
+/// count below 0. Changes nothing. Fails with `Memory` or `Store` only.
 pub fn sum_worth<S: Alter>(alloc: Global, store: &mut Store<S>, account: Id) -> Result<Wide, Fault>
     ensures read { ReadPost S.Store store.old store.new result (λ worth t. worth ≡ worth_of t account) }
     ensures fault { IfErr result MayFail }
@@ -96,7 +97,8 @@ fn with_balance(balance: Cents, worth: Wide) -> Option<Wide>
     }
 }
 
-// Returns an account's balance plus the market value of its holdings, in cents.
+// Returns an account's balance plus the market value of its holdings, in cents. Changes nothing.
+// Fails with `Memory` or `Store` only.
 fn find_assets<S: Alter>(
     alloc: Global,
     store: &mut Store<S>,

@@ -13,7 +13,8 @@ use brk_trade::{Plan, plan_cancel};
 use sqlite::Alter;
 use std::alloc::Global;
 
-// Returns the status of a trade, or `None` if the trade does not exist.
+// Returns the status of a trade, or `None` if the trade does not exist. Changes nothing. Fails with
+// `Memory` or `Store` only.
 fn status_of<S: Alter>(store: &mut Store<S>, trade: Id) -> Result<Option<Status>, Fault>
     ensures read { ReadPost S.Store store.old store.new result (λ status t. status ≡ option_map (λ r. r.status) (trade_in t trade)) }
     ensures fault { IfErr result MayFail }

@@ -21,8 +21,9 @@ use brk_trade::{Estimate, OrderFound, plan_estimate};
 use sqlite::Alter;
 use std::alloc::Global;
 
-// Plans an estimate from the facts that were found. Of the position it has only `lots`, of which it
-// reads at most 16 rows more than the lots that the order would touch, also if it fails.
+// Plans an estimate from the facts that were read and from `lots`, the lots of the position. Of
+// these it reads at most 16 rows more than the lots that the order would touch, also if it fails.
+// Fails with `Memory` or `Store` only.
 fn plan_over<S: Alter>(
     order: &Order,
     found: &OrderFound,

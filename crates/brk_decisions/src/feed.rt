@@ -20,7 +20,7 @@ use std::alloc::Global;
 
 // Returns the quote of a tick's symbol, or `None` if the symbol has no last trade. The quote has
 // the pending requests that some price of the feed's ticks may trigger, read by one selection for
-// each type.
+// each type. Changes nothing. Fails with `Memory` or `Store` only.
 fn quote_of<S: Alter>(
     alloc: Global,
     store: &mut Store<S>,
@@ -48,7 +48,8 @@ fn quote_of<S: Alter>(
     Ok(Some(quote))
 }
 
-// Returns the last stamp, and one quote for each symbol of the ticks that has a last trade.
+// Returns the last stamp, and one quote for each symbol of the ticks that has a last trade. Changes
+// nothing. Fails with `Memory` or `Store` only.
 fn read_market<S: Alter>(
     alloc: Global,
     store: &mut Store<S>,

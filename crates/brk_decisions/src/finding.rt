@@ -30,7 +30,7 @@ pub(crate) const NOTHING: ReferenceFacts = ReferenceFacts {
     rates: None,
 };
 
-// Returns true if the broker exists.
+// Returns true if the broker exists. Changes nothing. Fails with `Memory` or `Store` only.
 fn is_broker_there<S: Alter>(store: &mut Store<S>, id: Id) -> Result<bool, Fault>
     ensures read { ReadPost S.Store store.old store.new result (λ there t. there ≡ finds_broker t id) }
     ensures fault { IfErr result MayFail }
@@ -38,7 +38,7 @@ fn is_broker_there<S: Alter>(store: &mut Store<S>, id: Id) -> Result<bool, Fault
     Ok(store.broker(id)?.is_some())
 }
 
-// Returns true if the customer exists.
+// Returns true if the customer exists. Changes nothing. Fails with `Memory` or `Store` only.
 pub(crate) fn is_customer_there<S: Alter>(store: &mut Store<S>, id: Id) -> Result<bool, Fault>
     ensures read { ReadPost S.Store store.old store.new result (λ there t. there ≡ finds_customer t id) }
     ensures fault { IfErr result MayFail }
@@ -46,7 +46,7 @@ pub(crate) fn is_customer_there<S: Alter>(store: &mut Store<S>, id: Id) -> Resul
     Ok(store.customer(id)?.is_some())
 }
 
-// Returns true if a customer has the tax id.
+// Returns true if a customer has the tax id. Changes nothing. Fails with `Memory` or `Store` only.
 fn is_tax_id_there<S: Alter>(store: &mut Store<S>, tax_id: &TaxId) -> Result<bool, Fault>
     ensures read { ReadPost S.Store store.old store.new result (λ there t. there ≡ finds_tax_id t tax_id.now) }
     ensures fault { IfErr result MayFail }
@@ -54,7 +54,7 @@ fn is_tax_id_there<S: Alter>(store: &mut Store<S>, tax_id: &TaxId) -> Result<boo
     Ok(store.customer_by_tax_id(tax_id)?.is_some())
 }
 
-// Returns true if the account exists.
+// Returns true if the account exists. Changes nothing. Fails with `Memory` or `Store` only.
 pub(crate) fn is_account_there<S: Alter>(store: &mut Store<S>, id: Id) -> Result<bool, Fault>
     ensures read { ReadPost S.Store store.old store.new result (λ there t. there ≡ finds_account t id) }
     ensures fault { IfErr result MayFail }
@@ -62,7 +62,8 @@ pub(crate) fn is_account_there<S: Alter>(store: &mut Store<S>, id: Id) -> Result
     Ok(store.account(id)?.is_some())
 }
 
-// Returns the number of accounts of a customer.
+// Returns the number of accounts of a customer. Changes nothing. Fails with `Memory` or `Store`
+// only.
 fn count_accounts<S: Alter>(
     alloc: Global,
     store: &mut Store<S>,
@@ -74,7 +75,7 @@ fn count_accounts<S: Alter>(
     Ok(store.accounts_of(alloc, customer)?.len())
 }
 
-// Reads the facts that decide on a broker.
+// Reads the facts that decide on a broker. Fails with `Memory` or `Store` only.
 fn find_for_broker<S: Alter>(store: &mut Store<S>, broker: &Broker) -> Result<ReferenceFacts, Fault>
     ensures read { ReadPost S.Store store.old store.new result (λ found t. found.same_id ≡ finds_broker t broker.now.id) }
     ensures fault { IfErr result MayFail }
@@ -83,7 +84,7 @@ fn find_for_broker<S: Alter>(store: &mut Store<S>, broker: &Broker) -> Result<Re
     Ok(ReferenceFacts { same_id, ..NOTHING })
 }
 
-// Reads the facts that decide on a customer.
+// Reads the facts that decide on a customer. Fails with `Memory` or `Store` only.
 fn find_for_customer<S: Alter>(
     store: &mut Store<S>,
     customer: &Customer,
@@ -100,7 +101,7 @@ fn find_for_customer<S: Alter>(
     })
 }
 
-// Reads the facts that decide on an account.
+// Reads the facts that decide on an account. Fails with `Memory` or `Store` only.
 fn find_for_account<S: Alter>(
     alloc: Global,
     store: &mut Store<S>,
@@ -122,7 +123,7 @@ fn find_for_account<S: Alter>(
     })
 }
 
-// Reads the facts that decide on a security.
+// Reads the facts that decide on a security. Fails with `Memory` or `Store` only.
 fn find_for_security<S: Alter>(
     store: &mut Store<S>,
     symbol: &Symbol,
@@ -134,7 +135,7 @@ fn find_for_security<S: Alter>(
     Ok(ReferenceFacts { same_id, ..NOTHING })
 }
 
-// Reads the facts that decide on a tax rate.
+// Reads the facts that decide on a tax rate. Fails with `Memory` or `Store` only.
 fn find_for_tax<S: Alter>(store: &mut Store<S>, id: Id) -> Result<ReferenceFacts, Fault>
     ensures read { ReadPost S.Store store.old store.new result (λ found t. found.same_id ≡ finds_tax_rate t id) }
     ensures fault { IfErr result MayFail }

@@ -14,7 +14,8 @@ use brk_store::Store;
 use brk_trade::BrokerNumbers;
 use sqlite::Alter;
 
-// Returns the customer with an id. Fails with `Store` if there is none.
+// Returns the customer with an id. Changes nothing. Fails with `Memory` or `Store` only; with
+// `Store` also if there is none.
 pub(crate) fn known_customer<S: Alter>(store: &mut Store<S>, id: Id) -> Result<Customer, Fault>
     ensures read { ReadPost S.Store store.old store.new result (λ customer t. IsCustomer t id customer) }
     ensures fault { IfErr result MayFail }
@@ -25,7 +26,8 @@ pub(crate) fn known_customer<S: Alter>(store: &mut Store<S>, id: Id) -> Result<C
     }
 }
 
-// Returns the account with an id. Fails with `Store` if there is none.
+// Returns the account with an id. Changes nothing. Fails with `Memory` or `Store` only; with
+// `Store` also if there is none.
 pub(crate) fn known_account<S: Alter>(store: &mut Store<S>, id: Id) -> Result<AccountRow, Fault>
     ensures read { ReadPost S.Store store.old store.new result (λ account t. IsAccountWith t id account) }
     ensures fault { IfErr result MayFail }
@@ -36,7 +38,8 @@ pub(crate) fn known_account<S: Alter>(store: &mut Store<S>, id: Id) -> Result<Ac
     }
 }
 
-// Returns the totals of the broker with an id. Fails with `Store` if there is none.
+// Returns the totals of the broker with an id. Changes nothing. Fails with `Memory` or `Store`
+// only; with `Store` also if there is none.
 pub(crate) fn known_numbers<S: Alter>(store: &mut Store<S>, id: Id) -> Result<BrokerNumbers, Fault>
     ensures read { ReadPost S.Store store.old store.new result (λ numbers t. AreTotalsOfBroker t id numbers) }
     ensures fault { IfErr result MayFail }
@@ -47,7 +50,8 @@ pub(crate) fn known_numbers<S: Alter>(store: &mut Store<S>, id: Id) -> Result<Br
     }
 }
 
-// Returns the last price of a symbol. Fails with `Store` if there is none.
+// Returns the last price of a symbol. Changes nothing. Fails with `Memory` or `Store` only; with
+// `Store` also if there is none.
 pub(crate) fn known_price<S: Alter>(store: &mut Store<S>, symbol: &Symbol) -> Result<Price, Fault>
     ensures read { ReadPost S.Store store.old store.new result (λ price t. price ≡ price_in t symbol.now) }
     ensures fault { IfErr result MayFail }
@@ -58,7 +62,8 @@ pub(crate) fn known_price<S: Alter>(store: &mut Store<S>, symbol: &Symbol) -> Re
     }
 }
 
-// Returns the security with a symbol. Fails with `Store` if there is none.
+// Returns the security with a symbol. Changes nothing. Fails with `Memory` or `Store` only; with
+// `Store` also if there is none.
 pub(crate) fn known_security<S: Alter>(
     store: &mut Store<S>,
     symbol: &Symbol,

@@ -23,8 +23,9 @@ use brk_trade::{OrderFound, Plan, plan_order};
 use sqlite::Alter;
 use std::alloc::Global;
 
-// Plans an order from the facts that were found. Of the position it has only `lots`, of which it
-// reads at most 16 rows more than the lots that the order would touch, also if it fails.
+// Plans an order from the facts that were read and from `lots`, the lots of the position. Of these
+// it reads at most 16 rows more than the lots that the order would touch, also if it fails. Fails
+// with `Memory` or `Store` only.
 fn plan_over<S: Alter>(
     alloc: Global,
     order: &Order,

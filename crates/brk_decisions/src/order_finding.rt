@@ -54,7 +54,8 @@ fn found_of(account: &AccountRow, tested: OrderFacts, amounts: Amounts) -> Order
     }
 }
 
-// Reads the facts that decide on the estimate of an order of an account.
+// Reads the facts that decide on the estimate of an order of an account. Fails with `Memory` or
+// `Store` only.
 fn find_of_account<S: Alter>(
     alloc: Global,
     store: &mut Store<S>,

@@ -28,7 +28,7 @@ pub struct Parties {
     pub rates: TaxRate,
 }
 
-// Reads the facts of an account, its customer and its broker.
+// Reads the facts of an account, its customer and its broker. Fails with `Memory` or `Store` only.
 fn parties_of<S: Alter>(
     alloc: Global,
     store: &mut Store<S>,

@@ -24,8 +24,9 @@ use brk_trade::{Plan, ResultFound, plan_result};
 use sqlite::Alter;
 use std::alloc::Global;
 
-// Plans the result of a trade from the facts that were found. Of its position it has only `lots`, of
-// which it reads at most 16 rows more than the lots that the trade touches, also if it fails.
+// Plans the result of a trade from the facts that were read and from `lots`, the lots of its
+// position. Of these it reads at most 16 rows more than the lots that the trade touches, also if it
+// fails. Fails with `Memory` or `Store` only.
 fn plan_over<S: Alter>(
     alloc: Global,
     found: &ResultFound,
@@ -46,8 +47,8 @@ fn plan_over<S: Alter>(
     plan_result(alloc, Some(found), price, lots, last, now)
 }
 
-// Plans a result from the facts that were found and the lots of its trade's position, if there is
-// such a trade.
+// Plans the result of the trade in `found` from the facts that were read and from the lots of its
+// position, or refuses it if `found` is `None`. Fails with `Memory` or `Store` only.
 fn plan_found<S: Alter>(
     alloc: Global,
     store: &mut Store<S>,

@@ -26,7 +26,8 @@ pub struct SecurityFacts {
     pub rate: Option<Rate>,
 }
 
-// Reads the facts of a trade's security, for a customer's tier.
+// Reads the facts of a trade's security, for a customer's tier. Fails with `Memory` or `Store`
+// only.
 fn find_listed<S: Alter>(
     alloc: Global,
     store: &mut Store<S>,
@@ -60,8 +61,8 @@ pub struct Posting {
     pub next: MoveId,
 }
 
-// Reads the settlement day and the number of the next cash row. Fails with `Store` if no number is
-// left.
+// Reads the settlement day and the number of the next cash row. Fails with `Memory` or `Store`
+// only; with `Store` also if no number is left.
 fn find_posting<S: Alter>(store: &mut Store<S>) -> Result<Posting, Fault>
     ensures read { ReadPost S.Store store.old store.new result (λ posting t. IsPosting t posting) }
     ensures fault { IfErr result MayFail }
@@ -71,7 +72,8 @@ fn find_posting<S: Alter>(store: &mut Store<S>) -> Result<Posting, Fault>
     Ok(Posting { rule, next })
 }
 
-// Reads the facts that decide on a result of a trade that exists.
+// Reads the facts that decide on a result of a trade that exists. Fails with `Memory` or `Store`
+// only.
 fn find_of_trade<S: Alter>(
     alloc: Global,
     store: &mut Store<S>,

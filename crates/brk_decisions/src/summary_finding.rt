@@ -32,7 +32,7 @@ fn shares_in(summary: Option<SummaryRow>) -> Option<i64>
 }
 
 // Returns the number of shares of a security that an account holds in all, or `None` if there is no
-// row.
+// row. Changes nothing. Fails with `Memory` or `Store` only.
 pub(crate) fn find_summary<S: Alter>(
     store: &mut Store<S>,
     account: Id,

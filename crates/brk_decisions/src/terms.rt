@@ -16,7 +16,8 @@ use brk_trade::ReferenceFacts;
 use sqlite::Alter;
 use std::alloc::Global;
 
-// Returns true if the account has a permission for the tax id.
+// Returns true if the account has a permission for the tax id. Changes nothing. Fails with `Memory`
+// or `Store` only.
 fn is_permission_there<S: Alter>(
     store: &mut Store<S>,
     account: Id,
@@ -28,7 +29,7 @@ fn is_permission_there<S: Alter>(
     Ok(store.permission(account, tax_id)?.is_some())
 }
 
-// Returns true if the security exists.
+// Returns true if the security exists. Changes nothing. Fails with `Memory` or `Store` only.
 pub(crate) fn is_security_there<S: Alter>(
     store: &mut Store<S>,
     symbol: &Symbol,
@@ -39,7 +40,7 @@ pub(crate) fn is_security_there<S: Alter>(
     Ok(store.security(symbol)?.is_some())
 }
 
-// Returns true if the charge exists.
+// Returns true if the charge exists. Changes nothing. Fails with `Memory` or `Store` only.
 pub(crate) fn is_charge_there<S: Alter>(
     store: &mut Store<S>,
     kind: TradeType,
@@ -51,7 +52,8 @@ pub(crate) fn is_charge_there<S: Alter>(
     Ok(store.charge(kind, tier)?.is_some())
 }
 
-// Returns true if a band shares a quantity with the given band.
+// Returns true if a band shares a quantity with the given band. Changes nothing. Fails with
+// `Memory` or `Store` only.
 pub(crate) fn is_overlap_there<S: Alter>(
     alloc: Global,
     store: &mut Store<S>,
@@ -64,7 +66,7 @@ pub(crate) fn is_overlap_there<S: Alter>(
     Ok(overlaps(&bands, band))
 }
 
-// Returns true if the tax exists.
+// Returns true if the tax exists. Changes nothing. Fails with `Memory` or `Store` only.
 pub(crate) fn is_tax_there<S: Alter>(store: &mut Store<S>, id: Id) -> Result<bool, Fault>
     ensures read { ReadPost S.Store store.old store.new result (λ there t. there ≡ finds_tax_rate t id) }
     ensures fault { IfErr result MayFail }
@@ -72,7 +74,8 @@ pub(crate) fn is_tax_there<S: Alter>(store: &mut Store<S>, id: Id) -> Result<boo
     Ok(store.tax_rate(id)?.is_some())
 }
 
-// Returns the rate of a tax, or `None` if the tax does not exist.
+// Returns the rate of a tax, or `None` if the tax does not exist. Changes nothing. Fails with
+// `Memory` or `Store` only.
 fn find_rate<S: Alter>(store: &mut Store<S>, tax: Id) -> Result<Option<TaxRate>, Fault>
     ensures read { ReadPost S.Store store.old store.new result (λ rate t. rate ≡ rate_of t tax) }
     ensures fault { IfErr result MayFail }
@@ -83,7 +86,7 @@ fn find_rate<S: Alter>(store: &mut Store<S>, tax: Id) -> Result<Option<TaxRate>,
     }
 }
 
-// Returns true if the customer pays the tax.
+// Returns true if the customer pays the tax. Changes nothing. Fails with `Memory` or `Store` only.
 fn is_tax_paid<S: Alter>(store: &mut Store<S>, customer: Id, tax: Id) -> Result<bool, Fault>
     ensures read { ReadPost S.Store store.old store.new result (λ there t. there ≡ pays_tax t customer tax) }
     ensures fault { IfErr result MayFail }
@@ -91,7 +94,8 @@ fn is_tax_paid<S: Alter>(store: &mut Store<S>, customer: Id, tax: Id) -> Result<
     Ok(store.customer_tax(customer, tax)?.is_some())
 }
 
-// Returns the taxes that a customer pays. Fails with `Store` also if one of them does not exist.
+// Returns the taxes that a customer pays. Changes nothing. Fails with `Memory` or `Store` only;
+// with `Store` also if one of them does not exist.
 fn taxes_of<S: Alter>(alloc: Global, store: &mut Store<S>, customer: Id) -> Result<Vec<Tax>, Fault>
     ensures read { ReadPost S.Store store.old store.new result (λ taxes t.
         map (λ tax. Some (tax_of tax)) taxes.items ≡ map (λ r. tax_rate_of t r.tax) (filter (λ r. r.customer == customer) t.customer_taxes)) }
@@ -109,6 +113,7 @@ fn taxes_of<S: Alter>(alloc: Global, store: &mut Store<S>, customer: Id) -> Resu
 }
 
 // Returns the sum of the tax rates that a customer pays, or `None` if it exceeds the greatest rate.
+// Changes nothing. Fails with `Memory` or `Store` only.
 pub(crate) fn sum_rates<S: Alter>(
     alloc: Global,
     store: &mut Store<S>,
@@ -121,7 +126,7 @@ pub(crate) fn sum_rates<S: Alter>(
     Ok(tax_sum(&taxes))
 }
 
-// Reads the facts that decide on a permission.
+// Reads the facts that decide on a permission. Fails with `Memory` or `Store` only.
 pub(crate) fn find_for_permission<S: Alter>(
     store: &mut Store<S>,
     permission: &Permission,
@@ -139,7 +144,7 @@ pub(crate) fn find_for_permission<S: Alter>(
     })
 }
 
-// Reads the facts that decide on a charge.
+// Reads the facts that decide on a charge. Fails with `Memory` or `Store` only.
 pub(crate) fn find_for_charge<S: Alter>(
     store: &mut Store<S>,
     charge: &Charge,
@@ -151,7 +156,7 @@ pub(crate) fn find_for_charge<S: Alter>(
     Ok(ReferenceFacts { same_id, ..NOTHING })
 }
 
-// Reads the facts that decide on a band.
+// Reads the facts that decide on a band. Fails with `Memory` or `Store` only.
 pub(crate) fn find_for_band<S: Alter>(
     alloc: Global,
     store: &mut Store<S>,
@@ -167,7 +172,7 @@ pub(crate) fn find_for_band<S: Alter>(
     })
 }
 
-// Reads the facts that decide on a customer's tax.
+// Reads the facts that decide on a customer's tax. Fails with `Memory` or `Store` only.
 pub(crate) fn find_for_customer_tax<S: Alter>(
     alloc: Global,
     store: &mut Store<S>,

@@ -32,7 +32,8 @@ pub struct OrderFacts {
     pub rate: Option<Rate>,
 }
 
-// Returns the last price of a symbol, or `None` if there is none.
+// Returns the last price of a symbol, or `None` if there is none. Changes nothing. Fails with
+// `Memory` or `Store` only.
 pub(crate) fn find_price<S: Alter>(
     store: &mut Store<S>,
     symbol: &Symbol,
@@ -46,7 +47,8 @@ pub(crate) fn find_price<S: Alter>(
     }
 }
 
-// Returns true if an executor may order for an account of a customer.
+// Returns true if an executor may order for an account of a customer. Changes nothing. Fails with
+// `Memory` or `Store` only.
 fn find_permission<S: Alter>(
     store: &mut Store<S>,
     account: Id,
@@ -61,7 +63,8 @@ fn find_permission<S: Alter>(
     Ok(permitted(customer, permission.as_slice(), executor))
 }
 
-// Returns the charge of a type and a tier, or `None` if there is none.
+// Returns the charge of a type and a tier, or `None` if there is none. Changes nothing. Fails with
+// `Memory` or `Store` only.
 fn find_charge<S: Alter>(
     store: &mut Store<S>,
     kind: TradeType,
@@ -77,6 +80,7 @@ fn find_charge<S: Alter>(
 }
 
 // Returns the rate of a quantity for a tier, a type and an exchange, or `None` if there is none.
+// Changes nothing. Fails with `Memory` or `Store` only.
 pub(crate) fn find_band_rate<S: Alter>(
     alloc: Global,
     store: &mut Store<S>,
@@ -93,7 +97,7 @@ pub(crate) fn find_band_rate<S: Alter>(
 }
 
 // Returns the rate of an order for a tier, or `None` if there is none or its security does not
-// exist.
+// exist. Changes nothing. Fails with `Memory` or `Store` only.
 fn find_order_rate<S: Alter>(
     alloc: Global,
     store: &mut Store<S>,
@@ -120,7 +124,8 @@ fn find_order_rate<S: Alter>(
     }
 }
 
-// Reads the facts that test an order of an account that exists.
+// Reads the facts that test an order of an account that exists. Fails with `Memory` or `Store`
+// only.
 pub(crate) fn find_tested<S: Alter>(
     alloc: Global,
     store: &mut Store<S>,

@@ -14,7 +14,7 @@ use sqlite::Alter;
 use std::alloc::Global;
 
 /// Returns the trades with these ids, in the order of the ids, or `None` if one of them does not
-/// exist. Fails with `Memory` or `Store` only.
+/// exist. Changes nothing. Fails with `Memory` or `Store` only.
 pub fn find_trades<S: Alter>(
     alloc: Global,
     store: &mut Store<S>,

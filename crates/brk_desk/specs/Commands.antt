@@ -7,7 +7,7 @@ use Rattle.brk_view.specs.Queries.{query_of}
 use Rattle.brk_desk.specs.declared.call.Call.{Call}
 use Rattle.brk_desk.specs.declared.call.Call.TheVariants as call
 
--- The call of the model that a call represents, with its clock reading.
+-- The call of the model that a desk's call represents, with its clock reading, which is unchanged.
 abbrev pub call_of : ℕ × Call → ℕ × run.Call
 call_of (now, call.Do command key) = (now, run.Do (command_of command) (key_for key))
 call_of (now, call.Ask query) = (now, run.Ask (query_of query))

@@ -40,10 +40,11 @@ use Rattle.brk_desk.specs.declared.call.Call.TheVariants as call
 use Rattle.brk_desk.specs.declared.call.Outcome.{Outcome}
 use Rattle.brk_desk.specs.declared.call.Outcome.TheVariants as came
 
--- The postcondition of a query, which changes nothing: the result equals that of the model for
--- every base that the store represented, or is a fault.
+-- The postcondition of a query: the result equals that of the model for every base that the store
+-- represented, or is a fault. The query changes nothing.
 pub record AskPost {S : Type 0} (g : Ghosts S) (old new : Held S) (query : Query) (result : Result (Result View Refusal) Fault) : Type 0 where
-  -- At `Ok` the result equals that of the model. Says nothing if the disk assumption fails.
+  -- At `Ok` the result, a view or a refusal, equals that of the model for each base that the store
+  -- represented. Vacuous if the disk assumption fails.
   pub answered : HasCleanDisk (state g new) → IfOk result (λ seen. (base : Base) → Represents g old base → ask base query ≡ seen_of seen)
   -- A returned view has the variant of the query, and carries the rows that the query selects from
   -- the tables of the base. Says nothing if the disk assumption fails.
@@ -52,59 +53,61 @@ pub record AskPost {S : Type 0} (g : Ghosts S) (old new : Held S) (query : Query
   pub kept : StillKeeps g old new
   -- The error is `Memory` or `Store`.
   pub fault : IfErr result MayFail
-  -- A crash exposes only states that were possible before the call.
+  -- A crash exposes only states that a crash before the call could expose.
   pub survives : Survives (state g old) (state g new) (λ _. ⊥)
-  -- The database was open and is unchanged, if it is open after the call.
+  -- If the database is open after the call, it was open before and is unchanged.
   pub same : HasCleanDisk (state g new) → IsTrue (state g new).is_open → IsSame (state g old) (state g new)
   -- If the disk assumption holds after the call, it held before.
   pub clean : HasCleanDisk (state g new) → HasCleanDisk (state g old)
 
--- The call at the clock reading `now` satisfies its postcondition with the result that this outcome
--- carries.
+-- The call, executed at the clock reading `now`, satisfies its own postcondition, `CallPost` or
+-- `AskPost`, with the result that `outcome` carries.
 abbrev pub OutcomePost : {S : Type 0} → Ghosts S → Held S → Held S → ℕ → Call → Outcome → Type 0
 OutcomePost g old new now (call.Do command key) outcome =
     (result : Result desk.Answer Fault) × (outcome ≡ outcome_for result) × CallPost g old new now (command_of command) (key_for key) result
 OutcomePost g old new now (call.Ask query) outcome =
     (result : Result (Result View Refusal) Fault) × (outcome ≡ outcome_seen result) × AskPost g old new (query_of query) result
 
--- No outcome acknowledges a change: each is of a query, a refusal, a stored reply or a fault.
+-- No outcome is `Done`: each is of a query, a refusal, a stored reply or a fault.
 abbrev pub AcknowledgeNothing : List Outcome → Type 0
 AcknowledgeNothing outcomes = AllByRecursion AcknowledgesNothing (map outcome_of outcomes)
 
--- If the call failed, the fault is `Memory` or `Store`.
+-- If the outcome is a fault, it is `Memory` or `Store`. Vacuous otherwise.
 abbrev pub FailsAsKnown : Outcome → Type 0
 FailsAsKnown (came.Failed fault) = MayFail fault
 FailsAsKnown _ = Unit {0}
 
--- The trees have the tables of a base that `MayBeRecovered` allows after the calls, with texts in
--- UTF-8. This base has every acknowledged command, and at most one more that returned a fault, with
--- no change acknowledged after it.
+-- The trees contain the tables of some base that a crash may expose after the calls from `base`
+-- (`MayBeRecovered`), with texts in UTF-8: it has every acknowledged command, and at most one more,
+-- which returned a fault and after which no change was acknowledged.
 abbrev pub AreRecoverable : Base → List (ℕ × Call) → List Outcome → Trees → Type 0
 AreRecoverable base calls outcomes trees =
     (after : Base) × MayBeRecovered base (map call_of calls) (map outcome_of outcomes) after × AreTreesOf (sheets after) trees × IsTrue (has_texts (sheets after))
 
--- The store was open, and the trees are recoverable after the calls from every base that the store
--- represented.
+-- The store was open before the calls, and the trees are recoverable (`AreRecoverable`) after the
+-- calls from each base that the store represented.
 abbrev pub MayBeExposed : {S : Type 0} → Ghosts S → Held S → List (ℕ × Call) → List Outcome → Trees → Type 0
 MayBeExposed g old calls outcomes trees = IsTrue (state g old).is_open × ((base : Base) → Represents g old base → AreRecoverable base calls outcomes trees)
 
--- The postcondition of a run, with one outcome for each call. For every base that the store
--- represented, the calls and outcomes are a run of the model, and the store represents the base
--- after it.
+-- The postcondition of a sequence of calls that were executed in order: one outcome for each call;
+-- and for every base that the store represented, the calls with their outcomes are a run of the
+-- model (`Run`), and the store represents the base after it.
 pub record RunPost {S : Type 0} (g : Ghosts S) (old new : Held S) (calls : List (ℕ × Call)) (outcomes : List Outcome) : Type 0 where
   pub count : length outcomes ≡ length calls
+  -- Vacuous if the disk assumption fails after the calls.
   pub ran : HasCleanDisk (state g new) → (base : Base) → Represents g old base
       → (after : Base) × Represents g new after × Run base (map call_of calls) (map outcome_of outcomes) after
   -- Each fault is `Memory` or `Store`.
   pub fault : AllByRecursion FailsAsKnown outcomes
-  -- If no outcome acknowledges a change, the whole database was open and is unchanged, if it is
-  -- open after the calls.
+  -- If no outcome is `Done` and the database is open after the calls, it was open before and is
+  -- unchanged.
   pub same : HasCleanDisk (state g new) → IsTrue (state g new).is_open → AcknowledgeNothing outcomes → IsSame (state g old) (state g new)
   -- The store is open after the calls only if it was open before.
   pub opened : HasCleanDisk (state g new) → IsTrue (state g new).is_open → IsTrue (state g old).is_open
-  -- Crash safety: a crash exposes a state that was possible before the calls, or recoverable trees.
+  -- Crash safety: a crash exposes a state that a crash before the calls could expose, or
+  -- recoverable trees.
   pub survives : Survives (state g old) (state g new) (MayBeExposed g old calls outcomes)
-  -- If an outcome acknowledges a change, a crash exposes only recoverable trees.
+  -- If some outcome is `Done`, a crash exposes only recoverable trees.
   pub durable : HasCleanDisk (state g new) → (base : Base) → Represents g old base → ¬ AcknowledgeNothing outcomes
       → OnlyCrashState g new (AreRecoverable base calls outcomes)
   -- If a crash before the calls exposes only the tables of `base`, a crash after them exposes only
@@ -116,14 +119,17 @@ pub record RunPost {S : Type 0} (g : Ghosts S) (old new : Held S) (calls : List 
   -- The commands and their keys are well-formed.
   pub in_form : AllByRecursion IsCallInForm (map call_of calls)
 
--- The calls lead from `base` to a base that the store represents. The tables of this base pass an
--- audit and add up, and each accepted result was taxed on exactly the shares that it closed.
+-- After the calls from `base` the store represents some base whose tables pass the audit of schema
+-- 3 and add up, and each result that was accepted was taxed on exactly the shares that it closed
+-- (`RunAddsUp`).
 abbrev pub ReachesAuditedState : {S : Type 0} → Ghosts S → Held S → Base → List (ℕ × Call) → List Outcome → Type 0
 ReachesAuditedState g new base calls outcomes = (after : Base) × Represents g new after × Passes third_schema (sheets after) × RunAddsUp base (map call_of calls) (map outcome_of outcomes) after
 
--- The guarantee of a run: the calls reach an audited state. They start from any base that the store
--- represented; from the empty base, if the tables had no rows; or from the base of rows of any
--- schema that passed its audit and were upgraded to schema 3.
+-- The guarantee of a run: under the disk assumption the calls reach an audited state
+-- (`ReachesAuditedState`) from any base that the store represented (`kept`); from the empty base,
+-- if the tables had no rows (`made`); and from the base that rows of any schema determine, if they
+-- pass the audit of that schema, have texts in UTF-8, and the store held them upgraded to schema 3
+-- (`adopted`).
 pub record RunGuarantee {S : Type 0} (g : Ghosts S) (old new : Held S) (calls : List (ℕ × Call)) (outcomes : List Outcome) : Type 0 where
   pub kept : HasCleanDisk (state g new) → (base : Base) → Represents g old base → ReachesAuditedState g new base calls outcomes
   pub made : HasCleanDisk (state g new) → Holds g old no_rows → ReachesAuditedState g new empty_base calls outcomes

@@ -17,8 +17,7 @@ use Rattle.brk_invariant_theorems.specs.Sound.{AuditInvariant}
 use Rattle.brk_store.specs.Audited.{Answered, OnAnswer, Represents}
 use Rattle.brk_store.specs.Holds.{AreTreesOf, IsOpenedOver, OnlyCrashState}
 
--- The base satisfies the books invariant and the audit invariant, so that its tables pass an audit,
--- and its texts are UTF-8.
+-- The base satisfies the books invariant and the audit invariant, and its texts are UTF-8.
 pub record IsConsistent (base : Base) : Type 0 where
   pub books : BooksInvariant base
   pub sound : AuditInvariant base
@@ -34,24 +33,26 @@ pub record IsJustOpened {S : Type 0} (g : Ghosts S) (trees : Trees) (conn : Held
   pub over : IsOpenedOver g trees conn
   pub opens : HasCleanDisk (state g conn) → Opens (state g conn)
 
--- The connection was just opened over a state that a crash of the store `left` exposes.
+-- The connection was just opened over a state that a crash of the store `left` may expose.
 abbrev pub IsReopened : {S : Type 0} → Ghosts S → Held S → Held S → Type 0
 IsReopened g left conn = (trees : Trees) × (state g left).may_leave trees × IsJustOpened g trees conn
 
--- A database of some schema was adopted, whose rows passed by its own conditions. The store
--- represents the base of these rows, and a crash exposes only its tables.
+-- The database of `conn` has rows of some schema that pass the audit of this schema, with texts in
+-- UTF-8. `store` represents the base that these rows determine, and a crash exposes only the tables
+-- of this base.
 abbrev pub HasTakenOver : {S : Type 0} → Ghosts S → Held S → Held S → Type 0
 HasTakenOver g conn store = (schema : known.Schema) × (rows : Tables) × Answered (schema_of schema) rows (state g conn).now None × IsDurable g store (base_of rows)
 
--- The adoption did not fail with `Damaged`. At `Ok` the store represents this base, and a crash
--- exposes only its tables. Says nothing of the store if the adoption failed with `Memory` or
--- `Store`.
+-- The adoption with this result did not fail with `Damaged`; at `Ok` the store represents `base`,
+-- and a crash exposes only its tables. If it failed with `Memory` or `Store`, this says nothing of
+-- the store.
 pub record IsUpgradedOver {S : Type 0} (g : Ghosts S) (store : Held S) (result : Result (Unit {0}) Fault) (base : Base) : Type 0 where
   pub undamaged : OnAnswer result (λ failing. failing ≡ None)
   pub stands : OnOk result (IsDurable g store base)
 
--- The adoption did not fail with `Damaged`. The store, or the connection that comes back with
--- `Memory` or `Store`, represents a base that `May` allows, and a crash exposes only its tables.
+-- The adoption with this result did not fail with `Damaged`, and the store, or the connection that
+-- was returned with `Memory` or `Store`, represents a base that satisfies `May`; a crash exposes
+-- only the tables of this base.
 pub record IsRecovered {S : Type 0} (g : Ghosts S) (store : Held S) (result : Result (Unit {0}) Fault) (May : Base → Type 0) : Type 0 where
   pub base : Base
   pub may : May base

@@ -7,16 +7,18 @@ use Rattle.brk_desk.specs.Keeping.{OutcomePost, RunPost, RunGuarantee}
 use Rattle.brk_desk.specs.declared.call.Call.{Call}
 use Rattle.brk_desk.specs.declared.call.Outcome.{Outcome}
 
--- Exactly these calls of the desk were made, in order, with these outcomes. They are a run and give
--- the guarantee of a run (`calls_in_order_are_a_run`).
+-- From the state `old` to the state `new` exactly these calls of the desk were executed, in order,
+-- with these outcomes. Only the field `made` states this; the fields `ran` and `promised` follow
+-- from it (`calls_in_order_are_a_run`).
 pub record IsRunOf {S : Type 0} (g : Ghosts S) (old new : Held S) (calls : List (ℕ × Call)) (outcomes : List Outcome) : Type 0 where
-  -- The calls lead from `old` to `new`, one after another, and nothing else was done: without calls
-  -- `new` equals `old`.
+  -- Each call satisfies its postcondition from the state after the call before it: the first from
+  -- `old`, and the last reaches `new`. Without calls `new` equals `old`.
   pub made : AreMade (λ old now call outcome new. OutcomePost g old new now call outcome) old calls outcomes new
   pub ran : RunPost g old new calls outcomes
   pub promised : RunGuarantee g old new calls outcomes
 
--- Some calls of the desk were made, in order, and nothing else.
+-- From the state `old` to the state `new` some calls of the desk were executed, in order, and
+-- nothing else (`IsRunOf`).
 pub record IsSomeRun {S : Type 0} (g : Ghosts S) (old new : Held S) : Type 0 where
   pub calls : List (ℕ × Call)
   pub outcomes : List Outcome

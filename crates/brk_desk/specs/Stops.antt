@@ -8,13 +8,14 @@ use Rattle.brk_model.specs.Keyed.{keyed_step}
 use Rattle.brk_model.specs.Records.{Key}
 use Rattle.brk_model.specs.Run.{Call, Do, Outcome, Did, Failed, Run}
 
--- The outcome acknowledges no change: it is not `Done`.
+-- The outcome acknowledges no change: it is any outcome other than `Done`.
 abbrev pub AcknowledgesNothing : Outcome → Type 0
 AcknowledgesNothing (Did (Done reply)) = ⊥
 AcknowledgesNothing _ = Unit {0}
 
--- The base `after` has the change of a command that returned a fault, with no change acknowledged
--- after it.
+-- One of the calls is a command that returned a fault, no outcome after it is `Done`, and `after`
+-- is the base after this command is executed after the calls before it, which run from `base` with
+-- their outcomes.
 pub record IsUnacknowledged (base : Base) (calls : List (ℕ × Call)) (outcomes : List Outcome) (after : Base) : Type 0 where
   -- The calls before the command, the command with its clock reading and its key, and the calls
   -- after it.
@@ -33,7 +34,8 @@ pub record IsUnacknowledged (base : Base) (calls : List (ℕ × Call)) (outcomes
   pub quiet : AllByRecursion AcknowledgesNothing rest
   pub whole : after ≡ (keyed_step before now command key).1
 
--- A crash after the calls may expose the tables of `after`: it has every acknowledged command, and
--- at most one more that returned a fault, with no change acknowledged after it.
+-- A crash after the calls from `base` may expose the tables of `after`. Either `after` is the base
+-- after a run of the calls with these outcomes, or it has the change of one more command, which
+-- returned a fault and after which no change was acknowledged (`IsUnacknowledged`).
 abbrev pub MayBeRecovered : Base → List (ℕ × Call) → List Outcome → Base → Type 0
 MayBeRecovered base calls outcomes after = Run base calls outcomes after ⊎ IsUnacknowledged base calls outcomes after

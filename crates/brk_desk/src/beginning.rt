@@ -24,14 +24,16 @@ ghost use Rattle.brk_changes.specs.declared.schema.Schema.{Schema};
 
 use sqlite::Alter;
 
-/// Proves that a store with newly created tables represents the empty base.
+/// Proves that a store whose tables have no rows, as newly created ones, represents the empty base.
 pub fn a_made_store_keeps_the_empty_base<S: Alter>()
     ensures { (store : Held S) → Holds S.Store store no_rows → Represents S.Store store empty_base }
 {}
 
-/// Proves that a store represents the base that its rows give, if these pass the audit of schema 3
-/// and their texts are UTF-8. A store with the upgraded rows of an older schema represents the base
-/// that the older rows give, if these pass the audit of their own schema and their texts are UTF-8.
+/// Proves that a store represents the base that its rows determine, if these pass the audit of
+/// schema 3 and their texts are UTF-8 (`rows`).
+///
+/// `upgraded`: a store with the upgraded rows of a schema represents the base that the rows before
+/// the upgrade determine, if these pass the audit of that schema and their texts are UTF-8.
 pub fn an_adopted_store_keeps_its_books<S: Alter>()
     ensures rows { (store : Held S) (rows : Tables) → Holds S.Store store rows → IsTrue (has_texts rows) → Passes third_schema rows
         → Represents S.Store store (base_of rows) }

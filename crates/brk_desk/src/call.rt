@@ -31,7 +31,7 @@ pub enum Outcome {
 }
 
 impl Outcome {
-    // Returns the outcome of a command.
+    // Returns the outcome that carries the result of a command.
     pub(crate) fn of_command(answered: Result<Answer, Fault>) -> Outcome
         ensures { result ≡ outcome_for answered }
     {
@@ -41,7 +41,7 @@ impl Outcome {
         }
     }
 
-    // Returns the outcome of a query.
+    // Returns the outcome that carries the result of a query.
     pub(crate) fn of_query(seen: Planned<View>) -> Outcome
         ensures { result ≡ outcome_seen seen }
     {

@@ -59,27 +59,30 @@ impl<S: Alter> Desk<S> {
     ghost use Rattle.brk_store.specs.Holds.{ReadPost};
     ghost use Rattle.brk_store.specs.Walked.{CallsEach, WalkPost, cash_of};
 
-    /// Creates a desk over a store that `Store::create` created, `Store::adopt` opened or an
-    /// earlier desk returned. The store is unchanged.
+    /// Creates a desk over a store, which is unchanged.
     pub fn new(store: Store<S>) -> Desk<S>
         ensures same { result ≡ store }
     {
         Desk { store }
     }
 
-    /// Executes `command` at the clock reading `now` and, if it is accepted, commits it in one
-    /// transaction.
+    /// Executes `command` at the clock reading `now` and, if it is accepted, commits it with its
+    /// key in one transaction. Returns:
     ///
-    /// Returns `Done` with the reply after the commit, `Refused` with the first reason that
-    /// applies, or, if `key` was accepted before, `Again` with the stored reply (same command) or
-    /// refusal 19 (another command).
+    /// - `Done` with the reply, after the commit, if the command is accepted;
+    /// - `Again` with the stored reply, if this same command was accepted before under `key`;
+    /// - `Refused` with refusal 19, if another command was accepted before under `key`;
+    /// - `Refused` with the first reason that applies, if the command is refused.
     ///
     /// Fails with `Memory` or `Store` only. A refusal, a stored reply or a fault changes nothing in
     /// the open store and records no key.
     ///
-    /// A crash exposes a state that was possible before the call, or the tables after the command;
-    /// after `Done` only the latter. After a fault too, a crash may find the command committed:
-    /// retry under the same key.
+    /// A crash exposes a state that a crash before the call could expose, or the tables after the
+    /// command; after `Done` only the latter.
+    ///
+    /// After a fault, too, a crash may expose the command as committed. With a key, retry under the
+    /// same key: the command is then executed at most once. Without a key a retry may execute it
+    /// twice, so read the tables before it.
     pub fn call(
         &mut self,
         alloc: Global,
@@ -92,11 +95,11 @@ impl<S: Alter> Desk<S> {
         book(alloc, &mut self.store, now, command, key)
     }
 
-    /// Returns the view of a query, or the refusal.
+    /// Returns the view of a query, or the refusal. Changes nothing.
     ///
     /// Fails with `Memory` or `Store` only. The open database is unchanged, whatever the result.
     ///
-    /// A crash exposes only states that were possible before the call.
+    /// A crash exposes only states that a crash before the call could expose.
     pub fn ask(&mut self, alloc: Global, query: &Query) -> Planned<View>
         ensures asked { AskPost S.Store self.old self.new (query_of query.now) result }
     {
@@ -107,13 +110,14 @@ impl<S: Alter> Desk<S> {
     /// outcome for each to `out`. A query, a refusal, a stored reply or a fault changes nothing in
     /// the open store, and the next call is executed.
     ///
-    /// Fails with `Memory` only. The desk and the outcomes in `out` are then unchanged: no call was
-    /// executed. The fault of an outcome is `Memory` or `Store`.
+    /// Fails with `Memory` only. No call was executed then: the desk and the outcomes in `out` are
+    /// unchanged. The fault of an outcome is `Memory` or `Store`.
     ///
-    /// A crash exposes a state that was possible before the run, or the tables of the represented
-    /// base with every acknowledged command applied, and at most one more command: one that
-    /// returned a fault, with no change acknowledged after it. It exposes only the latter if the
-    /// run acknowledges a change, or if a crash before the run exposed only the represented base.
+    /// A crash exposes a state that a crash before the run could expose, or the tables of the
+    /// represented base with every acknowledged command applied, and at most one more command: one
+    /// that returned a fault, with no change acknowledged after it. It exposes only the latter if
+    /// the run acknowledges a change, or if a crash before the run exposed only the represented
+    /// base.
     pub fn run(
         &mut self,
         alloc: Global,
@@ -134,7 +138,7 @@ impl<S: Alter> Desk<S> {
         Ok(())
     }
 
-    // Executes a call and returns its outcome.
+    // Executes a call at the clock reading `now` and returns its outcome.
     fn outcome(&mut self, alloc: Global, now: Stamp, call: &Call) -> Outcome
         ensures made { OutcomePost S.Store self.old self.new now call.now result }
     {
@@ -146,16 +150,17 @@ impl<S: Alter> Desk<S> {
         }
     }
 
-    /// Audits the database by the conditions of schema 3. Returns `Ok` only if its rows pass.
-    /// Writes nothing.
+    /// Audits the database by the conditions of schema 3 and writes nothing. Returns `Ok` only if
+    /// its rows pass.
     ///
     /// Fails with `Damaged` and the first condition that fails, or with `Memory` or `Store`. A desk
     /// that represents a base never returns `Damaged`. The rows and the open database are
     /// unchanged, whatever the result.
     ///
-    /// A crash exposes only states that were possible before the call.
+    /// A crash exposes only states that a crash before the call could expose.
     ///
-    /// The result is specified only of a database that is defined (`Store::adopt`).
+    /// The result is specified only under the premise of `Store::audit`, which every desk that
+    /// represents a base satisfies.
     #[tactic(auto, using(crate::proofs::Audits::audits))]
     pub fn audit(&mut self, alloc: Global) -> Result<(), Fault>
         ensures audited { DeskAuditPost S.Store self.old self.new result }
@@ -169,7 +174,7 @@ impl<S: Alter> Desk<S> {
     ///
     /// Fails with `Memory` or `Store` only. The open database is unchanged, whatever the result.
     ///
-    /// A crash exposes only states that were possible before the call.
+    /// A crash exposes only states that a crash before the call could expose.
     pub fn head(&mut self, alloc: Global, account: Id) -> Result<Option<Head>, Fault>
         ensures read { ReadPost S.Store self.old self.new result (IsHead account) }
         ensures fault { IfErr result MayFail }
@@ -177,13 +182,14 @@ impl<S: Alter> Desk<S> {
         find_head(alloc, &mut self.store, account)
     }
 
-    /// Returns what the explanation of a trade reads, or `None` if the trade does not exist.
+    /// Returns the rows that the explanation of a trade needs, or `None` if the trade does not
+    /// exist.
     ///
     /// Fails with `Memory` or `Store` only; with `Store` also if a row does not exist that another
     /// row names, or if a completed trade has no price or no settlement. The open database is
     /// unchanged, whatever the result.
     ///
-    /// A crash exposes only states that were possible before the call.
+    /// A crash exposes only states that a crash before the call could expose.
     pub fn trade_story(&mut self, alloc: Global, trade: Id) -> Result<Option<TradeStory>, Fault>
         ensures read { ReadPost S.Store self.old self.new result (IsStoryOf trade) }
         ensures fault { IfErr result MayFail }
@@ -197,7 +203,7 @@ impl<S: Alter> Desk<S> {
     /// Fails with `Memory` or `Store` only; with `Store` also if a symbol has no last price. The
     /// open database is unchanged, whatever the result.
     ///
-    /// A crash exposes only states that were possible before the call.
+    /// A crash exposes only states that a crash before the call could expose.
     pub fn account_story(
         &mut self,
         alloc: Global,
@@ -216,7 +222,7 @@ impl<S: Alter> Desk<S> {
     /// Fails with `Cause` and the visitor's error, or with `Failed` and the fault `Memory` or
     /// `Store` after a prefix of the rows. The open database is unchanged, whatever the result.
     ///
-    /// A crash exposes only states that were possible before the call.
+    /// A crash exposes only states that a crash before the call could expose.
     pub fn visit_cash<E, V: Visitor<MoveRow, E>>(
         &mut self,
         account: Id,
@@ -238,7 +244,7 @@ impl<S: Alter> Desk<S> {
     /// Fails with `Cause` and the visitor's error, or with `Failed` and the fault `Memory` or
     /// `Store` after a prefix of the lots. The open database is unchanged, whatever the result.
     ///
-    /// A crash exposes only states that were possible before the call.
+    /// A crash exposes only states that a crash before the call could expose.
     pub fn visit_lots<E, V: Visitor<HoldingRow, E>>(
         &mut self,
         account: Id,
@@ -258,7 +264,7 @@ impl<S: Alter> Desk<S> {
     /// Fails with the closure's first error, or with a fault (`Memory` or `Store`) as an error of
     /// type `E`, after a prefix of the rows. The open database is unchanged, whatever the result.
     ///
-    /// A crash exposes only states that were possible before the call.
+    /// A crash exposes only states that a crash before the call could expose.
     pub fn walk_cash<E: From<Fault>, F: FnMut(&MoveRow) -> Result<(), E> + Drop>(
         &mut self,
         account: Id,
@@ -278,7 +284,7 @@ impl<S: Alter> Desk<S> {
     /// Fails with the closure's first error, or with a fault (`Memory` or `Store`) as an error of
     /// type `E`, after a prefix of the lots. The open database is unchanged, whatever the result.
     ///
-    /// A crash exposes only states that were possible before the call.
+    /// A crash exposes only states that a crash before the call could expose.
     pub fn walk_lots<E: From<Fault>, F: FnMut(&str, &Lot) -> Result<(), E> + Drop>(
         &mut self,
         account: Id,

@@ -1,4 +1,4 @@
-//! Theorems: what the calls of a run come to, whoever makes them.
+//! Theorem: calls that are executed in order satisfy the postcondition of a run.
 
 ghost use Rattle.std.specs.Prelude.{◌++◌, ℕ, List};
 ghost use Rattle.sqlite.specs.Held.{Held};
@@ -10,9 +10,9 @@ ghost use Rattle.brk_desk.specs.declared.call.Outcome as came;
 
 use sqlite::Alter;
 
-/// Proves that calls of a desk, made in order with nothing between them, are a run with the
-/// guarantee of a run (`IsRunOf`), whoever makes them: `Desk::run`, or a caller that makes them one
-/// by one. So the contracts of `Desk::call` and `Desk::ask` imply that of a run.
+/// Proves that calls of a desk, executed in order with nothing between them, satisfy `IsRunOf`: the
+/// postcondition and the guarantee of a run follow from the postconditions of the single calls. So
+/// they hold whoever makes the calls: `Desk::run`, or a caller of `Desk::call` and `Desk::ask`.
 ///
 /// `joined`: a run and a run after it are one run of all their calls.
 pub fn calls_in_order_are_a_run<S: Alter>()

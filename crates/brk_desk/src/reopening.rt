@@ -26,24 +26,28 @@ ghost use Rattle.brk_store.specs.Holds.{CreatePost};
 
 use sqlite::Alter;
 
-/// Proves that recovery never reports damage: if a state that a crash exposed is opened and
+/// Proves that recovery never reports damage: if a state that a crash exposes is opened and
 /// adopted, the adoption does not fail with `Damaged`. It may fail with `Memory` or `Store`. All of
 /// it is under the disk assumption, that every read so far returned what was written.
 ///
-/// `made`, `adopted`: once tables were created, or a database of any schema, defined
-/// (`IsDefinedIn`) and just opened, was adopted, the store represents the empty base, or the base
-/// that the rows give. A crash then exposes its tables only.
+/// `made`: once the tables were created, the store represents the empty base, and a crash exposes
+/// only its tables.
+///
+/// `adopted`: once a database was adopted that had just been opened and satisfies `IsDefinedIn`,
+/// the store represents the base that its rows determine, and a crash exposes only the tables of
+/// this base.
 ///
 /// `call`, `run`: after a crash in a call or in a run of such a store, the adopted store represents
-/// an acknowledged base, or the base with one command more. A crash then exposes its tables only,
-/// so this holds for any number of crashes.
+/// the base with every acknowledged command, or with one command more (`MayBeRecovered`). A crash
+/// then exposes only the tables of this base, so these two hold again after each further crash.
 ///
 /// `making`: after a crash in the creation of the tables, the adopted store represents the empty
-/// base, unless the state was possible before; of such a state nothing is said.
+/// base, unless a crash before the creation could expose the state; of such a state nothing is
+/// said.
 ///
 /// `upgrading`: after a crash in an adoption of a database that was just opened, and whose rows
-/// pass the audit of their schema, an older one included, a later adoption finds no damage. If it
-/// succeeds, the store represents the base that the same rows give.
+/// pass the audit of their schema, an older one included, a later adoption does not fail with
+/// `Damaged`. If it succeeds, the store represents the base that the same rows determine.
 pub fn every_crash_state_is_adopted<S: Alter>()
     ensures made { (conn store : Held S) → CreatePost S.Store conn store (Ok tt) → HasCleanDisk (state S.Store store) → IsDurable S.Store store empty_base }
     ensures adopted { (trees : Trees) (conn store : Held S) → IsJustOpened S.Store trees conn → IsDefinedIn S.Store conn → AdoptPost S.Store conn store (Ok tt)

@@ -22,8 +22,8 @@ fault_status (fault.Damaged condition) = 1
 fault_status fault.Memory = 3
 fault_status fault.Store = 3
 
--- The exit status of a batch that ended early: 1 if its header or its end is wrong, otherwise that
--- of its fault.
+-- The exit status of a batch that ended early: 1 if its header or its end is missing or wrong, 3 if
+-- reading or writing failed, otherwise that of the desk's fault.
 abbrev pub batch_status : FaultKind → ℕ
 batch_status kind.BadHeader = 1
 batch_status kind.NoEnd = 1
@@ -32,8 +32,8 @@ batch_status kind.Read = 3
 batch_status kind.Write = 3
 batch_status (kind.Desk fault) = fault_status fault
 
--- The exit status of a report that was not written: 1 if it is refused, otherwise that of its
--- fault.
+-- The exit status of a report that ended early: 1 if it is refused, 3 if writing failed, otherwise
+-- that of the desk's fault.
 abbrev pub report_status : ReportFault → ℕ
 report_status (report.Refused refusal) = 1
 report_status (report.Desk fault) = fault_status fault
@@ -54,13 +54,13 @@ exit_status (ending.Usage (usage.Words text)) = 2
 exit_status (ending.Usage usage.Day) = 2
 exit_status (ending.Usage usage.Memory) = 3
 
--- The ending after the database is closed: a fault of the close is reported only if the job was
--- done.
+-- The ending of the program after the database was closed: a fault of the close replaces the ending
+-- only if the job was done.
 abbrev pub after_close : Ending → Result (Unit {0}) Fault → Ending
 after_close ending.Done (Err fault) = ending.Open fault
 after_close ending closed = ending
 
--- The line of a batch that ended early.
+-- The error line of a batch that ended early.
 abbrev pub batch_line : FaultKind → List ℕ
 batch_line kind.BadHeader = codes "brk: batch: bad header\n"
 batch_line kind.NoEnd = codes "brk: batch: no end\n"
@@ -69,26 +69,27 @@ batch_line kind.Read = codes "brk: fault: read\n"
 batch_line kind.Write = codes "brk: fault: write\n"
 batch_line (kind.Desk fault) = fault_line fault
 
--- The line of a stream that ended early.
+-- The error line of a stream that ended early.
 abbrev pub stream_line : StreamFault → List ℕ
 stream_line stream.Read = codes "brk: fault: read\n"
 stream_line stream.Write = codes "brk: fault: write\n"
 stream_line stream.Memory = codes "brk: fault: memory\n"
 
--- The line of a report that is refused or ended early.
+-- The error line of a report that is refused or ended early.
 abbrev pub report_line : ReportFault → List ℕ
 report_line (report.Refused refusal) = codes "brk: refused: " ++ (decimal (refusal_number refusal) ++ (10 ∷ []))
 report_line (report.Desk fault) = fault_line fault
 report_line report.Write = codes "brk: fault: write\n"
 
--- The line of arguments that are wrong. Help has none.
+-- The error text of arguments that give no job, which is empty for help.
 abbrev pub usage_line : UsageFault → List ℕ
 usage_line (usage.Words text) = string_bytes text
 usage_line (usage.Help text) = []
 usage_line usage.Day = codes "brk: usage: day\n"
 usage_line usage.Memory = codes "brk: fault: memory\n"
 
--- The text that is written to standard error.
+-- The text that an ending writes to standard error, which is empty for a job that is done and for
+-- help.
 abbrev pub error_line : Ending → List ℕ
 error_line ending.Done = []
 error_line (ending.Open fault) = fault_line fault

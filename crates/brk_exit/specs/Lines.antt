@@ -5,11 +5,11 @@ use Rattle.brk_money.specs.Kinds.{condition_word}
 use Rattle.brk_money.specs.declared.fault.Fault.{Fault}
 use Rattle.brk_money.specs.declared.fault.Fault.TheVariants as fault
 
--- The bytes of a line: its two parts and a line feed.
+-- The bytes of an error line: its two parts and a line feed.
 abbrev pub line_bytes : Bor (List ℕ) × Bor (List ℕ) → List ℕ
 line_bytes line = line.0.now ++ (line.1.now ++ (10 ∷ []))
 
--- The line of a fault of a desk.
+-- The error line of a fault of a desk.
 abbrev pub fault_line : Fault → List ℕ
 fault_line fault.Memory = codes "brk: fault: memory\n"
 fault_line fault.Store = codes "brk: fault: store\n"

@@ -1,15 +1,16 @@
--- What a sink has received of a text.
+-- The bytes of a text that a sink has received.
 use Rattle.std.specs.Prelude.{◌≡◌, ◌⊎◌, ℕ, List, ◌++◌, Option}
 use Rattle.std.specs.Io.KnownBytes.{Appends}
 
--- The content grew by a prefix of `text`, or by all of it.
+-- The content of a sink grew from `old` to `new` by a prefix of `text`, perhaps empty and perhaps
+-- all of it. Vacuous if the content before is unknown.
 abbrev pub ReceivesPrefix : Option (List ℕ) → Option (List ℕ) → List ℕ → Type 0
 ReceivesPrefix old new text = (prefix : List ℕ) × (left : List ℕ) × Appends old new prefix × (text ≡ prefix ++ left)
 
--- The sink received a prefix of `text`, and then failed in a step to its state `new`.
+-- The sink received a prefix of `text`, and its last step, to the state `new`, was a failure.
 abbrev pub FailsWithin : {S : Type 0} → (S → Option (List ℕ)) → (S → S → Type 0) → S → S → List ℕ → Type 0
 FailsWithin {S} contents fails old new text = (last : S) × fails last new × ReceivesPrefix (contents old) (contents new) text
 
--- The sink received all of `text`, or failed within it.
+-- The sink received all of `text`, or it received a prefix and failed.
 abbrev pub ReceivesUnlessFailed : {S : Type 0} → (S → Option (List ℕ)) → (S → S → Type 0) → S → S → List ℕ → Type 0
 ReceivesUnlessFailed contents fails old new text = Appends (contents old) (contents new) text ⊎ FailsWithin contents fails old new text

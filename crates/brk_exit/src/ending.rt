@@ -34,6 +34,7 @@ pub enum Ending {
     Usage(UsageFault),
 }
 
+// Returns the error line of a batch that ended early.
 fn batch_line(kind: FaultKind) -> Line<'static>
     ensures { line.line_bytes result ≡ spec.batch_line kind }
 {
@@ -47,6 +48,7 @@ fn batch_line(kind: FaultKind) -> Line<'static>
     }
 }
 
+// Returns the error line of a stream that ended early.
 fn stream_line(kind: StreamFault) -> Line<'static>
     ensures { line.line_bytes result ≡ spec.stream_line kind }
 {
@@ -57,8 +59,7 @@ fn stream_line(kind: StreamFault) -> Line<'static>
     }
 }
 
-// Returns the exit status of a fault: 1 if the tables are not a desk's, 3 if memory ran out or the
-// store failed.
+// Returns the exit status of a fault: 1 for `Damaged`, and 3 for `Memory` and `Store`.
 fn fault_status(fault: Fault) -> u8
     ensures { result ≡ spec.fault_status fault }
 {
@@ -68,6 +69,7 @@ fn fault_status(fault: Fault) -> u8
     }
 }
 
+// Returns the exit status of a batch that ended early.
 fn batch_status(kind: FaultKind) -> u8
     ensures { result ≡ spec.batch_status kind }
 {
@@ -78,6 +80,7 @@ fn batch_status(kind: FaultKind) -> u8
     }
 }
 
+// Returns the exit status of a report that is refused or ended early.
 fn report_status(fault: &ReportFault) -> u8
     ensures { result ≡ spec.report_status fault.now }
 {
@@ -88,6 +91,7 @@ fn report_status(fault: &ReportFault) -> u8
     }
 }
 
+// Returns the exit status of an ending.
 fn status(ending: &Ending) -> u8
     ensures { result ≡ spec.exit_status ending.now }
 {
@@ -105,8 +109,8 @@ fn status(ending: &Ending) -> u8
     }
 }
 
-/// Returns the outcome after the database was closed. A fault of the close is reported only if
-/// there is no other.
+/// Returns the ending of the program after the database was closed. A fault of the close replaces
+/// the ending only if the job was done.
 pub fn after_close(ending: Ending, closed: Result<(), Fault>) -> Ending
     ensures { result ≡ spec.after_close ending closed }
 {
@@ -116,6 +120,8 @@ pub fn after_close(ending: Ending, closed: Result<(), Fault>) -> Ending
     }
 }
 
+// Sends the error line of a report to `errors`. If the sink fails, it has received a prefix of the
+// line.
 fn tell_report<S: Sink>(fault: &ReportFault, errors: &mut S) -> Result<(), NotWritten>
     ensures ok { OnOk result (Appends (S.contents errors.old) (S.contents errors.new) (spec.report_line fault.now)) }
     ensures err { OnErr result (FailsWithin S.contents S.fails errors.old errors.new (spec.report_line fault.now)) }
@@ -130,6 +136,8 @@ fn tell_report<S: Sink>(fault: &ReportFault, errors: &mut S) -> Result<(), NotWr
     }
 }
 
+// Sends the error text of a usage fault to `errors`; help has none. If the sink fails, it has
+// received a prefix of the text.
 fn tell_usage<S: Sink>(fault: &UsageFault, errors: &mut S) -> Result<(), NotWritten>
     ensures ok { OnOk result (Appends (S.contents errors.old) (S.contents errors.new) (spec.usage_line fault.now)) }
     ensures err { OnErr result (FailsWithin S.contents S.fails errors.old errors.new (spec.usage_line fault.now)) }
@@ -142,8 +150,8 @@ fn tell_usage<S: Sink>(fault: &UsageFault, errors: &mut S) -> Result<(), NotWrit
     }
 }
 
-/// Sends the line of an ending to `errors`. Help and a job that is done have no line. If the sink
-/// fails, it has received a prefix of the line.
+/// Sends the error line of an ending to `errors`. Help and a job that is done have no line. If the
+/// sink fails, it has received a prefix of the line.
 pub fn tell<S: Sink>(ending: &Ending, errors: &mut S) -> Result<(), NotWritten>
     ensures ok { OnOk result (Appends (S.contents errors.old) (S.contents errors.new) (spec.error_line ending.now)) }
     ensures err { OnErr result (FailsWithin S.contents S.fails errors.old errors.new (spec.error_line ending.now)) }
@@ -160,8 +168,8 @@ pub fn tell<S: Sink>(ending: &Ending, errors: &mut S) -> Result<(), NotWritten>
     }
 }
 
-/// Sends the line of an ending to `errors` and returns the exit status, which is the same if the
-/// sink fails. Help and a job that is done have no line.
+/// Sends the error line of an ending to `errors` and returns the exit status, which does not depend
+/// on a failure of the sink. Help and a job that is done have no line.
 pub fn end_with<S: Sink>(ending: &Ending, errors: &mut S) -> u8
     ensures status { result ≡ spec.exit_status ending.now }
     ensures line { ReceivesUnlessFailed S.contents S.fails errors.old errors.new (spec.error_line ending.now) }

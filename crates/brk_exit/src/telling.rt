@@ -10,7 +10,7 @@ use brk_money::Fault;
 /// An error line in two parts: the program's name with the subject, and the cause.
 pub type Line<'a> = (&'a str, &'a str);
 
-/// Returns the line of a fault of a desk.
+/// Returns the error line of a fault of a desk.
 pub fn fault_line(fault: Fault) -> Line<'static>
     ensures { spec.line_bytes result ≡ spec.fault_line fault }
 {
@@ -21,7 +21,7 @@ pub fn fault_line(fault: Fault) -> Line<'static>
     }
 }
 
-/// Sends a line. If the sink fails, it has received a prefix of the line.
+/// Sends an error line and a line feed. If the sink fails, it has received a prefix of them.
 pub fn write_line<S: Sink>(sink: &mut S, line: Line<'_>) -> Result<(), NotWritten>
     ensures ok { OnOk result (Appends (S.contents sink.old) (S.contents sink.new) (spec.line_bytes line.entry)) }
     ensures err { OnErr result (FailsWithin S.contents S.fails sink.old sink.new (spec.line_bytes line.entry)) }

@@ -11,21 +11,23 @@ use Rattle.brk_explain_rows.specs.declared.account_story.AccountStory.{AccountSt
 use Rattle.brk_report_lines.specs.Written.{BreaksOff}
 use Rattle.brk_report_lines.specs.declared.fault.LinesFault.{LinesFault}
 
--- These rows were written, and the result is `n`, their number; or writing failed as `BreaksOff`
--- specifies.
+-- `Ok`: the writer got exactly `lines`, and the count is `n`. `Err`: writing failed at `lines` as
+-- `BreaksOff` specifies.
 abbrev pub WritesRows : List Text → ℕ → Option Text → Option Text → Result ℕ LinesFault → Type 0
 WritesRows lines n old new (Ok count) = Appends old new (lines_text lines) × (count ≡ n)
 WritesRows lines n old new (Err e) = BreaksOff lines old new e
 
--- The rows of the account's cash rows.
+-- The lines of the cash rows of `account`, each with the balance after it, from the balance
+-- `opening`.
 abbrev pub cash_lines : Tables → ℕ → ℤ → List Text
 cash_lines t account opening = posted_lines opening (posted_in t account)
 
--- The rows of the account's lots.
+-- The lines of the lots of `account`.
 abbrev pub lot_lines : Tables → ℕ → List Text
 lot_lines t account = map held_lot_line (lots_in t account)
 
--- All lines of the explanation of an account with this story.
+-- All lines of the explanation of `account`, whose row and holdings are those of `story`; its cash
+-- rows and lots are those of the tables `t`.
 abbrev pub all_lines : Tables → ℕ → AccountStory → List Text
 all_lines t account story =
     account_top (account_row_of story.account)

@@ -13,17 +13,18 @@ use Rattle.brk_report_lines.specs.Written.{WroteFirst, WrotePart}
 use Rattle.brk_report_lines.specs.declared.fault.ReportFault.{ReportFault}
 use Rattle.brk_report_lines.specs.declared.fault.ReportFault.TheVariants.{Refused, Desk, Write}
 
--- The result of writing `told`, lines or a refusal, is as specified. `Ok`: exactly these lines were
--- written. `Refused`: this is the refusal. `Desk`: nothing was written, or whole lines from the first
--- on, without the last one. `Write`: whole lines from the first on, and a part of the next one.
+-- The result of writing `told`, which is lines or a refusal, is as specified. `Ok`: `told` is
+-- lines, and the writer got exactly these. `Refused`: `told` is this refusal. `Desk`: the writer
+-- got nothing, or, if `told` is lines, whole lines from the first on without the last one. `Write`:
+-- `told` is lines, and the writer got whole lines from the first on and a part of the next one.
 abbrev pub Tells : Result (List Text) Refusal → Option Text → Option Text → Result (Unit {0}) ReportFault → Type 0
 Tells told old new (Ok u) = (lines : List Text) × (told ≡ Ok lines) × Appends old new (lines_text lines)
 Tells told old new (Err (Refused refusal)) = told ≡ Err refusal
 Tells told old new (Err (Desk fault)) = MayFail fault × (Appends old new [] ⊎ ((lines : List Text) × (told ≡ Ok lines) × WroteFirst lines old new))
 Tells told old new (Err Write) = (lines : List Text) × (told ≡ Ok lines) × WrotePart lines old new
 
--- The postcondition of writing the lines that `told` gives for the rows of a desk, or returning its
--- refusal. The desk is only read.
+-- The postcondition of writing the lines that `told` gives for the tables of a desk, or of
+-- returning its refusal. The desk is unchanged.
 pub record IsTold {S : Type 0} (g : Ghosts S) (old new : Held S) (told : Tables → Result (List Text) Refusal) (before after : Option Text) (result : Result (Unit {0}) ReportFault) : Type 0 where
   -- The output is as specified for the rows that the store holds, whatever they are.
   pub written : OverRows g old new (λ t. Tells (told t) before after result)

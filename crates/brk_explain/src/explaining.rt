@@ -16,7 +16,8 @@ use sqlite::Alter;
 use std::alloc::Global;
 use std::io::Write;
 
-// Writes the explanation of a trade.
+// Writes the explanation of a trade. Fails with `Refused` (`NoTrade`) if it does not exist, or as
+// `explain` does. The open database is unchanged.
 fn explain_trade<W: Write, S: Alter>(
     alloc: Global,
     desk: &mut Desk<S>,
@@ -37,7 +38,8 @@ fn explain_trade<W: Write, S: Alter>(
     }
 }
 
-// Writes the lines of an account.
+// Writes all lines of the explanation of an account. Fails with `Desk` or `Write`. The open
+// database is unchanged.
 fn write_account<W: Write, S: Alter>(
     alloc: Global,
     desk: &mut Desk<S>,
@@ -56,7 +58,8 @@ fn write_account<W: Write, S: Alter>(
     write_lines(writer, account_bottom(alloc, row, &story.held, cash, lots))
 }
 
-// Writes the explanation of an account.
+// Writes the explanation of an account. Fails with `Refused` (`NoAccount`) if it does not exist, or
+// as `explain` does. The open database is unchanged.
 fn explain_account<W: Write, S: Alter>(
     alloc: Global,
     desk: &mut Desk<S>,

@@ -16,7 +16,7 @@ pub enum Explain {
     Account(Id),
 }
 
-// Returns the id that exactly one word parses as.
+// Parses the only word as an id. Refuses another number of words or a malformed id with `BadText`.
 fn parse_only_id(words: &[&[u8]]) -> Result<Id, Refusal>
     ensures { ParsesAs (λ id. id) result (model.read_only_id (texts words.now)) }
 {
@@ -29,7 +29,7 @@ fn parse_only_id(words: &[&[u8]]) -> Result<Id, Refusal>
     }
 }
 
-// Parses what the words after `trade` name.
+// Parses the words after `trade`: the id of a trade. Refuses any others with `BadText`.
 fn parse_trade(words: &[&[u8]]) -> Result<Explain, Refusal>
     ensures { ParsesAs explain_of result (read_as model.TradeOf model.read_only_id (texts words.now)) }
 {
@@ -39,7 +39,7 @@ fn parse_trade(words: &[&[u8]]) -> Result<Explain, Refusal>
     }
 }
 
-// Parses what the words after `account` name.
+// Parses the words after `account`: the id of an account. Refuses any others with `BadText`.
 fn parse_account(words: &[&[u8]]) -> Result<Explain, Refusal>
     ensures { ParsesAs explain_of result (read_as model.AccountOf model.read_only_id (texts words.now)) }
 {
@@ -49,7 +49,7 @@ fn parse_account(words: &[&[u8]]) -> Result<Explain, Refusal>
     }
 }
 
-// Parses the words after a form, or refuses an unknown form.
+// Parses the words after `form`, or refuses an unknown form with `BadText`.
 #[tactic(auto, unfolding(brk_explain_model::specs::Explain::explain_words))]
 fn parse_form(form: &[u8], words: &[&[u8]]) -> Result<Explain, Refusal>
     ensures { ParsesAs explain_of result (model.explain_words (form.now ∷ texts words.now)) }

@@ -16,7 +16,7 @@ use sqlite::Alter;
 use std::alloc::Global;
 use std::io::Write;
 
-// Returns the fault of an explanation whose walk failed.
+// Returns the fault with which writing lines fails if its walk failed.
 fn broken(stop: WalkError<LinesFault>) -> LinesFault
     ensures { result ≡ fault_of stop }
 {
@@ -26,8 +26,8 @@ fn broken(stop: WalkError<LinesFault>) -> LinesFault
     }
 }
 
-/// Writes a row for each cash row of an account, with the balance after it, and returns the number
-/// of cash rows.
+/// Writes a line for each cash row of an account, with the balance after it, from the balance
+/// `opening`. Returns the number of cash rows. Fails with `Desk` or `Write`.
 pub(crate) fn write_posted<W: Write, S: Alter>(
     alloc: Global,
     desk: &mut Desk<S>,
@@ -51,7 +51,8 @@ pub(crate) fn write_posted<W: Write, S: Alter>(
     }
 }
 
-/// Writes a row for each lot of an account, and returns the number of lots.
+/// Writes a line for each lot of an account, and returns the number of lots. Fails with `Desk` or
+/// `Write`.
 pub(crate) fn write_lots<W: Write, S: Alter>(
     alloc: Global,
     desk: &mut Desk<S>,

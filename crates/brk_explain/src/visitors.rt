@@ -12,7 +12,7 @@ use brk_report_lines::{LinesFault, write_line};
 use std::alloc::Global;
 use std::io::Write;
 
-// Returns `total` plus `amount`. Fails with `Store` only.
+// Returns `total` plus `amount`. Fails with `Desk(Store)` if the sum does not fit.
 fn added(total: Wide, amount: Cents) -> Result<Wide, LinesFault>
     ensures sum { IfOk result (λ sum. sum ≡ total +ℤ amount) }
     ensures fault { OnErr result (result ≡ Err (Desk fault.Store)) }
@@ -48,6 +48,8 @@ impl<W: Write> Visitor<MoveRow, LinesFault> for PostedRows<'_, W> {
 
     ghost stops = { λ p r e q. BreaksIn (posted_line (move_row_of r) (p.balance +ℤ r.amount) ∷ []) (W.contents p.writer.now) (W.contents q.writer.now) e };
 
+    /// Writes the line of the cash row with the balance after it, and counts it. Fails with `Desk`
+    /// or `Write`; the balance and the count are then unchanged.
     fn visit(&mut self, item: &MoveRow) -> Result<(), LinesFault> {
         let balance = added(self.balance, item.amount)?;
         let Some(count) = self.count.checked_add(1) else {
@@ -88,6 +90,8 @@ impl<W: Write> Visitor<HoldingRow, LinesFault> for LotRows<'_, W> {
 
     ghost stops = { λ p r e q. BreaksIn (held_lot_line (holding_row_of r) ∷ []) (W.contents p.writer.now) (W.contents q.writer.now) e };
 
+    /// Writes the line of the lot, and counts it. Fails with `Desk` or `Write`; the count is then
+    /// unchanged.
     fn visit(&mut self, item: &HoldingRow) -> Result<(), LinesFault> {
         let Some(count) = self.count.checked_add(1) else {
             return Err(LinesFault::Desk(Fault::Store));

@@ -22,8 +22,8 @@ use brk_report_lines::{lot_line, put_left, put_right};
 use itoa::Buffer;
 use std::alloc::Global;
 
-/// Returns the title, the account, and the names of the columns of the cash rows. Fails with
-/// `Memory` only.
+/// Returns the first lines of the explanation of an account: the title, the facts of the account,
+/// and the column headings of the cash rows. Fails with `Memory` only.
 #[tactic(auto, unfolding(brk_explain_model::specs::AccountLines::account_top))]
 pub fn account_top(alloc: Global, row: &AccountRow) -> Result<Vec<u8>, Fault>
     ensures text { IfOk result (λ text. text.items ≡ lines_text (lines.account_top (account_row_of row.now))) }
@@ -49,7 +49,8 @@ pub fn account_top(alloc: Global, row: &AccountRow) -> Result<Vec<u8>, Fault>
     Ok(text)
 }
 
-// Appends the id of a trade, or a hyphen, right-aligned in 13 places.
+// Appends the id of a trade, or a hyphen if there is none, right-aligned in 13 places. Fails with
+// `Memory` only.
 fn put_trade(out: &mut Vec<u8>, trade: Option<Id>) -> Result<(), Fault>
     ensures ok { OnOk result (out.new.items ≡ out.old.items ++ at_right 13 (lines.trade_text trade)) }
     ensures fault { OnErr result (result ≡ Err Memory) }
@@ -61,7 +62,7 @@ fn put_trade(out: &mut Vec<u8>, trade: Option<Id>) -> Result<(), Fault>
     }
 }
 
-/// Returns the row of a cash row with the balance after it. Fails with `Memory` only.
+/// Returns the line of a cash row with the balance after it. Fails with `Memory` only.
 #[tactic(auto, unfolding(brk_explain_model::specs::AccountLines::posted_line))]
 pub fn posted_line(alloc: Global, row: &MoveRow, balance: Wide) -> Result<Vec<u8>, Fault>
     ensures line { IfOk result (λ line. line.items ≡ ended (lines.posted_line (move_row_of row.now) balance)) }
@@ -85,7 +86,8 @@ pub fn posted_line(alloc: Global, row: &MoveRow, balance: Wide) -> Result<Vec<u8
     Ok(line)
 }
 
-/// Returns the balance, and the names of the columns of lots and holdings. Fails with `Memory` only.
+/// Returns the line of the balance of an account, and the column headings of its lots and holdings.
+/// Fails with `Memory` only.
 #[tactic(auto, unfolding(brk_explain_model::specs::AccountLines::balance_part))]
 pub fn balance_part(alloc: Global, row: &AccountRow) -> Result<Vec<u8>, Fault>
     ensures text { IfOk result (λ text. text.items ≡ lines_text (lines.balance_part (account_row_of row.now))) }
@@ -100,7 +102,7 @@ pub fn balance_part(alloc: Global, row: &AccountRow) -> Result<Vec<u8>, Fault>
     Ok(text)
 }
 
-/// Returns the row of a lot. Fails with `Memory` only.
+/// Returns the line of a lot of an account. Fails with `Memory` only.
 #[tactic(auto, unfolding(brk_explain_model::specs::AccountLines::held_lot_line))]
 pub fn held_lot_line(alloc: Global, row: &HoldingRow) -> Result<Vec<u8>, Fault>
     ensures line { IfOk result (λ line. line.items ≡ ended (lines.held_lot_line (holding_row_of row.now))) }
@@ -114,7 +116,7 @@ pub fn held_lot_line(alloc: Global, row: &HoldingRow) -> Result<Vec<u8>, Fault>
     Ok(line)
 }
 
-// Returns the market value of a holding summary. Fails with `Store` if it does not fit.
+// Returns the market value of a holding, in cents. Fails with `Store` if it does not fit.
 fn worth_of(held: &Held) -> Result<Wide, Fault>
     ensures worth { IfOk result (λ worth. worth ≡ lines.worth_of (held_of held.now)) }
     ensures fault { IfErr result MayFail }
@@ -125,7 +127,8 @@ fn worth_of(held: &Held) -> Result<Wide, Fault>
     }
 }
 
-/// Returns the sum of the market values. Fails with `Store` if it does not fit.
+/// Returns the sum of the market values of holdings, in cents. Fails with `Store` if it does not
+/// fit.
 fn worth_total(all: &[Held]) -> Result<Wide, Fault>
     ensures total { IfOk result (λ total. total ≡ lines.worth_total (map held_of all.now)) }
     ensures fault { IfErr result MayFail }
@@ -138,7 +141,8 @@ fn worth_total(all: &[Held]) -> Result<Wide, Fault>
     Ok(total)
 }
 
-// Appends the first columns of a holding summary. Fails with `Memory` only.
+// Appends the first columns of the line of a holding: the word `Held`, its symbol, and an empty
+// column. Fails with `Memory` only.
 #[tactic(auto, unfolding(brk_explain_model::specs::AccountLines::held_start))]
 fn put_held_start(out: &mut Vec<u8>, symbol: &[u8]) -> Result<(), Fault>
     ensures ok { OnOk result (out.new.items ≡ out.old.items ++ lines.held_start symbol.now) }
@@ -152,7 +156,7 @@ fn put_held_start(out: &mut Vec<u8>, symbol: &[u8]) -> Result<(), Fault>
     Ok(())
 }
 
-// Appends the columns of a quantity and of a price. Fails with `Memory` only.
+// Appends the columns of a quantity and of a price, each after a space. Fails with `Memory` only.
 #[tactic(auto, unfolding(brk_explain_model::specs::AccountLines::held_columns))]
 fn put_held_columns(alloc: Global, out: &mut Vec<u8>, qty: i64, price: Price) -> Result<(), Fault>
     ensures ok { OnOk result (out.new.items ≡ out.old.items ++ lines.held_columns qty price) }
@@ -168,7 +172,7 @@ fn put_held_columns(alloc: Global, out: &mut Vec<u8>, qty: i64, price: Price) ->
     Ok(())
 }
 
-// Appends the row of a holding summary. Fails with `Memory` or `Store`.
+// Appends the line of a holding. Fails with `Memory` or `Store`.
 #[tactic(auto, unfolding(brk_explain_model::specs::AccountLines::held_line))]
 fn held_line(alloc: Global, out: &mut Vec<u8>, held: &Held) -> Result<(), Fault>
     ensures ok { OnOk result (out.new.items ≡ out.old.items ++ ended (lines.held_line (held_of held.now))) }
@@ -182,7 +186,7 @@ fn held_line(alloc: Global, out: &mut Vec<u8>, held: &Held) -> Result<(), Fault>
     Ok(())
 }
 
-// Appends the row of each holding summary. Fails with `Memory` or `Store`.
+// Appends a line for each holding. Fails with `Memory` or `Store`.
 fn held_lines(alloc: Global, out: &mut Vec<u8>, all: &[Held]) -> Result<(), Fault>
     ensures ok { OnOk result (out.new.items ≡ out.old.items ++ lines_text (map lines.held_line (map held_of all.now))) }
     ensures fault { IfErr result MayFail }
@@ -193,7 +197,8 @@ fn held_lines(alloc: Global, out: &mut Vec<u8>, all: &[Held]) -> Result<(), Faul
     Ok(())
 }
 
-// Appends the last line. Fails with `Memory` only.
+// Appends the last line of the explanation of an account, with the numbers of its cash rows, lots
+// and symbols. Fails with `Memory` only.
 fn counts_line(out: &mut Vec<u8>, cash: u64, lots: u64, symbols: usize) -> Result<(), Fault>
     ensures ok { OnOk result (out.new.items ≡ out.old.items ++ ended (lines.account_counts cash lots symbols)) }
     ensures fault { OnErr result (result ≡ Err Memory) }
@@ -208,8 +213,8 @@ fn counts_line(out: &mut Vec<u8>, cash: u64, lots: u64, symbols: usize) -> Resul
     Ok(())
 }
 
-// Appends the market value of the holdings, the assets, and the last line. Fails with `Memory` or
-// `Store`.
+// Appends the lines of the market value of the holdings, of the assets, and of the counts. Fails
+// with `Memory` or `Store`.
 #[tactic(auto, unfolding(brk_explain_model::specs::AccountLines::account_end))]
 fn account_end(
     alloc: Global,
@@ -230,8 +235,8 @@ fn account_end(
     Ok(())
 }
 
-/// Returns the rows of the holding summaries, the assets, and the last line, with the numbers of
-/// cash rows and lots. Fails with `Memory` or `Store`.
+/// Returns the lines of the holdings of an account, of its assets, and of the counts. Fails with
+/// `Memory` or `Store`.
 pub fn account_bottom(
     alloc: Global,
     row: &AccountRow,

@@ -16,7 +16,8 @@ use brk_explain_rows::{OrderStory, ResultStory};
 use brk_money::{Fault, Wide};
 use std::alloc::Global;
 
-// Appends the line of the trade's cash row. Fails with `Memory` only.
+// Appends the line of the cash row of a trade, or of `none` if it has none. Fails with `Memory`
+// only.
 #[tactic(auto, unfolding(brk_explain_model::specs::TradeLines::cash_row_line))]
 fn cash_row_line(out: &mut Vec<u8>, row: &Option<MoveRow>) -> Result<(), Fault>
     ensures ok { OnOk result (out.new.items ≡ out.old.items ++ ended (lines.cash_row_line (option_map move_row_of row.now))) }
@@ -32,7 +33,8 @@ fn cash_row_line(out: &mut Vec<u8>, row: &Option<MoveRow>) -> Result<(), Fault>
     Ok(())
 }
 
-/// Appends the balance before and after the trade. Fails with `Memory` or `Store`.
+/// Appends the lines of the cash row and of the balance before and after a completed trade. Fails
+/// with `Memory` or `Store`.
 #[tactic(auto, unfolding(brk_explain_model::specs::TradeLines::balance_lines))]
 pub(crate) fn balance_lines(
     alloc: Global,
@@ -56,7 +58,8 @@ pub(crate) fn balance_lines(
     Ok(())
 }
 
-// Appends the line of the numbers of status changes, lots and cash rows. Fails with `Memory` only.
+// Appends the last line of the explanation of a completed trade, with the numbers of status
+// changes, closed lots and earlier cash rows. Fails with `Memory` only.
 fn counts_line(out: &mut Vec<u8>, statuses: usize, lots: usize, cash: u64) -> Result<(), Fault>
     ensures ok { OnOk result (out.new.items ≡ out.old.items ++ ended (lines.counts_line statuses lots cash)) }
     ensures fault { OnErr result (result ≡ Err Memory) }
@@ -71,7 +74,8 @@ fn counts_line(out: &mut Vec<u8>, statuses: usize, lots: usize, cash: u64) -> Re
     Ok(())
 }
 
-/// Appends the last line. Fails with `Memory` only.
+/// Appends the last line of the explanation of a completed trade, with its counts. Fails with
+/// `Memory` only.
 #[tactic(auto, unfolding(brk_explain_model::specs::TradeLines::counts_lines))]
 pub(crate) fn counts_lines(
     out: &mut Vec<u8>,

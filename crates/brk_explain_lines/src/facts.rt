@@ -10,7 +10,7 @@ use brk_report_lines::{put_left, put_right};
 use itoa::Buffer;
 use std::alloc::Global;
 
-/// Appends a label in 15 places, a space and a text.
+/// Appends a label, left-aligned in 15 places, a space and a text.
 #[tactic(auto, unfolding(brk_explain_model::specs::Texts::words))]
 pub(crate) fn put_words(out: &mut Vec<u8>, label: &str, text: &[u8]) -> Result<(), Fault>
     ensures ok { OnOk result (out.new.items ≡ out.old.items ++ texts.words label.now text.now) }
@@ -22,7 +22,7 @@ pub(crate) fn put_words(out: &mut Vec<u8>, label: &str, text: &[u8]) -> Result<(
     Ok(())
 }
 
-/// Appends a label in 15 places, a space and a value, right-aligned in 22 places.
+/// Appends a label, left-aligned in 15 places, a space and a value, right-aligned in 22 places.
 #[tactic(auto, unfolding(brk_explain_model::specs::Texts::fact))]
 pub(crate) fn put_fact(out: &mut Vec<u8>, label: &str, value: &[u8]) -> Result<(), Fault>
     ensures ok { OnOk result (out.new.items ≡ out.old.items ++ texts.fact label.now value.now) }
@@ -33,7 +33,7 @@ pub(crate) fn put_fact(out: &mut Vec<u8>, label: &str, value: &[u8]) -> Result<(
     put_right(out, 22, value)
 }
 
-/// Appends the fact of a number.
+/// Appends a label and a number, right-aligned in 22 places.
 #[tactic(auto, unfolding(brk_explain_model::specs::Texts::count))]
 pub(crate) fn put_count(out: &mut Vec<u8>, label: &str, n: u64) -> Result<(), Fault>
     ensures ok { OnOk result (out.new.items ≡ out.old.items ++ texts.count label.now n) }
@@ -43,7 +43,7 @@ pub(crate) fn put_count(out: &mut Vec<u8>, label: &str, n: u64) -> Result<(), Fa
     put_fact(out, label, buffer.format(n).as_bytes())
 }
 
-/// Appends the fact of an amount.
+/// Appends a label and an amount, right-aligned in 22 places.
 #[tactic(auto, unfolding(brk_explain_model::specs::Texts::money))]
 pub(crate) fn put_money(
     alloc: Global,
@@ -59,7 +59,7 @@ pub(crate) fn put_money(
     put_fact(out, label, cents.as_slice())
 }
 
-/// Appends the line of a label and a text.
+/// Appends the line of a label and a text, with its line feed.
 pub(crate) fn words_line(out: &mut Vec<u8>, label: &str, text: &[u8]) -> Result<(), Fault>
     ensures ok { OnOk result (out.new.items ≡ out.old.items ++ ended (texts.words label.now text.now)) }
     ensures fault { OnErr result (result ≡ Err Memory) }
@@ -69,7 +69,7 @@ pub(crate) fn words_line(out: &mut Vec<u8>, label: &str, text: &[u8]) -> Result<
     Ok(())
 }
 
-/// Appends the line of a label and a value.
+/// Appends the line of a label and a value, with its line feed.
 pub(crate) fn fact_line(out: &mut Vec<u8>, label: &str, value: &[u8]) -> Result<(), Fault>
     ensures ok { OnOk result (out.new.items ≡ out.old.items ++ ended (texts.fact label.now value.now)) }
     ensures fault { OnErr result (result ≡ Err Memory) }
@@ -79,7 +79,7 @@ pub(crate) fn fact_line(out: &mut Vec<u8>, label: &str, value: &[u8]) -> Result<
     Ok(())
 }
 
-/// Appends the line of a number.
+/// Appends the line of a label and a number, with its line feed.
 pub(crate) fn count_line(out: &mut Vec<u8>, label: &str, n: u64) -> Result<(), Fault>
     ensures ok { OnOk result (out.new.items ≡ out.old.items ++ ended (texts.count label.now n)) }
     ensures fault { OnErr result (result ≡ Err Memory) }
@@ -89,7 +89,7 @@ pub(crate) fn count_line(out: &mut Vec<u8>, label: &str, n: u64) -> Result<(), F
     Ok(())
 }
 
-/// Appends the line of an amount.
+/// Appends the line of a label and an amount, with its line feed.
 pub(crate) fn money_line(
     alloc: Global,
     out: &mut Vec<u8>,
@@ -104,7 +104,7 @@ pub(crate) fn money_line(
     Ok(())
 }
 
-/// Appends the line of a text.
+/// Appends a text and a line feed.
 pub(crate) fn text_line(out: &mut Vec<u8>, text: &[u8]) -> Result<(), Fault>
     ensures ok { OnOk result (out.new.items ≡ out.old.items ++ ended text.now) }
     ensures fault { OnErr result (result ≡ Err Memory) }
@@ -114,7 +114,7 @@ pub(crate) fn text_line(out: &mut Vec<u8>, text: &[u8]) -> Result<(), Fault>
     Ok(())
 }
 
-/// Appends a number.
+/// Appends a number in decimal digits.
 pub(crate) fn put_number(out: &mut Vec<u8>, n: u64) -> Result<(), Fault>
     ensures ok { OnOk result (out.new.items ≡ out.old.items ++ decimal n) }
     ensures fault { OnErr result (result ≡ Err Memory) }

@@ -21,7 +21,7 @@ use brk_explain_rows::{Closing, OrderStory, ResultStory};
 use brk_money::{Fault, Price, Side, Wide};
 use std::alloc::Global;
 
-// Appends the price, and the names of the columns of the rows of lots.
+// Appends the line of the price, and the column headings of the lots. Fails with `Memory` only.
 #[tactic(auto, unfolding(brk_explain_model::specs::TradeLines::price_lines))]
 fn price_lines(alloc: Global, out: &mut Vec<u8>, story: &ResultStory) -> Result<(), Fault>
     ensures ok { OnOk result (out.new.items ≡ out.old.items ++ lines_text (lines.price_lines (result_story_of story.now))) }
@@ -34,7 +34,7 @@ fn price_lines(alloc: Global, out: &mut Vec<u8>, story: &ResultStory) -> Result<
     )
 }
 
-// Appends the row of a closing by a trade on a side at a price. Fails with `Memory` or `Store`.
+// Appends the line of a closing by a trade on a side at a price. Fails with `Memory` or `Store`.
 #[tactic(auto, unfolding(brk_explain_model::specs::TradeLines::closing_line))]
 fn closing_line(
     alloc: Global,
@@ -66,7 +66,7 @@ fn closing_line(
     Ok(())
 }
 
-// Appends the row of each closing. Fails with `Memory` or `Store`.
+// Appends a line for each closing by a trade on a side at a price. Fails with `Memory` or `Store`.
 fn closing_lines(
     alloc: Global,
     out: &mut Vec<u8>,
@@ -83,7 +83,7 @@ fn closing_lines(
     Ok(())
 }
 
-// Appends the row of the lot that a trade opened at its price.
+// Appends the line of the lot that a trade opened at a price. Fails with `Memory` only.
 #[tactic(auto, unfolding(brk_explain_model::specs::TradeLines::own_lot_line))]
 fn own_lot_line(
     alloc: Global,
@@ -109,7 +109,8 @@ fn own_lot_line(
     Ok(())
 }
 
-// Appends the row of the lot that a trade opened, if it opened one.
+// Appends the line of the lot that a trade opened at a price, or nothing if it opened none. Fails
+// with `Memory` only.
 #[tactic(auto, unfolding(brk_explain_model::specs::TradeLines::own_lot_lines))]
 fn own_lot_lines(
     alloc: Global,
@@ -127,7 +128,7 @@ fn own_lot_lines(
     }
 }
 
-// Returns the number of shares that a trade opened.
+// Returns the number of shares of the lot that a trade opened; 0 if it opened none.
 fn opened(story: &ResultStory) -> u64
     ensures { result ≡ nat_abs (trades.opened (result_story_of story.now)) }
 {
@@ -137,7 +138,8 @@ fn opened(story: &ResultStory) -> u64
     }
 }
 
-// Appends the numbers of shares that were closed and opened. Fails with `Memory` or `Store`.
+// Appends the lines of the number of closed shares and of the number of opened shares. Fails with
+// `Memory` or `Store`.
 #[tactic(auto, unfolding(brk_explain_model::specs::TradeLines::shares_lines))]
 fn shares_lines(out: &mut Vec<u8>, story: &ResultStory) -> Result<(), Fault>
     ensures ok { OnOk result (out.new.items ≡ out.old.items ++ lines_text (lines.shares_lines (result_story_of story.now))) }
@@ -148,7 +150,8 @@ fn shares_lines(out: &mut Vec<u8>, story: &ResultStory) -> Result<(), Fault>
     count_line(out, "Shares opened", opened(story))
 }
 
-// Appends the gain, and the values of which it is the difference. Fails with `Memory` or `Store`.
+// Appends the lines of the buy value, the sell value and the realised gain of the closed shares.
+// Fails with `Memory` or `Store`.
 #[tactic(auto, unfolding(brk_explain_model::specs::TradeLines::gain_lines))]
 fn gain_lines(
     alloc: Global,
@@ -168,7 +171,8 @@ fn gain_lines(
     money_line(alloc, out, "Realised gain", gain)
 }
 
-/// Appends the lines of the lots and of the gain. Fails with `Memory` or `Store`.
+/// Appends the lines of the price, of the lots that a trade closed and opened, of the numbers of
+/// shares, and of the realised gain. Fails with `Memory` or `Store`.
 #[tactic(auto, unfolding(brk_explain_model::specs::TradeLines::lots_lines, brk_explain_model::specs::TradeLines::closing_lines))]
 pub(crate) fn lots_lines(
     alloc: Global,

@@ -8,7 +8,7 @@ ghost use Rattle.brk_money.specs.declared.fault.Fault.TheVariants.{Memory};
 use brk_money::{Fault, Stamp, day_of, write_day};
 use std::alloc::Global;
 
-// Appends a number below 100 in two digits.
+// Appends a number below 100 in two decimal digits.
 #[tactic(auto, using(crate::proofs::Padded::two))]
 fn put_two(out: &mut Vec<u8>, n: u8) -> Result<(), Fault>
     requires { n < 100 }
@@ -20,7 +20,7 @@ fn put_two(out: &mut Vec<u8>, n: u8) -> Result<(), Fault>
     Ok(())
 }
 
-// Appends a number below 1000 in three digits.
+// Appends a number below 1000 in three decimal digits.
 #[tactic(auto, using(crate::proofs::Padded::three))]
 fn put_three(out: &mut Vec<u8>, n: u16) -> Result<(), Fault>
     requires { n < 1000 }
@@ -36,7 +36,7 @@ fn put_three(out: &mut Vec<u8>, n: u16) -> Result<(), Fault>
     Ok(())
 }
 
-// Appends the time of day of a number of milliseconds after midnight.
+// Appends the time of day of a number of milliseconds after midnight, below 86,400,000.
 #[tactic(auto, unfolding(brk_explain_model::specs::Texts::clock_text))]
 fn put_clock(out: &mut Vec<u8>, millis: u32) -> Result<(), Fault>
     requires { millis < 86400000 }
@@ -52,7 +52,7 @@ fn put_clock(out: &mut Vec<u8>, millis: u32) -> Result<(), Fault>
     put_three(out, (millis % 1000) as u16)
 }
 
-/// Returns the text of a stamp in UTC, such as `2024-03-01 09:05:00.021`.
+/// Returns the timestamp of a stamp in UTC, such as `2024-03-01 09:05:00.021`.
 #[tactic(auto, unfolding(brk_explain_model::specs::Texts::moment_text))]
 pub fn moment(alloc: Global, stamp: Stamp) -> Result<Vec<u8>, Fault>
     ensures ok { IfOk result (λ text. text.items ≡ moment_text stamp) }

@@ -17,7 +17,7 @@ use brk_money::{Fault, Wide};
 use brk_report_lines::put_left;
 use std::alloc::Global;
 
-// Appends the line of a status change.
+// Appends the line of a status change: its timestamp, and the code and the name of the status.
 #[tactic(auto, unfolding(brk_explain_model::specs::TradeLines::status_line))]
 fn status_line(alloc: Global, out: &mut Vec<u8>, row: &HistoryRow) -> Result<(), Fault>
     ensures ok { OnOk result (out.new.items ≡ out.old.items ++ ended (lines.status_line (history_row_of row.now))) }
@@ -35,7 +35,7 @@ fn status_line(alloc: Global, out: &mut Vec<u8>, row: &HistoryRow) -> Result<(),
     Ok(())
 }
 
-// Appends the line of each status change.
+// Appends a line for each status change.
 fn status_lines(alloc: Global, out: &mut Vec<u8>, rows: &[HistoryRow]) -> Result<(), Fault>
     ensures ok { OnOk result (out.new.items ≡ out.old.items ++ lines_text (map lines.status_line (map history_row_of rows.now))) }
     ensures fault { OnErr result (result ≡ Err Memory) }
@@ -46,7 +46,7 @@ fn status_lines(alloc: Global, out: &mut Vec<u8>, rows: &[HistoryRow]) -> Result
     Ok(())
 }
 
-// Appends the title.
+// Appends the title of the explanation of a trade, with its id.
 fn title_line(out: &mut Vec<u8>, order: &OrderStory) -> Result<(), Fault>
     ensures ok { OnOk result (out.new.items ≡ out.old.items ++ ended (lines.title_line (order_story_of order.now))) }
     ensures fault { OnErr result (result ≡ Err Memory) }
@@ -58,7 +58,7 @@ fn title_line(out: &mut Vec<u8>, order: &OrderStory) -> Result<(), Fault>
     Ok(())
 }
 
-// Appends the line of the account.
+// Appends the line of the account of a trade: its id and its name.
 fn account_line(out: &mut Vec<u8>, order: &OrderStory) -> Result<(), Fault>
     ensures ok { OnOk result (out.new.items ≡ out.old.items ++ ended (lines.account_line (order_story_of order.now))) }
     ensures fault { OnErr result (result ≡ Err Memory) }
@@ -70,7 +70,8 @@ fn account_line(out: &mut Vec<u8>, order: &OrderStory) -> Result<(), Fault>
     Ok(())
 }
 
-// Appends the title, and the parties of the trade.
+// Appends the title, and the lines of the account, the customer, the broker and the executor of a
+// trade.
 #[tactic(auto, unfolding(brk_explain_model::specs::TradeLines::party_lines))]
 fn party_lines(out: &mut Vec<u8>, order: &OrderStory) -> Result<(), Fault>
     ensures ok { OnOk result (out.new.items ≡ out.old.items ++ lines_text (lines.party_lines (order_story_of order.now))) }
@@ -85,7 +86,7 @@ fn party_lines(out: &mut Vec<u8>, order: &OrderStory) -> Result<(), Fault>
     Ok(())
 }
 
-// Appends the line of the type.
+// Appends the line of the type of a trade: its code and its name.
 fn type_line(out: &mut Vec<u8>, order: &OrderStory) -> Result<(), Fault>
     ensures ok { OnOk result (out.new.items ≡ out.old.items ++ ended (lines.type_line (order_story_of order.now))) }
     ensures fault { OnErr result (result ≡ Err Memory) }
@@ -97,7 +98,7 @@ fn type_line(out: &mut Vec<u8>, order: &OrderStory) -> Result<(), Fault>
     Ok(())
 }
 
-// Appends the line of the security.
+// Appends the line of the security of a trade: its symbol and its name.
 fn security_line(alloc: Global, out: &mut Vec<u8>, order: &OrderStory) -> Result<(), Fault>
     ensures ok { OnOk result (out.new.items ≡ out.old.items ++ ended (lines.security_line (order_story_of order.now))) }
     ensures fault { OnErr result (result ≡ Err Memory) }
@@ -111,14 +112,15 @@ fn security_line(alloc: Global, out: &mut Vec<u8>, order: &OrderStory) -> Result
     Ok(())
 }
 
-// Returns the words for how a trade settles.
+// Returns `cash` for a cash trade and `margin` for a margin trade.
 fn settles_by(is_cash: bool) -> &'static str
     ensures { result.now ≡ cash_word is_cash }
 {
     if is_cash { "cash" } else { "margin" }
 }
 
-// Returns the words for the shares that a trade closes first.
+// Returns the words for the order in which a trade closes lots: last in first out if `is_lifo`,
+// otherwise first in first out.
 fn closes(is_lifo: bool) -> &'static str
     ensures { result.now ≡ lines.closes_words is_lifo }
 {
@@ -129,7 +131,7 @@ fn closes(is_lifo: bool) -> &'static str
     }
 }
 
-// Appends what was ordered.
+// Appends the lines of the terms of an order.
 #[tactic(auto, unfolding(brk_explain_model::specs::TradeLines::asked_lines))]
 fn asked_lines(alloc: Global, out: &mut Vec<u8>, order: &OrderStory) -> Result<(), Fault>
     ensures ok { OnOk result (out.new.items ≡ out.old.items ++ lines_text (lines.asked_lines (order_story_of order.now))) }
@@ -145,7 +147,7 @@ fn asked_lines(alloc: Global, out: &mut Vec<u8>, order: &OrderStory) -> Result<(
     Ok(())
 }
 
-/// Appends the lines of the order and of the status changes.
+/// Appends the title, the parties, the terms of the order, and the status changes of a trade.
 #[tactic(auto, unfolding(brk_explain_model::specs::TradeLines::order_lines))]
 pub(crate) fn order_lines(alloc: Global, out: &mut Vec<u8>, order: &OrderStory) -> Result<(), Fault>
     ensures ok { OnOk result (out.new.items ≡ out.old.items ++ lines_text (lines.order_lines (order_story_of order.now))) }

@@ -15,7 +15,8 @@ use brk_explain_rows::{OrderStory, ResultStory};
 use brk_money::{Day, Fault, Wide, day_of, write_day};
 use std::alloc::Global;
 
-/// Appends the parts of the settlement with their signs, their sum, and its type.
+/// Appends the lines of the signed value of a trade, of its negated charge, commission and withheld
+/// tax, of its settlement amount, and of its cash type.
 #[tactic(auto, unfolding(brk_explain_model::specs::TradeLines::settlement_lines))]
 pub(crate) fn settlement_lines(
     alloc: Global,
@@ -44,7 +45,7 @@ pub(crate) fn settlement_lines(
     Ok(())
 }
 
-// Returns the text of a day.
+// Returns the text of a day, YYYY-MM-DD.
 fn day(alloc: Global, day: Day) -> Result<Vec<u8>, Fault>
     ensures ok { IfOk result (λ text. text.items ≡ day_text day) }
     ensures fault { OnErr result (result ≡ Err Memory) }
@@ -54,7 +55,7 @@ fn day(alloc: Global, day: Day) -> Result<Vec<u8>, Fault>
     Ok(text)
 }
 
-// Returns the text of a day, or `none`.
+// Returns the text of a day, YYYY-MM-DD, or `none` if there is no day.
 fn day_or_none(alloc: Global, rule: Option<Day>) -> Result<Vec<u8>, Fault>
     ensures ok { IfOk result (λ text. text.items ≡ option_map_or day_text rule (codes "none")) }
     ensures fault { OnErr result (result ≡ Err Memory) }
@@ -65,7 +66,8 @@ fn day_or_none(alloc: Global, rule: Option<Day>) -> Result<Vec<u8>, Fault>
     }
 }
 
-/// Appends the days of the settlement.
+/// Appends the lines of the day of completion, of the settlement day or `none`, of the number of
+/// days to settle, and of the due day.
 #[tactic(auto, unfolding(brk_explain_model::specs::TradeLines::due_lines))]
 pub(crate) fn due_lines(
     alloc: Global,

@@ -9,8 +9,8 @@ use brk_report_lines::{put_left, put_right};
 use itoa::Buffer;
 use std::alloc::Global;
 
-/// Appends the first columns of a row about a trade or a lot: a word, the text of a moment, an id, a
-/// number of shares and a price.
+/// Appends the first columns of a row about a trade or a lot: a word, the text of a timestamp, an
+/// id, a number of shares and a price.
 #[tactic(auto, unfolding(brk_explain_model::specs::Texts::row_start))]
 pub(crate) fn put_row_start(
     alloc: Global,
@@ -39,7 +39,7 @@ pub(crate) fn put_row_start(
     put_right(out, 10, cents.as_slice())
 }
 
-/// Appends a space, and the value of shares of one trade in 16 places.
+/// Appends a space, and an amount, right-aligned in 16 places.
 #[tactic(auto, unfolding(brk_explain_model::specs::Texts::value_column))]
 pub(crate) fn put_value(alloc: Global, out: &mut Vec<u8>, amount: Wide) -> Result<(), Fault>
     ensures ok { OnOk result (out.new.items ≡ out.old.items ++ value_column amount) }
@@ -51,7 +51,7 @@ pub(crate) fn put_value(alloc: Global, out: &mut Vec<u8>, amount: Wide) -> Resul
     put_right(out, 16, cents.as_slice())
 }
 
-/// Appends a space, and an amount in 22 places.
+/// Appends a space, and an amount, right-aligned in 22 places.
 #[tactic(auto, unfolding(brk_explain_model::specs::Texts::amount_column))]
 pub(crate) fn put_amount(alloc: Global, out: &mut Vec<u8>, amount: Wide) -> Result<(), Fault>
     ensures ok { OnOk result (out.new.items ≡ out.old.items ++ amount_column amount) }
@@ -63,7 +63,7 @@ pub(crate) fn put_amount(alloc: Global, out: &mut Vec<u8>, amount: Wide) -> Resu
     put_right(out, 22, cents.as_slice())
 }
 
-/// Appends a space, and a number of shares in 11 places.
+/// Appends a space, and a number of shares, right-aligned in 11 places.
 #[tactic(auto, unfolding(brk_explain_model::specs::Texts::shares_column))]
 pub(crate) fn put_shares(out: &mut Vec<u8>, shares: i64) -> Result<(), Fault>
     ensures ok { OnOk result (out.new.items ≡ out.old.items ++ shares_column shares) }

@@ -20,7 +20,7 @@ pub(crate) fn taken(closing: &Closing) -> u64
     (i128::from(closing.before) - i128::from(closing.after)).unsigned_abs() as u64
 }
 
-/// Returns what the closed shares were bought for by a trade on a side at a price.
+/// Returns the buy value of a closing by a trade on a side at a price, in cents.
 pub(crate) fn bought_for(side: Side, price: Price, closing: &Closing) -> u128
     ensures { result ≡ trades.bought_for side price (closing_row_of closing.now) }
 {
@@ -30,7 +30,7 @@ pub(crate) fn bought_for(side: Side, price: Price, closing: &Closing) -> u128
     }
 }
 
-/// Returns what the closed shares were sold for by a trade on a side at a price.
+/// Returns the sell value of a closing by a trade on a side at a price, in cents.
 pub(crate) fn sold_for(side: Side, price: Price, closing: &Closing) -> u128
     ensures { result ≡ trades.sold_for side price (closing_row_of closing.now) }
 {
@@ -40,7 +40,7 @@ pub(crate) fn sold_for(side: Side, price: Price, closing: &Closing) -> u128
     }
 }
 
-/// Returns the amount of `cents`. Fails with `Store` if it does not fit.
+/// Returns an amount of `cents` cents. Fails with `Store` if it does not fit.
 pub(crate) fn amount(cents: u128) -> Result<Wide, Fault>
     ensures amount { IfOk result (λ amount. amount ≡ pos cents) }
     ensures fault { IfErr result MayFail }
@@ -51,7 +51,7 @@ pub(crate) fn amount(cents: u128) -> Result<Wide, Fault>
     }
 }
 
-/// Returns the number of shares that the closings closed.
+/// Returns the number of shares that all closings closed. Fails with `Store` if it does not fit.
 pub(crate) fn taken_total(closings: &[Closing]) -> Result<u64, Fault>
     ensures total { IfOk result (λ total. total ≡ trades.taken_total (map closing_row_of closings.now)) }
     ensures fault { IfErr result MayFail }
@@ -66,7 +66,8 @@ pub(crate) fn taken_total(closings: &[Closing]) -> Result<u64, Fault>
     Ok(total)
 }
 
-/// Returns the buy value of a trade.
+/// Returns the sum of the buy values of closings by a trade on a side at a price. Fails with
+/// `Store` if it does not fit.
 pub(crate) fn buy_total(side: Side, price: Price, closings: &[Closing]) -> Result<Wide, Fault>
     ensures total { IfOk result (λ total. total ≡ pos (trades.buy_total side price (map closing_row_of closings.now))) }
     ensures fault { IfErr result MayFail }
@@ -81,7 +82,8 @@ pub(crate) fn buy_total(side: Side, price: Price, closings: &[Closing]) -> Resul
     amount(total)
 }
 
-/// Returns the sell value of a trade.
+/// Returns the sum of the sell values of closings by a trade on a side at a price. Fails with
+/// `Store` if it does not fit.
 pub(crate) fn sell_total(side: Side, price: Price, closings: &[Closing]) -> Result<Wide, Fault>
     ensures total { IfOk result (λ total. total ≡ pos (trades.sell_total side price (map closing_row_of closings.now))) }
     ensures fault { IfErr result MayFail }
@@ -118,7 +120,8 @@ pub(crate) fn minus(one: Wide, other: Wide) -> Result<Wide, Fault>
     }
 }
 
-/// Returns the realised gain of a trade.
+/// Returns the realised gain of closings by a trade on a side at a price: the sum of their sell
+/// values minus the sum of their buy values. Fails with `Store` if a value does not fit.
 pub(crate) fn gain_total(side: Side, price: Price, closings: &[Closing]) -> Result<Wide, Fault>
     ensures gain { IfOk result (λ gain. gain ≡ trades.gain_total side price (map closing_row_of closings.now)) }
     ensures fault { IfErr result MayFail }
@@ -128,7 +131,7 @@ pub(crate) fn gain_total(side: Side, price: Price, closings: &[Closing]) -> Resu
     minus(sold, bought)
 }
 
-/// Returns the sum of tax rates.
+/// Returns the sum of tax rates. Fails with `Store` if it exceeds the greatest tax rate.
 pub(crate) fn rates_total(rates: &[Tax]) -> Result<TaxRate, Fault>
     ensures total { IfOk result (λ total. total ≡ trades.rates_total (map tax_of rates.now)) }
     ensures fault { IfErr result MayFail }
@@ -139,7 +142,8 @@ pub(crate) fn rates_total(rates: &[Tax]) -> Result<TaxRate, Fault>
     }
 }
 
-// Returns an amount within the limits of a balance. Fails with `Store` if it is beyond them.
+// Returns the amount as cents within the limits of a balance. Fails with `Store` if it is beyond
+// them.
 fn cents(amount: Wide) -> Result<Cents, Fault>
     ensures cents { IfOk result (λ cents. cents ≡ amount) }
     ensures fault { IfErr result MayFail }
@@ -163,7 +167,8 @@ fn bears_tax(status: TaxStatus) -> bool
     }
 }
 
-// Returns the tax on a gain at a sum of rates; 0 if gains are not taxable at the tax status.
+// Returns the tax on a gain at a sum of rates; 0 if gains are not taxable at the tax status. Fails
+// with `Store` if the gain is beyond the limits of a balance.
 fn tax_on(status: TaxStatus, gain: Wide, rates: TaxRate) -> Result<Wide, Fault>
     ensures tax { IfOk result (λ tax. tax ≡ pos (if base.bears_tax status then amounts.tax gain rates else 0)) }
     ensures fault { IfErr result MayFail }
@@ -175,7 +180,8 @@ fn tax_on(status: TaxStatus, gain: Wide, rates: TaxRate) -> Result<Wide, Fault>
     Ok(Wide::from(tax(gain, rates)))
 }
 
-/// Returns the tax on the gain of a trade at the tax rates of now.
+/// Returns the tax on the realised gain of a trade at its customer's current tax rates; 0 if the
+/// account is not taxable. Fails with `Store` if a value does not fit.
 pub(crate) fn tax_now(order: &OrderStory, story: &ResultStory) -> Result<Wide, Fault>
     ensures tax { IfOk result (λ tax. tax ≡ pos (trades.tax_now (order_story_of order.now) (result_story_of story.now))) }
     ensures fault { IfErr result MayFail }
@@ -185,7 +191,8 @@ pub(crate) fn tax_now(order: &OrderStory, story: &ResultStory) -> Result<Wide, F
     tax_on(order.account.account.tax_status, gain, rates)
 }
 
-/// Returns the commission on a trade in the band of now, or `None` if there is no band.
+/// Returns the commission of a trade at the rate of its current band, or `None` if there is no
+/// band.
 pub(crate) fn commission_now(order: &OrderStory, story: &ResultStory) -> Option<Amount>
     ensures { result ≡ trades.commission_now (order_story_of order.now) (result_story_of story.now) }
 {
@@ -195,7 +202,7 @@ pub(crate) fn commission_now(order: &OrderStory, story: &ResultStory) -> Option<
     }
 }
 
-/// Returns the value of a trade: below 0 for a purchase.
+/// Returns the quantity of a trade times its price, in cents, negated if it is a purchase.
 pub(crate) fn value_of(order: &OrderStory, story: &ResultStory) -> Wide
     ensures { result ≡ trades.value_of (order_story_of order.now) (result_story_of story.now) }
 {
@@ -206,21 +213,22 @@ pub(crate) fn value_of(order: &OrderStory, story: &ResultStory) -> Wide
     }
 }
 
-/// Returns the charge of a trade, negated.
+/// Returns the charge of a trade, in cents, negated.
 pub(crate) fn charge_of(order: &OrderStory) -> Wide
     ensures { result ≡ neg_ℤ (pos (order_story_of order.now).trade.charge) }
 {
     Wide::new(-i128::from(order.trade.charge.get()))
 }
 
-/// Returns the commission of a trade, negated.
+/// Returns the recorded commission of a trade, in cents, negated.
 pub(crate) fn commission_of(order: &OrderStory) -> Wide
     ensures { result ≡ neg_ℤ (pos (order_story_of order.now).trade.commission) }
 {
     Wide::new(-i128::from(order.trade.commission.get()))
 }
 
-/// Returns the tax that is withheld from the settlement, negated.
+/// Returns the recorded tax of a trade, in cents, negated, if the tax status of its account is that
+/// of withheld tax, and otherwise 0.
 pub(crate) fn withheld(order: &OrderStory) -> Wide
     ensures { result ≡ neg_ℤ (pos (trades.withheld_of (order_story_of order.now))) }
 {
@@ -230,7 +238,7 @@ pub(crate) fn withheld(order: &OrderStory) -> Wide
     }
 }
 
-/// Returns the amount by which a trade changed the balance; 0 without a cash row.
+/// Returns the amount of the cash row of a trade; 0 if it has none.
 pub(crate) fn cash_moved(story: &ResultStory) -> Wide
     ensures { result ≡ trades.cash_moved (result_story_of story.now) }
 {

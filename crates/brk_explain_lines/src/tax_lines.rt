@@ -18,7 +18,8 @@ use brk_report_lines::{put_left, put_right};
 use itoa::Buffer;
 use std::alloc::Global;
 
-// Appends the row of a tax rate. Fails with `Memory` only.
+// Appends the line of a tax rate: its id, the rate in hundred-thousandths, and its name. Fails with
+// `Memory` only.
 #[tactic(auto, unfolding(brk_explain_model::specs::TradeLines::rate_line))]
 fn rate_line(out: &mut Vec<u8>, rate: &Tax) -> Result<(), Fault>
     ensures ok { OnOk result (out.new.items ≡ out.old.items ++ ended (lines.rate_line (tax_of rate.now))) }
@@ -37,7 +38,7 @@ fn rate_line(out: &mut Vec<u8>, rate: &Tax) -> Result<(), Fault>
     Ok(())
 }
 
-// Appends the row of each tax rate. Fails with `Memory` only.
+// Appends a line for each tax rate. Fails with `Memory` only.
 fn rate_lines(out: &mut Vec<u8>, rates: &[Tax]) -> Result<(), Fault>
     ensures ok { OnOk result (out.new.items ≡ out.old.items ++ lines_text (map lines.rate_line (map tax_of rates.now))) }
     ensures fault { OnErr result (result ≡ Err Memory) }
@@ -48,7 +49,7 @@ fn rate_lines(out: &mut Vec<u8>, rates: &[Tax]) -> Result<(), Fault>
     Ok(())
 }
 
-// Appends the line of the tax status. Fails with `Memory` only.
+// Appends the line of the number of the account's tax status. Fails with `Memory` only.
 #[tactic(auto, unfolding(brk_explain_model::specs::TradeLines::tax_status_lines))]
 fn tax_status_lines(out: &mut Vec<u8>, order: &OrderStory) -> Result<(), Fault>
     ensures ok { OnOk result (out.new.items ≡ out.old.items ++ lines_text (lines.tax_status_lines (order_story_of order.now))) }
@@ -58,8 +59,8 @@ fn tax_status_lines(out: &mut Vec<u8>, order: &OrderStory) -> Result<(), Fault>
     count_line(out, "Tax status", u64::from(status.number()))
 }
 
-// Appends the sum of the rates of now, the tax of the gain at this sum, and the tax that was
-// recorded. Fails with `Memory` or `Store`.
+// Appends the lines of the sum of the customer's current tax rates, of the tax on the realised gain
+// at this sum, and of the tax that the trade records. Fails with `Memory` or `Store`.
 #[tactic(auto, unfolding(brk_explain_model::specs::TradeLines::tax_now_lines))]
 fn tax_now_lines(
     alloc: Global,
@@ -79,7 +80,8 @@ fn tax_now_lines(
     Ok(())
 }
 
-/// Appends the lines of the tax. Fails with `Memory` or `Store`.
+/// Appends the lines of the tax status, of each current tax rate, and of the current and the
+/// recorded tax. Fails with `Memory` or `Store`.
 #[tactic(auto, unfolding(brk_explain_model::specs::TradeLines::tax_lines))]
 pub(crate) fn tax_lines(
     alloc: Global,
@@ -95,7 +97,7 @@ pub(crate) fn tax_lines(
     tax_now_lines(alloc, out, order, story)
 }
 
-// Appends the quantities of a commission band. Fails with `Memory` only.
+// Appends the bounds of the quantity of a commission band. Fails with `Memory` only.
 #[tactic(auto, unfolding(brk_explain_model::specs::TradeLines::band_quantities))]
 fn put_quantities(out: &mut Vec<u8>, band: &Band) -> Result<(), Fault>
     ensures ok { OnOk result (out.new.items ≡ out.old.items ++ lines.band_quantities (band_of band.now)) }
@@ -121,7 +123,8 @@ fn put_place(out: &mut Vec<u8>, band: &Band) -> Result<(), Fault>
     Ok(())
 }
 
-// Appends the line of the commission band. Fails with `Memory` only.
+// Appends the line of the current commission band, or of `none` if there is none. Fails with
+// `Memory` only.
 #[tactic(auto, unfolding(brk_explain_model::specs::TradeLines::band_line))]
 fn band_line(out: &mut Vec<u8>, band: &Option<Band>) -> Result<(), Fault>
     ensures ok { OnOk result (out.new.items ≡ out.old.items ++ ended (lines.band_line (option_map band_of band.now))) }
@@ -137,7 +140,8 @@ fn band_line(out: &mut Vec<u8>, band: &Option<Band>) -> Result<(), Fault>
     Ok(())
 }
 
-// Appends the line of the commission in the band of now. Fails with `Memory` only.
+// Appends the line of the commission at the rate of the current band, or of `none` if there is no
+// band. Fails with `Memory` only.
 #[tactic(auto, unfolding(brk_explain_model::specs::TradeLines::commission_line))]
 fn commission_line(
     alloc: Global,
@@ -153,7 +157,8 @@ fn commission_line(
     }
 }
 
-/// Appends the commission band of now, and the commission in it. Fails with `Memory` only.
+/// Appends the line of the current commission band, and the line of the commission at its rate.
+/// Fails with `Memory` only.
 #[tactic(auto, unfolding(brk_explain_model::specs::TradeLines::commission_lines))]
 pub(crate) fn commission_lines(
     alloc: Global,

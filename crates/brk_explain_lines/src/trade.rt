@@ -16,7 +16,7 @@ use brk_explain_rows::{OrderStory, ResultStory, TradeStory};
 use brk_money::Fault;
 use std::alloc::Global;
 
-// Appends the lines of a completed trade, after its status changes.
+// Appends the lines after the status changes of a completed trade. Fails with `Memory` or `Store`.
 #[tactic(auto, unfolding(brk_explain_model::specs::TradeLines::completed_lines))]
 fn completed_lines(
     alloc: Global,
@@ -36,7 +36,8 @@ fn completed_lines(
     counts_lines(out, order, story)
 }
 
-// Appends the lines after the status changes.
+// Appends the lines after the status changes of a trade, completed or not. Fails with `Memory` or
+// `Store`.
 #[tactic(auto, unfolding(brk_explain_model::specs::TradeLines::outcome_lines))]
 fn outcome_lines(
     alloc: Global,
@@ -53,7 +54,7 @@ fn outcome_lines(
     }
 }
 
-/// Returns the text of the explanation of a trade. Fails with `Memory` or `Store`.
+/// Returns all lines of the explanation of a trade as one text. Fails with `Memory` or `Store`.
 #[tactic(auto, unfolding(brk_explain_model::specs::TradeLines::trade_lines))]
 pub fn trade_text(alloc: Global, story: &TradeStory) -> Result<Vec<u8>, Fault>
     ensures text { IfOk result (λ text. text.items ≡ lines_text (lines.trade_lines (trade_story_of story.now))) }

@@ -14,7 +14,8 @@ use brk_explain_rows::OrderStory;
 use brk_money::{Fault, Price, Status, TradeType, Wide, write_cents};
 use std::alloc::Global;
 
-// Returns the words after the charge.
+// Returns the remark after the charge of a trade that is not completed: `never charged` if it is
+// canceled, otherwise `if completed`.
 fn charge_words(status: Status) -> &'static str
     ensures { result.now ≡ lines.charge_words status }
 {
@@ -24,7 +25,8 @@ fn charge_words(status: Status) -> &'static str
     }
 }
 
-// Returns the words after the commission.
+// Returns the remark after the commission of a trade that is not completed: `never charged` if it
+// is canceled, otherwise `estimated`.
 fn commission_words(status: Status) -> &'static str
     ensures { result.now ≡ lines.commission_words status }
 {
@@ -34,7 +36,7 @@ fn commission_words(status: Status) -> &'static str
     }
 }
 
-// Returns some words and a price.
+// Returns the text of `words` followed by the price.
 fn tick_at(alloc: Global, words: &str, price: Price) -> Result<Vec<u8>, Fault>
     ensures ok { IfOk result (λ text. text.items ≡ words.now ++ price_text price) }
     ensures fault { OnErr result (result ≡ Err Memory) }
@@ -44,7 +46,8 @@ fn tick_at(alloc: Global, words: &str, price: Price) -> Result<Vec<u8>, Fault>
     Ok(text)
 }
 
-// Returns what a pending trade waits for.
+// Returns the event that a pending trade of a type with a bid price waits for: a tick or, for a
+// market type, a cancel.
 fn trigger(alloc: Global, kind: TradeType, price: Price) -> Result<Vec<u8>, Fault>
     ensures ok { IfOk result (λ text. text.items ≡ lines.trigger_words kind price) }
     ensures fault { OnErr result (result ≡ Err Memory) }
@@ -56,7 +59,8 @@ fn trigger(alloc: Global, kind: TradeType, price: Price) -> Result<Vec<u8>, Faul
     }
 }
 
-// Returns what a trade waits for.
+// Returns the event that a trade waits for, by its status: its trigger if it is pending, a result
+// if it is submitted, and otherwise nothing.
 fn waits_for(alloc: Global, status: Status, kind: TradeType, price: Price) -> Result<Vec<u8>, Fault>
     ensures ok { IfOk result (λ text. text.items ≡ lines.waits_for status kind price) }
     ensures fault { OnErr result (result ≡ Err Memory) }
@@ -70,7 +74,7 @@ fn waits_for(alloc: Global, status: Status, kind: TradeType, price: Price) -> Re
     }
 }
 
-// Appends the line of an amount and words behind it.
+// Appends the line of a label, an amount, and words after it.
 fn amount_words(
     alloc: Global,
     out: &mut Vec<u8>,
@@ -99,7 +103,7 @@ fn statuses_line(out: &mut Vec<u8>, count: usize) -> Result<(), Fault>
     Ok(())
 }
 
-/// Appends the lines of a trade that is not completed, after its status changes.
+/// Appends the lines after the status changes of a trade that is not completed.
 #[tactic(auto, unfolding(brk_explain_model::specs::TradeLines::waiting_lines))]
 pub(crate) fn waiting_lines(
     alloc: Global,

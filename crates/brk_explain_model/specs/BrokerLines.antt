@@ -11,25 +11,28 @@ use Rattle.brk_explain_model.specs.Texts.{amount_column, fact, moment_text, mone
 use Rattle.brk_explain_model.specs.Running.{running_lines}
 use Rattle.brk_explain_model.specs.Trades.{is_completed_row}
 
--- The accounts of a broker.
+-- The accounts whose broker is `broker`, in the order of the table CUSTOMER_ACCOUNT.
 abbrev pub accounts_under : Tables → ℕ → List AccountRow
 accounts_under tables broker = filter (λ a. a.broker == broker) tables.accounts
 
--- The broker of an account; 0 if the account does not exist.
+-- The broker of `account`, or 0 if the account does not exist.
 abbrev pub broker_on : Tables → ℕ → ℕ
 broker_on tables account = option_map_or (λ a. a.broker) (account_in tables account) 0
 
--- The completed trades of a broker's accounts, sorted by the stamp of completion, ascending.
+-- The completed trades of the accounts of `broker`, sorted by the stamp of completion, ascending.
 abbrev pub done_under : Tables → ℕ → List TradeRow
 done_under tables broker = sort_by_key (λ u. u.stamp) (filter (λ u. is_completed_row u && (broker_on tables u.account == broker)) tables.trades)
 
--- The row of a trade: its moment, id, account and commission, and the commissions up to it.
+-- The line of the completed trade `u`: the word `Trade`, its timestamp, id, account and commission,
+-- and `total`.
 abbrev pub commission_row : TradeRow → ℤ → Text
 commission_row u total =
     at_left 6 (codes "Trade") ++ 32 ∷ moment_text u.stamp ++ 32 ∷ at_right 13 (decimal u.id) ++ 32 ∷ at_right 13 (decimal u.account)
     ++ amount_column (pos u.commission) ++ amount_column total
 
--- The lines of the explanation of a broker.
+-- All lines of the explanation of the broker `b`: the title, its name, a line for each completed
+-- trade with the running total of commissions, the totals that the row `b` records, and the numbers
+-- of its accounts and trades.
 unfoldable pub broker_lines : Tables → BrokerRow → List Text
 broker_lines tables b =
     (codes "Broker " ++ decimal b.id ++ codes ", times in UTC")

@@ -16,7 +16,8 @@ pub data Explain : Type 0 where
   TradeOf : (trade : ℕ) → Explain
   AccountOf : (account : ℕ) → Explain
 
--- The id that exactly one word parses as, or `BadText`.
+-- The id that the only word parses as, or `BadText` if there is not exactly one word or if it is
+-- malformed.
 abbrev pub read_only_id : List Text → Read ℕ
 read_only_id (id ∷ []) = read_id id
 read_only_id _ = Err BadText
@@ -25,11 +26,11 @@ read_only_id _ = Err BadText
 abbrev pub explain_forms : List (Reader Explain)
 explain_forms = (codes "trade", read_as TradeOf read_only_id) ∷ (codes "account", read_as AccountOf read_only_id) ∷ []
 
--- What the words ask for, or `BadText` if they are malformed.
+-- The object that `words` ask to explain, or `BadText` if they are malformed.
 unfoldable pub explain_words : List Text → Read Explain
 explain_words words = parse_by explain_forms words
 
--- The lines of the row, or the refusal if there is none.
+-- The lines of the row, or `refusal` if there is no row.
 abbrev pub lines_or : {Row : Type 0} → Refusal → (Row → List Text) → Option Row → Result (List Text) Refusal
 lines_or refusal lines None = Err refusal
 lines_or refusal lines (Some row) = Ok (lines row)

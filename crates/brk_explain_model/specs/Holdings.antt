@@ -9,16 +9,17 @@ use Rattle.brk_model.specs.Shares.{signed}
 use Rattle.brk_model.specs.Tables.{Tables, TradeRow, HoldingHistoryRow}
 use Rattle.brk_explain_model.specs.Trades.{is_completed_row, lot_price, lot_stamp, own_lot_in, price_at}
 
--- The completed trades of an account in a symbol, sorted by the stamp of completion, ascending.
+-- The completed trades of `account` in `symbol`, sorted by the stamp of completion, ascending.
 abbrev pub done_in : Tables → ℕ → Text → List TradeRow
 done_in tables account symbol =
     sort_by_key (λ u. u.stamp) (filter (λ u. is_completed_row u && (u.account == account) && bytes_eq u.symbol symbol) tables.trades)
 
--- The quantity of a trade, below 0 for a sale.
+-- The quantity of the trade `u`, negated if it is a sale.
 abbrev pub signed_qty : TradeRow → ℤ
 signed_qty u = signed (side_of u.kind) u.qty
 
--- The value of a trade, in cents: below 0 for a sale.
+-- The quantity of the trade `u` times its price, in cents, negated if it is a sale; 0 if it has no
+-- price.
 abbrev pub signed_value : TradeRow → ℤ
 signed_value u = signed_qty u *ℤ pos (price_at u)
 
@@ -31,20 +32,23 @@ pub record LotChange : Type 0 where
   pub before : ℤ
   pub after : ℤ
 
--- The change of a lot that a HOLDING_HISTORY row records.
+-- The change of a lot that the HOLDING_HISTORY row `row` records, with the stamp and the price of
+-- the trade that made it; each is 0 if this trade does not exist.
 abbrev pub lot_change_of : Tables → HoldingHistoryRow → LotChange
 lot_change_of tables row = record { trade = row.trade; stamp = lot_stamp tables row.trade; price = lot_price tables row.trade; before = row.before; after = row.after }
 
--- True if the row records what another trade changed in the lot.
+-- True if `row` records a change of `lot` by another trade than the one that opened it.
 abbrev pub is_change_of : ℕ → HoldingHistoryRow → Bool
 is_change_of lot row = (row.lot == lot) && not (row.trade == lot)
 
--- The changes of a lot by later trades, sorted by the stamps of these trades, ascending.
+-- The changes of `lot` by other trades than the one that opened it, sorted by the stamps of these
+-- trades, ascending.
 abbrev pub lot_changes_in : Tables → ℕ → List LotChange
 lot_changes_in tables lot = sort_by_key (λ c. c.stamp) (map (lot_change_of tables) (filter (is_change_of lot) tables.holding_history))
 
--- The gain of a change, in cents: the shares that left the lot at the difference of the two prices.
--- Shares that leave a lot that was sold short are below 0, so that the sign is right for both.
+-- The realised gain of the change `c` of a lot that was opened at `price`, in cents: the reduction
+-- of the quantity times the price of `c` minus `price`. The reduction of a lot that was sold short
+-- is below 0, so the sign is right for both.
 abbrev pub change_gain : ℕ → LotChange → ℤ
 change_gain price c = (c.before -ℤ c.after) *ℤ (pos c.price -ℤ pos price)
 
@@ -55,59 +59,62 @@ pub record LotStory : Type 0 where
   pub opened : ℤ
   pub changes : List LotChange
 
--- The quantity that a trade opened, below 0 if it sold short; 0 if it opened no lot.
+-- The quantity of the lot that `trade` opened, below 0 if it sold short; 0 if it opened no lot.
 abbrev pub opened_in : Tables → ℕ → ℤ
 opened_in tables trade = option_map_or (λ row. row.after) (own_lot_in tables trade) (pos 0)
 
--- The lot that a trade opened.
+-- The lot that the trade `u` opened: the trade, the opened quantity, and the later changes.
 abbrev pub lot_story : Tables → TradeRow → LotStory
 lot_story tables u = record { trade = u; opened = opened_in tables u.id; changes = lot_changes_in tables u.id }
 
--- The lots that the completed trades of an account in a symbol opened, in the order of opening.
+-- The lots that the completed trades of `account` in `symbol` opened, sorted by the stamp of
+-- completion, ascending.
 abbrev pub lots_told : Tables → ℕ → Text → List LotStory
 lots_told tables account symbol = map (lot_story tables) (filter (λ u. is_some (own_lot_in tables u.id)) (done_in tables account symbol))
 
--- What is left of a lot: its quantity after the last change, or what was opened if there is none.
+-- The remaining quantity of `lot`: its quantity after the last change, or the opened quantity if it
+-- has no change.
 abbrev pub left_of : LotStory → ℤ
 left_of lot = unwrap_or (last_or None (map (λ c. c.after) lot.changes)) lot.opened
 
--- The cost of what is left of a lot, in cents: below 0 if it was sold short.
+-- The remaining quantity of `lot` times the price at which it was opened, in cents: below 0 if it
+-- was sold short.
 abbrev pub cost_left : LotStory → ℤ
 cost_left lot = left_of lot *ℤ pos (price_at lot.trade)
 
--- The gains of the changes of a lot, in cents.
+-- The sum of the realised gains of the changes of `lot`, in cents.
 abbrev pub lot_gain : LotStory → ℤ
 lot_gain lot = total_by (change_gain (price_at lot.trade)) lot.changes
 
--- The gains of the changes of all lots, in cents.
+-- The sum of the realised gains of `lots`, in cents.
 abbrev pub gains_of : List LotStory → ℤ
 gains_of lots = total_by lot_gain lots
 
--- The gains of an account in a symbol, added up by lot, in cents.
+-- The sum of the realised gains of all lots that `account` opened in `symbol`, in cents.
 abbrev pub gains_told : Tables → ℕ → Text → ℤ
 gains_told tables account symbol = gains_of (lots_told tables account symbol)
 
--- The costs of what is left of all lots, in cents.
+-- The sum of the costs of the remaining shares of `lots`, in cents.
 abbrev pub costs_of : List LotStory → ℤ
 costs_of lots = total_by cost_left lots
 
--- The number of changes of all lots.
+-- The number of the changes of all `lots`.
 abbrev pub changes_count : List LotStory → ℕ
 changes_count lots = length (flat_map (λ lot. lot.changes) lots)
 
--- The lots of which something is left.
+-- Those of `lots` whose remaining quantity is not 0.
 abbrev pub open_lots : List LotStory → List LotStory
 open_lots lots = filter (λ lot. not (is_zero (left_of lot))) lots
 
--- The values of the purchases, in cents.
+-- The sum of the values of the purchases among the trades `done`, in cents.
 abbrev pub purchases : List TradeRow → ℤ
 purchases done = total_by signed_value (filter (λ u. int_lt (pos 0) (signed_value u)) done)
 
--- The values of the sales, in cents: below 0, or 0 if there is none.
+-- The sum of the negated values of the sales among the trades `done`, in cents.
 abbrev pub sales : List TradeRow → ℤ
 sales done = total_by signed_value (filter (λ u. int_lt (signed_value u) (pos 0)) done)
 
--- The quantity of the holding summary of an account in a symbol; 0 if it has none.
+-- The quantity of `account` in `symbol` that HOLDING_SUMMARY records; 0 if there is no row.
 abbrev pub summary_in : Tables → ℕ → Text → ℤ
 summary_in tables account symbol =
     option_map_or (λ row. row.qty) (find (λ row. (row.account == account) && bytes_eq row.symbol symbol) tables.summaries) (pos 0)

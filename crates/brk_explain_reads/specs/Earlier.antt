@@ -3,8 +3,8 @@ use Rattle.std.specs.Prelude.{◌≡◌, ◌+◌, ◌+ℤ◌, if◌then◌else�
 use Rattle.brk_changes.specs.declared.move_row.MoveRow.{MoveRow}
 use Rattle.brk_explain_reads.specs.declared.cash.Earlier.{Earlier}
 
--- The visitor counts the row and adds its amount if the row is before its stamp. Otherwise its sum
--- is unchanged.
+-- The visitor `q` is `p` after `row`: if the stamp of `row` is before that of the visitor, its
+-- count is one more and its total the amount of `row` more; otherwise both are unchanged.
 abbrev pub TakesEarlier : Earlier → MoveRow → Earlier → Type 0
 TakesEarlier p row q =
     (q.until ≡ p.until) × (q.sum.rows ≡ (if nat_lt row.stamp p.until then p.sum.rows + 1 else p.sum.rows))

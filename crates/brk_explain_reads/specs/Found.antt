@@ -16,45 +16,48 @@ use Rattle.brk_explain_reads.specs.declared.lots.TradeLots.{TradeLots}
 use Rattle.brk_explain_reads.specs.declared.settled.Settled.{Settled}
 use Rattle.brk_explain_reads.specs.declared.terms.Terms.{Terms}
 
--- The account's cash rows with stamps before `until`, sorted by stamp, ascending.
+-- The cash rows of `account` with stamps before `until`, sorted by stamp, ascending.
 abbrev pub cash_until : Tables → ℕ → ℕ → List MoveRow
 cash_until t account until = filter (λ r. nat_lt r.stamp until) (cash_in t account)
 
--- The sum is that of the account's cash rows with stamps before `until`.
+-- `sum` has the number and the total of the cash rows of `account` in the tables `t` with stamps
+-- before `until`.
 abbrev pub IsCashUntil : Tables → ℕ → ℕ → CashSum → Type 0
 IsCashUntil t account until sum = (sum.rows ≡ length (cash_until t account until)) × (sum.total ≡ cash_total (cash_until t account until))
 
--- The lots are those that the trade changed, its closings in the order of the table
--- HOLDING_HISTORY.
+-- `lots` has the closings by `trade`, in the order of the table HOLDING_HISTORY, and the lot that
+-- the trade opened, if any, as the tables `t` record them.
 abbrev pub AreLotsByKey : Tables → ℕ → TradeLots → Type 0
 AreLotsByKey t trade lots =
     (map closing_row_of lots.closings.items ≡ map (closing_of t) (filter (is_closing_by trade) t.holding_history)) × (option_map lot_change_of lots.own_lot ≡ own_lot_in t trade)
 
--- The lots are those that the trade changed, its closings in the order of closing.
+-- `lots` has the closings by the trade `u`, in the order of closing, and the lot that the trade
+-- opened, if any, as the tables `t` record them.
 abbrev pub AreLots : Tables → TradeRow → TradeLots → Type 0
 AreLots t u lots = (map closing_row_of lots.closings.items ≡ closings_in t u) × (option_map lot_change_of lots.own_lot ≡ own_lot_in t u.id)
 
--- The order has the trade, the rows of its account and its security, and its status changes, oldest
--- first.
+-- `order` has the trade `row`, the rows of its account and of its security in the tables `t`, and
+-- its status changes, the oldest first.
 pub record IsOrderOf (row : trade.TradeRow) (order : OrderStory) (t : Tables) : Type 0 where
   pub trade : order.trade ≡ row
   pub account : account_in t row.account ≡ Some (account_row_of order.account)
   pub security : security_in t row.symbol ≡ Some (security_of order.security)
   pub statuses : map history_row_of order.statuses.items ≡ statuses_in t row.id
 
--- The terms are those of the trade: the tax rates of the customer of its account, and the commission
--- band for the customer and its security.
+-- `terms` has the tax rates of the customer of the order's account, and the commission band of its
+-- trade for this customer and its security, as the tables `t` have them now.
 abbrev pub AreTerms : Tables → OrderStory → Terms → Type 0
 AreTerms t order terms =
     (map tax_of terms.rates.items ≡ rates_in t order.account.account.customer)
     × (option_map band_of terms.band ≡ band_for t (trade_row_of order.trade) (find (λ c. c.id == order.account.account.customer) t.customers) (Some (security_of order.security)))
 
--- The settlement and the cash row are those of the trade, and the settlement day is that of the
--- tables.
+-- `settled` has the SETTLEMENT row of `trade` (a row of zeros if there is none), its cash row, if
+-- any, and the settlement day of the tables `t`, if any.
 abbrev pub IsSettled : Tables → ℕ → Settled → Type 0
 IsSettled t trade settled =
     (settlement_row_of settled.settlement ≡ settlement_in t trade) × (option_map move_row_of settled.cash ≡ find (is_cash_of trade) t.moves) × (settled.rule ≡ t.rule)
 
--- If the order is that of its trade, the results are those of the trade.
+-- `story` has the results of the order's trade in the tables `t`. Vacuous if `order` is not the
+-- order of its trade in these tables (`IsOrderOf`).
 abbrev pub IsResultOf : OrderStory → ResultStory → Tables → Type 0
 IsResultOf order story t = IsOrderOf order.trade order t → result_story_of story ≡ result_story t (trade_row_of order.trade)

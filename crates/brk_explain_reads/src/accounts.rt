@@ -14,8 +14,8 @@ use brk_store::Store;
 use sqlite::Alter;
 use std::alloc::Global;
 
-// Returns a holding summary with the last price of its symbol. Fails with `Store` if the symbol has
-// none.
+// Returns a holding summary with the last price of its symbol. Fails with `Memory` or `Store`; with
+// `Store` also if the symbol has no last price.
 fn with_price<S: Alter>(store: &mut Store<S>, summary: SummaryRow) -> Result<Held, Fault>
     ensures read { ReadPost S.Store store.old store.new result (λ held t. held_of held ≡ held_at t (summary_row_of summary)) }
     ensures fault { IfErr result MayFail }
@@ -29,7 +29,8 @@ fn with_price<S: Alter>(store: &mut Store<S>, summary: SummaryRow) -> Result<Hel
     }
 }
 
-// Returns the holding summaries of an account with last prices, sorted by symbol, ascending.
+// Returns the holding summaries of an account with their last prices, sorted by symbol, ascending.
+// Fails with `Memory` or `Store`; with `Store` also if a symbol has no last price.
 fn find_held<S: Alter>(alloc: Global, store: &mut Store<S>, account: Id) -> Result<Vec<Held>, Fault>
     ensures read { ReadPost S.Store store.old store.new result (λ held t. map held_of held.items ≡ held_in t account) }
     ensures fault { IfErr result MayFail }

@@ -18,7 +18,8 @@ pub struct CashSum {
     pub total: Wide,
 }
 
-// Returns the sum with one more cash row. Fails with `Store` only.
+// Returns the sum with one more cash row of this amount. Fails with `Store` if the number or the
+// total does not fit.
 fn with_row(sum: &CashSum, amount: Cents) -> Result<CashSum, Fault>
     ensures sum { IfOk result (λ more. (more.rows ≡ sum.now.rows + 1) × (more.total ≡ sum.now.total +ℤ amount)) }
     ensures fault { OnErr result (result ≡ Err fault.Store) }
@@ -55,6 +56,8 @@ impl Visitor<MoveRow, Fault> for Earlier {
 
     ghost stops = { λ _ _ e _. e ≡ Store };
 
+    /// Counts the cash row and adds its amount if its stamp is before `until`. Fails with `Store`
+    /// if the number or the total does not fit.
     fn visit(&mut self, item: &MoveRow) -> Result<(), Fault> {
         if item.stamp.get() < self.until.get() {
             self.sum = with_row(&self.sum, item.amount)?;
@@ -67,7 +70,7 @@ impl Visitor<MoveRow, Fault> for Earlier {
     ghost transitive = { λ _ _ _ _ _. tt };
 }
 
-// Returns the fault of a walk that failed: `Memory` if the walk failed with it, otherwise `Store`.
+// Returns the fault of a walk that failed: `Memory` if the desk failed with it, otherwise `Store`.
 fn fault_in(stop: WalkError<Fault>) -> Fault
     ensures { MayFail result }
 {
@@ -77,8 +80,8 @@ fn fault_in(stop: WalkError<Fault>) -> Fault
     }
 }
 
-// Returns the number of the cash rows of an account with stamps before `until`, and the sum of
-// their amounts.
+// Returns the number and the total of the cash rows of an account with stamps before `until`. Fails
+// with `Memory` or `Store`.
 pub(crate) fn find_cash_until<S: Alter>(
     store: &mut Store<S>,
     account: Id,

@@ -13,7 +13,7 @@ use brk_ref::{AccountRow, Customer, Security, Symbol, Tax};
 use brk_store::Store;
 use sqlite::Alter;
 
-// Returns the trade with an id. Fails with `Store` if there is none.
+// Returns the trade with an id. Fails with `Memory` or `Store`; with `Store` also if there is none.
 pub(crate) fn known_trade<S: Alter>(store: &mut Store<S>, id: Id) -> Result<TradeRow, Fault>
     ensures read { ReadPost S.Store store.old store.new result (λ trade t. trade_in t id ≡ Some (trade_row_of trade)) }
     ensures fault { IfErr result MayFail }
@@ -24,7 +24,8 @@ pub(crate) fn known_trade<S: Alter>(store: &mut Store<S>, id: Id) -> Result<Trad
     }
 }
 
-// Returns the account with an id. Fails with `Store` if there is none.
+// Returns the row of the account with an id. Fails with `Memory` or `Store`; with `Store` also if
+// there is none.
 pub(crate) fn known_account<S: Alter>(store: &mut Store<S>, id: Id) -> Result<AccountRow, Fault>
     ensures read { ReadPost S.Store store.old store.new result (λ account t. account_in t id ≡ Some (account_row_of account)) }
     ensures fault { IfErr result MayFail }
@@ -35,7 +36,8 @@ pub(crate) fn known_account<S: Alter>(store: &mut Store<S>, id: Id) -> Result<Ac
     }
 }
 
-// Returns the customer with an id. Fails with `Store` if there is none.
+// Returns the customer with an id. Fails with `Memory` or `Store`; with `Store` also if there is
+// none.
 pub(crate) fn known_customer<S: Alter>(store: &mut Store<S>, id: Id) -> Result<Customer, Fault>
     ensures read { ReadPost S.Store store.old store.new result (λ customer t. find (λ r. r.id == id) t.customers ≡ Some (customer_of customer)) }
     ensures fault { IfErr result MayFail }
@@ -46,7 +48,8 @@ pub(crate) fn known_customer<S: Alter>(store: &mut Store<S>, id: Id) -> Result<C
     }
 }
 
-// Returns the security with a symbol. Fails with `Store` if there is none.
+// Returns the security with a symbol. Fails with `Memory` or `Store`; with `Store` also if there is
+// none.
 pub(crate) fn known_security<S: Alter>(
     store: &mut Store<S>,
     symbol: &Symbol,
@@ -60,7 +63,7 @@ pub(crate) fn known_security<S: Alter>(
     }
 }
 
-// Returns the tax with an id. Fails with `Store` if there is none.
+// Returns the tax with an id. Fails with `Memory` or `Store`; with `Store` also if there is none.
 pub(crate) fn known_tax<S: Alter>(store: &mut Store<S>, id: Id) -> Result<Tax, Fault>
     ensures read { ReadPost S.Store store.old store.new result (λ tax t. find (λ r. r.id == id) t.tax_rates ≡ Some (tax_of tax)) }
     ensures fault { IfErr result MayFail }
@@ -71,7 +74,8 @@ pub(crate) fn known_tax<S: Alter>(store: &mut Store<S>, id: Id) -> Result<Tax, F
     }
 }
 
-// Returns the settlement of a trade. Fails with `Store` if there is none.
+// Returns the settlement of a trade. Fails with `Memory` or `Store`; with `Store` also if there is
+// none.
 pub(crate) fn known_settlement<S: Alter>(
     store: &mut Store<S>,
     trade: Id,

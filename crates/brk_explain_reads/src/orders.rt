@@ -16,7 +16,7 @@ use brk_store::Store;
 use sqlite::Alter;
 use std::alloc::Global;
 
-// Returns the status changes of a trade, the oldest first.
+// Returns the status changes of a trade, the oldest first. Fails with `Memory` or `Store`.
 fn find_statuses<S: Alter>(
     alloc: Global,
     store: &mut Store<S>,
@@ -30,7 +30,8 @@ fn find_statuses<S: Alter>(
     Ok(statuses)
 }
 
-// Returns a trade as ordered. Fails with `Store` also if its account or its security does not exist.
+// Returns a trade as ordered. Fails with `Memory` or `Store`; with `Store` also if its account or
+// its security does not exist.
 pub(crate) fn find_order<S: Alter>(
     alloc: Global,
     store: &mut Store<S>,

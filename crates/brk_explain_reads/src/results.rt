@@ -15,8 +15,8 @@ use brk_store::Store;
 use sqlite::Alter;
 use std::alloc::Global;
 
-// Returns the results of a completed trade. Fails with `Store` also if it has no price, or if a row
-// does not exist that another row names.
+// Returns the results of a completed trade. Fails with `Memory` or `Store`; with `Store` also if it
+// has no price, or if a row that another row names does not exist.
 pub(crate) fn find_result<S: Alter>(
     alloc: Global,
     store: &mut Store<S>,

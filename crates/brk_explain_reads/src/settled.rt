@@ -11,7 +11,7 @@ use brk_money::{Day, Fault, Id};
 use brk_store::Store;
 use sqlite::Alter;
 
-/// How a trade was settled, and the settlement day.
+/// The settlement and the cash row of a trade, and the settlement day.
 #[derive(Drop)]
 pub struct Settled {
     pub settlement: SettlementRow,
@@ -21,7 +21,8 @@ pub struct Settled {
     pub rule: Option<Day>,
 }
 
-// Returns the settlement of a trade. Fails with `Store` also if it has none.
+// Returns the settlement and the cash row of a trade, and the settlement day. Fails with `Memory`
+// or `Store`; with `Store` also if the trade has no settlement.
 pub(crate) fn find_settled<S: Alter>(store: &mut Store<S>, trade: Id) -> Result<Settled, Fault>
     ensures read { ReadPost S.Store store.old store.new result (λ settled t. IsSettled t trade settled) }
     ensures fault { IfErr result MayFail }

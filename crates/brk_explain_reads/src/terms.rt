@@ -16,15 +16,15 @@ use brk_store::Store;
 use sqlite::Alter;
 use std::alloc::Global;
 
-/// The tax rates of a trade's customer, and the commission band of its quantity.
+/// The tax rates of the customer of a trade, and the commission band of its quantity.
 #[derive(Drop)]
 pub struct Terms {
     pub rates: Vec<Tax>,
     pub band: Option<Band>,
 }
 
-// Returns the tax rates of a customer, sorted by id, ascending. Fails with `Store` also if one of
-// them does not exist.
+// Returns the tax rates of a customer, sorted by id, ascending. Fails with `Memory` or `Store`;
+// with `Store` also if one of them does not exist.
 fn find_rates<S: Alter>(
     alloc: Global,
     store: &mut Store<S>,
@@ -42,14 +42,14 @@ fn find_rates<S: Alter>(
     Ok(rates)
 }
 
-// Returns true if the quantity is between the band's bounds, both included.
+// Returns true if the bounds of the band contain the quantity.
 fn has_qty(band: &Band, qty: Qty) -> bool
     ensures { result ≡ nat_le band.now.from_qty qty && nat_le qty band.now.to_qty }
 {
     band.from_qty.get() <= qty.get() && qty.get() <= band.to_qty.get()
 }
 
-// Returns the band if its bounds contain the quantity, otherwise `other`.
+// Returns `band` if its bounds contain the quantity, otherwise `other`.
 fn band_or(band: Band, qty: Qty, other: Option<Band>) -> Option<Band>
     ensures { option_map band_of result ≡ (if nat_le band.from_qty qty && nat_le qty band.to_qty then Some (band_of band) else option_map band_of other) }
 {
@@ -72,7 +72,8 @@ fn band_with(bands: Vec<Band>, qty: Qty) -> Option<Band>
     found
 }
 
-// Returns the commission band of a trade for a tier, or `None` if there is none.
+// Returns the commission band of a trade for a tier, or `None` if there is none. Fails with
+// `Memory` or `Store`.
 fn find_band<S: Alter>(
     alloc: Global,
     store: &mut Store<S>,
@@ -86,7 +87,8 @@ fn find_band<S: Alter>(
     Ok(band_with(bands, order.trade.qty))
 }
 
-// Returns the terms of a trade. Fails with `Store` also if its customer does not exist.
+// Returns the tax rates of the customer of a trade, and its commission band. Fails with `Memory` or
+// `Store`; with `Store` also if the customer or one of the rates does not exist.
 pub(crate) fn find_terms<S: Alter>(
     alloc: Global,
     store: &mut Store<S>,

@@ -16,17 +16,17 @@ use brk_store::Store;
 use sqlite::Alter;
 use std::alloc::Global;
 
-// Returns true if the trade is completed.
+// Returns true if the status of the trade is completed.
 fn is_completed(trade: &TradeRow) -> bool
     ensures { result ≡ same_status trade.now.status Completed }
 {
     trade.status == Status::Completed
 }
 
-/// Returns what the explanation of a trade reads, or `None` if the trade does not exist.
+/// Returns the facts that the explanation of a trade reads, or `None` if the trade does not exist.
 ///
-/// Fails with `Memory` or `Store` only; with `Store` also if a row does not exist that another row
-/// names, or if a completed trade has no price or no settlement. The open database is unchanged,
+/// Fails with `Memory` or `Store` only; with `Store` also if a row that another row names does not
+/// exist, or if a completed trade has no price or no settlement. The open database is unchanged,
 /// whatever the result.
 pub fn trade_story<S: Alter>(
     alloc: Global,

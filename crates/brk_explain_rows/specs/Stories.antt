@@ -13,11 +13,11 @@ use Rattle.brk_explain_rows.specs.declared.story.OrderStory as order_story
 use Rattle.brk_explain_rows.specs.declared.story.ResultStory as result_story
 use Rattle.brk_explain_rows.specs.declared.story.TradeStory as trade_story
 
--- The abstract closing of a closing.
+-- The model's closing with the values of the typed closing `c`.
 abbrev pub closing_row_of : closing.Closing → Closing
 closing_row_of c = record { lot = c.lot; stamp = c.stamp; price = c.price; before = c.before; after = c.after }
 
--- The abstract order of a trade as ordered.
+-- The model's trade as ordered with the values of the typed rows of `o`.
 abbrev pub order_story_of : order_story.OrderStory → OrderStory
 order_story_of o = record {
   trade = trade_row_of o.trade;
@@ -30,7 +30,7 @@ order_story_of o = record {
   statuses = map history_row_of o.statuses.items;
 }
 
--- The abstract results of a completed trade.
+-- The model's results of a completed trade with the values of the typed rows of `r`.
 abbrev pub result_story_of : result_story.ResultStory → ResultStory
 result_story_of r = record {
   price = r.price;
@@ -45,20 +45,22 @@ result_story_of r = record {
   rule = r.rule;
 }
 
--- The abstract story of a trade's story.
+-- The model's facts of a trade with the values of the typed facts `s`.
 abbrev pub trade_story_of : trade_story.TradeStory → TradeStory
 trade_story_of s = record { order = order_story_of s.order; result = option_map result_story_of s.result }
 
--- The story is that of the trade with this id. It is `None` if the trade does not exist.
+-- The facts `s` are those that the explanation of `trade` reads from the tables `t`. They are
+-- `None` exactly if the trade does not exist.
 abbrev pub IsStoryOf : ℕ → Option trade_story.TradeStory → Tables → Type 0
 IsStoryOf trade None t = trade_in t trade ≡ None
 IsStoryOf trade (Some s) t = (u : TradeRow) × (trade_in t trade ≡ Some u) × (trade_story_of s ≡ story_of t u)
 
--- The abstract holding summary with its last price.
+-- The model's holding summary with its last price, with the values of the typed holding `h`.
 abbrev pub held_of : held.Held → Held
 held_of h = record { summary = summary_row_of h.summary; price = h.price }
 
--- The story is that of the account with this id. It is `None` if the account does not exist.
+-- The facts `s` are the row of `account` in the tables `t` and its holding summaries with their
+-- last prices. They are `None` exactly if the account does not exist.
 abbrev pub IsAccountOf : ℕ → Option account_story.AccountStory → Tables → Type 0
 IsAccountOf account None t = account_in t account ≡ None
 IsAccountOf account (Some s) t = (account_in t account ≡ Some (account_row_of s.account)) × (map held_of s.held.items ≡ held_in t account)

@@ -9,7 +9,7 @@ pub struct Held {
     pub price: Price,
 }
 
-/// What the explanation of an account reads beside the rows over which it walks.
+/// The row of an account, and its holding summaries with their last prices.
 #[derive(Drop)]
 pub struct AccountStory {
     pub account: AccountRow,

@@ -1,6 +1,7 @@
 use brk_money::{Id, Price, Stamp};
 
-/// A lot of which a trade closed shares. Its quantities are below 0 if it was sold short.
+/// A lot of which a trade closed shares, with its quantity before and after the closing, below 0 if
+/// it was sold short.
 #[derive(Clone, Copy)]
 pub struct Closing {
     /// The trade that opened the lot.

@@ -3,7 +3,7 @@ use brk_changes::{HistoryRow, LotChange, MoveRow, SettlementRow, TradeRow};
 use brk_money::{Day, Price, Wide};
 use brk_ref::{AccountRow, Band, Security, Tax};
 
-/// A trade as ordered.
+/// A trade as ordered, with the rows of its account and its security, and its status changes.
 #[derive(Drop)]
 pub struct OrderStory {
     pub trade: TradeRow,
@@ -36,7 +36,8 @@ pub struct ResultStory {
     pub rule: Option<Day>,
 }
 
-/// What the explanation of a trade reads: the trade as ordered, and its results if it is completed.
+/// The facts that the explanation of a trade reads: the trade as ordered, and its results if it is
+/// completed.
 #[derive(Drop)]
 pub struct TradeStory {
     pub order: OrderStory,

@@ -1,4 +1,4 @@
--- What is printed of the lots that a completed trade closed, and the deal that it recorded.
+-- The printed lots that a completed trade closed, and the deal of the trade.
 use Rattle.std.specs.Prelude.{◌≡◌, ⊤, ◌+◌, ◌-◌, List, [], ◌∷◌, pos, nat_abs}
 use Rattle.brk_money.specs.Kinds.{side_of}
 use Rattle.brk_model.specs.Records.{Trade}
@@ -10,22 +10,23 @@ use Rattle.brk_model.specs.Tables.{trade_row}
 use Rattle.brk_explain_model.specs.Trades.{Closing, ResultStory, buy_total, gain_total, opened, result_story, sell_total, taken_total}
 use Rattle.brk_explain_theorems.specs.Before.{shares_before}
 
--- All elements but the last one satisfy `P`.
+-- All elements of the list but the last one satisfy `P`.
 abbrev pub AllButLast : {X : Type 0} → (X → Type 0) → List X → Type 0
 AllButLast P [] = ⊤
 AllButLast P (x ∷ []) = ⊤
 AllButLast P (x ∷ y ∷ xs) = P x × AllButLast P (y ∷ xs)
 
--- Nothing of the lot is left.
+-- The closing closes its lot completely: the quantity after it is 0.
 abbrev pub LeavesNothing : Closing → Type 0
 LeavesNothing c = c.after ≡ pos 0
 
--- The results of the trade, as its explanation reads them from the tables of the base.
+-- The figures of the trade's result that its explanation reads from the tables of the base.
 abbrev pub story_in : Base → Trade → ResultStory
 story_in base t = result_story (sheets base) (trade_row t)
 
--- The closings of the trade are the shares that its deal closes of those that its account held in
--- its symbol before it.
+-- The printed closings of the trade match the deal that the trade is. The buy value, the sell
+-- value, the gain and the number of the closed shares are those of the deal on the shares before
+-- the trade, and all lots but the last are closed completely.
 pub record ClosesAsTold (base : Base) (t : Trade) : Type 0 where
   -- BUY and SELL are the buy value and the sell value of the deal, so Realised gain is its gain.
   pub bought : buy_total (side_of t.kind) (price_of t) (story_in base t).closings ≡ buy_value (deal_of t) (shares_before base t)
@@ -37,5 +38,5 @@ pub record ClosesAsTold (base : Base) (t : Trade) : Type 0 where
   pub lot : opened (story_in base t) ≡ signed (side_of t.kind) (t.qty - closed_count (deal_of t) (shares_before base t))
   -- Shares closed and Shares opened add up to the quantity of the trade.
   pub quantity : taken_total (story_in base t).closings + nat_abs (opened (story_in base t)) ≡ t.qty
-  -- Only of the last lot something is left.
+  -- All lots but the last are closed completely.
   pub left : AllButLast LeavesNothing (story_in base t).closings

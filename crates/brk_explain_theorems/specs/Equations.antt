@@ -1,4 +1,4 @@
--- What is printed of the settlement of a completed trade, of its tax and of its commission.
+-- The settlement, the tax and the commission that the explanation of a completed trade prints.
 use Rattle.std.specs.Prelude.{◌≡◌, ◌+◌, if◌then◌else◌, pos, neg_ℤ, ◌+ℤ◌}
 use Rattle.brk_money.specs.Moments.{day_of}
 use Rattle.brk_model.specs.Records.{Trade}
@@ -11,11 +11,13 @@ use Rattle.brk_explain_model.specs.Trades.{OrderStory, cash_moved, commission_no
 use Rattle.brk_explain_theorems.specs.Before.{shares_before}
 use Rattle.brk_explain_theorems.specs.Closings.{story_in}
 
--- The trade as ordered, as its explanation reads it from the tables of the base.
+-- The figures of the trade's order that its explanation reads from the tables of the base.
 abbrev pub order_in : Base → Trade → OrderStory
 order_in base t = order_story (sheets base) (trade_row t)
 
--- The settlement of the trade is the sum of the lines above it, and so is its due day.
+-- The printed settlement of the trade is the sum of the printed lines above it, and equals its
+-- settlement amount. The due day, the cash moved, and the tax and the commission at current rates
+-- equal the model's.
 pub record SettlesAsTold (base : Base) (t : Trade) : Type 0 where
   -- Settlement is Value plus Charge, Commission and Tax withheld, which are printed below 0.
   pub sum : (story_in base t).settlement.amount

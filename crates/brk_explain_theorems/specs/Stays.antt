@@ -1,4 +1,4 @@
--- What stays in the explanation of a completed trade, through any run of calls.
+-- The figures in the explanation of a completed trade that no run of calls changes.
 use Rattle.std.specs.Prelude.{◌≡◌, [], option_map}
 use Rattle.brk_model.specs.Records.{Trade}
 use Rattle.brk_model.specs.Base.{Base}
@@ -9,10 +9,10 @@ use Rattle.brk_explain_theorems.specs.Balances.{after_in, before_in}
 use Rattle.brk_explain_theorems.specs.Closings.{story_in}
 use Rattle.brk_explain_theorems.specs.Equations.{order_in}
 
--- The explanation of the trade `t` of the base, and that of the same trade, `u`, of the base `later`,
--- have the same columns, lots, amounts, days and balances.
+-- The explanation of the trade `u` of the base `later` prints the figures that the explanation of
+-- the trade `t` of `base` prints. The executor's name may differ.
 pub record StaysTold (base later : Base) (t u : Trade) : Type 0 where
-  -- All columns of the trade but the executor's name.
+  -- All columns of the row of TRADE but the executor's name.
   pub row : record (trade_row u) { executor = [] } ≡ record (trade_row t) { executor = [] }
   pub customer : (order_in later u).customer ≡ (order_in base t).customer
   pub broker : (order_in later u).broker ≡ (order_in base t).broker

@@ -1,4 +1,4 @@
--- What the reply to a result says, and what the explanation of its trade prints.
+-- The figures in the reply to a result, and those that the explanation of its trade prints.
 use Rattle.std.specs.Prelude.{◌≡◌}
 use Rattle.brk_money.specs.Kinds.{side_of}
 use Rattle.brk_model.specs.Records.{Trade}
@@ -10,8 +10,8 @@ use Rattle.brk_explain_theorems.specs.Balances.{after_in}
 use Rattle.brk_explain_theorems.specs.Closings.{story_in}
 use Rattle.brk_explain_theorems.specs.Equations.{order_in}
 
--- The figures of the completion are those that the explanation of the trade prints from the tables
--- of the base.
+-- The explanation of the trade `t`, computed from the tables of the base, prints the figures of the
+-- completion `c`: commission, tax, settlement amount, due day, buy value, sell value and balance.
 pub record TellsCompletion (base : Base) (t : Trade) (c : Completion) : Type 0 where
   pub commission : (order_in base t).trade.commission ≡ c.commission
   pub tax : (order_in base t).trade.tax ≡ c.tax

@@ -11,11 +11,11 @@ ghost use Rattle.brk_model.specs.Tests.{refusal_of};
 ghost use Rattle.brk_book_theorems.specs.Books.{BooksInvariant};
 ghost use Rattle.brk_explain_theorems.specs.Balances.{AccountAsTold, BalancesAsTold, KeepsBalanceAfter};
 
-/// Proves that all cash rows of an account are listed, that the last running balance is its
-/// balance, and that this with the market values of its holdings is its assets. The balances before
-/// and after a completed trade are those of its account by the postings before its completion, and
-/// by these and its own. Through any run after an accepted result the balance after the trade stays
-/// the balance of its account in the base after that result.
+/// Proves that the explanation of an account lists all its cash rows, that its last printed balance
+/// is the account's balance, and that this plus the market values of its holdings is its assets.
+/// The printed balances before and after a completed trade are those by the postings up to its
+/// completion. After an accepted result and any run, the printed balance after its trade is the
+/// balance right after the result. The base satisfies the books invariant.
 pub fn balances_are_explained()
     ensures account { (base : Base) (id : ℕ) (r : AccountRow) → BooksInvariant base → account_in (sheets base) id ≡ Some r → AccountAsTold base r }
     ensures trade { (base : Base) (t : Trade) → BooksInvariant base → trade_with base t.id ≡ Some t → is_completed t ≡ true → BalancesAsTold base t }

@@ -7,8 +7,9 @@ ghost use Rattle.brk_model.specs.Tables.{BrokerRow};
 ghost use Rattle.brk_book_theorems.specs.Books.{BooksInvariant};
 ghost use Rattle.brk_explain_theorems.specs.Brokers.{BrokerAsTold};
 
-/// Proves that the last running sum of a broker's commissions is the broker's total, and that as
-/// many trades are listed as the broker has.
+/// Proves that the last printed running sum of a broker's commissions is the broker's commission
+/// total, and that the number of printed trades is its trade count, if the base satisfies the books
+/// invariant.
 pub fn commissions_are_explained()
     ensures { (base : Base) (id : ℕ) (b : BrokerRow) → BooksInvariant base → find (λ r. r.id == id) (sheets base).brokers ≡ Some b → BrokerAsTold base b }
 {}

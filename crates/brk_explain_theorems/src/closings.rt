@@ -6,9 +6,10 @@ ghost use Rattle.brk_model.specs.Records.{Trade};
 ghost use Rattle.brk_book_theorems.specs.Books.{BooksInvariant};
 ghost use Rattle.brk_explain_theorems.specs.Closings.{ClosesAsTold};
 
-/// Proves that the closings of a completed trade are the shares that its deal closes: what they
-/// were bought and sold for, how many they are, and that all lots but the last are closed whole.
-/// With the shares that it opened they are its quantity.
+/// Proves that the printed closings of a completed trade match its deal: the buy value, the sell
+/// value, the gain and the number of closed shares. All lots but the last are closed completely,
+/// and the closed and the opened shares total the trade's quantity. The base satisfies the books
+/// invariant.
 pub fn closings_are_explained()
     ensures { (base : Base) (t : Trade) → BooksInvariant base → trade_with base t.id ≡ Some t → is_completed t ≡ true → ClosesAsTold base t }
 {}

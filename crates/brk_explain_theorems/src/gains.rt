@@ -10,11 +10,10 @@ ghost use Rattle.brk_explain_model.specs.Holdings.{summary_in};
 ghost use Rattle.brk_book_theorems.specs.Books.{BooksInvariant};
 ghost use Rattle.brk_explain_theorems.specs.Gains.{HoldingAsTold, MovesItsShares};
 
-/// Proves that gains added up by lot are the gains of the position's deals, that the costs of what
-/// is left of the lots are its cost basis, and that this is realised gain plus purchases plus
-/// sales. The last running sum of the shares and the sum of what is left are the quantity of the
-/// holding. The shares by which a completed trade changed lots are its quantity. The quantity that
-/// is printed of a known account in a known security is that of the holding.
+/// Proves that the printed gains of a holding equal the gains of its deals, that the printed costs
+/// of its open lots equal its cost basis, and that this is realised gain + purchases + sales, where
+/// sales count below 0. The printed numbers of shares equal the quantity of the holding. The lot
+/// changes of a completed trade sum to its quantity. The base satisfies the books invariant.
 pub fn gains_are_explained()
     ensures holding { (base : Base) (account : ℕ) (symbol : Text) → BooksInvariant base → HoldingAsTold base account symbol }
     ensures trade { (base : Base) (t : Trade) → BooksInvariant base → trade_with base t.id ≡ Some t → is_completed t ≡ true → MovesItsShares base t }

@@ -1,5 +1,5 @@
 //! Theorems about explanations: the totals that they print follow from the lines above them, and
-//! are the numbers of the tables. Proof-only: there is no code to call.
+//! equal the numbers in the tables. Proof-only: there is no code to call.
 #![tactic(auto)]
 
 pub mod balances;

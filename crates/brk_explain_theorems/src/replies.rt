@@ -10,9 +10,9 @@ ghost use Rattle.brk_model.specs.Step.{step};
 ghost use Rattle.brk_book_theorems.specs.Books.{BooksInvariant};
 ghost use Rattle.brk_explain_theorems.specs.Told.{TellsCompletion};
 
-/// Proves that after an accepted result, with or without a key, the commission, the tax, the
-/// amount, the due day, the buy value, the sell value and the balance of its reply are those that
-/// the explanation of its trade prints.
+/// Proves that after an accepted result, with or without a key, the explanation of its trade prints
+/// the commission, tax, amount, due day, buy value, sell value and balance of the reply, if the
+/// base satisfies the books invariant.
 pub fn explanations_are_told()
     ensures result { (base after : Base) (now id price stamp : ℕ) (c : Completion) → BooksInvariant base → step base now (CompleteTrade id price) ≡ Ok (CompletedTrade stamp c, after)
         → (u : Trade) × (trade_with after id ≡ Some u) × TellsCompletion after u c }

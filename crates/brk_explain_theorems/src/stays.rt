@@ -1,4 +1,4 @@
-//! Theorems: the explanation of a completed trade stays.
+//! Theorems: no run of calls changes the figures in the explanation of a completed trade.
 
 ghost use Rattle.std.specs.Prelude.{◌≡◌, ℕ, List, Some, true};
 ghost use Rattle.brk_model.specs.Base.{Base, is_completed, trade_with};
@@ -7,8 +7,9 @@ ghost use Rattle.brk_model.specs.Run.{Call, Outcome, Run};
 ghost use Rattle.brk_book_theorems.specs.Books.{BooksInvariant};
 ghost use Rattle.brk_explain_theorems.specs.Stays.{StaysTold};
 
-/// Proves that through any run of calls a completed trade stays, with the columns, the lots, the
-/// amounts, the days and the balances that its explanation prints.
+/// Proves that after any run of calls the explanation of a completed trade prints the columns,
+/// lots, amounts, days and balances that it printed before the run. The executor's name may differ.
+/// The base satisfies the books invariant.
 pub fn explanations_stay()
     ensures { (base later : Base) (calls : List (ℕ × Call)) (outcomes : List Outcome) (t : Trade) → BooksInvariant base → Run base calls outcomes later
         → trade_with base t.id ≡ Some t → is_completed t ≡ true → (u : Trade) × (trade_with later t.id ≡ Some u) × StaysTold base later t u }

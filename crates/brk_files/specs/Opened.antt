@@ -11,10 +11,10 @@ use Rattle.brk_changes.specs.Schemas.{schema_of}
 use Rattle.brk_store.specs.Audited.{Answered, Represents, AdoptPost, IsDefinedIn}
 use Rattle.brk_store.specs.Holds.{AreTreesOf, OnlyCrashState}
 
--- The store is the desk of the rows that a file held. If the database found is defined, the rows
--- pass the audit of their schema, and the store represents their base, in schema 3. A crash then
--- exposes only the tables of this base. Says nothing of these if the disk assumption fails, or once
--- the store is closed.
+-- The store is a desk that was adopted from a connection in the state `found`. If the database of
+-- `found` is defined, its rows pass the audit of their schema, and the store represents their base,
+-- in schema 3; a crash then exposes only the tables of this base. The latter is vacuous if the disk
+-- assumption fails, or once the store is closed.
 pub record RepresentsRows {S : Type 0} (g : Ghosts S) (store : Held S) : Type 0 where
   -- The state of the connection when the file was opened.
   pub found : Held S

@@ -1,4 +1,4 @@
--- What opening the desk in a file did.
+-- The connections and calls by which a desk in a file was opened.
 use Rattle.std.specs.Prelude.{◌≡◌, ◌⊎◌, Result, Ok, Err}
 use Rattle.sqlite_disk.specs.declared.Disk.{Ghosts}
 use Rattle.sqlite_store.specs.declared.store.FileStore.{FileStore}
@@ -11,13 +11,12 @@ use Rattle.brk_store.specs.Audited.{AdoptPost}
 use Rattle.brk_store.specs.Holds.{CreatePost}
 use Rattle.brk_files.specs.Files.{IsOpenedFile, IsClosedFile}
 
--- The result is that of the adoption of the connection `conn`.
+-- The result is that of adopting the database of the connection `conn`: the store, or the fault.
 abbrev pub IsAdoption : {D : Type 0} {g : Ghosts D} → Held (FileStore D g) → Result (Held (FileStore D g)) Fault → Type 0
 IsAdoption conn (Ok store) = AdoptPost over_files conn store (Ok tt)
 IsAdoption {D} {g} conn (Err fault) = (left : Held (FileStore D g)) × AdoptPost over_files conn left (Err fault)
 
--- A desk was created over a connection that was opened for it, and was closed. The connection
--- `conn` was opened after it.
+-- A desk was created over a new connection and closed, and then the connection `conn` was opened.
 pub record IsCreated {D : Type 0} {g : Ghosts D} (conn : Held (FileStore D g)) : Type 0 where
   pub first : Held (FileStore D g)
   pub desk : Held (FileStore D g)
@@ -26,27 +25,30 @@ pub record IsCreated {D : Type 0} {g : Ghosts D} (conn : Held (FileStore D g)) :
   pub closed : IsClosedFile desk
   pub opened : IsOpenedFile conn
 
--- A connection was opened, and a creation of a desk was refused over it, since one of the tables of
--- a desk exists. It then is `conn`.
+-- The connection `conn` was opened, and creating a desk over it failed with `NotEmpty`, because one
+-- of the tables of a desk exists.
 pub record IsTaken {D : Type 0} {g : Ghosts D} (conn : Held (FileStore D g)) : Type 0 where
   pub first : Held (FileStore D g)
   pub began : IsOpenedFile first
   pub refused : CreatePost over_files first conn (Err (fault.Damaged condition.NotEmpty))
 
--- The result of opening the desk in a file. At `Ok` and `Damaged` it is that of the adoption of a
--- connection that was opened for it. `Damaged(Schema)` may also be returned without one.
+-- The postcondition of opening an existing desk. `Ok` and `Damaged`: a connection was opened, and
+-- the result is that of adopting its database; `Damaged(Schema)` may also be returned without a
+-- connection. It says nothing of `Memory` and `Store`.
 abbrev pub OpenPost : {D : Type 0} {g : Ghosts D} → Result (Held (FileStore D g)) Fault → Type 0
 OpenPost {D} {g} (Ok store) = (conn : Held (FileStore D g)) × IsOpenedFile conn × IsAdoption conn (Ok store)
 OpenPost {D} {g} (Err (fault.Damaged c)) = (c ≡ condition.Schema) ⊎ ((conn : Held (FileStore D g)) × IsOpenedFile conn × IsAdoption conn (Err (fault.Damaged c)))
 OpenPost (Err fault.Memory) = Unit {0}
 OpenPost (Err fault.Store) = Unit {0}
 
--- The connection is to a desk that was just created, or to a database with a table of a desk.
+-- The connection is to a desk that was just created, or to a database that has one of the tables of
+-- a desk.
 abbrev pub HasSomeDesk : {D : Type 0} {g : Ghosts D} → Held (FileStore D g) → Type 0
 HasSomeDesk conn = IsCreated conn ⊎ IsTaken conn
 
--- The result of opening the desk in a file, which is created if there is none. At `Ok` and
--- `Damaged` it is that of the adoption of such a connection.
+-- The postcondition of opening a desk that is created if there is none. `Ok` and `Damaged`: the
+-- result is that of adopting the database of a connection to a new desk, or to a database that has
+-- one of the tables of a desk. It says nothing of `Memory` and `Store`.
 abbrev pub OpenOrMakePost : {D : Type 0} {g : Ghosts D} → Result (Held (FileStore D g)) Fault → Type 0
 OpenOrMakePost {D} {g} (Ok store) = (conn : Held (FileStore D g)) × HasSomeDesk conn × IsAdoption conn (Ok store)
 OpenOrMakePost {D} {g} (Err (fault.Damaged c)) = (conn : Held (FileStore D g)) × HasSomeDesk conn × IsAdoption conn (Err (fault.Damaged c))

@@ -18,6 +18,8 @@ use std::io::ErrorKind;
 /// A desk's database in a file, which its connection locks for this program alone.
 pub type FileDesk = Store<FileStore<File>>;
 
+// Closes the files of a connection. `Ok`: the last commit is in the database file, also without its
+// log. Fails with `Store` only.
 fn shut(conn: Connection<FileStore<File>>) -> Result<(), Fault>
     ensures closed { OnOk result (IsClosedFile conn) }
     ensures fault { OnErr result (result ≡ Err fault.Store) }
@@ -31,8 +33,8 @@ fn shut(conn: Connection<FileStore<File>>) -> Result<(), Fault>
     }
 }
 
-/// Closes a desk's file. At `Ok` the last commit is in the database file, also without its log;
-/// until then a part of what was committed may be in the log beside it. Fails with `Store` only.
+/// Closes a desk's file. `Ok`: the last commit is in the database file, also without its log;
+/// before that a part of what was committed may be in the log beside it. Fails with `Store` only.
 pub fn close(store: FileDesk) -> Result<(), Fault>
     ensures closed { OnOk result (IsClosedFile store) }
     ensures fault { OnErr result (result ≡ Err fault.Store) }
@@ -40,6 +42,7 @@ pub fn close(store: FileDesk) -> Result<(), Fault>
     shut(store.into_conn())
 }
 
+// Opens a connection to the database file at `path`. Fails with `Store` only.
 fn connect(rt: &HostRuntime, path: &str) -> Result<Connection<FileStore<File>>, Fault>
     ensures opened { IfOk result IsOpenedFile }
     ensures fault { OnErr result (result ≡ Err fault.Store) }
@@ -50,7 +53,7 @@ fn connect(rt: &HostRuntime, path: &str) -> Result<Connection<FileStore<File>>, 
     }
 }
 
-// Adopts the database of a connection.
+// Adopts the database of a connection as a desk's store. A fault returns the connection.
 fn take<S: Alter>(alloc: Global, conn: Connection<S>) -> Result<Store<S>, (Connection<S>, Fault)>
     ensures adopted { MatchResult result (λ store. AdoptPost S.Store conn store (Ok tt)) (λ e. AdoptPost S.Store conn e.0 (Err e.1)) }
     ensures stands { IfOk result (λ store. RepresentsRows S.Store store) }
@@ -58,7 +61,8 @@ fn take<S: Alter>(alloc: Global, conn: Connection<S>) -> Result<Store<S>, (Conne
     Store::adopt(alloc, conn)
 }
 
-// Adopts the database of a connection. If that fails, closes the file.
+// Adopts the database of a connection as a desk's store. If that fails, closes the file and returns
+// the fault.
 fn adopt(rt: &HostRuntime, conn: Connection<FileStore<File>>) -> Result<FileDesk, Fault>
     ensures adopted { IsAdoption conn result }
     ensures stands { IfOk result (λ store. RepresentsRows over_files store) }
@@ -76,7 +80,7 @@ fn adopt(rt: &HostRuntime, conn: Connection<FileStore<File>>) -> Result<FileDesk
 /// the file is missing or empty or has no table of a desk.
 ///
 /// A new desk is closed and opened again, so that its tables are in the file itself, and a file
-/// that then loses its log is never taken for a new one.
+/// that then loses its log is never treated as a new one.
 pub fn open_or_make(rt: &HostRuntime, path: &str) -> Result<FileDesk, Fault>
     ensures opened { OpenOrMakePost result }
     ensures stands { IfOk result (λ store. RepresentsRows over_files store) }
@@ -96,7 +100,8 @@ pub fn open_or_make(rt: &HostRuntime, path: &str) -> Result<FileDesk, Fault>
     }
 }
 
-// Returns true if no file or an empty one is at the path. Opening it would create a database.
+// Returns true if there is no file at the path, or an empty one: opening it would create a
+// database.
 fn is_missing(rt: &HostRuntime, path: &str) -> bool {
     match fs::metadata(rt, path) {
         Ok(found) => found.is_file() && found.len() == 0,

@@ -10,8 +10,8 @@ use Rattle.brk_http_engine.specs.Limits.{most_calls}
 use Rattle.brk_http_engine.specs.declared.stream.ServeFault.{ServeFault}
 use Rattle.brk_http_listener.specs.Listening.{Serves}
 
--- A stream that ended with this result changed the desk only by these calls, in order, which are a
--- run. The number of answered requests and the number of calls are within their limits.
+-- A stream that ended with this result changed the desk only by a sequence of its calls with these
+-- outcomes. The number of replies and the number of calls are within their limits.
 pub record IsServed {S : Type 0} (g : Ghosts S) (old new : Held S) (ended : Result ℕ ServeFault) : Type 0 where
   pub calls : List (ℕ × Call)
   pub outcomes : List Outcome
@@ -20,6 +20,7 @@ pub record IsServed {S : Type 0} (g : Ghosts S) (old new : Held S) (ended : Resu
   pub within : IfOk ended (λ count. count ≤ most_requests)
   pub early : IfErr ended (λ fault. fault.done < most_requests)
 
--- The relation of one stream that a desk serves. Of the clock and of the stream it says nothing.
+-- The stream that ended with this result changed the desk only by a sequence of its calls
+-- (`IsServed`). Of the clock and of the bytes of the stream it says nothing.
 abbrev pub DeskServes : {S C X : Type 0} → Ghosts S → Serves C (Held S) X
 DeskServes g clock old stream ended later new = IsServed g old new ended

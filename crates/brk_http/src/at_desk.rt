@@ -20,7 +20,7 @@ use sqlite::Alter;
 use std::alloc::{AllocError, Global};
 use std::marker::PhantomData;
 
-// Returns the desk's answer to a row as an answer of the HTTP engine.
+// Converts the desk's answer to a row into an answer of the HTTP engine.
 fn row_answer(answer: Answer) -> RowAnswer<Reply>
     ensures { row_outcome reply_of (Ok result) ≡ Did (answer_of answer) }
 {

@@ -22,14 +22,14 @@ const LAST_PATIENCE: u64 = 250;
 
 const MOST_PIECES: u32 = 128;
 
-// Sets the time limits of the stream: a read or a write that waits longer is an error.
+// Sets the time limits of a socket: a read or a write that waits for more than 30 seconds fails.
 fn limit_waiting(stream: &TcpStream) -> io::Result<()> {
     stream.set_read_timeout(Some(Duration::from_secs(PATIENCE)))?;
     stream.set_write_timeout(Some(Duration::from_secs(PATIENCE)))
 }
 
-// Signals that no reply follows, and reads the bytes that still arrive, so that the kernel does not
-// drop the last reply.
+// Ends the writing side of a socket, and then reads and drops the bytes that still arrive, for at
+// most 128 pieces, so that the kernel does not drop the last reply.
 fn let_go(stream: &TcpStream) -> io::Result<()> {
     stream.shutdown(Shutdown::Write)?;
     stream.set_read_timeout(Some(Duration::from_millis(LAST_PATIENCE)))?;
@@ -58,7 +58,7 @@ impl<C: Clock, S: Alter> StreamServer for SocketServer<C, S> {
 
     ghost serves = { DeskServes S.Store };
 
-    // A socket that takes no time limits is one that its peer broke off.
+    // If the time limits of a socket cannot be set, fails with `Read`, and serves no request.
     fn serve(
         alloc: Global,
         stream: TcpStream,

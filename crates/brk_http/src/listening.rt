@@ -10,12 +10,12 @@ use sqlite::Alter;
 use std::alloc::Global;
 use std::net::TcpStream;
 
-/// Takes `streams` streams of a listener, in sequence: each is served to its end before the next one
-/// is accepted. A stream that its peer breaks off, or that is idle for 30 seconds, counts as one,
-/// and the next one is served.
+/// Accepts and serves `streams` streams of a listener, in sequence: each is served to its end
+/// before the next one is accepted. A stream that its peer breaks off, or that is idle for 30
+/// seconds, counts as one, and the next one is served.
 ///
 /// Fails with `Stream` at the first stream that ended because memory ran out, and with `Net` if the
-/// listener accepts no more streams. No stream is taken after a fault.
+/// listener accepts no more streams. No stream is accepted after a fault.
 pub fn serve_on<L: Listener<Stream = TcpStream>, C: Clock, S: Alter>(
     alloc: Global,
     listener: &mut L,

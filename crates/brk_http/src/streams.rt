@@ -47,8 +47,8 @@ pub fn serve_stream<R: Read + Drop, W: Write, C: Clock, S: Alter>(
     ensures early { IfErr result (λ fault. fault.done < most_requests) }
     // For any stream, the desk changed only by a sequence of its calls. So every guarantee of a run
     // holds. The calls are at most as many as the answered requests, and one more after a fault of
-    // the writer or of memory. If the reader has specified content, it asks for exactly these calls,
-    // and the replies are those of their outcomes.
+    // the writer or of memory. If the reader has specified content, its requests make exactly these
+    // calls, and the replies follow from their outcomes.
     ensures told { (calls : List (ℕ × made.Call)) × (outcomes : List came.Outcome) × IsRunOf S.Store desk.old desk.new calls outcomes × (length calls ≤ most_calls result)
         × IfSome (R.remaining reader) (λ input. TellsOutcomes all_forms C.gives input (map call_of calls, map outcome_of outcomes)
         (record { clock = clock.old; later = clock.new; old = W.contents writer.old; new = W.contents writer.new }) result) }

@@ -22,37 +22,40 @@ use Rattle.brk_http_engine.specs.declared.asking.Asking.TheVariants as asking
 use Rattle.brk_http_engine.specs.declared.acting.ServiceAnswer.{ServiceAnswer}
 use Rattle.brk_http_engine.specs.declared.acting.ServiceAnswer.TheVariants as told
 
--- The abstract key of a row's key, if it has one.
+-- The model's key that a row's key represents, or none if the row has none.
 abbrev pub key_for : Option ref.Key → Option records.Key
 key_for key = option_map key_of key
 
--- The model's outcome of a call with a row, where `reply` gives the abstract reply.
+-- The model's outcome that the result of a row's call represents; `reply` maps a reply to the
+-- model's reply.
 abbrev pub row_outcome : {R : Type 0} → (R → model.Reply) → Result (RowAnswer R) Fault → run.Outcome
 row_outcome reply (Ok (given.Done r)) = run.Did (model.Done (reply r))
 row_outcome reply (Ok (given.Again line)) = run.Did (model.Again (string_bytes line))
 row_outcome reply (Ok (given.Refused refusal)) = run.Did (model.Refused refusal)
 row_outcome reply (Err fault) = run.Failed fault
 
--- The model's outcome of a query, where `shown` gives the abstract view.
+-- The model's outcome that the result of a query represents; `shown` maps a view to the model's
+-- view.
 abbrev pub query_outcome : {V : Type 0} → (V → queries.View) → Result (Result V Refusal) Fault → run.Outcome
 query_outcome shown (Ok (Ok view)) = run.Saw (shown view)
 query_outcome shown (Ok (Err refusal)) = run.NoView refusal
 query_outcome shown (Err fault) = run.Failed fault
 
--- The bytes of each text of a list.
+-- The bytes of each text of a list, in the order of the list.
 abbrev pub list_of : Vec (String Global) → List Text
 list_of texts = map string_bytes texts.items
 
--- The bytes of each text of the records, as a view of the model.
+-- The bytes of each text of each record, as a view of the model.
 abbrev pub records_of : Vec (Vec (String Global)) → queries.View
 records_of records = map list_of records.items
 
--- The model's route of a route.
+-- The model's route that a route represents.
 abbrev pub route_is : Route → routes.Route
 route_is (route.ToRow key) = routes.ToRow (key_for key)
 route_is (route.ToView view) = routes.ToView view.now
 
--- The model's call of a request, or its response if the request makes no call.
+-- The model's call that a request makes, or its response if the request makes no call; `command`
+-- and `query` map to the model's commands and queries.
 abbrev pub asked_is : {X Q : Type 0} → (X → model.Command) → (Q → queries.Query) → Asking X Q → asked.Asked
 asked_is command query (asking.Wrong problem) = asked.HasResponse (Wrong problem)
 asked_is command query (asking.BadRow refusal) = asked.HasResponse (Came (run.Did (model.Refused refusal)))
@@ -60,7 +63,8 @@ asked_is command query (asking.BadQuery refusal) = asked.HasResponse (Came (run.
 asked_is command query (asking.Row x key) = asked.Calls (run.Do (command x) (key_for key))
 asked_is command query (asking.View q) = asked.Calls (run.Ask (query q))
 
--- The model's response of a response.
+-- The model's response that a response represents; `reply` and `shown` map to the model's replies
+-- and views.
 abbrev pub response_of : {R V : Type 0} → (R → model.Reply) → (V → queries.View) → ServiceAnswer R V → Response
 response_of reply shown (told.Wrong problem) = Wrong problem
 response_of reply shown (told.NoRow refusal) = Came (run.Did (model.Refused refusal))

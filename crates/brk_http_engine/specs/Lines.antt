@@ -4,10 +4,12 @@ use Rattle.brk_money.specs.Spelling.{Text}
 use Rattle.brk_http_model.specs.Replies.{head_line}
 use Rattle.http.specs.StatusCode.{code_digits, reason_phrase}
 
--- The status `code` as it is written in a head: its digits, a space and its phrase.
+-- The status `code` as it is written in a head: its three digits, a space and its reason phrase,
+-- which is empty if the code has none.
 unfoldable pub status_text : ℕ → Text
 status_text code = code_digits code ++ 32 ∷ unwrap_or (reason_phrase code) []
 
--- The first three lines of a head: status, content type and content length.
+-- The first three lines of a reply's head, with the text `status`: status line, content type, and
+-- content length `len`.
 unfoldable pub first_lines : Text → ℕ → Text
 first_lines status len = head_line (codes "HTTP/1.1 " ++ status) ++ head_line (codes "Content-Type: application/json") ++ head_line (codes "Content-Length: " ++ decimal len)

@@ -15,15 +15,16 @@ use Rattle.brk_http_engine.specs.declared.turning.FaultKind.{FaultKind}
 use Rattle.brk_http_engine.specs.declared.turning.FaultKind.TheVariants as kinds
 use Rattle.brk_http_engine.specs.declared.stream.ServeFault.{ServeFault}
 
--- The input at the front was answered with `reply`, after which the stream is `next`. The clock
--- returned the timestamps that were taken.
+-- The input at the front of the stream, after `n` replies, was answered with `reply`; the stream
+-- then has ended or continues, as `next` says. The clock was read once for each of the timestamps.
 pub record IsTurnAnswered {B C : Type 0} (forms : Forms) (does : Does B) (gives : C → ℕ → C → Type 0) (n : ℕ) (input : Text) (span : Span B C) (reply : Text) (next : Next) : Type 0 where
   pub taken : List ℕ
   pub moments : Moments gives span.clock taken span.later
   pub one : One forms does n input span.base taken reply next span.after
 
 -- The request was executed and `reply` is its reply. The reply closes the stream if it is the last
--- that the limit allows, if the request asks to close, or if the desk failed.
+-- that the limit allows, if the request asks to close, or if the desk failed. The clock was read
+-- once for each of the timestamps.
 pub record Acted {B C : Type 0} (forms : Forms) (does : Does B) (gives : C → ℕ → C → Type 0) (n : ℕ) (request : Request) (span : Span B C) (closes : Bool) (reply : Text) : Type 0 where
   pub taken : List ℕ
   pub response : Response
@@ -32,18 +33,18 @@ pub record Acted {B C : Type 0} (forms : Forms) (does : Does B) (gives : C → �
   pub last : closes ≡ ((n + 1 == most_requests) || request.closes || is_fault response)
   pub bytes : reply ≡ reply_text response closes
 
--- The turn completed with this result. `Ended`: no input was left and nothing changed. `Closed`:
--- the reply was written and ends the stream. `Open`: the reply was written and `left` is the rest
--- of the input.
+-- The turn after `n` replies completed with this result. `Ended`: no input was left, and nothing
+-- changed. `Closed`: the reply was written and ends the stream. `Open`: the reply was written, and
+-- `left` is the rest of the input.
 abbrev pub Turned : {B C : Type 0} → Forms → Does B → (C → ℕ → C → Type 0) → ℕ → Text → Span B C → Option Text → Turn → Type 0
 Turned forms does gives n input span left turn.Ended = Finds input NoMore × IsUntouched span
 Turned forms does gives n input span left turn.Closed = (reply : Text) × IsTurnAnswered forms does gives n input span reply Finished × Appends span.old span.new reply
 Turned forms does gives n input span left turn.Open =
     (reply : Text) × (rest : Text) × IsTurnAnswered forms does gives n input span reply (Continues rest) × Appends span.old span.new reply × (left ≡ Some rest)
 
--- The turn failed with this fault. `Read`: nothing was executed or written. `Memory`: nothing was
--- written, but the request may have been executed. `Write`: the request was executed, and the first
--- `k` bytes of its reply were written, for some `k`.
+-- The turn after `n` replies failed with this fault. `Read`: nothing changed and nothing was
+-- written. `Memory`: nothing was written, but the request may have been executed. `Write`: the
+-- request was executed, and a prefix of its reply was written, perhaps all of it.
 abbrev pub TurnFailed : {B C : Type 0} → Forms → Does B → (C → ℕ → C → Type 0) → ℕ → Text → Span B C → FaultKind → Type 0
 TurnFailed forms does gives n input span kinds.Read = IsUntouched span
 TurnFailed forms does gives n input span kinds.Memory =
@@ -51,8 +52,8 @@ TurnFailed forms does gives n input span kinds.Memory =
 TurnFailed forms does gives n input span kinds.Write =
     (reply : Text) × (next : Next) × (k : ℕ) × IsTurnAnswered forms does gives n input span reply next × Appends span.old span.new (take k reply)
 
--- The stream completed: the writer got exactly its `count` replies, for the timestamps that the
--- clock returned.
+-- The stream completed: the writer got exactly its `count` replies, and the clock was read once for
+-- each of the timestamps.
 pub record Served {B C : Type 0} (forms : Forms) (does : Does B) (gives : C → ℕ → C → Type 0) (input : Text) (span : Span B C) (count : ℕ) : Type 0 where
   pub moments : List ℕ
   pub replies : List Text
@@ -76,8 +77,8 @@ pub record Stopped {B C : Type 0} (forms : Forms) (does : Does B) (gives : C →
   pub failed : TurnFailed forms does gives (length replies) rest (record { base = mid; after = span.after; clock = later; later = span.later; old = between; new = span.new }) kind
   pub counted : count ≡ length replies
 
--- The result of a stream is as specified: the number of replies of a complete stream, or a fault
--- with its effect.
+-- The result of a stream is as specified: of a complete stream the number of its replies, and
+-- otherwise a fault with its effect.
 abbrev pub ServeGives : {B C : Type 0} → Forms → Does B → (C → ℕ → C → Type 0) → Text → Span B C → Result ℕ ServeFault → Type 0
 ServeGives forms does gives input span (Ok count) = Served forms does gives input span count
 ServeGives forms does gives input span (Err fault) = Stopped forms does gives input span fault.kind fault.done

@@ -4,7 +4,7 @@ use Rattle.brk_money.specs.Spelling.{Text}
 use Rattle.brk_http_engine.specs.declared.bodies.Word.{Word}
 use Rattle.brk_http_engine.specs.declared.bodies.Word.TheVariants.{Ok, Again, No, View, Error}
 
--- The text of a member name.
+-- The bytes of a member name of a reply's object.
 abbrev pub word_text : Word → Text
 word_text Ok = codes "ok"
 word_text Again = codes "again"

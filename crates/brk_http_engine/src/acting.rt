@@ -32,7 +32,8 @@ pub enum ServiceAnswer<R, V> {
     Failed(Fault),
 }
 
-// Executes a command.
+// Executes a command at the clock reading `now`, with or without a key. Returns the response; a
+// refusal or a fault of the desk is a response too.
 fn act_on_row<D: Service>(
     alloc: Global,
     desk: &mut D::Desk,
@@ -51,7 +52,7 @@ fn act_on_row<D: Service>(
     }
 }
 
-// Executes a query.
+// Executes a query. Returns the response; a refusal or a fault of the desk is a response too.
 fn act_on_query<D: Service>(
     alloc: Global,
     desk: &mut D::Desk,
@@ -67,8 +68,8 @@ fn act_on_query<D: Service>(
     }
 }
 
-/// Executes the call of a request and returns the response. The clock is read once for a
-/// well-formed row, otherwise not.
+/// Executes the call of a request, if it makes one, and returns the response. The clock is read
+/// once for a well-formed row, otherwise not.
 pub fn act<C: Clock, D: Service>(
     alloc: Global,
     clock: &mut C,

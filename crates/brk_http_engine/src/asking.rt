@@ -30,7 +30,8 @@ pub enum Asking<X, Q> {
     View(Q),
 }
 
-// Returns the call of a row or a query with these texts, or the refusal of its form.
+// Parses the texts of a body for a route. Returns the call of the row or of the query, or the
+// refusal if it is malformed.
 fn asking_with<D: Service>(
     alloc: Global,
     route: Route,
@@ -51,7 +52,8 @@ fn asking_with<D: Service>(
     }
 }
 
-/// Returns the call that a request makes, or the first reason why it makes none.
+/// Returns the call that a request makes, or the first reason why it makes none: it has no route,
+/// is not a POST, its body is not a list of texts, or its row or query is malformed.
 #[tactic(auto, unfolding(brk_http_model::specs::Asked::asked_of), using(crate::proofs::AskLemmas::no_route, crate::proofs::AskLemmas::no_post, crate::proofs::AskLemmas::no_texts, crate::proofs::AskLemmas::all_there))]
 pub fn asking_of<D: Service>(
     alloc: Global,

@@ -8,7 +8,7 @@ ghost use Rattle.brk_http_engine.specs.Words.{word_text};
 use serde_json::{Value, json};
 use std::alloc::{AllocError, Global};
 
-// Returns the texts in a list of values, or `None` if one of them is not a text.
+// Returns the texts in a list of JSON values, or `None` if one of them is not a text.
 fn strings(alloc: Global, values: &[Value]) -> Result<Option<Vec<String>>, AllocError>
     ensures found { IfOk result (λ o. IfSome o (λ v. map view values.now ≡ map string (map string_bytes v.items))) }
     ensures none { IfOk result (λ o. IfNone o ((ts : List (List ℕ)) → map view values.now ≢ map string ts)) }
@@ -23,7 +23,8 @@ fn strings(alloc: Global, values: &[Value]) -> Result<Option<Vec<String>>, Alloc
     Ok(Some(texts))
 }
 
-/// Returns the texts of a body that is a JSON list of texts, otherwise `None`.
+/// Parses a body as a JSON list of texts. Returns the texts, or `None` if the body is anything
+/// else.
 #[tactic(auto, using(crate::proofs::BodyLemmas::no_value))]
 pub fn texts_of(alloc: Global, body: &[u8]) -> Result<Option<Vec<String>>, AllocError>
     ensures { IfOk result (λ found. option_map list_of found ≡ spec.texts_of body.now) }
@@ -56,7 +57,7 @@ pub enum Word {
     Error,
 }
 
-// Returns texts as a JSON list.
+// Returns the JSON list of these texts.
 fn list_value(alloc: Global, texts: &[String]) -> Result<Value, AllocError>
     ensures { IfOk result (λ v. view v ≡ spec.json_list (map string_bytes texts.now)) }
 {
@@ -67,7 +68,7 @@ fn list_value(alloc: Global, texts: &[String]) -> Result<Value, AllocError>
     Ok(Value::Array(list))
 }
 
-// Returns records of texts as a JSON list of lists.
+// Returns the JSON list of these records, each a list of texts.
 fn records_value(alloc: Global, records: &[Vec<String>]) -> Result<Value, AllocError>
     ensures { IfOk result (λ v. view v ≡ array (items_of (map spec.json_list (map list_of records.now)))) }
 {
@@ -78,7 +79,7 @@ fn records_value(alloc: Global, records: &[Vec<String>]) -> Result<Value, AllocE
     Ok(Value::Array(list))
 }
 
-// Returns a JSON object of one member.
+// Returns the JSON object with the one member `word` and this value.
 fn told_value(alloc: Global, word: Word, value: Value) -> Result<Value, AllocError>
     ensures { IfOk result (λ v. view v ≡ object (member (word_text word) (view value) no_members)) }
 {
@@ -91,7 +92,7 @@ fn told_value(alloc: Global, word: Word, value: Value) -> Result<Value, AllocErr
     }
 }
 
-/// Returns the JSON text `{"WORD":["TEXT",..]}`.
+/// Returns the JSON text `{"WORD":["TEXT",..]}` for the member name `word` and these texts.
 pub fn told_texts(alloc: Global, word: Word, texts: &[String]) -> Result<String, AllocError>
     ensures { IfOk result (λ s. string_bytes s ≡ spec.json_texts (word_text word) (map string_bytes texts.now)) }
 {
@@ -100,7 +101,7 @@ pub fn told_texts(alloc: Global, word: Word, texts: &[String]) -> Result<String,
     told.to_string(alloc)
 }
 
-/// Returns the JSON text `{"view":[["TEXT",..],..]}`.
+/// Returns the JSON text `{"view":[["TEXT",..],..]}` of these records.
 pub fn told_records(alloc: Global, records: &[Vec<String>]) -> Result<String, AllocError>
     ensures { IfOk result (λ s. string_bytes s ≡ spec.json_records (codes "view") (map list_of records.now)) }
 {
@@ -109,14 +110,14 @@ pub fn told_records(alloc: Global, records: &[Vec<String>]) -> Result<String, Al
     told.to_string(alloc)
 }
 
-// Returns a text as a JSON value.
+// Returns the JSON string of a text.
 fn text_value(alloc: Global, text: &str) -> Result<Value, AllocError>
     ensures { IfOk result (λ v. view v ≡ string text.now) }
 {
     Ok(Value::String(String::from_str(alloc, text)?))
 }
 
-/// Returns the JSON text `{"error":"WORDS"}`.
+/// Returns the JSON text `{"error":"WORDS"}` of these words.
 pub fn told_error(alloc: Global, words: &str) -> Result<String, AllocError>
     ensures { IfOk result (λ s. string_bytes s ≡ spec.json_error words.now) }
 {

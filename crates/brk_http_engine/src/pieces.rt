@@ -14,7 +14,7 @@ pub fn parts_at(alloc: Global, cut: char, text: &str) -> Result<Vec<&str>, Alloc
     text.split(cut).collect(alloc)
 }
 
-/// Returns owned copies of the texts.
+/// Returns owned copies of the texts, in order.
 pub fn owned(alloc: Global, parts: &[&str]) -> Result<Vec<String>, AllocError>
     ensures { IfOk result (λ all. list_of all ≡ slices parts.now) }
 {
@@ -25,7 +25,7 @@ pub fn owned(alloc: Global, parts: &[&str]) -> Result<Vec<String>, AllocError>
     Ok(all)
 }
 
-/// Returns the bytes of the texts, borrowed.
+/// Returns the bytes of the texts as borrowed slices, in order.
 pub fn borrowed(alloc: Global, texts: &[String]) -> Result<Vec<&[u8]>, AllocError>
     ensures { IfOk result (λ all. slices all.items ≡ map string_bytes texts.now) }
 {

@@ -17,7 +17,7 @@ use brk_money::{Fault, Refusal};
 use http::StatusCode;
 use std::alloc::{AllocError, Global};
 
-// Returns the status of a problem.
+// Returns the HTTP status of the reply to a request with this problem.
 fn problem_code(problem: Problem) -> StatusCode
     ensures { status_text result ≡ problem_status problem }
 {
@@ -30,6 +30,7 @@ fn problem_code(problem: Problem) -> StatusCode
     }
 }
 
+// Returns the words of the error reply to a request with this problem.
 fn problem_words(problem: Problem) -> &'static str
     ensures { result.now ≡ problem_words problem }
 {
@@ -42,6 +43,7 @@ fn problem_words(problem: Problem) -> &'static str
     }
 }
 
+// Returns the word of the error reply for a fault of the desk: `memory` or `store`.
 fn fault_word(fault: Fault) -> &'static str
     ensures { result.now ≡ fault_word fault }
 {
@@ -51,7 +53,7 @@ fn fault_word(fault: Fault) -> &'static str
     }
 }
 
-// Returns the status of a response.
+// Returns the HTTP status of a response.
 fn status_of<R, V>(told: &ServiceAnswer<R, V>) -> StatusCode
     ensures { (reply : R → model.Reply) (shown : V → queries.View) → status_text result ≡ response_status (response_of reply shown told.now) }
 {
@@ -66,6 +68,7 @@ fn status_of<R, V>(told: &ServiceAnswer<R, V>) -> StatusCode
     }
 }
 
+// Returns true if the request was refused because its method is not POST.
 fn asks_for_post<R, V>(told: &ServiceAnswer<R, V>) -> bool
     ensures { (reply : R → model.Reply) (shown : V → queries.View) → result ≡ asks_for_post (response_of reply shown told.now) }
 {
@@ -75,7 +78,7 @@ fn asks_for_post<R, V>(told: &ServiceAnswer<R, V>) -> bool
     }
 }
 
-/// Returns true if the desk failed.
+/// Returns true if the response reports that the desk failed.
 pub fn is_fault<R, V>(told: &ServiceAnswer<R, V>) -> bool
     ensures { (reply : R → model.Reply) (shown : V → queries.View) → result ≡ is_fault (response_of reply shown told.now) }
 {
@@ -85,7 +88,7 @@ pub fn is_fault<R, V>(told: &ServiceAnswer<R, V>) -> bool
     }
 }
 
-/// Returns the fields of a line, which commas separate.
+/// Returns the fields of a line, split at its commas.
 pub fn line_fields(alloc: Global, line: &str) -> Result<Vec<String>, AllocError>
     ensures { IfOk result (λ fields. list_of fields ≡ parts_at 44 line.now) }
 {
@@ -93,7 +96,7 @@ pub fn line_fields(alloc: Global, line: &str) -> Result<Vec<String>, AllocError>
     owned(alloc, &parts)
 }
 
-// Returns the body of the reply to a refused request.
+// Returns the body of the reply to a refused row or query, `{"no":["NUMBER",..]}`.
 #[tactic(auto, using(crate::proofs::PieceLemmas::refusal_parts))]
 fn refusal_body(alloc: Global, refusal: Refusal) -> Result<String, AllocError>
     ensures { IfOk result (λ s. string_bytes s ≡ body_of (Came (run.NoView refusal))) }
@@ -103,6 +106,7 @@ fn refusal_body(alloc: Global, refusal: Refusal) -> Result<String, AllocError>
     told_texts(alloc, Word::No, &fields)
 }
 
+// Returns the JSON body of the reply with this response.
 fn body_of<D: Service>(
     alloc: Global,
     told: &ServiceAnswer<D::Reply, D::View>,
@@ -130,14 +134,14 @@ fn body_of<D: Service>(
     }
 }
 
-// Appends a line to the head.
+// Appends a line and its line end to the head.
 fn add_line(head: &mut String, line: &str) -> Result<(), AllocError>
     ensures { OnOk result (string_bytes head.new ≡ string_bytes head.old ++ head_line line.now) }
 {
     write!(head, "{line}\r\n")
 }
 
-// Appends a line to the head if `stands` is true.
+// Appends a line and its line end to the head if `stands` is true.
 fn add_line_if(head: &mut String, stands: bool, line: &str) -> Result<(), AllocError>
     ensures { OnOk result (string_bytes head.new ≡ string_bytes head.old ++ line_if stands line.now) }
 {
@@ -154,7 +158,7 @@ fn phrase_of(code: StatusCode) -> &'static str
     }
 }
 
-// Returns the digits of a status, a space, and its phrase.
+// Returns the digits of a status, a space, and its reason phrase.
 fn status_line(alloc: Global, code: StatusCode) -> Result<String, AllocError>
     ensures { IfOk result (λ s. string_bytes s ≡ status_text code) }
 {
@@ -164,7 +168,7 @@ fn status_line(alloc: Global, code: StatusCode) -> Result<String, AllocError>
     Ok(line)
 }
 
-// Returns a label followed by a value.
+// Returns the text of a label followed by a value.
 fn labelled(alloc: Global, label: &str, value: &str) -> Result<String, AllocError>
     ensures { IfOk result (λ s. string_bytes s ≡ label.now ++ value.now) }
 {
@@ -180,7 +184,7 @@ fn digits_of(alloc: Global, n: usize) -> Result<String, AllocError>
     format!(in alloc; "{n}")
 }
 
-// Returns the first three lines of a head.
+// Returns the first three lines of a head: status line, content type, and content length `len`.
 fn first_lines(alloc: Global, status: &str, len: usize) -> Result<String, AllocError>
     ensures { IfOk result (λ s. string_bytes s ≡ first_lines status.now len) }
 {
@@ -194,6 +198,8 @@ fn first_lines(alloc: Global, status: &str, len: usize) -> Result<String, AllocE
     Ok(head)
 }
 
+// Returns the bytes of a reply with this status and body; with an `Allow: POST` line if `asks_post`
+// is true, and a `Connection: close` line if `closes` is true.
 fn reply_with(
     alloc: Global,
     code: StatusCode,
@@ -212,7 +218,8 @@ fn reply_with(
     Ok(text)
 }
 
-/// Returns the bytes of a whole reply.
+/// Returns the bytes of the reply with this response, with a `Connection: close` line if `closes`
+/// is true.
 pub fn reply_text<D: Service>(
     alloc: Global,
     told: &ServiceAnswer<D::Reply, D::View>,
@@ -230,7 +237,7 @@ pub fn reply_text<D: Service>(
     )
 }
 
-/// Returns the bytes of the reply to an unreadable request, which closes its stream.
+/// Returns the bytes of the reply to an unreadable request, with a `Connection: close` line.
 pub fn problem_text(alloc: Global, problem: Problem) -> Result<String, AllocError>
     ensures { IfOk result (λ s. string_bytes s ≡ reply_text (Wrong problem) Bool.true) }
 {

@@ -24,7 +24,8 @@ pub enum Route {
     ToView(&'static str),
 }
 
-// Returns the key of a row of a batch, or `None` if the name or the number is malformed.
+// Parses the batch name and the row number of a key. Returns the key, or `None` if one of them is
+// malformed.
 fn row_of_batch(alloc: Global, batch: &[u8], n: &[u8]) -> Result<Option<Key>, Fault>
     ensures { IfOk result (λ key. option_map key_of key ≡ row_of_batch batch.now (read_id n.now)) }
 {
@@ -38,7 +39,7 @@ fn row_of_batch(alloc: Global, batch: &[u8], n: &[u8]) -> Result<Option<Key>, Fa
     Ok(Some(Key { batch, row }))
 }
 
-// Returns true if `first` is empty and `word` equals `name`.
+// Returns true if `first` is empty and `word` equals `name`: the target begins with `/NAME`.
 fn begins_with(first: &str, word: &str, name: &str) -> bool
     ensures { result ≡ begins_with first.now word.now name.now }
 {
@@ -48,7 +49,8 @@ fn begins_with(first: &str, word: &str, name: &str) -> bool
     word == name
 }
 
-// Returns the route `/ask/VIEW` if the parts are those of one, otherwise `None`.
+// Returns the route of a view if the parts are those of `/ask/VIEW` and this view exists, otherwise
+// `None`.
 fn view_route<D: Service>(first: &str, word: &str, view: &str) -> Option<Route>
     ensures { option_map route_is result ≡ route_by D.forms.views (first.now ∷ word.now ∷ view.now ∷ []) }
 {
@@ -61,7 +63,8 @@ fn view_route<D: Service>(first: &str, word: &str, view: &str) -> Option<Route>
     }
 }
 
-// Returns the route `/rows/BATCH/N` if the parts are those of one, otherwise `None`.
+// Returns the route of a row with its key if the parts are those of `/rows/BATCH/N` and the key is
+// well-formed, otherwise `None`.
 fn keyed_route<D: Service>(
     alloc: Global,
     first: &str,
@@ -80,7 +83,7 @@ fn keyed_route<D: Service>(
     }
 }
 
-// Returns the route `/rows` if the parts are those of it, otherwise `None`.
+// Returns the route of a row without a key if the parts are those of `/rows`, otherwise `None`.
 fn plain_route<D: Service>(first: &str, word: &str) -> Option<Route>
     ensures { option_map route_is result ≡ route_by D.forms.views (first.now ∷ word.now ∷ []) }
 {
@@ -91,7 +94,8 @@ fn plain_route<D: Service>(first: &str, word: &str) -> Option<Route>
     }
 }
 
-// Returns the route of a target with these parts, or `None` if it has none.
+// Returns the route of a target that was split at `/` into these parts, or `None` if it has no
+// route.
 fn route_by<D: Service>(alloc: Global, parts: &[&str]) -> Result<Option<Route>, Fault>
     ensures { IfOk result (λ route. option_map route_is route ≡ route_by D.forms.views (texts parts.now)) }
 {
@@ -103,7 +107,7 @@ fn route_by<D: Service>(alloc: Global, parts: &[&str]) -> Result<Option<Route>, 
     }
 }
 
-/// Returns the route of a target, or `None` if it has none.
+/// Returns the route of a request target, or `None` if it has no route.
 #[tactic(auto, unfolding(brk_http_model::specs::Routes::route_of))]
 pub fn route_of<D: Service>(
     alloc: Global,

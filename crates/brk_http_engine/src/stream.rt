@@ -22,7 +22,10 @@ pub struct ServeFault {
     pub kind: FaultKind,
 }
 
-// Serves the requests of a stream, with a router of the three routes.
+// Serves the requests of a stream with a router of the three routes, and returns the number of
+// replies.
+//
+// Fails with the number of replies before the fault.
 fn serve_by<R: Read + Drop, W: Write, C: Clock, D: Service>(
     alloc: Global,
     router: &Router<Kind>,

@@ -69,7 +69,10 @@ enum Lack {
     After,
 }
 
-// Executes a request and returns its reply.
+// Executes the request at `places` of the buffer and returns its reply.
+//
+// Fails with `Before` if memory ran out before the execution, and with `After` if it ran out after
+// it.
 fn respond<C: Clock, D: Service>(
     alloc: Global,
     router: &Router<Kind>,
@@ -107,8 +110,11 @@ fn respond<C: Clock, D: Service>(
     }
 }
 
-/// Reads one request, executes it and writes the reply. If it fails with `Memory` or `Write`, the
-/// request may have been executed.
+/// Reads the next request, executes it and writes its reply. Returns whether the stream has ended
+/// or continues.
+///
+/// Fails with `Read` and nothing executed. After `Memory` or `Write` the request may have been
+/// executed.
 pub fn take_turn<R: Read, W: Write, C: Clock, D: Service>(
     alloc: Global,
     router: &Router<Kind>,

@@ -5,23 +5,26 @@ use Rattle.brk_model_examples.specs.Setting.{setting}
 use Rattle.brk_http_model.specs.Computed.{replies_from}
 use Rattle.brk_http_model.specs.Found.{Request}
 
--- Twenty readings of a clock that returns only the start of 2024-03-01.
+-- Twenty clock readings, all of them the start of 2024-03-01.
 abbrev pub clock_readings : List ℕ
 clock_readings = replicate 20 1709251200000
 
--- A request by POST.
+-- A request with the method POST, the target `target` and the body `body`, which does not ask to
+-- close the stream.
 abbrev pub post : Text → Text → Request
 post target body = record { method = codes "POST"; target = target; closes = false; body = body }
 
--- A request by GET, without a body.
+-- A request with the method GET and the target `target`, without a body, which does not ask to
+-- close the stream.
 abbrev pub get : Text → Request
 get target = record { method = codes "GET"; target = target; closes = false; body = [] }
 
--- The request with `Connection: close`.
+-- The request `request`, which asks to close the stream (`Connection: close`).
 abbrev pub last : Request → Request
 last request = record request { closes = true }
 
--- The bytes of a reply: its status, further fields, and its body with the length `len`.
+-- The bytes of a reply: the status `status`, the further fields `fields`, the length `len` and the
+-- body `body`.
 abbrev pub reply : Text → List Text → Text → Text → Text
 reply status fields len body =
     codes "HTTP/1.1 " ++ status ++ codes "\r\nContent-Type: application/json\r\nContent-Length: " ++ len ++ codes "\r\n" ++ lines fields ++ codes "\r\n" ++ body
@@ -30,6 +33,6 @@ reply status fields len body =
     lines [] = []
     lines (f ∷ fs) = f ++ codes "\r\n" ++ lines fs
 
--- These requests to the setting are answered with these replies.
+-- The requests, executed from the setting on, have exactly these replies.
 abbrev pub GivesReplies : List Request → List Text → Type 0
 GivesReplies requests replies = replies_from 0 setting clock_readings requests ≡ replies

@@ -25,7 +25,8 @@ pub fn where_heads_end()
     ensures hopeless { head_end_within 4 (codes "\0\0\0\0") ≡ TooLong }
 {}
 
-/// Shows the length of a body, or the problem with it. Names of fields are matched in any case.
+/// Shows the length of a body by the fields of a head, or the problem of its length. Names of
+/// fields are compared in any case of letters.
 pub fn how_long_bodies_are()
     ensures absent { body_len ((codes "Host", codes "x") ∷ []) ≡ Ok 0 }
     ensures zeros { body_len ((codes "content-LENGTH", codes "000000012") ∷ []) ≡ Ok 12 }
@@ -38,7 +39,8 @@ pub fn how_long_bodies_are()
     ensures coded { body_len ((codes "Content-Length", codes "x") ∷ (codes "Transfer-Encoding", []) ∷ []) ≡ Err NotImplemented }
 {}
 
-/// Shows targets with a route, and targets without one.
+/// Shows the routes of some targets, targets without a route, and a text that is split at its
+/// commas.
 pub fn what_has_a_route()
     ensures row { route_of all_forms.views (codes "/rows") ≡ Some (ToRow None) }
     ensures keyed { route_of all_forms.views (codes "/rows/A.b-c_1/1000000000000") ≡ Some (ToRow (Some (record { batch = codes "A.b-c_1"; row = 1000000000000 }))) }

@@ -4,7 +4,8 @@
 ghost use Rattle.std.specs.Prelude.{◌∷◌, [], codes};
 ghost use Rattle.brk_http_examples.specs.Streams.{GivesReplies, get, last, post, reply};
 
-/// Shows a row with a key, its retry, and this row without a key.
+/// Shows the replies to a row with a key, to its retry, and to the row without a key, which is
+/// refused.
 pub fn a_row_acts_once()
     ensures { GivesReplies
         (post (codes "/rows/H/1") (codes "[\"broker\",\"2\",\"Cy\"]")
@@ -15,7 +16,7 @@ pub fn a_row_acts_once()
         ∷ reply (codes "409 Conflict") [] (codes "13") (codes "{\"no\":[\"15\"]}") ∷ []) }
 {}
 
-/// Shows five requests that leave the stream open.
+/// Shows the replies to five requests that leave the stream open.
 pub fn the_stream_stays_open()
     ensures { GivesReplies
         (post (codes "/ask/submitted") (codes "[]")
@@ -30,7 +31,7 @@ pub fn the_stream_stays_open()
         ∷ reply (codes "400 Bad Request") [] (codes "23") (codes "{\"error\":\"bad request\"}") ∷ []) }
 {}
 
-/// Shows that a request that asks to close its stream is the last that is answered.
+/// Shows that a request that asks to close its stream has the last reply.
 pub fn the_last_is_said()
     ensures { GivesReplies
         (last (get (codes "/rows")) ∷ post (codes "/rows") (codes "[]") ∷ [])
@@ -38,7 +39,7 @@ pub fn the_last_is_said()
         (codes "{\"error\":\"method not allowed\"}") ∷ []) }
 {}
 
-/// Shows an order with the fields of its reply, its retry, a view of it, and a refused cancel.
+/// Shows the replies to an order, to its retry, to a view of it, and to a refused cancel.
 pub fn an_order_is_told()
     ensures { GivesReplies
         (post (codes "/rows/H/1") (codes "[\"order\",\"100\",\"TMB\",\"ABC\",\"100\",\"\",\"cash\",\"fifo\",\"Ann\",\"Lee\",\"T10\"]")

@@ -1,4 +1,5 @@
--- The streams of a listener, taken in sequence, for any listener and any server of streams.
+-- The streams of a listener, accepted and served in sequence, for any listener and any server of
+-- streams.
 use Rattle.std.specs.Prelude.{◌≡◌, ◌≢◌, ◌<◌, ℕ, List, [], ◌∷◌, Option, None, Some, Result, Ok, Err, length}
 use Rattle.brk_http_engine.specs.declared.stream.ServeFault.{ServeFault}
 use Rattle.brk_http_engine.specs.declared.turning.FaultKind.TheVariants.{Memory}
@@ -13,12 +14,13 @@ pub record Scene (L C D : Type 0) : Type 0 where
   pub clock : C
   pub desk : D
 
--- A relation of one accept: from a listener, it may have this result and lead to that listener.
+-- The type of a relation of one accept: it may turn the first listener into the second, with this
+-- result.
 abbrev pub Accepts : Type 0 → Type 0 → Type 1
 Accepts L X = L → Result X AcceptFault → L → Type 0
 
--- A relation of one stream: from a clock and a desk, it may be served with this result and lead to
--- that clock and that desk.
+-- The type of a relation of one served stream: with this stream, it may turn the first clock and
+-- desk into the second, with this result.
 abbrev pub Serves : Type 0 → Type 0 → Type 0 → Type 1
 Serves C D X = C → D → X → Result ℕ ServeFault → C → D → Type 0
 
@@ -33,27 +35,31 @@ pub record IsAccepted {L C D X : Type 0} (accepts : Accepts L X) (old : Scene L 
   pub clock : new.clock ≡ old.clock
   pub desk : new.desk ≡ old.desk
 
--- One stream was taken, with this end: it was accepted and served, or its peer had broken it off.
+-- The next stream of the listener has this end. `None`: the accept failed because the peer broke
+-- the stream off, and clock and desk are unchanged. Otherwise the stream was accepted and served
+-- with this result.
 abbrev pub TakesStream : {L C D X : Type 0} → Accepts L X → Serves C D X → Scene L C D → StreamEnd → Scene L C D → Type 0
 TakesStream accepts serves old None new = IsAccepted accepts old (Err Aborted) new
 TakesStream {X = X} accepts serves old (Some ended) new =
     (stream : X) × accepts old.listener (Ok stream) new.listener × serves old.clock old.desk stream ended new.clock new.desk
 
--- The next stream may be taken: this one did not end because memory ran out.
+-- The stream did not end because memory ran out, so the next one may be taken.
 abbrev pub MayTakeNext : StreamEnd → Type 0
 MayTakeNext None = Unit {0}
 MayTakeNext (Some (Ok count)) = Unit {0}
 MayTakeNext (Some (Err fault)) = fault.kind ≢ Memory
 
--- Streams were taken, in order, with these ends. After each of them the next may be taken.
+-- The next streams of the listener have exactly these ends, in this order, and none of them ended
+-- because memory ran out.
 abbrev pub TakesAll : {L C D X : Type 0} → Accepts L X → Serves C D X → Scene L C D → List StreamEnd → Scene L C D → Type 0
 TakesAll accepts serves old [] new = new ≡ old
 TakesAll {L} {C} {D} accepts serves old (end ∷ ends) new =
     (mid : Scene L C D) × TakesStream accepts serves old end mid × MayTakeNext end × TakesAll accepts serves mid ends new
 
--- The result of taking `streams` streams. `Ok`: exactly so many were taken. `Stream`: after fewer,
--- one more was accepted and served, and ended with this fault, because memory ran out. `Net`: after
--- fewer, the listener accepted no more.
+-- The result of accepting and serving `streams` streams in sequence. `Ok`: exactly so many came to
+-- an end. `Stream`: after fewer, one more was accepted and served, and ended with this fault,
+-- because memory ran out. `Net`: after fewer, the next accept failed, and clock and desk are
+-- unchanged by it.
 abbrev pub Listens : {L C D X : Type 0} → Accepts L X → Serves C D X → ℕ → Scene L C D → Result (Unit {0}) ListenFault → Scene L C D → Type 0
 Listens accepts serves streams old (Ok done) new = (ends : List StreamEnd) × TakesAll accepts serves old ends new × (length ends ≡ streams)
 Listens {L} {C} {D} accepts serves streams old (Err (Stream fault)) new =

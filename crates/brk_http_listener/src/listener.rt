@@ -10,11 +10,13 @@ pub trait Listener {
     /// A stream that a peer opened.
     type Stream: Drop;
 
-    /// Holds if the listener was asked for one stream between the first state and the second, and
-    /// returned this result.
+    /// A relation of one accept: it may turn the first listener into the second, with this result.
     ghost accepts: { Self → Result Self.Stream AcceptFault → Self → Type 0 } = { λ _ _ _. Unit {0} };
 
-    /// Waits for the next stream and accepts it.
+    /// Waits for the next stream of a peer and accepts it.
+    ///
+    /// Fails with `Aborted` if the peer broke it off, and with `Failed` if no stream can be
+    /// accepted.
     fn accept_next(&mut self) -> Result<Self::Stream, AcceptFault>
         ensures { accepts self.old result self.new };
 }

@@ -6,7 +6,9 @@ use crate::server::StreamServer;
 use brk_http_engine::FaultKind;
 use std::alloc::Global;
 
-// Accepts the next stream and serves it.
+// Accepts the next stream and serves it to its end. A stream that its peer broke off is not served.
+//
+// Fails with `Stream` if memory ran out, and with `Net` if no stream could be accepted.
 fn take_next<L: Listener, H: StreamServer<Stream = L::Stream>>(
     alloc: Global,
     listener: &mut L,
@@ -31,11 +33,11 @@ fn take_next<L: Listener, H: StreamServer<Stream = L::Stream>>(
     }
 }
 
-/// Takes `streams` streams of a listener, in sequence. Each is served to its end before the next
-/// one is accepted. A stream that its peer breaks off counts as one.
+/// Accepts and serves `streams` streams of a listener, in sequence: each is served to its end
+/// before the next one is accepted. A stream that its peer breaks off counts as one.
 ///
 /// Fails with `Stream` at the first stream that ended because memory ran out, and with `Net` if no
-/// stream could be accepted. No stream is taken after a fault.
+/// stream could be accepted. No stream is accepted after a fault.
 pub fn serve_each<L: Listener, H: StreamServer<Stream = L::Stream>>(
     alloc: Global,
     listener: &mut L,

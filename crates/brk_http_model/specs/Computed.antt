@@ -14,13 +14,14 @@ use Rattle.brk_http_model.specs.Found.{Request}
 use Rattle.brk_http_model.specs.Replies.{Response, Came, is_fault, reply_text}
 use Rattle.brk_http_model.specs.Stream.{most_requests}
 
--- A response, the clock readings that are left, and the base after it.
+-- A response, the clock readings that remain, and the base after it.
 pub record Responded : Type 0 where
   pub response : Response
   pub moments : List ℕ
   pub base : Base
 
--- The response with the answer to a command, and the base after it.
+-- The response with the answer to a command, the clock readings `moments` that remain, and the base
+-- after the command.
 abbrev pub did : List ℕ → Answer × Base → Responded
 did moments (answer, base) = record { response = Came (Did answer); moments = moments; base = base }
 
@@ -29,25 +30,26 @@ abbrev pub saw : Result View Refusal → Outcome
 saw (Ok view) = Saw view
 saw (Err refusal) = NoView refusal
 
--- The response to a demand if no call fails. A command for which no clock reading is left has the
--- fault `Store`.
+-- The response to a demand on `base`, the clock readings that remain and the base after it, if no
+-- call fails. A command for which no clock reading remains has the fault `Store`.
 abbrev pub responded : Base → List ℕ → Asked → Responded
 responded base moments (HasResponse said) = record { response = said; moments = moments; base = base }
 responded base moments (Calls (Ask query)) = record { response = Came (saw (ask base query)); moments = moments; base = base }
 responded base (now ∷ moments) (Calls (Do command key)) = did moments (keyed_step base now command key)
 responded base [] (Calls (Do command key)) = record { response = Came (Failed Store); moments = []; base = base }
 
--- True if the response ends the stream, after `n` earlier requests: it is number `most_requests`,
--- its request asks for the end, or it is a fault.
+-- True if the response is the last of its stream, after `n` earlier requests: the request is number
+-- `most_requests` or asks to close the stream, or the response is a fault.
 abbrev pub is_last : ℕ → Request → Response → Bool
 is_last n request response = (n + 1 == most_requests) || request.closes || is_fault response
 
--- The reply to a request, followed by those that `more` gives for the base after it, unless it ends
--- the stream.
+-- The reply to a request, followed by the replies that `more` returns for the base and the clock
+-- readings after it, unless the reply ends the stream.
 abbrev pub and_replies : ℕ → Request → Responded → (Base → List ℕ → List Text) → List Text
 and_replies n request r more = reply_text r.response (is_last n request r.response) ∷ (if is_last n request r.response then [] else more r.base r.moments)
 
--- The replies to the requests, after `n` earlier requests of the stream.
+-- The replies to the requests, executed in sequence from `base` on with the clock readings
+-- `moments`, after `n` earlier requests of the stream. Requests after the last reply have none.
 abbrev pub replies_from : ℕ → Base → List ℕ → List Request → List Text
 replies_from n base moments [] = []
 replies_from n base moments (request ∷ requests) =

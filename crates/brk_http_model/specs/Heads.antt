@@ -4,7 +4,7 @@ use Rattle.brk_money.specs.Spelling.{Text}
 use Rattle.brk_http_model.specs.declared.head_end.HeadEnd.{HeadEnd}
 use Rattle.brk_http_model.specs.declared.head_end.HeadEnd.TheVariants.{Nothing, TooLong, Cut, At}
 
--- The greatest length of a head, in bytes, with its empty line.
+-- The greatest length of a request's head with its empty line, in bytes.
 abbrev pub head_limit : ℕ
 head_limit = 16384
 
@@ -15,13 +15,12 @@ begins_line_end [] = None
 begins_line_end (b ∷ []) = if b == 10 then Some 1 else None
 begins_line_end (b ∷ c ∷ bytes) = if b == 10 then Some 1 else (if b == 13 && c == 10 then Some 2 else None)
 
--- The length of the line end with which `bytes` begin, if the byte `b` before them is an LF;
--- otherwise none.
+-- The length of the line end (LF or CR LF) with which `bytes` begin, if the byte `b` before them is
+-- an LF; otherwise none.
 abbrev pub line_end_after : ℕ → Text → Option ℕ
 line_end_after b bytes = if b == 10 then begins_line_end bytes else None
 
--- One more than the first number if there is one, otherwise one more than `further`; none if there
--- is neither.
+-- The first number plus 1 if there is one, otherwise `further` plus 1; none if there is neither.
 abbrev pub or_further : Option ℕ → Option ℕ → Option ℕ
 or_further None further = option_map (λ n. n + 1) further
 or_further (Some n) further = Some (n + 1)
@@ -32,16 +31,17 @@ unfoldable pub head_len : Text → Option ℕ
 head_len [] = None
 head_len (b ∷ bytes) = or_further (line_end_after b bytes) (head_len bytes)
 
--- The end of a head in an input of `len` bytes: after `n` bytes if an empty line ends there.
--- Otherwise it is `Nothing` for an empty input, `TooLong` from `limit` bytes on, and `Cut` below.
+-- The end of a head in an input of `len` bytes: after `n` bytes if the second parameter is
+-- `Some n`, the end of the first empty line. Without an empty line it is `Nothing` for an empty
+-- input, `TooLong` from `limit` bytes on, and `Cut` below.
 abbrev pub head_end_of : ℕ → Option ℕ → ℕ → HeadEnd
 head_end_of limit (Some n) len = At n
 head_end_of limit None len = if len == 0 then Nothing else (if nat_le limit len then TooLong else Cut)
 
--- The end of the head at the front of an input, if a head has at most `limit` bytes.
+-- The end of the head at the front of `input`, if a head may have at most `limit` bytes.
 abbrev pub head_end_within : ℕ → Text → HeadEnd
 head_end_within limit input = head_end_of limit (head_len (take limit input)) (length input)
 
--- The end of the head at the front of an input.
+-- The end of the head at the front of `input`, if a head may have at most `head_limit` bytes.
 unfoldable pub head_end : Text → HeadEnd
 head_end input = head_end_within head_limit input

@@ -6,7 +6,7 @@ use Rattle.brk_money.specs.Spelling.{Text}
 use Rattle.brk_model.specs.Records.{Key}
 use Rattle.brk_model.specs.Forms.{Read, is_batch_name, read_id}
 
--- The parts into which the text is split at each byte `cut`.
+-- The parts into which the text is split at each byte equal to `cut`, which is in none of them.
 unfoldable pub parts_at : ℕ → Text → List Text
 parts_at cut text = slice_split (λ b. eqb b cut) text
 
@@ -15,17 +15,19 @@ pub data Route : Type 0 where
   ToRow : Option Key → Route
   ToView : Text → Route
 
--- The key of a batch name and a row number; none if one of them is malformed.
+-- The key of a batch name and a row number; none if the number is malformed or the name is not a
+-- batch name.
 abbrev pub row_of_batch : Text → Read ℕ → Option Key
 row_of_batch batch (Err refusal) = None
 row_of_batch batch (Ok n) = if is_batch_name batch then Some (record { batch = batch; row = n }) else None
 
--- True if the first part of a target is empty and the second equals `name`.
+-- True if `first`, the part before the first slash of a target, is empty, and `word`, the part
+-- after it, equals `name`.
 abbrev pub begins_with : Text → Text → Text → Bool
 begins_with first word name = bytes_eq first [] && bytes_eq word name
 
--- The route of the parts of a target between its slashes: /rows, /rows/BATCH/N, or /ask/VIEW with
--- one of `views`; none for others.
+-- The route of a target with these parts between its slashes: /rows, /rows/BATCH/N, or /ask/VIEW
+-- with one of `views`; none for any other.
 abbrev pub route_by : List Text → List Text → Option Route
 route_by views (first ∷ word ∷ []) = if begins_with first word (codes "rows") then Some (ToRow None) else None
 route_by views (first ∷ word ∷ view ∷ []) =
@@ -34,7 +36,7 @@ route_by views (first ∷ word ∷ batch ∷ n ∷ []) =
     if begins_with first word (codes "rows") then option_map (λ key. ToRow (Some key)) (row_of_batch batch (read_id n)) else None
 route_by views _ = None
 
--- The route of a target, if `views` are the known views; none if the target is not UTF-8 or has no
--- route.
+-- The route of the target, if `views` are the known views; none if the target is not UTF-8 or has
+-- no route. Nothing in the target is decoded.
 unfoldable pub route_of : List Text → Text → Option Route
 route_of views target = if is_utf8 target then route_by views (parts_at 47 target) else None

@@ -7,7 +7,8 @@ use Rattle.brk_http_model.specs.Found.{most_fields}
 use Rattle.brk_http_reader.specs.declared.head.HeadFacts.{HeadFacts}
 
 -- The bytes `front` begin with the head `h`, which has at most `most_fields` fields, and continue
--- with `rest`. The facts give its method, its target, its body length and its close flag.
+-- with `rest`. The method, the target, the body length and the close flag in `facts` are those of
+-- `h`; the close flag is also true for version 1.0.
 pub record IsHeadAt (front : List ℕ) (facts : HeadFacts) (h : RequestHead) (rest : List ℕ) : Type 0 where
   pub reads : ReadsRequest front h rest
   pub few : length h.fields ≤ most_fields

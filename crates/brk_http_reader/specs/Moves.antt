@@ -4,12 +4,12 @@ use Rattle.std.specs.Io.KnownBytes.{Consumes}
 use Rattle.brk_http_model.specs.declared.head_end.HeadEnd.{HeadEnd}
 use Rattle.brk_http_model.specs.declared.head_end.HeadEnd.TheVariants.{Nothing, TooLong, Cut, At}
 
--- The read moved some bytes from the reader, which had `left`, to the end of the buffer. They may
--- be any bytes if the content of the reader is unknown.
+-- The read appended some bytes to the buffer, which are the next bytes of the reader: `left` before
+-- and `left'` after. If the content of the reader is unknown, the bytes may be any.
 abbrev pub Moves : Option (List ℕ) → Option (List ℕ) → List ℕ → List ℕ → Type 0
 Moves left left' buffer buffer' = (bytes : List ℕ) × Consumes left left' bytes × (buffer' ≡ buffer ++ bytes)
 
--- The end of the head, if it has one, is within the first `len` bytes.
+-- If the head has an end, this end is within the first `len` bytes. Vacuous if it has none.
 abbrev pub IsEndWithin : HeadEnd → ℕ → Type 0
 IsEndWithin (At n) len = n ≤ len
 IsEndWithin Nothing len = ⊤

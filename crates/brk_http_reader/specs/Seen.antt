@@ -4,7 +4,7 @@ use Rattle.brk_http_model.specs.Fields.{Pair, same_word, has_field, asks_close, 
 use Rattle.brk_http_model.specs.declared.problem.Problem.TheVariants.{BadRequest}
 use Rattle.brk_http_reader.specs.declared.fields.Seen.{Seen}
 
--- The facts `s` with the field `p` added.
+-- The facts of the fields read so far, `s`, with those of one more field `p`, a name and a value.
 abbrev pub add_field : Seen → Pair → Seen
 add_field s p = record {
   chunked = s.chunked || same_word p.0 (codes "transfer-encoding");
@@ -13,7 +13,8 @@ add_field s p = record {
   len = if same_word p.0 (codes "content-length") then (if s.any_length then Err BadRequest else length_value p.1) else s.len;
 }
 
--- The facts of the fields `ps`.
+-- The facts of the fields `ps` of a head: whether its body is chunked, whether it asks to close,
+-- whether it has a length, and the body length or the problem with it.
 abbrev pub seen_of : List Pair → Seen
 seen_of ps = record {
   chunked = has_field (codes "transfer-encoding") ps;

@@ -1,4 +1,4 @@
-//! The body length and the close flag that the fields of a head give.
+//! The body length and the close flag in the fields of a head.
 ghost use Rattle.std.specs.Prelude.{◌≡◌, ◌≤◌, ℕ, All, List, true, map, length, IfOk};
 ghost use Rattle.std.specs.List.{list_all};
 ghost use Rattle.std.specs.Char.{is_ascii_digit};
@@ -10,7 +10,7 @@ ghost use Rattle.brk_http_reader.specs.Seen.{add_field};
 use brk_http_model::Problem;
 use httparse::spans::HeaderSpan;
 
-/// The facts that the fields of a head give.
+/// The body length and the close flag of the fields of a head.
 #[derive(Clone, Copy, Debug)]
 pub struct FieldFacts {
     /// Length of the body in bytes, or the problem with the fields that give it.
@@ -19,12 +19,14 @@ pub struct FieldFacts {
     pub closes: bool,
 }
 
+// Returns true if two texts are equal, apart from the case of ASCII letters.
 fn same_word(a: &[u8], b: &[u8]) -> bool
     ensures { result ≡ spec.same_word a.now b.now }
 {
     a.eq_ignore_ascii_case(b)
 }
 
+// Returns true if every byte is an ASCII digit, and for no byte.
 fn all_digits(value: &[u8]) -> bool
     ensures { result ≡ list_all is_ascii_digit value.now }
 {
@@ -38,7 +40,7 @@ fn is_digits(value: &[u8]) -> bool
     value.len() > 0 && all_digits(value)
 }
 
-/// Returns the number that at most nine digits write.
+/// Returns the decimal value of at most nine digits.
 fn number(value: &[u8]) -> usize
     requires few { length value.now ≤ 9 }
     requires digits { list_all is_ascii_digit value.now ≡ true }
@@ -51,7 +53,7 @@ fn number(value: &[u8]) -> usize
     number
 }
 
-/// Returns the body length, at most 65,536 bytes, that the digits of `value` write.
+/// Parses a body length, which is at most 65,536 bytes.
 ///
 /// Fails with `BadRequest` if `value` is not one or more digits, and with `TooLarge` if it has more
 /// than nine digits or exceeds the limit.
@@ -82,7 +84,7 @@ struct Seen {
     len: Result<usize, Problem>,
 }
 
-/// Returns the facts `seen` with one more field added.
+/// Returns the facts `seen` of the fields read so far, with those of one more field.
 fn add_field(seen: Seen, name: &[u8], value: &[u8]) -> Seen
     ensures value { result ≡ add_field seen (name.now, value.now) }
     ensures small { IfOk seen.len (λ n. n ≤ 65536) → IfOk result.len (λ n. n ≤ 65536) }
@@ -104,7 +106,7 @@ fn add_field(seen: Seen, name: &[u8], value: &[u8]) -> Seen
     }
 }
 
-/// Returns the body length and the close flag that the fields give.
+/// Returns the body length and the close flag of the fields of a head.
 ///
 /// The length is at most 65,536 bytes, and 0 without a `Content-Length` field. It is
 /// `NotImplemented` with a `Transfer-Encoding` field, otherwise `BadRequest` if `Content-Length` is

@@ -23,14 +23,15 @@ pub struct HeadFacts {
     pub len: Result<usize, Problem>,
 }
 
+// Returns true if `a` or `b` is true.
 fn either(a: bool, b: bool) -> bool
     ensures { result ≡ (a || b) }
 {
     a || b
 }
 
-/// Returns the parts of the head at the front of `front`, or `None` if these bytes are not a head
-/// of at most 100 fields. The spans are within `front`.
+/// Parses the head at the front of `front`. Returns its parts, whose spans are within `front`, or
+/// `None` if these bytes do not begin with a head of at most 100 fields.
 pub fn parse_front(front: &[u8]) -> Option<HeadFacts>
     ensures within { IfSome result (λ facts. IsWithin (length front.now) facts.method × IsWithin (length front.now) facts.target) }
     ensures small { IfSome result (λ facts. IfOk facts.len (λ n. n ≤ 65536)) }

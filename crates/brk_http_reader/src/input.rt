@@ -30,7 +30,8 @@ impl From<AllocError> for InputFault {
     }
 }
 
-/// Returns the length in bytes of the line end at the front of `bytes`, or `None`.
+/// Returns the length in bytes of the line end, LF or CR LF, at the front of `bytes`, or `None` if
+/// there is none.
 fn line_end_at(bytes: &[u8]) -> Option<usize>
     ensures { result ≡ spec.begins_line_end bytes.now }
 {
@@ -41,8 +42,8 @@ fn line_end_at(bytes: &[u8]) -> Option<usize>
     }
 }
 
-/// Returns the number of bytes of `rest` up to the end of an empty line that begins at the LF
-/// `byte`, or `None`.
+/// Returns the length of the line end at the front of `rest` if `byte` is LF, so that the two form
+/// an empty line, and otherwise `None`.
 fn line_end_after(byte: u8, rest: &[u8]) -> Option<usize>
     ensures { result ≡ spec.line_end_after byte rest.now }
 {
@@ -53,7 +54,8 @@ fn line_end_after(byte: u8, rest: &[u8]) -> Option<usize>
     }
 }
 
-/// Returns the number of bytes up to the end of the first empty line, or `None`.
+/// Returns the number of bytes up to and including the first empty line, or `None` if there is
+/// none.
 pub fn head_len(bytes: &[u8]) -> Option<usize>
     ensures value { result ≡ spec.head_len bytes.now }
     ensures within { IfSome result (λ n. n ≤ length bytes.now) }
@@ -67,7 +69,10 @@ pub fn head_len(bytes: &[u8]) -> Option<usize>
     None
 }
 
-/// Reads once and appends the bytes to the buffer. Returns `false` at the end of the input.
+/// Reads once, at most 1,024 bytes, and appends them to the buffer. Returns `false` at the end of
+/// the input.
+///
+/// Fails with `Read` or `Memory`.
 pub fn fill<R: Read>(reader: &mut R, buffer: &mut Vec<u8>) -> Result<bool, InputFault>
     ensures moves { OnOk result (Moves (R.remaining reader.old) (R.remaining reader.new) buffer.old.items buffer.new.items) }
     ensures more { result ≡ Ok true → length buffer.old.items < length buffer.new.items }
@@ -82,7 +87,9 @@ pub fn fill<R: Read>(reader: &mut R, buffer: &mut Vec<u8>) -> Result<bool, Input
 }
 
 /// Reads until the buffer has the whole head at its front, has reached the limit for a head, or the
-/// input has ended. Returns where the head ends.
+/// input has ended. Returns where the head ends, or why it has no end.
+///
+/// Fails with `Read` or `Memory`.
 pub fn read_head<R: Read>(reader: &mut R, buffer: &mut Vec<u8>) -> Result<HeadEnd, InputFault>
     ensures moves { OnOk result (Moves (R.remaining reader.old) (R.remaining reader.new) buffer.old.items buffer.new.items) }
     ensures within { IfOk result (λ end. IsEndWithin end (length buffer.new.items)) }
@@ -107,7 +114,9 @@ pub fn read_head<R: Read>(reader: &mut R, buffer: &mut Vec<u8>) -> Result<HeadEn
     }
 }
 
-/// Reads until the buffer has `len` bytes. Returns `false` if the input ends before.
+/// Reads until the buffer has at least `len` bytes. Returns `false` if the input ends before.
+///
+/// Fails with `Read` or `Memory`.
 pub fn read_body<R: Read>(
     reader: &mut R,
     buffer: &mut Vec<u8>,

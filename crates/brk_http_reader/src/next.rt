@@ -32,7 +32,8 @@ pub enum Front {
 
 /// Reads the next request into the buffer, up to the end of its body, and returns its positions.
 ///
-/// Returns `Ended` if no byte is left, and `Broken` if no request can be read.
+/// Returns `Ended` if no byte is left, and `Broken` with a problem if no request can be read. Fails
+/// with `Read` or `Memory`.
 pub fn next_request<R: Read>(reader: &mut R, buffer: &mut Vec<u8>) -> Result<Front, InputFault>
     ensures moves { OnOk result (Moves (R.remaining reader.old) (R.remaining reader.new) buffer.old.items buffer.new.items) }
     ensures within { IfOk result (λ front. IsRequestWithin front (length buffer.new.items)) }

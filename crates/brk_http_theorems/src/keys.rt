@@ -11,16 +11,16 @@ ghost use Rattle.brk_http_model.specs.Bodies.{json_texts};
 ghost use Rattle.brk_http_model.specs.Replies.{answer_body};
 ghost use Rattle.brk_http_model.specs.Routes.{parts_at};
 
-/// Proves that a reply's line, split at its commas, gives the reply's fields: none of them has a
-/// comma. So a retried row is answered with exactly the fields of its first reply.
+/// Proves that the line of a reply, split at its commas, results in the fields of the reply, so
+/// that a stored reply is returned over HTTP with exactly the fields of the first reply.
 pub fn fields_have_no_comma()
     ensures cut { (reply : Reply) → parts_at 44 (line_text reply) ≡ reply_fields reply }
     ensures told { (reply : Reply) → answer_body (Again (line_text reply)) ≡ json_texts (codes "again") (reply_fields reply) }
 {}
 
-/// Proves that a row that a batch committed is answered with its stored reply if it is retried as a
-/// request, and that a row that a request committed is answered so in a batch. Any calls may come
-/// between them, and the retry changes nothing.
+/// Proves that a row that was accepted in a batch returns its stored reply if it is sent as a
+/// request under its key, and that a row that was accepted as a request returns it in a batch. Any
+/// calls may lie between, and the retry leaves the base unchanged.
 pub fn a_key_repeats_on_either_way()
     ensures booked_by_a_batch { (base mid after : Base) (now later : ℕ) (command : Command) (key : Key) (reply : Reply) (calls : List (ℕ × Call)) (outcomes : List Outcome)
         → row_step base now command key ≡ (Done reply, mid) → Run mid calls outcomes after

@@ -7,6 +7,7 @@ use Rattle.brk_model.specs.Sheets.{sheets}
 use Rattle.brk_store.specs.Holds.{AreTreesOf, OnlyCrashState}
 use Rattle.brk_desk.specs.Reopening.{IsConsistent}
 
--- A crash exposes only the tables of `base`, or those of `other`, which is then consistent.
+-- A crash exposes only the tables of `base`, or those of `other`; in the latter case `other` is
+-- consistent.
 abbrev pub LeavesOneOf : {S : Type 0} → Ghosts S → Held S → Base → Base → Type 0
 LeavesOneOf g desk base other = OnlyCrashState g desk (λ trees. AreTreesOf (sheets base) trees ⊎ (AreTreesOf (sheets other) trees × IsConsistent other))

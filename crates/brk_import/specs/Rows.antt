@@ -18,11 +18,11 @@ use Rattle.brk_model.specs.Records.{Key}
 use Rattle.brk_model.specs.Run.{Call, Do, Outcome}
 use Rattle.brk_money.specs.Spelling.{Text}
 
--- The call of a row at a clock reading: its command under its key.
+-- The call of the desk for a row of a batch, at its clock reading: its command under its key.
 abbrev pub row_call : ℕ × (Command × Key) → ℕ × Call
 row_call call = (call.0, Do call.1.0 (Some call.1.1))
 
--- A call of the desk at the clock reading `now`, with a row's command under its key, had this
+-- A call of the desk at the clock reading `now`, with the command of a row under its key, had this
 -- outcome, with the effect that `OutcomePost` specifies.
 pub record DeskActs {S : Type 0} (g : Ghosts S) (old : Held S) (now : ℕ) (row : Command × Key) (outcome : Outcome) (new : Held S) : Type 0 where
   pub made : made.Call
@@ -31,8 +31,8 @@ pub record DeskActs {S : Type 0} (g : Ghosts S) (old : Held S) (now : ℕ) (row 
   pub outcome_is : outcome_of came ≡ outcome
   pub is_made : OutcomePost g old new now made came
 
--- The calls are exactly those of the rows of a batch, each with its command under its key, and the
--- lines and the result of the batch are those of the outcomes.
+-- The calls are exactly those of the rows of the batch, each with its command under its key, and
+-- the lines and the result of the batch follow from their outcomes.
 abbrev pub TellsRows : {C : Type 0} → (C → ℕ → C → Type 0) → Option Text → List (ℕ × Call) → List Outcome → Outside C → Result Counts BatchFault → Type 0
 TellsRows gives text calls outcomes outside result =
     (rows : RowCalls Command) × (calls ≡ map row_call rows) × TellsOutcomes (parse_by readers) gives text (rows, outcomes) outside result

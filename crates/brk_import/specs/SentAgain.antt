@@ -13,7 +13,9 @@ use Rattle.brk_io.specs.Moments.{Moments}
 use Rattle.brk_io.specs.Span.{Outside}
 use Rattle.brk_batch_engine.specs.Batch.{EndsRight}
 
--- The first run of the batch started at `base`. The retry completed and led to `after`.
+-- A batch that first ran from `base` was retried in full, completed and ended at `after`. If the
+-- first run refused none of the rows that it answered, the two runs equal one uninterrupted run of
+-- the batch.
 pub record IsSentAgain {C : Type 0} (form : Fields → Read Command) (gives : C → ℕ → C → Type 0) (text : Option Text) (base after : Base) (one two : Outside C) : Type 0 where
   -- All rows of the batch.
   pub name : Text
@@ -34,15 +36,16 @@ pub record IsSentAgain {C : Type 0} (form : Fields → Read Command) (gives : C 
   pub completed : count_refused answers ≡ 0 → IsCompleted form name base moments others rows answers told after
       ⊎ ((moment : ℕ) × (answer : Answer) × gives mid moment one.later × IsCompleted form name base (moments ++ moment ∷ []) others rows (answers ++ answer ∷ []) told after)
 
--- The first run of the batch started at `base`. The retry completed and led to `after`. Whatever
--- rows the two runs refused, they are equivalent to one run from `base` to `after`.
+-- A batch that first ran from `base` was retried in full, completed and ended at `after`. Whatever
+-- rows the two runs refused, they are equivalent to one run of calls from `base` to `after`.
 pub record AreOneRun {C : Type 0} (form : Fields → Read Command) (gives : C → ℕ → C → Type 0) (text : Option Text) (base after : Base) (one two : Outside C) : Type 0 where
   -- All rows of the batch.
   pub name : Text
   pub rows : List Fields
   pub whole : EndsRight text name rows
   -- The first rows: those that the first run answered, and the next one if it was committed but not
-  -- answered. They have these answers at these timestamps, and lead from `base` to `stood`.
+  -- answered. From `base` they have these answers at these timestamps, and `stood` is the base
+  -- after them.
   pub front : List Fields
   pub back : List Fields
   pub split : rows ≡ front ++ back

@@ -22,7 +22,7 @@ use sqlite::Alter;
 use std::alloc::{AllocError, Global};
 use std::marker::PhantomData;
 
-// Returns the desk's answer to a row as an answer of the batch engine.
+// Converts the desk's answer to a row into an answer of the batch engine.
 fn row_answer(answer: Answer) -> RowAnswer<Reply>
     ensures { engine.answer_in_model reply_of result ≡ answer_of answer }
 {

@@ -12,20 +12,21 @@ use Rattle.brk_model.specs.Forms.{is_batch_name, is_exchange, is_name, is_symbol
 use Rattle.brk_model.specs.Form.{charge_form, customer_form, is_id, is_price, is_qty, is_tier, tax_rate_form}
 use Rattle.brk_invariant_theorems.specs.Sound.{account_fields, broker_fields, permission_fields}
 
--- True if the fields of the listing are well-formed.
+-- True if the symbol, name, exchange, sector and price of the listing are well-formed.
 abbrev pub listing_fields : Listing → Bool
 listing_fields l = is_symbol l.symbol && is_name l.name && is_exchange l.exchange && is_name l.sector && is_price l.price
 
--- True if the fields of the band are well-formed. The order of its bounds is checked elsewhere.
+-- True if the tier, the exchange, both bounds and the rate of the band are well-formed. The order
+-- of the bounds is not checked here.
 abbrev pub band_fields : Band → Bool
 band_fields b = is_tier b.tier && is_exchange b.exchange && is_qty third_schema b.from_qty && is_qty third_schema b.to_qty && nat_le b.rate greatest_rate
 
--- The order's quantity is well-formed, and its price if it has one.
+-- The order's quantity is well-formed, and also its price if it has one.
 pub record IsOrderInForm (o : Order) : Type 0 where
   pub qty : is_qty third_schema o.qty ≡ true
   pub price : IfSome (price_asked o.order_type) (λ p. is_price p ≡ true)
 
--- The price of the tick is well-formed.
+-- The price of the tick is well-formed. Its symbol and its quantity are not checked here.
 abbrev pub IsTickInForm : Tick → Type 0
 IsTickInForm tick = is_price tick.price ≡ true
 
@@ -33,8 +34,8 @@ IsTickInForm tick = is_price tick.price ≡ true
 abbrev pub is_moved_amount : ℕ → Bool
 is_moved_amount n = nat_le 1 n && nat_le n greatest_amount
 
--- Those fields of the command whose formats an audit needs are well-formed. Ids that must exist,
--- and the numbers of ids and ticks, are not among them.
+-- The fields of the command whose formats an audit needs are well-formed. Ids that must exist, and
+-- the numbers of ids and ticks, are not checked here.
 abbrev pub IsInForm : Command → Type 0
 IsInForm (AddBroker b) = broker_fields b ≡ true
 IsInForm (AddCustomer c) = customer_form c ≡ true
@@ -56,6 +57,6 @@ IsInForm (DepositCash account amount) = is_moved_amount amount ≡ true
 IsInForm (WithdrawCash account amount) = is_moved_amount amount ≡ true
 IsInForm (SetOneDay day) = nat_le day last_day ≡ true
 
--- The key has a well-formed batch name and row number.
+-- The batch name and the row number of the key are well-formed.
 abbrev pub IsKeyInForm : Key → Type 0
 IsKeyInForm key = is_batch_name key.batch && is_id key.row ≡ true

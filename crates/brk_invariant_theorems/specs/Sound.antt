@@ -18,48 +18,49 @@ use Rattle.brk_model.specs.Ways.{is_rising}
 use Rattle.brk_model.specs.Keys.{KeyPart, word, charge_key, customer_key, customer_tax_key, kept_key, tax_rate_key}
 use Rattle.brk_audit_theorems.specs.Told.{HasValidTransitions, HasNoStrayTexts, StampsRise, broker_id}
 
--- No two records have one key.
+-- No two records of the list have the same key by the function `key`.
 abbrev pub DistinctKeys : {Row : Type 0} → (Row → List KeyPart) → List Row → Type 0
 DistinctKeys key [] = ⊤
 DistinctKeys key (x ∷ xs) = AllByRecursion (λ y. key y ≡ key x → ⊥) xs × DistinctKeys key xs
 
--- The tax id of a customer as a key.
+-- The tax id of a customer, as a key.
 abbrev pub tax_id_key : Customer → List KeyPart
 tax_id_key c = word c.tax_id ∷ []
 
--- True if the stamp is at most the last stamp; false if there is no last stamp.
+-- True if the stamp is at most the last stamp `last`; false if `last` is `None`.
 abbrev pub is_past : Option ℕ → ℕ → Bool
 is_past last stamp = option_map_or (λ l. nat_le stamp l) last false
 
 -- ---- fields are well-formed
 
--- True if the fields of the broker are well-formed.
+-- True if the id and the name of the broker are well-formed.
 abbrev pub broker_fields : Broker → Bool
 broker_fields b = is_id b.id && is_name b.name
 
--- True if the fields of the account are well-formed.
+-- True if the id, the name and the opening balance of the account are well-formed.
 abbrev pub account_fields : Account → Bool
 account_fields a = is_id a.id && is_name a.name && is_amount a.opening
 
--- True if the fields of the permission are well-formed.
+-- True if the access control list, the tax id and both names of the permission are well-formed.
 abbrev pub permission_fields : Permission → Bool
 permission_fields p = is_acl p.acl && is_tax_id p.tax_id && is_name p.last_name && is_name p.first_name
 
--- True if the fields of the security are well-formed.
+-- True if the symbol, name, exchange, sector and last price of the security are well-formed.
 abbrev pub security_fields : Security → Bool
 security_fields s = is_symbol s.symbol && is_name s.name && is_exchange s.exchange && is_name s.sector && is_price s.last_price
 
--- True if the fields of the trade are well-formed.
+-- True if the trade's number, quantity, bid, charge, commission and tax are within their limits.
 abbrev pub trade_fields : Trade → Bool
 trade_fields t = is_id t.id && is_qty third_schema t.qty && is_price t.bid && nat_le t.charge greatest_charge && nat_le t.commission greatest_amount && nat_le t.tax greatest_amount
 
 -- ---- trades
 
--- The stamp of the status change is at most the last stamp.
+-- The stamp of the status change is at most the last stamp `last`. False if `last` is `None`.
 abbrev pub IsPastMark : Option ℕ → StatusChange → Type 0
 IsPastMark last m = is_past last m.stamp ≡ true
 
--- The due day is within the calendar if the status change is a completion.
+-- If the status change is a completion, its due day by the settlement day `rule` is within the
+-- calendar. Vacuous for other statuses.
 abbrev pub IsDueInTime : SettleRule → StatusChange → Type 0
 IsDueInTime rule m = (not (same_status m.status Completed) || nat_le (due_after rule m.stamp) last_day) ≡ true
 
@@ -67,17 +68,19 @@ IsDueInTime rule m = (not (same_status m.status Completed) || nat_le (due_after 
 abbrev pub is_priced : Trade → Bool
 is_priced t = if is_completed t then option_map_or is_price t.price false else is_none t.price
 
--- True if the cash text is one of the two texts of the trade for the security name `name`.
+-- True if the trade's cash text is one of the two texts for its type, its quantity and the security
+-- name `name`.
 abbrev pub is_named_by : Trade → Text → Bool
 is_named_by t name =
     bytes_eq t.cash_name (type_name t.kind ++ 32 ∷ decimal t.qty ++ codes " shares of " ++ name)
     || bytes_eq t.cash_name (type_name t.kind ++ 32 ∷ decimal t.qty ++ codes " Shares of " ++ name)
 
--- True if the cash text is one of the two texts of the trade for the name of its security.
+-- True if the trade's cash text is one of the two texts for its type, its quantity and the name of
+-- its security.
 abbrev pub has_its_name : List Security → Trade → Bool
 has_its_name securities t = is_named_by t (option_map_or (λ s. s.name) (find (λ s. bytes_eq s.symbol t.symbol) securities) [])
 
--- The trade satisfies the conditions that concern only the trade.
+-- The trade satisfies the conditions of the audit invariant that depend on the trade alone.
 pub record HasSoundRows (t : Trade) : Type 0 where
   pub fields : trade_fields t ≡ true
   -- Its statuses are a valid status sequence, with stamps in ascending order.
@@ -89,8 +92,8 @@ pub record HasSoundRows (t : Trade) : Type 0 where
   pub words : HasNoStrayTexts t
   pub cash_type : is_completed t ≡ true → is_cash_type t.is_cash t.cash_type ≡ true
 
--- The trade satisfies the conditions on it, given the last stamp, the settlement day, the accounts
--- and the securities.
+-- The trade satisfies the conditions of the audit invariant on a trade, given the last stamp, the
+-- settlement day, the accounts and the securities.
 pub record IsSoundBy (last : Option ℕ) (rule : SettleRule) (accounts : List Account) (securities : List Security) (t : Trade) : Type 0 where
   pub alone : HasSoundRows t
   pub open alone use *
@@ -103,18 +106,18 @@ pub record IsSoundBy (last : Option ℕ) (rule : SettleRule) (accounts : List Ac
   -- Its settlement amount is within the limit.
   pub amount : is_completed t ≡ true → is_amount (amount_of accounts t) ≡ true
 
--- The trade satisfies the conditions on it in the base.
+-- The trade satisfies the conditions of the audit invariant on a trade, given the last stamp, the
+-- settlement day, the accounts and the securities of the base.
 abbrev pub IsSoundTrade : Base → Trade → Type 0
 IsSoundTrade base t = IsSoundBy base.last base.rule base.accounts base.securities t
 
 -- ---- movements, and the settlement day
 
--- True if the text of the movement matches the sign of its amount, and the amount is within the
--- limit.
+-- True if the text of the movement fits the sign of its amount, and the amount is within the limit.
 abbrev pub movement_fields : Movement → Bool
 movement_fields m = is_movement m.name m.amount && is_amount m.amount
 
--- The movements and the settlement day satisfy the conditions on them.
+-- The part of the audit invariant that concerns the movements and the settlement day `rule`.
 pub record IsCashSound (movements : List Movement) (rule : SettleRule) : Type 0 where
   pub fields : AllByRecursion (λ m. movement_fields m ≡ true) movements
   -- The movements are in ascending order of their stamps, and their number is within the limit of
@@ -126,31 +129,34 @@ pub record IsCashSound (movements : List Movement) (rule : SettleRule) : Type 0 
 
 -- ---- references
 
--- The account of the permission exists.
+-- The account of the permission is one of `accounts`.
 abbrev pub NamesAccount : List Account → Permission → Type 0
 NamesAccount accounts p = is_some (find_account accounts p.account) ≡ true
 
--- The customer of the customer's tax exists.
+-- The customer of the customer's tax is one of `customers`.
 abbrev pub NamesCustomer : List Customer → CustomerTax → Type 0
 NamesCustomer customers x = is_some (find (λ c. c.id == x.customer) customers) ≡ true
 
--- The tax rate of the customer's tax exists.
+-- The tax rate of the customer's tax is one of `tax_rates`.
 abbrev pub NamesTax : List TaxRate → CustomerTax → Type 0
 NamesTax tax_rates x = is_some (find (λ r. r.id == x.tax) tax_rates) ≡ true
 
--- The sum of the rates that the customer pays.
+-- The sum of the rates of the taxes that the customer pays. A tax rate that does not exist counts
+-- 0.
 abbrev pub rates_paid : List TaxRate → List CustomerTax → ℕ → ℕ
 rates_paid tax_rates customer_taxes customer =
     sum_by (λ x. option_map_or (λ r. r.rate) (find (λ r. r.id == x.tax) tax_rates) 0) (filter (λ x. x.customer == customer) customer_taxes)
 
 -- ---- the parts of the invariant: well-formed fields, and unique keys
 
--- The stored replies are well-formed, and no two have one key.
+-- The part of the audit invariant that concerns stored replies: they are well-formed, and no two
+-- have the same key.
 pub record IsKeptSound (all_kept : List Kept) : Type 0 where
   pub kept : AllByRecursion (λ k. kept_form k ≡ true) all_kept
   pub kept_keys : DistinctKeys kept_key all_kept
 
--- Brokers, customers, accounts and permissions satisfy the conditions on them.
+-- The part of the audit invariant that concerns brokers, customers, accounts and permissions:
+-- well-formed fields, unique keys, existing accounts, and the limit of accounts for each customer.
 pub record ArePartiesSound (all_brokers : List Broker) (all_customers : List Customer) (all_accounts : List Account) (all_permissions : List Permission) : Type 0 where
   pub brokers : AllByRecursion (λ b. broker_fields b ≡ true) all_brokers
   pub customers : AllByRecursion (λ c. customer_form c ≡ true) all_customers
@@ -164,7 +170,9 @@ pub record ArePartiesSound (all_brokers : List Broker) (all_customers : List Cus
   -- A customer has at most `most_accounts` accounts.
   pub owned : (customer : ℕ) → length (filter (λ a. a.customer == customer) all_accounts) ≤ most_accounts
 
--- Charges, bands, tax rates and customers' taxes satisfy the conditions on them.
+-- The part of the audit invariant that concerns charges, bands, tax rates and customers' taxes:
+-- well-formed fields, unique keys, existing customers and tax rates, and the limit of rates for
+-- each customer.
 pub record AreTermsSound (all_customers : List Customer) (all_charges : List Charge) (all_bands : List Band) (all_tax_rates : List TaxRate) (all_taxes : List CustomerTax) : Type 0 where
   pub charges : AllByRecursion (λ c. charge_form c ≡ true) all_charges
   pub bands : AllByRecursion (λ b. band_form third_schema b ≡ true) all_bands
@@ -178,19 +186,22 @@ pub record AreTermsSound (all_customers : List Customer) (all_charges : List Cha
   -- The rates of a customer sum to at most the greatest tax rate.
   pub rates : (customer : ℕ) → rates_paid all_tax_rates all_taxes customer ≤ greatest_tax_rate
 
--- Securities are well-formed, and none has a last trade after the last stamp.
+-- The part of the audit invariant that concerns securities: well-formed fields, and no last trade
+-- after the last stamp.
 pub record AreListedSound (last : Option ℕ) (all_securities : List Security) : Type 0 where
   pub securities : AllByRecursion (λ s. security_fields s ≡ true) all_securities
   pub moments : AllByRecursion (λ s. is_past last s.moment ≡ true) all_securities
 
--- The sums of completed trades and movements are within their limits.
+-- The part of the audit invariant that concerns sums: summaries, balances and commission totals of
+-- the completed trades and the movements are within their limits.
 pub record AreSumsSound (accounts : List Account) (done : List Trade) (movements : List Movement) : Type 0 where
   pub summaries : (account : ℕ) → (symbol : Text) → nat_abs (summary_of done account symbol) ≤ greatest_summary
   pub balances : (account : ℕ) → nat_abs (balance_of accounts (postings accounts done movements) account) ≤ greatest_amount
   pub commissions : (broker : ℕ) → commissions_of accounts done broker ≤ greatest_amount
 
--- The audit invariant: the tables of a consistent base with it pass an audit. Each part concerns
--- its own lists only, so it is preserved if these do not change.
+-- The audit invariant of the base. If the base also satisfies the books invariant, its tables pass
+-- an audit. Each part concerns only the lists of the base that it names, so a command that does not
+-- change these lists preserves the part.
 pub record AuditInvariant (base : Base) : Type 0 where
   pub keyed : IsKeptSound base.kept
   pub open keyed use *

@@ -1,5 +1,5 @@
-//! Theorems: the audit invariant makes the tables of a consistent base pass an audit, and commands
-//! preserve it.
+//! Theorems: the audit invariant and the books invariant make the tables of a base pass an audit,
+//! and commands preserve the audit invariant.
 
 ghost use Rattle.std.specs.Prelude.{◌≡◌, ◌≤◌, ◌↔◌, ℕ, IfOk, IfSome, IsTrue, List, Ok, Option, length};
 ghost use Rattle.brk_money.specs.Spelling.{Text};
@@ -28,9 +28,9 @@ ghost use Rattle.brk_invariant_theorems.specs.InForm.{IsInForm, IsKeyInForm};
 ghost use Rattle.brk_invariant_theorems.specs.Runs.{IsCallInForm, IsFormedCall};
 ghost use Rattle.brk_invariant_theorems.specs.Sound.{AuditInvariant};
 
-/// Proves that the tables of a consistent base with the audit invariant are well-formed, have valid
-/// histories and pass an audit. The invariant is exactly these two: valid histories and well-formed
-/// tables.
+/// Proves that a base that satisfies the books invariant satisfies the audit invariant if and only
+/// if it has valid histories and its tables satisfy the condition `Form`. The tables of a base with
+/// both invariants pass the audit of the third schema.
 pub fn sound_tables_pass()
     ensures form { (base : Base) → BooksInvariant base → AuditInvariant base → IsTrue (has_form third_schema (sheets base)) }
     ensures told { (base : Base) → AuditInvariant base → HasValidHistories base }
@@ -38,7 +38,8 @@ pub fn sound_tables_pass()
     ensures exact { (base : Base) → BooksInvariant base → AuditInvariant base ↔ (HasValidHistories base × IsTrue (has_form third_schema (sheets base))) }
 {}
 
-/// Proves that the base of rows that pass an audit satisfies the audit invariant.
+/// Proves that the base of rows that pass the audit of the third schema satisfies the audit
+/// invariant.
 pub fn passing_rows_are_sound()
     ensures { (rows : Tables) → Passes third_schema rows → AuditInvariant (base_of rows) }
 {}
@@ -48,8 +49,9 @@ pub fn the_empty_base_is_sound()
     ensures { AuditInvariant empty_base }
 {}
 
-/// Proves that every accepted well-formed command preserves the audit invariant, and so does every
-/// call of a well-formed command with a well-formed key or none.
+/// Proves that every accepted command that satisfies `IsInForm` preserves the audit invariant, if
+/// the base satisfies the books invariant. So does every call of such a command, with a well-formed
+/// key or without a key.
 pub fn commands_keep_books_sound()
     ensures step { (base : Base) (now : ℕ) (command : Command) (reply : Reply) (after : Base)
         → AuditInvariant base → BooksInvariant base → IsInForm command → step base now command ≡ Ok (reply, after) → AuditInvariant after }
@@ -57,9 +59,10 @@ pub fn commands_keep_books_sound()
         → AuditInvariant base → BooksInvariant base → IsInForm command → IfSome key IsKeyInForm → AuditInvariant (keyed_step base now command key).1 }
 {}
 
-/// Proves that a run of well-formed calls from a consistent base preserves the audit invariant. So
-/// the tables after a run from the empty base, or from the base of rows that pass an audit, pass an
-/// audit. From the empty base this also holds for calls whose rows parse as their commands.
+/// Proves that a run of calls that satisfy `IsCallInForm` preserves the audit invariant, if the
+/// base satisfies the books invariant. The tables after such a run from the empty base, or from the
+/// base of rows that pass an audit, pass an audit. So do the tables after a run from the empty base
+/// whose calls satisfy `IsFormedCall`.
 pub fn runs_end_in_tables_that_pass()
     ensures sound { (base : Base) (calls : List (ℕ × Call)) (outcomes : List Outcome) (after : Base)
         → BooksInvariant base → AuditInvariant base → AllByRecursion IsCallInForm calls → Run base calls outcomes after → AuditInvariant after }
@@ -71,15 +74,16 @@ pub fn runs_end_in_tables_that_pass()
         → AllByRecursion IsFormedCall calls → Run empty_base calls outcomes after → Passes third_schema (sheets after) }
 {}
 
-/// Proves that a row that parses gives a well-formed command, and that a command whose row parses
-/// as itself is well-formed.
+/// Proves that a row that parses gives a command that satisfies `IsInForm`, and that a command
+/// whose row text parses as this command satisfies it.
 pub fn rows_are_read_in_form()
     ensures read { (fields : List Text) → IfOk (parse_row fields) IsInForm }
     ensures formed { (command : Command) → IsFormed command → IsInForm command }
 {}
 
-/// Proves that a batch with a well-formed name preserves the books invariant and the audit
-/// invariant, if the number of its rows is within the limit of ids.
+/// Proves that the rows of a batch that were answered preserve the books invariant together with
+/// the audit invariant, if the batch name is well-formed and the number of rows is within the limit
+/// of ids.
 pub fn batches_keep_books_sound()
     ensures { (base : Base) (name : Text) (moments : List ℕ) (rows : List Fields) (answers : List Answer) (after : Base)
         → IsTrue (is_batch_name name) → length rows ≤ greatest_id → AreAnswered parse_row row_step name base moments rows answers after

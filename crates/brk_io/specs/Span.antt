@@ -13,7 +13,8 @@ pub record Span (S C : Type 0) : Type 0 where
   pub old : Option Text
   pub new : Option Text
 
--- The desk's base and the clock are unchanged, and nothing was written.
+-- The desk's base and the clock are unchanged, and nothing was written. The last says nothing if
+-- the writer's content before is unknown.
 pub record IsUntouched {S C : Type 0} (span : Span S C) : Type 0 where
   pub base : span.after ≡ span.base
   pub clock : span.later ≡ span.clock
@@ -27,6 +28,7 @@ pub record Outside (C : Type 0) : Type 0 where
   pub old : Option Text
   pub new : Option Text
 
--- The span of `outside` with the desk's base before and after.
+-- The change `outside` of the clock and the writer, together with the desk's base before it
+-- (`base`) and after it (`after`).
 abbrev pub with_base : {S C : Type 0} → S → S → Outside C → Span S C
 with_base base after outside = record { base = base; after = after; clock = outside.clock; later = outside.later; old = outside.old; new = outside.new }

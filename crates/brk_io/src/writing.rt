@@ -3,14 +3,14 @@ ghost use Rattle.std.specs.Io.KnownBytes.{Appends};
 
 use std::io::Write;
 
-/// The error of `write_out`: the writer failed, or took no byte.
+/// The error of `write_out`: a call of the writer returned an error or took no byte.
 #[derive(Clone, Copy, Debug, PartialEq, Eq)]
 pub struct NotWritten;
 
 /// Writes all bytes by calls of `write`.
 ///
 /// Fails at the first call that returns an error or a count of 0; an interrupted write is an error
-/// too. A prefix of the bytes is then written.
+/// too. A prefix of the bytes, perhaps all of them, is then written.
 pub fn write_out<W: Write>(writer: &mut W, bytes: &[u8]) -> Result<(), NotWritten>
     ensures ok { OnOk result (Appends (W.contents writer.old) (W.contents writer.new) bytes.now) }
     ensures err { OnErr result ((k : ℕ) × Appends (W.contents writer.old) (W.contents writer.new) (take k bytes.now)) }

@@ -7,7 +7,8 @@ use sqlite::Alter;
 use std::alloc::Global;
 use std::io::Write;
 
-/// Writes the view that a name and its arguments ask for, of a desk.
+/// Executes the query of a view's name and its arguments on a desk, and writes its view to `output`
+/// in this form. Returns the outcome.
 pub(crate) fn print<S: Alter, W: Write>(
     alloc: Global,
     desk: &mut Desk<S>,

@@ -2,7 +2,8 @@ use brk_exit::Ending;
 use brk_io::write_out;
 use std::io::Write;
 
-/// Writes `ok` after an audit that passed. An audit is done when a desk is opened.
+/// Writes `ok` and a line feed to `output`, for an audit that passed when the desk was opened.
+/// Returns the outcome.
 pub(crate) fn confirm<W: Write>(output: &mut W) -> Ending {
     match write_out(output, b"ok\n") {
         Ok(()) => Ending::Done,

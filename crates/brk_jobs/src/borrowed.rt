@@ -1,6 +1,6 @@
 use std::alloc::{AllocError, Global};
 
-/// Returns the bytes of texts, borrowed.
+/// Returns the bytes of the texts as borrowed slices, in order.
 pub fn borrowed<'a>(alloc: Global, texts: &'a [String]) -> Result<Vec<&'a [u8]>, AllocError> {
     let mut all = Vec::new(alloc);
     for text in texts {

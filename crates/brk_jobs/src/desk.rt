@@ -1,4 +1,4 @@
-//! A job at its desk, which is in memory, or in a file that is closed at the end.
+//! Jobs on a desk that is in memory, or in a file that is closed at the end.
 
 use crate::{ask, batch, explain, serve, statement};
 use brk_args::Job;
@@ -12,7 +12,8 @@ use brk_store::Store;
 use sqlite::{Alter, Connection};
 use std::io::{Read, Write};
 
-// Executes a job at an open desk. An audit has passed when the desk is open.
+// Executes a job on an open desk, and returns the outcome. Nothing remains to be done for an audit,
+// which passed when the desk was opened.
 fn execute<R: Read + Drop, W: Write, S: Alter>(
     rt: &HostRuntime,
     desk: &mut Desk<S>,
@@ -52,9 +53,9 @@ fn execute<R: Read + Drop, W: Write, S: Alter>(
     }
 }
 
-// Executes a job at the desk of a store, and returns the store. Each call of a function over any
-// store, at a store of files, takes the prover some twenty seconds. So this crate has one such call,
-// of this function.
+// Executes a job on the desk of a store, and returns the outcome and the store. Each call of a
+// function over any store, at a store of files, takes the prover some twenty seconds, so this crate
+// has one such call, of this function.
 fn at_store<R: Read + Drop, W: Write, S: Alter>(
     rt: &HostRuntime,
     store: Store<S>,
@@ -67,7 +68,8 @@ fn at_store<R: Read + Drop, W: Write, S: Alter>(
     (ending, desk.into_store())
 }
 
-/// Executes a job at a desk in a file that was opened, and closes the file.
+/// Executes a job on the desk in a file that was opened, closes the file and returns the outcome.
+/// If the file could not be opened, returns its fault.
 pub(crate) fn in_file<R: Read + Drop, W: Write>(
     rt: &HostRuntime,
     opened: Result<FileDesk, Fault>,
@@ -84,7 +86,7 @@ pub(crate) fn in_file<R: Read + Drop, W: Write>(
     }
 }
 
-/// Executes a job at a new desk in memory.
+/// Executes a job on a new desk in memory, and returns the outcome.
 pub(crate) fn in_memory<R: Read + Drop, W: Write>(
     rt: &HostRuntime,
     job: &Job,

@@ -7,7 +7,8 @@ use sqlite::Alter;
 use std::alloc::Global;
 use std::io::Write;
 
-/// Writes the explanation that the words ask for, of a desk.
+/// Parses the words of an explanation and writes the explanation, of a desk, to `output`. Returns
+/// the outcome.
 pub(crate) fn print<S: Alter, W: Write>(
     alloc: Global,
     desk: &mut Desk<S>,

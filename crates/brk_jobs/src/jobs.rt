@@ -6,7 +6,7 @@ use brk_files as file;
 use brk_io::write_out;
 use std::io::{Read, Write};
 
-// Writes the help or the version that was requested.
+// Writes the text of help or of the version to `output`, and returns the outcome.
 fn show<W: Write>(text: String, output: &mut W) -> Ending {
     match write_out(output, text.as_bytes()) {
         Ok(()) => Ending::Usage(UsageFault::Help(text)),
@@ -14,7 +14,7 @@ fn show<W: Write>(text: String, output: &mut W) -> Ending {
     }
 }
 
-// Where the desk of a job is.
+// The place of a job's desk.
 #[derive(Clone, Copy)]
 enum Place<'a> {
     Memory,
@@ -24,6 +24,8 @@ enum Place<'a> {
     Kept(&'a str),
 }
 
+// Returns the place of a desk for an optional path: a file that is created if it is missing or
+// empty, or memory if there is no path.
 fn place_of_db(db: &Option<String>) -> Place<'_> {
     match db {
         Some(path) => Place::Made(path.as_str()),
@@ -31,6 +33,7 @@ fn place_of_db(db: &Option<String>) -> Place<'_> {
     }
 }
 
+// Returns the place of the desk of a job.
 fn place_of(job: &Job) -> Place<'_> {
     match job {
         Job::Batch { db, .. } => place_of_db(db),
@@ -42,7 +45,8 @@ fn place_of(job: &Job) -> Place<'_> {
     }
 }
 
-// Executes a job.
+// Opens the desk of a job, executes the job, and returns the outcome. An audit that passed writes
+// `ok`.
 fn execute<R: Read + Drop, W: Write>(
     rt: &HostRuntime,
     job: &Job,
@@ -61,7 +65,8 @@ fn execute<R: Read + Drop, W: Write>(
 }
 
 /// Executes the job that the command-line arguments give, the program's own name first, and returns
-/// its outcome. A batch is read from `input`. What the job prints is written to `output`.
+/// the outcome. A batch is read from `input`. The output of the job, also help, is written to
+/// `output`.
 pub fn run<R: Read + Drop, W: Write>(
     rt: &HostRuntime,
     words: Vec<String>,

@@ -1,4 +1,4 @@
-//! Serves a desk to programs on the same machine.
+//! The job that serves a desk to programs on the same machine.
 
 use brk_clock::Moments;
 use brk_desk::Desk;
@@ -8,7 +8,8 @@ use brk_money::Stamp;
 use sqlite::Alter;
 use std::net::TcpListener;
 
-/// Serves `streams` streams on a port that only this machine can reach.
+/// Serves `streams` streams, in sequence, on `port` of 127.0.0.1. Returns the outcome. The
+/// timestamps are `at`, or readings of the machine's clock.
 pub(crate) fn listen<S: Alter>(
     rt: &HostRuntime,
     port: u16,

@@ -6,7 +6,8 @@ use sqlite::Alter;
 use std::alloc::Global;
 use std::io::Write;
 
-/// Writes the statement of an account of a desk from `from` to `to`, both included.
+/// Writes the statement of an account of a desk, from `from` to `to`, both included, to `output`.
+/// Returns the outcome.
 pub(crate) fn print<S: Alter, W: Write>(
     alloc: Global,
     desk: &mut Desk<S>,

@@ -7,7 +7,8 @@ use Rattle.brk_lots.specs.declared.closing.Closing.{Closing}
 use Rattle.brk_lots.specs.Lots.{shares_of, from_end, plain_lot, plain_touch}
 use Rattle.brk_lots.specs.Position.{IsNew, AreOlder}
 
--- The closing is the effect of the deal on the shares of the lots.
+-- The value `closing` has the effect of the deal `d` on the shares of the lots `ls`: the touched
+-- lots, the opened lot, the buy value and the sell value.
 pub record IsClosing (d : Deal) (ls : List Lot) (closing : Closing) : Type 0 where
   -- The lots that it touches, from its end.
   pub touched : map plain_touch closing.touched.items ≡ from_end d.is_lifo (touches d (shares_of ls))
@@ -17,8 +18,8 @@ pub record IsClosing (d : Deal) (ls : List Lot) (closing : Closing) : Type 0 whe
   pub bought : closing.buy_value ≡ pos (buy_value d (shares_of ls))
   pub sold : closing.sell_value ≡ pos (sell_value d (shares_of ls))
 
--- The closing is that of a position whose lots are older than the deal and were opened by other
--- trades.
+-- The value `closing` has the effect of the deal `d` on the lots `ls`, and all of these lots were
+-- opened by other trades and before the stamp of `d`.
 pub record Applies (d : Deal) (ls : List Lot) (closing : Closing) : Type 0 where
   pub closes : IsClosing d ls closing
   pub fresh : IsNew d.trade ls

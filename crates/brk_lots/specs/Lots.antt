@@ -10,33 +10,34 @@ use Rattle.brk_lots.specs.declared.lot.Lot.{Lot}
 use Rattle.brk_lots.specs.declared.lot.Touch.{Touch}
 use Rattle.brk_lots.specs.declared.deal.Deal.{Deal}
 
--- The side of a signed number of shares.
+-- The side of the trade that opened a lot of the signed quantity: `Sell` below 0, otherwise `Buy`.
 abbrev pub side_of_qty : ℤ → Side
 side_of_qty (pos n) = Buy
 side_of_qty (negsuc n) = Sell
 
--- One share of a lot.
+-- One share of the lot, with the side, trade, price and stamp of the lot.
 abbrev pub share_of : Lot → Share
 share_of l = record { side = side_of_qty l.qty; trade = l.trade; price = l.price; stamp = l.stamp }
 
--- The shares of lots, lot by lot.
+-- The shares of the lots, lot by lot: as many equal shares as the quantity of the lot without its
+-- sign.
 abbrev pub shares_of : List Lot → List Share
 shares_of ls = flat_map (λ l. replicate (unsigned_abs l.qty) (share_of l)) ls
 
--- The list from the end that a deal takes first: reversed for last in first out, otherwise as it
--- is.
+-- The list reversed if the first argument is true (last in, first out), otherwise the list
+-- unchanged.
 abbrev pub from_end : {X : Type 0} → Bool → List X → List X
 from_end true xs = reverse xs
 from_end false xs = xs
 
--- The abstract lot of a lot.
+-- The model's lot that corresponds to the lot `l` of the program.
 abbrev pub plain_lot : Lot → model.Lot
 plain_lot l = record { trade = l.trade; price = l.price; stamp = l.stamp; qty = l.qty }
 
--- The abstract touched lot of a touched lot.
+-- The model's touched lot that corresponds to `t` of the program.
 abbrev pub plain_touch : Touch → model.Touch
 plain_touch t = record { lot = t.lot; before = t.before; after = t.after }
 
--- The abstract deal of a deal.
+-- The model's deal that corresponds to the deal `d` of the program.
 abbrev pub plain_deal : Deal → model.Deal
 plain_deal d = record { trade = d.trade; side = d.side; qty = d.qty; price = d.price; stamp = d.stamp; is_lifo = d.lifo }

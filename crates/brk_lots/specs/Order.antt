@@ -4,21 +4,22 @@ use Rattle.std.specs.Prelude.{◌≡◌, ◌≢◌, pos, ◌<◌, ⊤, List, [],
 use Rattle.brk_lots.specs.declared.lot.Lot.{Lot}
 use Rattle.brk_lots.specs.Lots.{side_of_qty}
 
--- `P` holds of the first lot of the list. Vacuous if the list is empty.
+-- The first lot of the list satisfies `P`. Vacuous if the list is empty.
 abbrev pub First : (Lot → Type 0) → List Lot → Type 0
 First P [] = ⊤
 First P (l ∷ ls) = P l
 
--- The lot `m` is of the same side as `l` and has a later stamp.
+-- The lot `m` has the side of the lot `l` and a later stamp.
 abbrev pub IsHigher : Lot → Lot → Type 0
 IsHigher l m = (side_of_qty m.qty ≡ side_of_qty l.qty) × (l.stamp < m.stamp)
 
--- No lot is of 0 shares, and each has the side of the lot before it and a later stamp.
+-- No lot of the list has 0 shares, and each lot after the first has the side of the lot before it
+-- and a later stamp.
 abbrev pub IsByOpening : List Lot → Type 0
 IsByOpening [] = ⊤
 IsByOpening (l ∷ ls) = (l.qty ≢ pos 0) × First (IsHigher l) ls × IsByOpening ls
 
--- No two neighbours are of the same trade.
+-- No two neighbours of the list were opened by the same trade.
 abbrev pub Differ : List Lot → Type 0
 Differ [] = ⊤
 Differ (l ∷ ls) = First (λ m. m.trade ≢ l.trade) ls × Differ ls

@@ -15,8 +15,8 @@ use crate::values::Values;
 use brk_money::{Amount, Id, Price, Qty, Side, Stamp, Wide};
 use std::alloc::Global;
 
-/// Returns true if the shares that are held in all (HS_QTY) are on the other side of a trade:
-/// bought shares for a sale, shares sold short for a purchase.
+/// Returns true if a trade of the side closes lots of a position that holds `held` shares (HS_QTY):
+/// a purchase if `held` is below 0, a sale if it is above 0.
 pub fn closes_lots(side: Side, held: i64) -> bool
     ensures { result ≡ closes_lots side held }
 {
@@ -26,8 +26,8 @@ pub fn closes_lots(side: Side, held: i64) -> bool
     }
 }
 
-/// Returns the effect of a trade on a position without lots on the other side: it opens a lot of
-/// all its shares (Trade-Result).
+/// Returns the effect of a trade that closes no lot: it opens a lot of all its shares
+/// (Trade-Result). Both values are 0.
 pub fn open_without_closing(
     alloc: Global,
     side: Side,
@@ -49,8 +49,7 @@ pub fn open_without_closing(
     }
 }
 
-/// Returns the buy value and the sell value of the shares that an order would close in a position
-/// without lots on the other side. Both are 0.
+/// Returns the buy value and the sell value of an order that would close no share: both are 0.
 pub fn no_values() -> Values
     ensures { (d : model.Deal) (ls : List Lot) → IsWalk ls → closes_lots d.side (lots_total ls) ≡ false → result ≡ values_of d (shares_of ls) }
 {

@@ -14,7 +14,8 @@ use crate::walk::take_lots;
 use brk_money::{Fault, Id, Price, Qty, Side, Stamp, Wide};
 use std::alloc::Global;
 
-/// The effect of a trade on a position.
+/// The effect of a trade on a position: the lots that it closes or reduces, and the lot that it
+/// opens.
 #[derive(Drop)]
 pub struct Closing {
     /// The lots that it closes or reduces, in the order of the source.
@@ -27,7 +28,7 @@ pub struct Closing {
     pub sell_value: Wide,
 }
 
-// Returns the lot that a trade opens with `shares` shares, or `None` if that is 0.
+// Returns the lot that a trade opens with `shares` shares, or `None` if `shares` is 0.
 pub(crate) fn opened_lot(
     side: Side,
     shares: u32,
@@ -49,9 +50,10 @@ pub(crate) fn opened_lot(
 }
 
 /// Closes lots of the other side until the quantity is used up, and opens a lot with the remaining
-/// shares (Trade-Result). None of the lots may have been opened by `trade`.
+/// shares (Trade-Result). Returns the changes of lots and the values of the closed shares. No lot
+/// of the source may have been opened by `trade`.
 ///
-/// It requests at most one lot more than it touches, also if it fails. Fails with a fault of the
+/// Requests at most one lot more than it touches, also if it fails. Fails with a fault of the
 /// source or with `Memory`.
 pub fn close<L: LotSource>(
     alloc: Global,

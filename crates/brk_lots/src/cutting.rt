@@ -6,8 +6,8 @@ ghost use Rattle.brk_lots.specs.Walks.{rows_taken, lots_left, smaller};
 
 use crate::lot::{Lot, Touch};
 
-// Cuts off the lots before the index `last` and sets the quantity of the lot at it, or cuts that
-// lot off too if `qty` is 0. Returns the index of the first remaining lot.
+// Closes the lots before the index `last`, and sets the quantity of the lot at it to `qty`, or
+// closes that lot too if `qty` is 0. Returns the index of the first remaining lot.
 fn cut_front(lots: &mut Vec<Lot>, last: usize, qty: i64) -> usize
     requires { last < vec_len lots.old }
     ensures left { (lot : Lot) → lot ≡ slice_index_or lots.old.items last lot → drop result lots.new.items ≡ smaller qty lot ++ drop (last + 1) lots.old.items }
@@ -22,8 +22,8 @@ fn cut_front(lots: &mut Vec<Lot>, last: usize, qty: i64) -> usize
     last
 }
 
-// Cuts off the lots after the index `last` and sets the quantity of the lot at it, or cuts that lot
-// off too if `qty` is 0.
+// Removes the lots after the index `last`, and sets the quantity of the lot at it to `qty`, or
+// removes that lot too if `qty` is 0.
 fn cut_back(lots: &mut Vec<Lot>, last: usize, qty: i64)
     requires { last < vec_len lots.old }
     ensures left { (lot : Lot) → lot ≡ slice_index_or lots.old.items last lot → lots.new.items ≡ take last lots.old.items ++ smaller qty lot }
@@ -39,9 +39,9 @@ fn cut_back(lots: &mut Vec<Lot>, last: usize, qty: i64)
     lots[last].qty = qty;
 }
 
-// Applies the touched lots of a closing to the lots from the index `first` on. Returns the index of
-// the first remaining lot.
-// The touched lots are at one end of the lots. The last of them may remain with a smaller quantity.
+// Applies the touched lots of a closing to the lots from the index `first` on. The touched lots are
+// at one end of these lots, and the last of them may remain with a smaller quantity. Returns the
+// index of the first remaining lot.
 pub(crate) fn cut_lots(lots: &mut Vec<Lot>, first: usize, touched: &[Touch]) -> usize
     requires within { first ≤ vec_len lots.old }
     requires walk { IsWalk (drop first lots.old.items) }

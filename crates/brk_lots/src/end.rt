@@ -18,6 +18,8 @@ pub struct PositionEnd<'a> {
 }
 
 impl<'a> PositionEnd<'a> {
+    // Returns the source of these lots, from the last on if `lifo`, otherwise from the first on.
+    // None of the lots may have 0 shares.
     pub(crate) fn new(lots: &'a [Lot], lifo: bool) -> PositionEnd<'a>
         requires { All (λ l. l.qty ≢ pos 0) lots.now }
         ensures remaining { ⟦<PositionEnd<'static> as LotSource>⟧.remaining result (from_end lifo lots.now) }
@@ -45,6 +47,7 @@ impl LotSource for PositionEnd<'_> {
 
     ghost fails = { λ _ _ _. ⊥ };
 
+    // Returns the next lot, or `None` after the last. Never fails.
     fn next(&mut self) -> Result<Option<Lot>, Fault> {
         if self.lifo {
             let [rest @ .., last] = self.lots else {

@@ -7,8 +7,7 @@ ghost use Rattle.brk_lots.specs.Position.{IsPosition};
 use crate::lot::{Lot, is_same};
 use brk_money::{Id, Stamp};
 
-// Returns true if there are no more lots, or if the first of them has the side of `lot` and a later
-// stamp.
+// Returns true if `rest` is empty, or if its first lot has the side of `lot` and a later stamp.
 fn next_rises(lot: &Lot, rest: &[Lot]) -> bool
     ensures { IsTrue result ↔ First (IsHigher lot.now) rest.now }
 {
@@ -18,7 +17,8 @@ fn next_rises(lot: &Lot, rest: &[Lot]) -> bool
     }
 }
 
-// Returns true if the lots have one side, none is of 0 shares, and their stamps ascend strictly.
+// Returns true if no lot has 0 shares, all lots have one side, and their stamps are strictly
+// ascending.
 fn climbs(lots: &[Lot]) -> bool
     ensures { IsTrue result ↔ IsByOpening lots.now }
 {
@@ -30,7 +30,7 @@ fn climbs(lots: &[Lot]) -> bool
     true
 }
 
-// Returns true if there are no more lots, or if the first of them is of another trade.
+// Returns true if `rest` is empty, or if its first lot was opened by another trade.
 fn next_differs(trade: Id, rest: &[Lot]) -> bool
     ensures { IsTrue result ↔ First (λ l. l.trade ≢ trade) rest.now }
 {
@@ -40,7 +40,7 @@ fn next_differs(trade: Id, rest: &[Lot]) -> bool
     }
 }
 
-// Returns true if no two neighbours are of the same trade.
+// Returns true if no two neighbours were opened by the same trade.
 fn differ(lots: &[Lot]) -> bool
     ensures { IsTrue result ↔ Differ lots.now }
 {
@@ -52,7 +52,7 @@ fn differ(lots: &[Lot]) -> bool
     true
 }
 
-// Sorts the lots by trade.
+// Sorts the lots by the trade that opened them.
 fn sort_by_trade(lots: &mut [Lot])
     ensures permutation { IsPermutation lots.old lots.new }
     ensures order { IsNonDecreasingBy (λ l. l.trade) lots.new }
@@ -68,9 +68,9 @@ fn sort_by_stamp(lots: &mut [Lot])
     lots.sort_unstable_by_key(|lot| lot.stamp.get().unsigned_abs());
 }
 
-// Returns true if the lots form a position, the oldest first.
-// Sorts them by trade, so that lots of the same trade become neighbours, and then by stamp again.
-// As the stamps ascend strictly, this restores the order.
+// Returns true if the lots form a position, the oldest first. The lots are unchanged: they are
+// sorted by trade, so that lots of the same trade become neighbours, and then by stamp again, which
+// restores their order since the stamps are strictly ascending.
 pub(crate) fn is_position(lots: &mut [Lot]) -> bool
     ensures lots { lots.new ≡ lots.old }
     ensures lawful { IsTrue result ↔ IsPosition lots.old }
@@ -84,7 +84,7 @@ pub(crate) fn is_position(lots: &mut [Lot]) -> bool
     distinct
 }
 
-// Returns true if all lots are older than the stamp and were opened by other trades.
+// Returns true if all lots were opened before the stamp and by other trades.
 pub(crate) fn all_older(lots: &[Lot], trade: Id, stamp: Stamp) -> bool
     ensures { IsTrue result ↔ All (λ l. (l.trade ≢ trade) × (l.stamp < stamp)) lots.now }
 {

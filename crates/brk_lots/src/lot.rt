@@ -29,21 +29,21 @@ pub struct Touch {
 }
 
 impl Lot {
-    /// Returns the side of the trade that opened it.
+    /// Returns the side of the trade that opened the lot, if the quantity is not 0.
     pub fn side(&self) -> Side
         ensures { result ≡ side_of_qty self.now.qty }
     {
         if self.qty < 0 { Side::Sell } else { Side::Buy }
     }
 
-    /// Returns the number of its shares.
+    /// Returns the number of shares: the quantity without its sign.
     pub fn size(&self) -> u64
         ensures { result ≡ unsigned_abs self.now.qty }
     {
         self.qty.unsigned_abs()
     }
 
-    // Returns its quantity without `shares` of its shares.
+    // Returns the quantity with `shares` shares less, with the sign of the lot.
     fn less(&self, shares: u32) -> i64
         requires { shares ≤ unsigned_abs self.now.qty }
         ensures { result ≡ signed (side_of_qty self.now.qty) (unsigned_abs self.now.qty - shares) }
@@ -55,7 +55,7 @@ impl Lot {
         }
     }
 
-    // Returns the touched lot without `shares` of its shares.
+    // Returns the change of the lot that closes `shares` of its shares.
     pub(crate) fn touch(&self, shares: u32) -> Touch
         requires { shares ≤ unsigned_abs self.now.qty }
         ensures { result ≡ record { lot = self.now.trade; before = self.now.qty; after = signed (side_of_qty self.now.qty) (unsigned_abs self.now.qty - shares) } }
@@ -78,7 +78,7 @@ pub fn is_same(a: Side, b: Side) -> bool
     }
 }
 
-// Returns `shares` shares of a side as a signed number.
+// Returns the number of shares as a signed quantity: below 0 for a sale.
 pub(crate) fn signed_qty(side: Side, shares: u32) -> i64
     ensures { result ≡ signed side shares }
 {

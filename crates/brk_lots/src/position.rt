@@ -68,16 +68,16 @@ impl Position {
         &self.lots[self.first..]
     }
 
-    /// Returns true if a trade with this id and stamp can be applied: it opened none of the lots
-    /// and is later than all of them.
+    /// Returns true if a trade with this id and stamp can be applied to the position: it opened
+    /// none of the lots, and its stamp is later than all of theirs.
     pub fn takes(&self, trade: Id, stamp: Stamp) -> bool
         ensures { IsTrue result ↔ (IsNew trade self.now × AreOlder stamp self.now) }
     {
         all_older(self.lots(), trade, stamp)
     }
 
-    /// Applies the closing of this position by a trade, from either end. Changes only the lots that
-    /// the closing touched or opened.
+    /// Applies the closing of this position by a trade, from either end. The position then has the
+    /// shares that the trade leaves.
     ///
     /// Fails with `Memory` only. The position is then unchanged.
     pub fn apply(&mut self, closing: &Closing) -> Result<(), Fault>

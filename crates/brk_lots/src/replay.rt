@@ -13,14 +13,14 @@ use crate::position::Position;
 use brk_money::{Fault, Id};
 use std::alloc::Global;
 
-/// A lot that a trade touched or opened, with the trade.
+/// A change of a lot by a trade that touched or opened it.
 #[derive(Clone, Copy)]
 pub struct DealTouch {
     pub trade: Id,
     pub touch: Touch,
 }
 
-// Appends the lots that a trade touched.
+// Appends the lots that a trade touched, in order. Fails with `Memory` only.
 fn add_touched(rows: &mut Vec<DealTouch>, trade: Id, touched: &[Touch]) -> Result<(), Fault>
     ensures added { OnOk result (map plain_row rows.new.items ≡ map plain_row rows.old.items ++ map (touch_row trade) (map plain_touch touched.now)) }
     ensures fault { IfErr result (λ fault. fault ≡ Fault.Memory) }
@@ -34,7 +34,7 @@ fn add_touched(rows: &mut Vec<DealTouch>, trade: Id, touched: &[Touch]) -> Resul
     Ok(())
 }
 
-// Appends the lot that a trade opened.
+// Appends the lot that a trade opened, if it opened one. Fails with `Memory` only.
 fn add_opened(rows: &mut Vec<DealTouch>, trade: Id, opened: Option<Lot>) -> Result<(), Fault>
     ensures added { OnOk result (map plain_row rows.new.items ≡ map plain_row rows.old.items ++ map (touch_row trade) (map opening_touch (map plain_lot (option_to_list opened)))) }
     ensures fault { IfErr result (λ fault. fault ≡ Fault.Memory) }
@@ -50,7 +50,8 @@ fn add_opened(rows: &mut Vec<DealTouch>, trade: Id, opened: Option<Lot>) -> Resu
     Ok(())
 }
 
-// Appends the lots that a trade touched, in order, and the lot that it opened.
+// Appends the lots that a trade touched, in order, and then the lot that it opened. Fails with
+// `Memory` only.
 fn add_rows(rows: &mut Vec<DealTouch>, trade: Id, closing: &Closing) -> Result<(), Fault>
     ensures added { OnOk result (map plain_row rows.new.items ≡ map plain_row rows.old.items
         ++ map (touch_row trade) (map plain_touch closing.now.touched.items ++ map opening_touch (map plain_lot (option_to_list closing.now.opened)))) }

@@ -14,6 +14,7 @@ pub(crate) trait Rows {
     // The faults with which a call may fail.
     ghost fails: { Fault → Type 0 };
 
+    // Receives the next touched lot.
     fn add(&mut self, row: Touch) -> Result<(), Fault>
         ensures added { OnOk result ((rows : List Touch) → holds self.old rows → holds self.new (rows ++ row ∷ [])) }
         ensures fault { IfErr result fails };
@@ -25,6 +26,7 @@ impl Rows for Vec<Touch> {
 
     ghost fails = { λ fault. fault ≡ Memory };
 
+    // Appends the row. Fails with `Memory` only.
     fn add(&mut self, row: Touch) -> Result<(), Fault> {
         self.push(row)?;
         Ok(())
@@ -40,6 +42,7 @@ impl Rows for NoRows {
 
     ghost fails = { λ _. ⊥ };
 
+    // Ignores the row. Never fails.
     fn add(&mut self, _row: Touch) -> Result<(), Fault> {
         Ok(())
     }

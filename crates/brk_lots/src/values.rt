@@ -19,8 +19,8 @@ pub struct Values {
     pub sell_value: Amount,
 }
 
-// Returns the buy value and the sell value of shares that a trade closes at the value `traded` and
-// that were opened at the value `opened`.
+// Returns the buy value and the sell value of shares that a trade of the side closes at the value
+// `traded` and that were opened at the value `opened`.
 pub(crate) fn values_at(side: Side, traded: u64, opened: u64) -> Values
     requires traded { traded ≤ greatest_amount }
     requires opened { opened ≤ greatest_amount }

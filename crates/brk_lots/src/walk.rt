@@ -13,7 +13,7 @@ use crate::source::LotSource;
 use crate::values::{Values, values_at};
 use brk_money::{Fault, Price, Qty, Side};
 
-// The quantity that is left after a walk over the lots, and the cost basis of the closed shares, in
+// The quantity that closed no share, and the value at which the closed shares were opened, in
 // cents.
 #[derive(Drop)]
 struct Walked {
@@ -21,16 +21,15 @@ struct Walked {
     cost: u64,
 }
 
-// The quantity that is left after a trade, and the buy value and the sell value of the closed
-// shares.
+// The quantity that closed no share, and the buy value and the sell value of the closed shares.
 #[derive(Drop)]
 pub(crate) struct Taken {
     pub left: u32,
     pub values: Values,
 }
 
-// Closes lots of the other side until the quantity is used up, and passes the touched lots to
-// `rows`.
+// Closes lots of the other side until the quantity is used up, and adds each touched lot to `rows`.
+// Returns the quantity that closed no share and the value at which the closed shares were opened.
 fn walk<L: LotSource, R: Rows>(
     source: &mut L,
     side: Side,
@@ -69,8 +68,8 @@ fn walk<L: LotSource, R: Rows>(
     Ok(Walked { left, cost })
 }
 
-// Closes lots of the other side until the quantity is used up, passes the touched lots to `rows`,
-// and returns the values of the closed shares.
+// Closes lots of the other side until the quantity is used up, and adds each touched lot to `rows`.
+// Returns the quantity that closed no share and the values of the closed shares.
 pub(crate) fn take_lots<L: LotSource, R: Rows>(
     source: &mut L,
     side: Side,

@@ -9,16 +9,16 @@ use Rattle.brk_model.specs.Derived.{Posting}
 use Rattle.brk_model.specs.Tables.{Tables, AccountRow, SecurityRow, LastTradeRow, TradeRow, CashRow, MoveRow}
 use Rattle.brk_model.specs.Joins.{history_in, trade_in}
 
--- The account of a row, without its balance.
+-- The account that a CUSTOMER_ACCOUNT row describes; the balance of the row is not used.
 abbrev pub account_of_row : AccountRow → Account
 account_of_row a = record { id = a.id; customer = a.customer; broker = a.broker; name = a.name; tax_status = a.tax_status; opening = a.opening }
 
--- The status changes of a trade, sorted by stamp, ascending.
+-- The status changes of the trade with the id `trade` in TRADE_HISTORY, sorted by stamp, ascending.
 abbrev pub marks_in : Tables → ℕ → List StatusChange
 marks_in tables trade = sort_by_key (λ m. m.stamp) (map (λ h. record { stamp = h.stamp; status = h.status }) (history_in tables trade))
 
--- The posting of a trade's cash row to the account of the trade; the account is 0 if the trade does
--- not exist.
+-- The posting of a CASH_TRANSACTION row to the account of its trade; the account is 0 if the trade
+-- does not exist.
 abbrev pub posting_of_cash : Tables → CashRow → Posting
 posting_of_cash tables c = record {
   account = option_map_or (λ t. t.account) (trade_in tables c.trade) 0;
@@ -28,24 +28,24 @@ posting_of_cash tables c = record {
   name = c.name;
 }
 
--- The posting of a numbered cash row.
+-- The posting of a CASH_MOVE row.
 abbrev pub posting_of_move : MoveRow → Posting
 posting_of_move r = record { account = r.account; trade = r.trade; stamp = r.stamp; amount = r.amount; name = r.name }
 
--- The postings of all cash rows of the tables: those of CASH_TRANSACTION, then those of CASH_MOVE.
+-- The postings of all cash rows of the tables: of CASH_TRANSACTION, followed by those of CASH_MOVE.
 abbrev pub postings_in : Tables → List Posting
 postings_in tables = map (posting_of_cash tables) tables.cash ++ map posting_of_move tables.moves
 
--- True if a posting is of the trade with the id `trade`.
+-- True if the posting `p` belongs to the trade with the id `trade`; false if it belongs to none.
 abbrev pub is_posted_by : ℕ → Posting → Bool
 is_posted_by trade p = option_map_or (λ id. id == trade) p.trade false
 
--- The movement of a cash row without a trade.
+-- The movement that a CASH_MOVE row without a trade describes.
 abbrev pub movement_of_row : MoveRow → Movement
 movement_of_row r = record { account = r.account; stamp = r.stamp; amount = r.amount; name = r.name }
 
--- The trade of a row, with its status changes, its cash type and the name of its cash row; the last
--- two are empty if the rows do not exist.
+-- The trade that a TRADE row describes, with its status changes, its cash type of SETTLEMENT and
+-- the name of its cash row; the last two are empty if these rows do not exist.
 abbrev pub trade_of_row : Tables → TradeRow → Trade
 trade_of_row tables t = record {
   id = t.id;
@@ -66,21 +66,23 @@ trade_of_row tables t = record {
   cash_name = option_map_or (λ p. p.name) (find (is_posted_by t.id) (postings_in tables)) [];
 }
 
--- The security of its row and the row of its last trade.
+-- The security that a SECURITY row and a LAST_TRADE row describe.
 abbrev pub security_of_rows : SecurityRow → LastTradeRow → Security
 security_of_rows s l =
     record { symbol = s.symbol; name = s.name; exchange = s.exchange; sector = s.sector; last_price = l.price; volume = l.volume; moment = l.stamp }
 
--- The row that replaces a missing last trade: price, volume and stamp are 0.
+-- The row that stands in for a missing LAST_TRADE row of the symbol: its price, volume and stamp
+-- are 0.
 abbrev pub no_last_trade : Text → LastTradeRow
 no_last_trade symbol = record { symbol = symbol; stamp = 0; price = 0; volume = 0 }
 
--- The security of a row, with its last trade.
+-- The security that a SECURITY row and the LAST_TRADE row of its symbol describe; without such a
+-- row its price, volume and stamp are 0.
 abbrev pub security_of_row : Tables → SecurityRow → Security
 security_of_row tables s =
     option_map_or (security_of_rows s) (find (λ l. bytes_eq l.symbol s.symbol) tables.last_trades) (security_of_rows s (no_last_trade s.symbol))
 
--- The base that is read from the tables of any schema. Values that follow from a base, such as
+-- The base that the tables `t` of any schema describe. Values that follow from a base, such as
 -- lots, sums and balances, are not read.
 unfoldable pub base_of : Tables → Base
 base_of t = record {

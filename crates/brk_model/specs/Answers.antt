@@ -6,26 +6,27 @@ use Rattle.brk_model.specs.Records.{Key}
 use Rattle.brk_model.specs.Forms.{Read}
 use Rattle.brk_model.specs.Commands.{Answer, Refused}
 
--- The fields of a row.
+-- The type of the fields of a row, a list of texts.
 abbrev pub Fields : Type 0
 Fields = List Text
 
--- A step: the answer to a command with its key at a clock reading, and the base after it.
+-- The type of a step: from a base, a clock reading, a command and its key to the answer and the
+-- base after it.
 abbrev pub RowStep : Type 0 → Type 0 → Type 0
 RowStep B C = B → ℕ → C → Key → Answer × B
 
--- A well-formed row as a call: its key, the clock reading and its command.
+-- The call of a well-formed row: its key, the clock reading and its command.
 pub record RowCall (C : Type 0) : Type 0 where
   pub key : Key
   pub now : ℕ
   pub command : C
 
--- The answer to a call, and the base after it.
+-- The answer of `step` to the call on `base`, and the base after it.
 abbrev pub call_step : {B C : Type 0} → RowStep B C → B → RowCall C → Answer × B
 call_step step base call = step base call.now call.command call.key
 
--- The calls have exactly these answers and lead from `base` to `after`. They are executed in order,
--- each from the base after the one before.
+-- The calls, executed in sequence by `step` from `base` on, have exactly these answers, and `after`
+-- is the base after the last. It is false if the lists have different lengths.
 abbrev pub InTurn : {B C : Type 0} → RowStep B C → B → List (RowCall C) → List Answer → B → Type 0
 InTurn step base [] [] after = after ≡ base
 InTurn step base (call ∷ calls) (answer ∷ answers) after =
@@ -33,38 +34,40 @@ InTurn step base (call ∷ calls) (answer ∷ answers) after =
 InTurn step base [] (answer ∷ answers) after = ⊥
 InTurn step base (call ∷ calls) [] after = ⊥
 
--- The rows `rest` with the row `n` in front, unless it was refused.
+-- The list `rest` with the row number `n` and the command in front; `rest` alone if the row was
+-- refused.
 abbrev pub with_formed : {C : Type 0} → Read C → ℕ → List (ℕ × C) → List (ℕ × C)
 with_formed (Ok command) n rest = (n, command) ∷ rest
 with_formed (Err refusal) n rest = rest
 
--- The commands of the well-formed rows with their row numbers, counted from `n`.
+-- The commands of the well-formed rows, each with its row number; the first row has the number `n`.
 abbrev pub formed_from : {C : Type 0} → (Fields → Read C) → ℕ → List Fields → List (ℕ × C)
 formed_from form n [] = []
 formed_from form n (row ∷ rows) = with_formed (form row) n (formed_from form (n + 1) rows)
 
--- The calls of the well-formed rows of a batch, one clock reading each; readings or rows that are
--- left over are dropped.
+-- The calls of the well-formed rows of a batch, one clock reading each; surplus readings or rows
+-- are dropped.
 abbrev pub calls_of : {C : Type 0} → Text → List ℕ → List (ℕ × C) → List (RowCall C)
 calls_of batch (moment ∷ moments) (row ∷ rows) =
     record { key = record { batch = batch; row = row.0 }; now = moment; command = row.1 } ∷ calls_of batch moments rows
 calls_of batch [] rows = []
 calls_of batch (moment ∷ moments) [] = []
 
--- The answers from a row on: its refusal if it is malformed, otherwise the next answer of the run
--- if one is left.
+-- The answers to a row and those after it: its refusal if the row is malformed, otherwise the next
+-- of `answers` if there is one, followed by what `more` returns for the remaining answers.
 abbrev pub woven_one : {C : Type 0} → Read C → (List Answer → List Answer) → List Answer → List Answer
 woven_one (Err refusal) more answers = Refused refusal ∷ more answers
 woven_one (Ok command) more (answer ∷ answers) = answer ∷ more answers
 woven_one (Ok command) more [] = more []
 
--- The answers to the rows: the refusal of a malformed row, otherwise the next answer of the run.
+-- The answers to the rows in sequence: the refusal of a malformed row, otherwise the next of
+-- `answers`.
 abbrev pub woven : {C : Type 0} → (Fields → Read C) → List Fields → List Answer → List Answer
 woven form [] answers = []
 woven form (row ∷ rows) answers = woven_one (form row) (woven form rows) answers
 
--- The rows of a batch have these answers and lead from `base` to `after`. Malformed rows are
--- refused; the others are executed in order, with one clock reading each.
+-- The rows of the batch have exactly these answers and lead from `base` to `after`. Malformed rows
+-- are refused; the others are executed in sequence by `step`, with one clock reading each.
 pub record AreAnswered {B C : Type 0} (form : Fields → Read C) (step : RowStep B C) (batch : Text) (base : B) (moments : List ℕ)
     (rows : List Fields) (answers : List Answer) (after : B) : Type 0 where
   pub replies : List Answer

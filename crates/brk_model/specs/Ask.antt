@@ -16,7 +16,7 @@ use Rattle.brk_model.specs.Views.{view_of}
 use Rattle.brk_model.specs.Rows.{estimate_fields}
 use Rattle.brk_model.specs.Step.{unless}
 
--- The tests of a query, in the order in which they are made.
+-- The checks of a query on `base`, in the sequence in which they are made.
 unfoldable pub query_tests : Base → Query → List Test
 query_tests base (PositionOf customer) = lacks_customer base customer ∷ []
 query_tests base (PositionOfTaxId tax_id) = (is_none (find (λ c. bytes_eq c.tax_id tax_id) base.customers), NoCustomer) ∷ []
@@ -30,75 +30,81 @@ query_tests base (TradesOfSymbol symbol first last) = lacks_security base symbol
 query_tests base (LotsTouched account first) = lacks_account base account ∷ []
 query_tests base (VolumeOf sector names) = []
 
--- The view of a query: the rows that it selects, or the figures of an estimate.
+-- The view of the query on `base`: the rows that it selects from the tables, or the figures of its
+-- estimate.
 unfoldable pub view_for : Base → Query → View
 view_for base (EstimateOf order) = estimate_fields (estimate base order) ∷ []
 view_for base query = unwrap_or (view_of (tables_of base) query) []
 
--- The result of a query: the first refusal that applies, otherwise its view.
+-- The result of the query on `base`: the refusal of its first check that applies, otherwise its
+-- view.
 unfoldable pub ask : Base → Query → Result View Refusal
 ask base query = unless (first_refusal (query_tests base query)) (view_for base query)
 
 -- ---- from arguments to a query
 
--- The query that exactly one argument parses as; `BadText` if there are none or more.
+-- The query that `read` reads from the only argument, or its refusal; the refusal `BadText` if
+-- there is none or more than one.
 abbrev pub read_one : (Text → Read Query) → List Text → Read Query
 read_one read (argument ∷ []) = read argument
 read_one read _ = Err BadText
 
--- The query, if there are no arguments; otherwise `BadText`.
+-- The query `query` if there are no arguments, otherwise the refusal `BadText`.
 abbrev pub read_none : Query → List Text → Read Query
 read_none query [] = Ok query
 read_none query (argument ∷ arguments) = Err BadText
 
--- The query that exactly three arguments parse as, a value and two stamps; `BadText` if there are
--- fewer or more.
+-- The query that three arguments parse as, a value (by `read`) and two stamps, or the refusal of a
+-- malformed one; the refusal `BadText` if there are fewer or more.
 abbrev pub read_span : {A : Type 0} → (Text → Read A) → (A → ℕ → ℕ → Query) → List Text → Read Query
 read_span read query (what ∷ first ∷ last ∷ []) = Ok query ⊛ read what ⊛ read_stamp first ⊛ read_stamp last
 read_span read query _ = Err BadText
 
--- The query for touched lots that exactly two arguments parse as, an account and a stamp; `BadText`
--- if there are fewer or more.
+-- The query for touched lots that two arguments parse as, an account and a stamp, or the refusal of
+-- a malformed one; the refusal `BadText` if there are fewer or more.
 abbrev pub read_lots : List Text → Read Query
 read_lots (account ∷ first ∷ []) = Ok (λ a f. LotsTouched a f) ⊛ read_id account ⊛ read_stamp first
 read_lots _ = Err BadText
 
--- The distinct broker names of a query, 1 to 20 of them; a repeated name is counted once.
+-- The distinct broker names that the arguments parse as, 1 to 20 of them after duplicates are
+-- removed, or a refusal.
 abbrev pub read_names : List Text → Read (List Text)
 read_names names = then_read (λ ns. some_of (distinct_texts ns)) (read_each read_name names)
 
--- The query for volumes that a sector and broker names parse as.
+-- The query for broker volumes that the arguments parse as, a sector and 1 to 20 broker names, or a
+-- refusal.
 abbrev pub read_volume : List Text → Read Query
 read_volume [] = Err BadText
 read_volume (sector ∷ names) = Ok (λ s ns. VolumeOf s ns) ⊛ read_name sector ⊛ read_names names
 
 -- ---- the views
 
--- The views of submitted trades and of an order's estimate, with their names.
+-- The parsers of the views `submitted` and `estimate`, each with its name.
 abbrev pub order_views : List (Reader Query)
 order_views = (codes "submitted", read_none SubmittedTrades) ∷ (codes "estimate", read_as EstimateOf read_order) ∷ []
 
--- The views of a customer's position, and of an account's recent trades and status, with their
--- names.
+-- The parsers of the views `customer`, `taxid`, `recent` and `status`, each with its name.
 abbrev pub account_views : List (Reader Query)
 account_views =
     (codes "customer", read_one (read_as PositionOf read_id)) ∷ (codes "taxid", read_one (read_as PositionOfTaxId read_tax_id))
     ∷ (codes "recent", read_one (read_as RecentOf read_id)) ∷ (codes "status", read_one (read_as StatusOf read_id)) ∷ []
 
--- The views that look up trades and touched lots, with their names.
+-- The parsers of the views `trades`, `accounttrades`, `symboltrades` and `lots`, each with its
+-- name.
 abbrev pub lookup_views : List (Reader Query)
 lookup_views =
     (codes "trades", read_as TradesWith read_ids) ∷ (codes "accounttrades", read_span read_id (λ a f l. TradesOfAccount a f l))
     ∷ (codes "symboltrades", read_span read_symbol (λ s f l. TradesOfSymbol s f l)) ∷ (codes "lots", read_lots) ∷ []
 
--- The view of the brokers' volumes, with its name.
+-- The parser of the view `volume`, with its name, as a list of one.
 abbrev pub volume_views : List (Reader Query)
 volume_views = (codes "volume", read_volume) ∷ []
 
--- All views, with their names.
+-- The parsers of all views, each with its name.
 abbrev pub views : List (Reader Query)
 views = order_views ++ account_views ++ lookup_views ++ volume_views
 
--- The query that a view's name and its arguments parse as, or the refusal of a malformed one.
+-- The query that the name of a view and its arguments parse as, or a refusal: `BadText` if there is
+-- no such view.
 unfoldable pub parse_query : Text → List Text → Read Query
 parse_query view arguments = parse_by views (view ∷ arguments)

@@ -10,12 +10,12 @@ use Rattle.brk_model.specs.Adopted.{base_of}
 use Rattle.brk_model.specs.Form.{has_form}
 use Rattle.brk_model.specs.Ways.{has_status_rows}
 
--- The tables, sorted by key, that follow from the base of the tables `t` in a schema.
+-- The tables, each sorted by key, of the base that the tables `t` describe, in the schema `schema`.
 abbrev pub expected : Schema → Tables → Tables
 expected schema t = sheets_at schema (base_of t)
 
--- The condition holds of tables of a schema whose rows are sorted by key. `NotEmpty` and `Schema`
--- are conditions of a database, not of rows, so they hold of no tables.
+-- The tables `t` of the schema `schema`, sorted by key, satisfy the condition. `NotEmpty` and
+-- `Schema` are conditions of a database, not of rows, so no tables satisfy them.
 unfoldable pub ConditionHolds : Schema → Condition → Tables → Type 0
 ConditionHolds schema condition.NotEmpty t = ⊥
 ConditionHolds schema condition.Schema t = ⊥
@@ -31,19 +31,20 @@ ConditionHolds schema condition.Settlement t = t.settlements ≡ (expected schem
 ConditionHolds schema condition.Cash t = (t.cash ≡ (expected schema t).cash) × (t.moves ≡ (expected schema t).moves)
 ConditionHolds schema condition.Balance t = map (λ a. a.balance) t.accounts ≡ map (λ a. a.balance) (expected schema t).accounts
 
--- The conditions of rows, in the order in which an audit checks them.
+-- The conditions on rows, in the sequence in which an audit checks them.
 abbrev pub row_conditions : List Condition
 row_conditions =
     condition.Form ∷ condition.Status ∷ condition.Requests ∷ condition.Lots ∷ condition.History ∷ condition.Summary ∷ condition.Count
     ∷ condition.Commission ∷ condition.Settlement ∷ condition.Cash ∷ condition.Balance ∷ []
 
--- The answer is the first of the conditions that fails, or none if all hold.
+-- The answer is the first of the listed conditions that the tables `t` do not satisfy, or none if
+-- they satisfy all.
 abbrev pub IsFirstFailing : Schema → List Condition → Tables → Option Condition → Type 0
 IsFirstFailing schema [] t answer = answer ≡ None
 IsFirstFailing schema (c ∷ cs) t answer =
     (ConditionHolds schema c t × IsFirstFailing schema cs t answer) ⊎ ((¬ ConditionHolds schema c t) × (answer ≡ Some c))
 
--- The answer is the result of an audit of tables of a schema whose rows are sorted by key: the
--- first condition that fails, or none.
+-- The answer is the result of an audit of the tables `t` of the schema `schema`, sorted by key: the
+-- first condition on rows that they do not satisfy, or none.
 abbrev pub IsAudit : Schema → Tables → Option Condition → Type 0
 IsAudit schema t answer = IsFirstFailing schema row_conditions t answer

@@ -52,128 +52,138 @@ empty_base = record {
   last = None;
 }
 
--- The broker with this id, or none.
+-- The first broker of `base` with the id `id`; none if there is no such broker.
 abbrev pub broker_with : Base → ℕ → Option Broker
 broker_with base id = find (λ b. b.id == id) base.brokers
 
--- The customer with this id, or none.
+-- The first customer of `base` with the id `id`; none if there is no such customer.
 abbrev pub customer_with : Base → ℕ → Option Customer
 customer_with base id = find (λ c. c.id == id) base.customers
 
--- The account with this id in a list, or none.
+-- The first account of the list `accounts` with the id `id`; none if there is no such account.
 abbrev pub find_account : List Account → ℕ → Option Account
 find_account accounts id = find (λ a. a.id == id) accounts
 
--- The account with this id, or none.
+-- The first account of `base` with the id `id`; none if there is no such account.
 abbrev pub account_with : Base → ℕ → Option Account
 account_with base id = find_account base.accounts id
 
--- The security with this symbol, or none.
+-- The first security of `base` with the symbol `symbol`; none if there is no such security.
 abbrev pub security_with : Base → Text → Option Security
 security_with base symbol = find (λ s. bytes_eq s.symbol symbol) base.securities
 
--- The tax rate with this id, or none.
+-- The first tax rate record of `base` with the id `id`; none if there is no such record.
 abbrev pub tax_rate_with : Base → ℕ → Option TaxRate
 tax_rate_with base id = find (λ r. r.id == id) base.tax_rates
 
--- The trade with this id, or none.
+-- The first trade of `base` with the id `id`; none if there is no such trade.
 abbrev pub trade_with : Base → ℕ → Option Trade
 trade_with base id = find (λ t. t.id == id) base.trades
 
--- The charge of a type of trade and a tier, or none.
+-- The first charge of `base` for the trade type `kind` and the customer tier `tier`; none if there
+-- is no such charge.
 abbrev pub charge_with : Base → TradeType → ℕ → Option Charge
 charge_with base kind tier = find (λ c. same_type c.kind kind && (c.tier == tier)) base.charges
 
--- The band of a tier, a type of trade and an exchange that contains the quantity, or none.
+-- The first commission band of `base` for the tier `tier`, the trade type `kind` and the exchange
+-- `exchange` whose bounds contain the quantity `qty`, both bounds included; none if there is no
+-- such band.
 abbrev pub band_with : Base → ℕ → TradeType → Text → ℕ → Option Band
 band_with base tier kind exchange qty =
     find (λ b. (b.tier == tier) && same_type b.kind kind && bytes_eq b.exchange exchange && nat_le b.from_qty qty && nat_le qty b.to_qty) base.bands
 
--- The broker of an account in a list; 0 if the account does not exist.
+-- The id of the broker of the account `account` in the list `accounts`; 0 if the list has no such
+-- account.
 abbrev pub broker_in : List Account → ℕ → ℕ
 broker_in accounts account = option_map_or (λ a. a.broker) (find_account accounts account) 0
 
--- The tax status of an account in a list; `Untaxed` if the account does not exist.
+-- The tax status of the account `account` in the list `accounts`; `Untaxed` if the list has no such
+-- account.
 abbrev pub tax_status_in : List Account → ℕ → TaxStatus
 tax_status_in accounts account = option_map_or (λ a. a.tax_status) (find_account accounts account) Untaxed
 
--- The opening balance of an account in a list, in cents; 0 if the account does not exist.
+-- The opening balance, in cents, of the account `account` in the list `accounts`; 0 if the list has
+-- no such account.
 abbrev pub opening_in : List Account → ℕ → ℤ
 opening_in accounts account = option_map_or (λ a. a.opening) (find_account accounts account) (pos 0)
 
--- The broker of an account; 0 if the account does not exist.
+-- The id of the broker of the account `account` of `base`; 0 if the account does not exist.
 abbrev pub broker_of_account : Base → ℕ → ℕ
 broker_of_account base account = broker_in base.accounts account
 
--- The customer of an account; 0 if the account does not exist.
+-- The id of the customer of the account `account` of `base`; 0 if the account does not exist.
 abbrev pub customer_of_account : Base → ℕ → ℕ
 customer_of_account base account = option_map_or (λ a. a.customer) (account_with base account) 0
 
--- The tier of an account's customer; 0 if the customer does not exist.
+-- The tier of the customer of the account `account` of `base`; 0 if the account or its customer
+-- does not exist.
 abbrev pub tier_of : Base → ℕ → ℕ
 tier_of base account = option_map_or (λ c. c.tier) (customer_with base (customer_of_account base account)) 0
 
--- The exchange of a security; empty if the security does not exist.
+-- The exchange of the security `symbol` of `base`; empty if the security does not exist.
 abbrev pub exchange_of : Base → Text → Text
 exchange_of base symbol = option_map_or (λ s. s.exchange) (security_with base symbol) []
 
--- The name of a security; empty if the security does not exist.
+-- The name of the security `symbol` of `base`; empty if the security does not exist.
 abbrev pub security_name : Base → Text → Text
 security_name base symbol = option_map_or (λ s. s.name) (security_with base symbol) []
 
--- The last market price of a security, in cents; 0 if the security does not exist.
+-- The last market price of the security `symbol` of `base`, in cents; 0 if the security does not
+-- exist.
 abbrev pub last_price : Base → Text → ℕ
 last_price base symbol = option_map_or (λ s. s.last_price) (security_with base symbol) 0
 
--- The sum of the tax rates that a customer pays, in hundred-thousandths.
+-- The sum of the tax rates that the customer `customer` pays, in hundred-thousandths; a tax whose
+-- rate record does not exist counts as 0.
 abbrev pub rates_of : Base → ℕ → ℕ
 rates_of base customer =
     sum_by (λ x. option_map_or (λ r. r.rate) (tax_rate_with base x.tax) 0) (filter (λ x. x.customer == customer) base.customer_taxes)
 
--- True if gains are taxable at this tax status.
+-- True if gains are taxable at this tax status: `Withheld` or `Reported`.
 abbrev pub bears_tax : TaxStatus → Bool
 bears_tax Untaxed = false
 bears_tax Withheld = true
 bears_tax Reported = true
 
--- True if the tax is withheld from the settlement at this tax status.
+-- True if the tax is withheld from the settlement at this tax status: `Withheld` only.
 abbrev pub takes_tax_off : TaxStatus → Bool
 takes_tax_off Untaxed = false
 takes_tax_off Withheld = true
 takes_tax_off Reported = false
 
--- True if the gains of an account are taxable.
+-- True if the gains of the account `account` of `base` are taxable; false if the account does not
+-- exist.
 abbrev pub is_taxed : Base → ℕ → Bool
 is_taxed base account = bears_tax (tax_status_in base.accounts account)
 
--- The last status change of a trade, or none.
+-- The last status change of the trade `t`; none if it has no status change.
 abbrev pub last_mark : Trade → Option StatusChange
 last_mark t = last_or None t.marks
 
--- True if this is the last status of a trade.
+-- True if the last status of the trade `t` is `status`; false if it has no status.
 abbrev pub has_status : Status → Trade → Bool
 has_status status t = option_map_or (λ m. same_status m.status status) (last_mark t) false
 
--- The stamp of the last status change of a trade; 0 if it has none (T_DTS).
+-- The stamp of the last status change of the trade `t` (T_DTS); 0 if it has no status change.
 abbrev pub moment_of : Trade → ℕ
 moment_of t = option_map_or (λ m. m.stamp) (last_mark t) 0
 
--- True if the last status of a trade is `Completed`.
+-- True if the last status of the trade `t` is `Completed`.
 abbrev pub is_completed : Trade → Bool
 is_completed t = has_status Completed t
 
--- The trade with one more status change, to `status` at `stamp`.
+-- The trade `t` with one more status change at the end: to `status`, at `stamp`.
 abbrev pub marked : ℕ → Status → Trade → Trade
 marked stamp status t = record t { marks = t.marks ++ record { stamp = stamp; status = status } ∷ [] }
 
--- The base with `change` applied to the trades that pass `test`.
+-- The base `base` with `change` applied to each trade that passes `test`; all else is unchanged.
 abbrev pub with_trades : (Trade → Bool) → (Trade → Trade) → Base → Base
 with_trades test change base = record base { trades = update_where test change base.trades }
 
--- The price at which a trade was completed, in cents; 0 if it has none.
+-- The price at which the trade `t` was completed, in cents; 0 if it has no completion price.
 abbrev pub price_of : Trade → ℕ
 price_of t = unwrap_or t.price 0
 
--- The completed trades of a base.
+-- The trades of `base` whose last status is `Completed`, in the sequence of the base.
 abbrev pub completed : Base → List Trade
 completed base = filter is_completed base.trades

@@ -30,8 +30,8 @@ pub record Batch (B : Type 0) : Type 0 where
   pub ending : Ending
   pub rows : ℕ
 
--- The batch name is well-formed, no row is an end record, and the rows have these answers, one
--- each, and lead from `base` to `after`.
+-- The batch name is well-formed, none of the rows is an end record, and the rows have exactly these
+-- answers, one each, and lead from `base` to `after`.
 pub record AreDecided {B C : Type 0} (form : Fields → Read C) (step : RowStep B C) (name : Text) (base : B) (moments : List ℕ)
     (rows : List Fields) (answers : List Answer) (after : B) : Type 0 where
   pub named : IsName name
@@ -43,20 +43,23 @@ pub record AreDecided {B C : Type 0} (form : Fields → Read C) (step : RowStep 
 abbrev pub HasNoHeader : Option Text → Type 0
 HasNoHeader text = AreAll text [] ⊎ ((first : Fields) × Begins text (first ∷ []) × ((name : Text) → IsName name → first ≡ header_of name → ⊥))
 
--- The text ends after its header, or after a row that has no record after it; that row is refused
--- with `BadText` and not executed.
+-- The text ends after its header, and `rows` and `told` are empty; or it ends after its header,
+-- `rows` and one record more, which is no end record, and `told` is `answers` followed by the
+-- refusal `BadText` of that record, which is not executed. An unknown text always satisfies the
+-- part about its records.
 abbrev pub EndsAfter : Option Text → Text → List Fields → List Answer → List Answer → Type 0
 EndsAfter text name rows answers told =
     ((rows ≡ []) × AreAll text (header_of name ∷ []) × (told ≡ []))
     ⊎ ((last : Fields) × ¬ (IsEnd last) × AreAll text (header_of name ∷ (rows ++ (last ∷ []))) × (told ≡ answers ++ (Refused BadText ∷ [])))
 
--- The text has an end record after these rows, and it is a wrong one.
+-- The text has, after its header and `rows`, an end record that is not the correct one for the
+-- number of `rows`. An unknown text always satisfies this.
 abbrev pub EndsWrong : Option Text → Text → List Fields → Type 0
 EndsWrong text name rows =
     (last : Fields) × IsEnd last × (last ≡ end_of (length rows) → ⊥) × Begins text (header_of name ∷ (rows ++ (last ∷ [])))
 
--- The records of the text, the answers `told` and the output `out` agree with this ending of a
--- batch that has a header.
+-- The records of the text, the answers `told` of the rows and the output `out` are those of a batch
+-- with a header and this ending. It is false for `BadHeader`.
 abbrev pub Ends : Option Text → Ending → Text → List Fields → List Answer → List Answer → Text → Type 0
 Ends text EndedWell name rows answers told out =
     Begins text (header_of name ∷ (rows ++ (end_of (length rows) ∷ []))) × (told ≡ answers) × (out ≡ lines_from 1 answers ++ end_line answers)
@@ -64,8 +67,9 @@ Ends text NoEnd name rows answers told out = EndsAfter text name rows answers to
 Ends text BadEnd name rows answers told out = EndsWrong text name rows × (told ≡ answers) × (out ≡ lines_from 1 answers)
 Ends text BadHeader name rows answers told out = ⊥
 
--- The batch is the result of a text with a header: some rows and their answers give its base, its
--- bytes, its ending and its number of decided rows.
+-- The batch is the result of a text with a header: its output, its ending, its base and its number
+-- of decided rows follow from the rows of the text and their answers, executed by `step` from
+-- `base` on with the clock readings `moments`.
 pub record IsAnswered {B C : Type 0} (form : Fields → Read C) (step : RowStep B C) (base : B) (moments : List ℕ) (text : Option Text) (batch : Batch B) : Type 0 where
   pub name : Text
   pub rows : List Fields
@@ -85,12 +89,13 @@ pub record IsUnanswered {B : Type 0} (base : B) (moments : List ℕ) (text : Opt
   pub told : batch.text ≡ []
   pub counted : batch.rows ≡ 0
 
--- The batch is the result of an input from `base`, with `moments` as the clock readings of the rows
--- that are executed, one each.
+-- The batch is the result of the bytes `input` executed by `step` from `base` on, with `moments` as
+-- the clock readings of the executed rows, one each.
 abbrev pub BatchText : {B C : Type 0} → (Fields → Read C) → RowStep B C → B → List ℕ → Text → Batch B → Type 0
 BatchText form step base moments input batch =
     IsAnswered form step base moments (Some (text_of input)) batch ⊎ IsUnanswered base moments (Some (text_of input)) batch
 
--- The step of a row: its command under its key.
+-- The answer to the command of a row under its key at the clock reading `now`, and the base after
+-- it.
 abbrev pub row_step : Base → ℕ → Command → Key → Answer × Base
 row_step base now command key = keyed_step base now command (Some key)

@@ -15,60 +15,62 @@ use Rattle.brk_model.specs.Records.{Account, Security, Trade, Movement, SettleRu
 use Rattle.brk_model.specs.Base.{Base, completed, tax_status_in, opening_in, broker_in, takes_tax_off, has_status, moment_of, price_of}
 use Rattle.brk_model.specs.Shares.{Share, Deal, replay, signed}
 
--- The deal of a completed trade with its position.
+-- The deal of the completed trade `t` with its position, at its completion price and stamp.
 abbrev pub deal_of : Trade → Deal
 deal_of t = record { trade = t.id; side = side_of t.kind; qty = t.qty; price = price_of t; stamp = moment_of t; is_lifo = t.is_lifo }
 
--- The trades of an account in a list of trades.
+-- The trades of the list `done` that belong to the account `account`.
 abbrev pub of_account : List Trade → ℕ → List Trade
 of_account done account = filter (λ t. t.account == account) done
 
--- The trades of a position in a list of trades: those of an account in a symbol.
+-- The trades of the list `done` that belong to the account `account` and the symbol `symbol`.
 abbrev pub of_position : List Trade → ℕ → Text → List Trade
 of_position done account symbol = filter (λ t. bytes_eq t.symbol symbol) (of_account done account)
 
--- The deals of a position, sorted by the stamp of completion, ascending.
+-- The deals of the trades of `done` in the account `account` and the symbol `symbol`, sorted by
+-- completion stamp, ascending.
 abbrev pub deals_in : List Trade → ℕ → Text → List Deal
 deals_in done account symbol = map deal_of (sort_by_key moment_of (of_position done account symbol))
 
--- The open shares of an account in a symbol, bought or sold short (HOLDING).
+-- The open shares of the account `account` in the symbol `symbol`, bought or sold short, after the
+-- completed trades `done` (HOLDING).
 unfoldable pub shares_in : List Trade → ℕ → Text → List Share
 shares_in done account symbol = replay (deals_in done account symbol)
 
--- The holding summary of a position: shares bought minus shares sold, without regard to lots
--- (HS_QTY, consistency condition).
+-- The holding summary of the account `account` in the symbol `symbol`: shares bought less shares
+-- sold over the completed trades `done`, without regard to lots (HS_QTY, consistency condition).
 unfoldable pub summary_of : List Trade → ℕ → Text → ℤ
 summary_of done account symbol = total_by (λ t. signed (side_of t.kind) t.qty) (of_position done account symbol)
 
--- The proceeds of a value: the value for a sale, and its negation for a purchase.
+-- The proceeds of shares worth `value` cents: `value` for a sale, and its negation for a purchase.
 abbrev pub proceeds : Side → ℕ → ℤ
 proceeds Sell value = pos value
 proceeds Buy value = neg_ℤ (pos value)
 
--- The tax that is withheld from a trade's settlement, in cents; 0 unless the account's tax status
--- is `Withheld`.
+-- The tax that is withheld from the settlement of the trade `t`, in cents; 0 unless the tax status
+-- of its account is `Withheld`.
 abbrev pub withheld : List Account → Trade → ℕ
 withheld accounts t = if takes_tax_off (tax_status_in accounts t.account) then t.tax else 0
 
--- The settlement amount of a completed trade, in cents: its proceeds minus charge, commission and
--- withheld tax (SE_AMT, Trade-Result).
+-- The settlement amount of the completed trade `t`, in cents: its proceeds less charge, commission
+-- and withheld tax (SE_AMT, Trade-Result).
 abbrev pub amount_of : List Account → Trade → ℤ
 amount_of accounts t = proceeds (side_of t.kind) (t.qty * price_of t) -ℤ pos (t.charge + t.commission + withheld accounts t)
 
--- The number of days from a completion on `day` to its settlement: 1 if the rule has a first day
--- and `day` is not before it, otherwise 2.
+-- The number of days from a completion on the day `day` to its settlement: 1 if `rule` has a
+-- settlement day and `day` is not before it, otherwise 2.
 abbrev pub settlement_days : SettleRule → ℕ → ℕ
 settlement_days rule day = if option_map_or (λ first. nat_le first day) rule false then 1 else 2
 
--- The day on which a completion at this stamp settles.
+-- The day on which a completion at the stamp `stamp` settles.
 abbrev pub due_after : SettleRule → ℕ → ℕ
 due_after rule stamp = day_of stamp + settlement_days rule (day_of stamp)
 
--- The day on which a completed trade settles (SE_CASH_DUE_DATE, Trade-Result).
+-- The day on which the completed trade `t` settles (SE_CASH_DUE_DATE, Trade-Result).
 abbrev pub due_day : SettleRule → Trade → ℕ
 due_day rule t = due_after rule (moment_of t)
 
--- The cash trades in a list of trades.
+-- The trades of the list `done` that are cash trades, not margin trades.
 abbrev pub cash_trades : List Trade → List Trade
 cash_trades done = filter (λ t. t.is_cash) done
 
@@ -80,52 +82,55 @@ pub record Posting : Type 0 where
   pub amount : ℤ
   pub name : Text
 
--- The posting of a completed cash trade: its settlement amount, at the stamp of its completion.
+-- The posting of the completed cash trade `t`: its settlement amount, to its account, at its
+-- completion stamp.
 abbrev pub posting_of_trade : List Account → Trade → Posting
 posting_of_trade accounts t = record { account = t.account; trade = Some t.id; stamp = moment_of t; amount = amount_of accounts t; name = t.cash_name }
 
--- The posting of a movement.
+-- The posting of the movement `m`, which belongs to no trade.
 abbrev pub posting_of_movement : Movement → Posting
 posting_of_movement m = record { account = m.account; trade = None; stamp = m.stamp; amount = m.amount; name = m.name }
 
--- The postings of the completed cash trades, then those of the movements.
+-- The postings of the cash trades of `done`, followed by those of `movements`.
 abbrev pub postings : List Account → List Trade → List Movement → List Posting
 postings accounts done movements = map (posting_of_trade accounts) (cash_trades done) ++ map posting_of_movement movements
 
--- The postings, sorted by stamp, ascending; the sort is stable.
+-- The postings, sorted by stamp, ascending; two postings with one stamp keep their sequence.
 abbrev pub in_turn : List Posting → List Posting
 in_turn posted = sort_by_key (λ p. p.stamp) posted
 
--- The postings of a base.
+-- The postings of all completed cash trades and all movements of `base`.
 abbrev pub postings_of : Base → List Posting
 postings_of base = postings base.accounts (completed base) base.movements
 
--- The postings to an account in a list of postings.
+-- The postings of the list `posted` to the account `account`.
 abbrev pub posted_to : List Posting → ℕ → List Posting
 posted_to posted account = filter (λ p. p.account == account) posted
 
--- The balance of an account, in cents: its opening balance plus the amounts of its postings
--- (CA_BAL).
+-- The balance of the account `account`, in cents: its opening balance plus the amounts of its
+-- postings in `posted` (CA_BAL).
 unfoldable pub balance_of : List Account → List Posting → ℕ → ℤ
 balance_of accounts posted account = opening_in accounts account +ℤ total_by (λ p. p.amount) (posted_to posted account)
 
--- The market value of an account's holdings at last prices, in cents.
+-- The market value of the holdings of the account `account`, in cents: the sum over `securities` of
+-- holding summary times last price.
 unfoldable pub holdings_of : List Security → List Trade → ℕ → ℤ
 holdings_of securities done account = total_by (λ s. summary_of done account s.symbol *ℤ pos s.last_price) securities
 
--- The completed trades of a broker's accounts.
+-- The trades of the list `done` whose accounts have the broker `broker`.
 abbrev pub of_broker : List Account → List Trade → ℕ → List Trade
 of_broker accounts done broker = filter (λ t. broker_in accounts t.account == broker) done
 
--- The number of a broker's completed trades (B_NUM_TRADES, consistency condition).
+-- The number of the completed trades `done` whose accounts have the broker `broker` (B_NUM_TRADES,
+-- consistency condition).
 unfoldable pub trade_count_of : List Account → List Trade → ℕ → ℕ
 trade_count_of accounts done broker = length (of_broker accounts done broker)
 
--- The sum of the commissions of a broker's completed trades, in cents (B_COMM_TOTAL, consistency
--- condition).
+-- The sum of the commissions, in cents, of the completed trades `done` whose accounts have the
+-- broker `broker` (B_COMM_TOTAL, consistency condition).
 unfoldable pub commissions_of : List Account → List Trade → ℕ → ℕ
 commissions_of accounts done broker = sum_by (λ t. t.commission) (of_broker accounts done broker)
 
--- The pending trades in a list of trades (TRADE_REQUEST).
+-- The trades of the list whose last status is `Pending` (TRADE_REQUEST).
 abbrev pub pending : List Trade → List Trade
 pending trades = filter (has_status Pending) trades

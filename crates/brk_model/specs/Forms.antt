@@ -18,11 +18,12 @@ use Rattle.brk_money.specs.declared.refusal.Refusal.TheVariants.{BadText, BadQty
 use Rattle.brk_model.specs.Limits.{greatest_qty, greatest_price, greatest_charge, greatest_rate, greatest_tax_rate, greatest_amount, greatest_id}
 use Rattle.brk_model.specs.Lists.{all_distinct}
 
--- A value that was read, or the refusal of a malformed field.
+-- The type of the result of reading fields: a value, or the refusal of a malformed field.
 abbrev pub Read : Type 0 → Type 0
 Read A = Result A Refusal
 
--- The place of a refusal in the order of the format checks.
+-- The rank of a refusal in the sequence of the format checks: 0 for `BadText`, then `BadQty`,
+-- `BadPrice` and `BadType`, and 4 for any other.
 abbrev pub form_rank : Refusal → ℕ
 form_rank BadText = 0
 form_rank BadQty = 1
@@ -39,68 +40,74 @@ Ok f ⊛ Err r = Err r
 Err r ⊛ Ok x = Err r
 Err r ⊛ Err s = Err (if nat_le (form_rank r) (form_rank s) then r else s)
 
--- The value, if it exists and passes `test`; otherwise the refusal.
+-- The value if there is one and it passes `test`, otherwise the refusal `refusal`.
 abbrev pub read_if : {A : Type 0} → (A → Bool) → Refusal → Option A → Read A
 read_if test refusal None = Err refusal
 read_if test refusal (Some x) = if test x then Ok x else Err refusal
 
--- The text, if it passes `test`; otherwise `BadText`.
+-- The text if it passes `test`, otherwise the refusal `BadText`.
 abbrev pub read_text : (Text → Bool) → Text → Read Text
 read_text test text = read_if test BadText (Some text)
 
--- The number that a text parses as, if it is `low` to `high`, both included; otherwise the refusal.
+-- The number that the text parses as, if it is from `low` to `high`, both included; otherwise the
+-- refusal `refusal`.
 abbrev pub read_number : ℕ → ℕ → Refusal → Text → Read ℕ
 read_number low high refusal text = read_if (λ n. nat_le low n && nat_le n high) refusal (number_of text)
 
--- The id that a text parses as, or `BadText`.
+-- The id that a text parses as, from 1 to `greatest_id`; otherwise the refusal `BadText`.
 abbrev pub read_id : Text → Read ℕ
 read_id = read_number 1 greatest_id BadText
 
--- The stamp that a text parses as, or `BadText`.
+-- The stamp that a text parses as, from 0 to `last_stamp`; otherwise the refusal `BadText`.
 abbrev pub read_stamp : Text → Read ℕ
 read_stamp = read_number 0 last_stamp BadText
 
--- The quantity of shares that a text parses as, or `BadQty`.
+-- The quantity of shares that a text parses as, from 1 to `greatest_qty`; otherwise the refusal
+-- `BadQty`.
 abbrev pub read_qty : Text → Read ℕ
 read_qty = read_number 1 greatest_qty BadQty
 
--- The tier that a text parses as, 1 to 3, or `BadText`.
+-- The customer tier that a text parses as, from 1 to 3; otherwise the refusal `BadText`.
 abbrev pub read_tier : Text → Read ℕ
 read_tier = read_number 1 3 BadText
 
--- The commission rate that a text parses as, in hundredths of a percent, or `BadText`.
+-- The commission rate that a text parses as, from 0 to `greatest_rate` hundredths of a percent;
+-- otherwise the refusal `BadText`.
 abbrev pub read_commission_rate : Text → Read ℕ
 read_commission_rate = read_number 0 greatest_rate BadText
 
--- The tax rate that a text parses as, in hundred-thousandths, or `BadText`.
+-- The tax rate that a text parses as, from 0 to `greatest_tax_rate` hundred-thousandths; otherwise
+-- the refusal `BadText`.
 abbrev pub read_rate_of_tax : Text → Read ℕ
 read_rate_of_tax = read_number 0 greatest_tax_rate BadText
 
--- The amount as a number, if there is one and it is not negative; otherwise none.
+-- The amount as a natural number if there is one and it is not negative, otherwise none.
 abbrev pub unsigned : Option ℤ → Option ℕ
 unsigned (Some (pos n)) = Some n
 unsigned (Some (negsuc n)) = None
 unsigned None = None
 
--- The price of a share that a text parses as, in cents, 1 to `greatest_price`, or `BadPrice`.
+-- The price of a share that a text parses as, from 1 to `greatest_price` cents; otherwise the
+-- refusal `BadPrice`.
 abbrev pub read_price : Text → Read ℕ
 read_price text = read_if (λ n. nat_le 1 n && nat_le n greatest_price) BadPrice (unsigned (cents_of text))
 
--- The charge that a text parses as, in cents, 0 to `greatest_charge`, or `BadText`.
+-- The charge that a text parses as, from 0 to `greatest_charge` cents; otherwise the refusal
+-- `BadText`.
 abbrev pub read_charge_amount : Text → Read ℕ
 read_charge_amount text = read_if (λ n. nat_le n greatest_charge) BadText (unsigned (cents_of text))
 
--- The amount of a deposit or a withdrawal that a text parses as, in cents, 1 to `greatest_amount`,
--- or `BadText`.
+-- The amount of a deposit or a withdrawal that a text parses as, from 1 to `greatest_amount` cents;
+-- otherwise the refusal `BadText`.
 abbrev pub read_amount : Text → Read ℕ
 read_amount text = read_if (λ n. nat_le 1 n && nat_le n greatest_amount) BadText (unsigned (cents_of text))
 
--- The day that a text parses as, at most `last_day`, or `BadText`.
+-- The day that a text parses as, at most `last_day`; otherwise the refusal `BadText`.
 abbrev pub read_day : Text → Read ℕ
 read_day text = read_if (λ day. nat_le day last_day) BadText (day_of_text text)
 
--- The opening balance that a text parses as, in cents, negative or not, at most `greatest_amount`
--- either way, or `BadText`.
+-- The opening balance that a text parses as, in cents, with an absolute value of at most
+-- `greatest_amount`; otherwise the refusal `BadText`.
 abbrev pub read_opening : Text → Read ℤ
 read_opening text = read_if (λ z. nat_le (nat_abs z) greatest_amount) BadText (cents_of text)
 
@@ -112,7 +119,7 @@ is_word most test text = nat_le 1 (length text) && nat_le (length text) most && 
 abbrev pub is_name : Text → Bool
 is_name text = nat_le 1 (length text) && nat_le (length text) 60 && is_utf8 text && list_all (λ c. not (is_control c)) (chars text)
 
--- The text, if it is a name; otherwise `BadText`.
+-- The text if it is a name, otherwise the refusal `BadText`.
 abbrev pub read_name : Text → Read Text
 read_name = read_text is_name
 
@@ -120,7 +127,7 @@ read_name = read_text is_name
 abbrev pub is_tax_id : Text → Bool
 is_tax_id = is_word 20 (λ c. is_ascii_alphanumeric c || (c == 45))
 
--- The text, if it is a tax id; otherwise `BadText`.
+-- The text if it is a tax id, otherwise the refusal `BadText`.
 abbrev pub read_tax_id : Text → Read Text
 read_tax_id = read_text is_tax_id
 
@@ -128,7 +135,7 @@ read_tax_id = read_text is_tax_id
 abbrev pub is_symbol : Text → Bool
 is_symbol = is_word 15 (λ c. is_ascii_uppercase c || is_ascii_digit c || (c == 46) || (c == 45))
 
--- The text, if it is a symbol; otherwise `BadText`.
+-- The text if it is a symbol, otherwise the refusal `BadText`.
 abbrev pub read_symbol : Text → Read Text
 read_symbol = read_text is_symbol
 
@@ -136,7 +143,7 @@ read_symbol = read_text is_symbol
 abbrev pub is_exchange : Text → Bool
 is_exchange = is_word 6 is_ascii_uppercase
 
--- The text, if it is an exchange; otherwise `BadText`.
+-- The text if it is an exchange, otherwise the refusal `BadText`.
 abbrev pub read_exchange : Text → Read Text
 read_exchange = read_text is_exchange
 
@@ -148,11 +155,11 @@ is_batch_name = is_word 40 (λ c. is_ascii_alphanumeric c || (c == 46) || (c == 
 abbrev pub is_acl : Text → Bool
 is_acl text = (length text == 4) && list_all (λ c. (c == 48) || (c == 49)) text
 
--- The text, if it is the ACL of a permission; otherwise `BadText`.
+-- The text if it is the ACL of a permission, otherwise the refusal `BadText`.
 abbrev pub read_acl : Text → Read Text
 read_acl = read_text is_acl
 
--- The tax status whose number the text parses as, or `BadText`.
+-- The tax status whose number the text parses as, otherwise the refusal `BadText`.
 abbrev pub read_tax_status : Text → Read TaxStatus
 read_tax_status text = read_if (λ status. Bool.true) BadText (option_and_then tax_status_of (number_of text))
 
@@ -160,45 +167,47 @@ read_tax_status text = read_if (λ status. Bool.true) BadText (option_and_then t
 abbrev pub all_types : List TradeType
 all_types = MarketBuy ∷ MarketSell ∷ StopLoss ∷ LimitSell ∷ LimitBuy ∷ []
 
--- The type of trade with this code, or none.
+-- The trade type whose code is the text, or none.
 abbrev pub type_of : Text → Option TradeType
 type_of text = find (λ kind. bytes_eq (type_code kind) text) all_types
 
--- The type of trade with this code, or `BadType`.
+-- The trade type whose code is the text, otherwise the refusal `BadType`.
 abbrev pub read_type : Text → Read TradeType
 read_type text = read_if (λ kind. Bool.true) BadType (type_of text)
 
--- True if the text is `yes_word`, false if it is `no_word`; otherwise `BadText`.
+-- True if the text is `yes_word`, false if it is `no_word`, otherwise the refusal `BadText`.
 abbrev pub read_either : Text → Text → Text → Read Bool
 read_either yes_word no_word text =
     if bytes_eq text yes_word then Ok Bool.true else if bytes_eq text no_word then Ok Bool.false else Err BadText
 
--- True if the text is `cash`, false if it is `margin`; otherwise `BadText`.
+-- True if the text is `cash`, false if it is `margin`, otherwise the refusal `BadText`.
 abbrev pub read_cash : Text → Read Bool
 read_cash = read_either (codes "cash") (codes "margin")
 
--- True if the text is `lifo` (the last shares are closed first), false if it is `fifo`; otherwise
--- `BadText`.
+-- True if the text is `lifo` (the last shares are closed first), false if it is `fifo`, otherwise
+-- the refusal `BadText`.
 abbrev pub read_end : Text → Read Bool
 read_end = read_either (codes "lifo") (codes "fifo")
 
--- The type of an order without a price, if the text of the price is empty; otherwise `BadPrice`.
+-- The market type `order_type` if the text of the price is empty, otherwise the refusal `BadPrice`.
 abbrev pub without_price : OrderType → Text → Read OrderType
 without_price order_type [] = Ok order_type
 without_price order_type _ = Err BadPrice
 
--- The type of an order with the price that the text parses as, or `BadPrice`.
+-- The order type `order_type` with the price that the text parses as, otherwise the refusal
+-- `BadPrice`.
 abbrev pub with_price : (ℕ → OrderType) → Text → Read OrderType
 with_price order_type text = Ok order_type ⊛ read_price text
 
--- The refusal of an unknown type: `BadPrice` if the text of the price is malformed and not empty,
--- otherwise `BadType`.
+-- The refusal of an unknown order type: `BadPrice` if the text of the price is malformed and not
+-- empty, otherwise `BadType`.
 abbrev pub without_type : Text → Read OrderType
 without_type [] = Err BadType
 without_type (c ∷ text) = Err BadType ⊛ read_price (c ∷ text)
 
--- The type of an order with its price; the text of the price must be empty for a market type and
--- well-formed for the others.
+-- The order type of a trade type with the price that a text parses as. The text must be empty for a
+-- market type and well-formed for any other; without a trade type, `BadType` or `BadPrice` refuses
+-- it.
 abbrev pub order_type_for : Option TradeType → Text → Read OrderType
 order_type_for None = without_type
 order_type_for (Some MarketBuy) = without_price asked.MarketBuy
@@ -207,31 +216,32 @@ order_type_for (Some StopLoss) = with_price (λ price. asked.StopLoss price)
 order_type_for (Some LimitSell) = with_price (λ price. asked.LimitSell price)
 order_type_for (Some LimitBuy) = with_price (λ price. asked.LimitBuy price)
 
--- The type of an order with its price, of the texts of its code and its price.
+-- The order type that two texts parse as: the code of the trade type and the price.
 abbrev pub read_order_type : Text → Text → Read OrderType
 read_order_type type_text price_text = order_type_for (type_of type_text) price_text
 
--- The values that the texts parse as, one each, or the first refusal in the order of the format
--- checks.
+-- The values that the texts parse as by `read`, one each, or the first refusal in the sequence of
+-- the format checks.
 abbrev pub read_each : {A : Type 0} → (Text → Read A) → List Text → Read (List A)
 read_each read [] = Ok []
 read_each read (text ∷ texts) = Ok (λ x xs. x ∷ xs) ⊛ read text ⊛ read_each read texts
 
--- The list, if it has 1 to 20 elements; `BadText` if it is empty, otherwise `TooMany`.
+-- The list if it has 1 to 20 elements; the refusal `BadText` if it is empty, and `TooMany` if it is
+-- longer.
 abbrev pub some_of : {A : Type 0} → List A → Read (List A)
 some_of [] = Err BadText
 some_of (x ∷ xs) = if nat_le (length (x ∷ xs)) 20 then Ok (x ∷ xs) else Err TooMany
 
--- The result of `check` on a value that was read; a refusal stays as it is.
+-- The result of `check` on the value if one was read, otherwise the refusal of the reading.
 abbrev pub then_read : {A B : Type 0} → (A → Read B) → Read A → Read B
 then_read check (Ok x) = check x
 then_read check (Err refusal) = Err refusal
 
--- The ids, if they are distinct and 1 to 20 in number; `BadText` if they are not distinct or there
--- is none, otherwise `TooMany`.
+-- The ids if they are distinct and 1 to 20 in number; the refusal `BadText` if one occurs twice or
+-- there is none, otherwise `TooMany`.
 abbrev pub distinct_ids : List ℕ → Read (List ℕ)
 distinct_ids ids = if all_distinct ids then some_of ids else Err BadText
 
--- The distinct ids that the texts parse as, one each, 1 to 20 in number, or a refusal.
+-- The ids that the texts parse as, one each, distinct and 1 to 20 in number, or a refusal.
 abbrev pub read_ids : List Text → Read (List ℕ)
 read_ids texts = then_read distinct_ids (read_each read_id texts)

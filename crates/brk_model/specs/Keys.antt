@@ -12,110 +12,114 @@ pub data KeyPart : Type 0 where
   number : ℕ → KeyPart
   word : Text → KeyPart
 
--- True if a part is less than another: numbers by value, texts by their bytes, and numbers before
--- texts.
+-- True if the first part is less than the second: numbers by value, texts by their bytes, and every
+-- number before every text.
 abbrev pub part_before : KeyPart → KeyPart → Bool
 part_before (number m) (number n) = nat_lt m n
 part_before (word s) (word t) = text_before s t
 part_before (number m) (word t) = true
 part_before (word s) (number n) = false
 
--- True if a key is less than another, part by part; a key is less than a longer one that it begins.
+-- True if the first key is less than the second, compared part by part; a key is less than any
+-- longer key that begins with it.
 abbrev pub key_before : List KeyPart → List KeyPart → Bool
 key_before js [] = false
 key_before [] (k ∷ ks) = true
 key_before (j ∷ js) (k ∷ ks) = part_before j k || (not (part_before k j) && key_before js ks)
 
--- True if the key of row `a` is less than that of row `b`.
+-- True if the key of row `a` is less than the key of row `b`.
 abbrev pub row_before : {Row : Type 0} → (Row → List KeyPart) → Row → Row → Bool
 row_before key a b = key_before (key a) (key b)
 
--- The rows, sorted by key, ascending.
+-- The rows sorted by their key, ascending; two rows with one key keep their sequence.
 abbrev pub by_key : {Row : Type 0} → (Row → List KeyPart) → List Row → List Row
 by_key key rows = sort_by (row_before key) rows
 
--- The rows with one row inserted, before the first row whose key is not less.
+-- The list `rows` with `row` inserted before the first row whose key is not less than its key, or
+-- at the end if there is none.
 abbrev pub insert_row : {Row : Type 0} → (Row → List KeyPart) → Row → List Row → List Row
 insert_row key row rows = insert_by (row_before key) row rows
 
 -- ---- the keys
 
--- The key of KEPT: the batch name and the row number.
+-- The primary key of a row of KEPT: the batch name and the row number.
 abbrev pub kept_key : Kept → List KeyPart
 kept_key r = word r.key.batch ∷ number r.key.row ∷ []
 
--- The key of BROKER: the id.
+-- The primary key of a row of BROKER: the id.
 abbrev pub broker_key : BrokerRow → List KeyPart
 broker_key r = number r.id ∷ []
 
--- The key of CUSTOMER: the id.
+-- The primary key of a row of CUSTOMER: the id.
 abbrev pub customer_key : Customer → List KeyPart
 customer_key r = number r.id ∷ []
 
--- The key of CUSTOMER_ACCOUNT: the id.
+-- The primary key of a row of CUSTOMER_ACCOUNT: the id.
 abbrev pub account_key : AccountRow → List KeyPart
 account_key r = number r.id ∷ []
 
--- The key of ACCOUNT_PERMISSION: the account and the tax id.
+-- The primary key of a row of ACCOUNT_PERMISSION: the account and the tax id.
 abbrev pub permission_key : Permission → List KeyPart
 permission_key r = number r.account ∷ word r.tax_id ∷ []
 
--- The key of SECURITY: the symbol.
+-- The primary key of a row of SECURITY: the symbol.
 abbrev pub security_key : SecurityRow → List KeyPart
 security_key r = word r.symbol ∷ []
 
--- The key of LAST_TRADE: the symbol.
+-- The primary key of a row of LAST_TRADE: the symbol.
 abbrev pub last_trade_key : LastTradeRow → List KeyPart
 last_trade_key r = word r.symbol ∷ []
 
--- The key of CHARGE: the type of trade and the tier.
+-- The primary key of a row of CHARGE: the code of the trade type and the tier.
 abbrev pub charge_key : Charge → List KeyPart
 charge_key r = word (type_code r.kind) ∷ number r.tier ∷ []
 
--- The key of COMMISSION_RATE: the tier, the type of trade, the exchange and the lower bound.
+-- The primary key of a row of COMMISSION_RATE: the tier, the code of the trade type, the exchange
+-- and the lower bound.
 abbrev pub band_key : Band → List KeyPart
 band_key r = number r.tier ∷ word (type_code r.kind) ∷ word r.exchange ∷ number r.from_qty ∷ []
 
--- The key of TAXRATE: the id.
+-- The primary key of a row of TAXRATE: the id.
 abbrev pub tax_rate_key : TaxRate → List KeyPart
 tax_rate_key r = number r.id ∷ []
 
--- The key of CUSTOMER_TAXRATE: the customer and the tax rate.
+-- The primary key of a row of CUSTOMER_TAXRATE: the customer and the tax rate.
 abbrev pub customer_tax_key : CustomerTax → List KeyPart
 customer_tax_key r = number r.customer ∷ number r.tax ∷ []
 
--- The key of TRADE: the id.
+-- The primary key of a row of TRADE: the id.
 abbrev pub trade_key : TradeRow → List KeyPart
 trade_key r = number r.id ∷ []
 
--- The key of TRADE_HISTORY: the trade and the status.
+-- The primary key of a row of TRADE_HISTORY: the trade and the code of the status.
 abbrev pub history_key : HistoryRow → List KeyPart
 history_key r = number r.trade ∷ word (status_code r.status) ∷ []
 
--- The key of TRADE_REQUEST: the trade.
+-- The primary key of a row of TRADE_REQUEST: the trade.
 abbrev pub request_key : RequestRow → List KeyPart
 request_key r = number r.trade ∷ []
 
--- The key of HOLDING: the trade that opened the lot.
+-- The primary key of a row of HOLDING: the trade that opened the lot.
 abbrev pub holding_key : HoldingRow → List KeyPart
 holding_key r = number r.trade ∷ []
 
--- The key of HOLDING_SUMMARY: the account and the symbol.
+-- The primary key of a row of HOLDING_SUMMARY: the account and the symbol.
 abbrev pub summary_key : SummaryRow → List KeyPart
 summary_key r = number r.account ∷ word r.symbol ∷ []
 
--- The key of HOLDING_HISTORY: the lot and the trade.
+-- The primary key of a row of HOLDING_HISTORY: the trade that opened the lot, and the trade that
+-- changed it.
 abbrev pub holding_history_key : HoldingHistoryRow → List KeyPart
 holding_history_key r = number r.lot ∷ number r.trade ∷ []
 
--- The key of SETTLEMENT: the trade.
+-- The primary key of a row of SETTLEMENT: the trade.
 abbrev pub settlement_key : SettlementRow → List KeyPart
 settlement_key r = number r.trade ∷ []
 
--- The key of CASH_TRANSACTION: the trade.
+-- The primary key of a row of CASH_TRANSACTION: the trade.
 abbrev pub cash_key : CashRow → List KeyPart
 cash_key r = number r.trade ∷ []
 
--- The key of CASH_MOVE: the number.
+-- The primary key of a row of CASH_MOVE: the number.
 abbrev pub move_key : MoveRow → List KeyPart
 move_key r = number r.id ∷ []

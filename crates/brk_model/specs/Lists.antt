@@ -3,22 +3,24 @@
 use Rattle.std.specs.Prelude.{ℕ, zero, suc, ◌-◌, Bool, true, false, not, ◌&&◌, ◌||◌, ◌==◌, nat_eq, nat_lt, if◌then◌else◌, List, [], ◌∷◌, ◌++◌, length, map, filter, ℤ, pos, negsuc, ◌+ℤ◌, bytes_eq}
 use Rattle.std.specs.List.{starts_with, list_any}
 
--- The list with `x` inserted before the first element `y` for which `before y x` is false.
+-- The list with `x` inserted before the first element `y` for which `before y x` is false, or at
+-- the end if there is none.
 abbrev pub insert_by : {X : Type 0} → (X → X → Bool) → X → List X → List X
 insert_by before x [] = x ∷ []
 insert_by before x (y ∷ ys) = if before y x then y ∷ insert_by before x ys else x ∷ y ∷ ys
 
--- The elements sorted by `before`. The sort is stable: two elements of which neither is before the
--- other keep their sequence.
+-- The elements sorted by the relation `before`, ascending. The sort is stable: two elements of
+-- which neither is before the other keep their sequence.
 unfoldable pub sort_by : {X : Type 0} → (X → X → Bool) → List X → List X
 sort_by before [] = []
 sort_by before (x ∷ xs) = insert_by before x (sort_by before xs)
 
--- The elements sorted by `key`, ascending; the sort is stable.
+-- The elements sorted by the number `key x`, ascending; the sort is stable.
 abbrev pub sort_by_key : {X : Type 0} → (X → ℕ) → List X → List X
 sort_by_key key xs = sort_by (λ x y. nat_lt (key x) (key y)) xs
 
--- True if `a` is less than `a'`, or if they are equal and `b` is less than `b'`.
+-- True if the pair (`a`, `b`) is less than the pair (`a'`, `b'`): `a` is less than `a'`, or they
+-- are equal and `b` is less than `b'`.
 abbrev pub rising : ℕ → ℕ → ℕ → ℕ → Bool
 rising a a' b b' = nat_lt a a' || ((a == a') && nat_lt b b')
 
@@ -33,7 +35,8 @@ is_zero (pos zero) = true
 is_zero (pos (suc n)) = false
 is_zero (negsuc n) = false
 
--- The list with `change` applied to each element that passes `test`; the others are unchanged.
+-- The list with `change` applied to each element that passes `test`; each other element is
+-- unchanged.
 abbrev pub update_where : {X : Type 0} → (X → Bool) → (X → X) → List X → List X
 update_where test change xs = map (λ x. if test x then change x else x) xs
 
@@ -46,18 +49,19 @@ abbrev pub all_distinct : List ℕ → Bool
 all_distinct [] = true
 all_distinct (n ∷ ns) = not (contains_number n ns) && all_distinct ns
 
--- The texts without duplicates, in the order of their first occurrences.
+-- The texts without duplicates, in the sequence of their first occurrences.
 abbrev pub distinct_texts : List (List ℕ) → List (List ℕ)
 distinct_texts [] = []
 distinct_texts (t ∷ ts) = t ∷ filter (λ u. not (bytes_eq u t)) (distinct_texts ts)
 
--- True if the text contains `part`.
+-- True if the text contains `part` as a run of adjacent bytes.
 abbrev pub holds_text : List ℕ → List ℕ → Bool
 holds_text part [] = starts_with nat_eq [] part
 holds_text part (c ∷ text) = starts_with nat_eq (c ∷ text) part || holds_text part text
 
--- The text without its first `skip` bytes, and with each occurrence of `part` (not empty) replaced
--- by `new`, from the left. The first `skip` bytes belong to an occurrence that was replaced before.
+-- The text without its first `skip` bytes, and with each later occurrence of `part` (not empty)
+-- replaced by `new`, from the left. The skipped bytes belong to an occurrence that was replaced
+-- before.
 abbrev pub replace_from : ℕ → List ℕ → List ℕ → List ℕ → List ℕ
 replace_from skip part new [] = []
 replace_from (suc skip) part new (c ∷ text) = replace_from skip part new text

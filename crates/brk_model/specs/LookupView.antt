@@ -28,12 +28,12 @@ trade_record t =
     ∷ option_map_or price_text t.price [] ∷ price_text t.charge ∷ price_text t.commission ∷ price_text t.tax
     ∷ cash_word t.is_cash ∷ end_word t.is_lifo ∷ []
 
--- True if the cash row belongs to the trade with the id `trade`.
+-- True if the CASH_MOVE row belongs to the trade with the id `trade`.
 abbrev pub is_cash_of : ℕ → MoveRow → Bool
 is_cash_of trade row = option_map_or (λ id. id == trade) row.trade false
 
--- The records of a trade: the trade, its settlement and its row of CASH_MOVE if they exist, and its
--- statuses, oldest first.
+-- The records of the trade of a TRADE row: the trade, its settlement and its cash row if they
+-- exist, and its status changes, sorted by stamp, ascending.
 abbrev pub lookup_records : Tables → TradeRow → View
 lookup_records tables t =
     trade_record t
@@ -41,15 +41,15 @@ lookup_records tables t =
     ++ map cash_record (filter (is_cash_of t.id) tables.moves)
     ++ map (λ h. codes "history" ∷ decimal h.stamp ∷ status_code h.status ∷ []) (sort_by (λ a b. nat_lt a.stamp b.stamp) (history_in tables t.id))
 
--- The records of the first 20 trades that pass `test`, oldest first.
+-- The records of the first 20 trades that pass `test`, sorted by stamp, then by id, both ascending.
 unfoldable pub lookup_view : Tables → (TradeRow → Bool) → View
 lookup_view tables test = flat_map (lookup_records tables) (take 20 (oldest_first_rows (filter test tables.trades)))
 
--- True if the stamp of the trade's last status is between `first` and `last`, both included.
+-- True if the stamp of the TRADE row is between `first` and `last`, both included.
 abbrev pub is_between : ℕ → ℕ → TradeRow → Bool
 is_between first last t = nat_le first t.stamp && nat_le t.stamp last
 
--- True if a row of HOLDING_HISTORY names the trade `trade` and the lot `lot`.
+-- True if a HOLDING_HISTORY row has the trade `trade` and the lot `lot`: the trade touched the lot.
 abbrev pub is_touched_by : Tables → ℕ → ℕ → Bool
 is_touched_by tables trade lot = list_any (λ row. (row.trade == trade) && (row.lot == lot)) tables.holding_history
 
@@ -57,8 +57,8 @@ is_touched_by tables trade lot = list_any (λ row. (row.trade == trade) && (row.
 abbrev pub touch_stamp : Tables → HoldingHistoryRow → ℕ
 touch_stamp tables row = option_map_or (λ t. t.stamp) (trade_in tables row.trade) 0
 
--- The trade's id, then the first 20 changes of the lots that the trade touched. They are sorted by
--- the stamp of the trade that made the change, then by lot.
+-- The id of the trade, then the first 20 HOLDING_HISTORY rows of the lots that the trade touched,
+-- sorted by the stamp of the trade that changed the lot, then by lot, both ascending.
 abbrev pub touched_view : Tables → TradeRow → View
 touched_view tables t =
     (decimal t.id ∷ [])
@@ -66,8 +66,8 @@ touched_view tables t =
     (take 20 (sort_by (λ a b. rising (touch_stamp tables a) (touch_stamp tables b) a.lot b.lot)
     (filter (λ row. is_touched_by tables t.id row.lot) tables.holding_history)))
 
--- The `touched_view` of the oldest trade of an account with a stamp of at least `first`; empty if
--- there is no such trade.
+-- The lots that the oldest trade of the account `account` with a stamp of at least `first` touched,
+-- and their changes; empty if there is no such trade.
 unfoldable pub lots_view : Tables → ℕ → ℕ → View
 lots_view tables account first =
     flat_map (touched_view tables) (take 1 (oldest_first_rows (filter (λ t. nat_le first t.stamp) (trades_in tables account))))

@@ -5,23 +5,26 @@ use Rattle.brk_model.specs.Base.{Base}
 use Rattle.brk_model.specs.Derived.{balance_of, postings_of}
 use Rattle.brk_model.specs.Commands.{Reply, MovedCash}
 
--- The movement of a deposit: `amount` cents into the account, with the name `Deposit`.
+-- The movement of a deposit at `stamp`: `amount` cents into the account `account`, with the name
+-- `Deposit`.
 abbrev pub deposit : ℕ → ℕ → ℕ → Movement
 deposit stamp account amount = record { account = account; stamp = stamp; amount = pos amount; name = codes "Deposit" }
 
--- The movement of a withdrawal: `amount` cents out of the account, with the name `Withdrawal`.
+-- The movement of a withdrawal at `stamp`: `amount` cents out of the account `account`, with the
+-- name `Withdrawal`.
 abbrev pub withdrawal : ℕ → ℕ → ℕ → Movement
 withdrawal stamp account amount = record { account = account; stamp = stamp; amount = neg_ℤ (pos amount); name = codes "Withdrawal" }
 
--- The base with the movement added at the end.
+-- The base `base` with the movement `m` added at the end.
 abbrev pub with_movement : Base → Movement → Base
 with_movement base m = record base { movements = base.movements ++ m ∷ [] }
 
--- The base with `day` as the first day whose completions settle after one day.
+-- The base `base` with `day` as its settlement day: completions settle after one day from this day
+-- on.
 abbrev pub with_one_day : Base → ℕ → Base
 with_one_day base day = record base { rule = Some day }
 
--- The reply to a movement: its stamp, the number of its cash row (one more than there are cash
--- rows), and the account's balance after it.
+-- The reply to the movement `m`: its stamp, the number of its cash row (one more than `base` has
+-- postings), and the balance of its account after it.
 abbrev pub movement_reply : Base → Movement → Reply
 movement_reply base m = MovedCash m.stamp (length (postings_of base) + 1) (balance_of base.accounts (postings_of (with_movement base m)) m.account)

@@ -15,47 +15,51 @@ use Rattle.brk_model.specs.Shares.{Share, Deal, buy_value, sell_value, gain}
 use Rattle.brk_model.specs.Derived.{shares_in, postings_of, balance_of, holdings_of}
 use Rattle.brk_model.specs.Commands.{Order, Estimate, Reply, Ordered}
 
--- True if the executor has this first name, last name and tax id.
+-- True if the executor `e` has the first name `first`, the last name `last` and the tax id
+-- `tax_id`.
 abbrev pub is_person : Executor → Text → Text → Text → Bool
 is_person e first last tax_id = bytes_eq e.first_name first && bytes_eq e.last_name last && bytes_eq e.tax_id tax_id
 
--- True if the executor is the customer, or if one permission names the executor's first name, last
--- name and tax id (Trade-Order, frame 2).
+-- True if the executor `e` is the customer `c`, or if one of the `permissions` has the executor's
+-- first name, last name and tax id (Trade-Order, frame 2).
 abbrev pub permitted : Customer → List Permission → Executor → Bool
 permitted c permissions e =
     is_person e c.first_name c.last_name c.tax_id || list_any (λ p. is_person e p.first_name p.last_name p.tax_id) permissions
 
--- True if the executor may order for the account, or if the account's customer does not exist.
+-- True if the executor `e` is the customer of the account `account` or has a permission for it;
+-- also true if the customer does not exist.
 abbrev pub is_permitted : Base → ℕ → Executor → Bool
 is_permitted base account e =
     option_map_or (λ c. permitted c (filter (λ p. p.account == account) base.permissions) e) (customer_with base (customer_of_account base account)) true
 
--- The price that the order asks for, or the last price of its security if it asks for none
+-- The price that the order `o` asks for, or the last price of its security if its type has no price
 -- (Trade-Order, frame 3).
 abbrev pub requested_price : Base → Order → ℕ
 requested_price base o = unwrap_or (price_asked o.order_type) (last_price base o.symbol)
 
--- The commission of `qty` shares at `price`, in cents; none if no band applies.
+-- The commission, in cents, of the account `account` on `qty` shares of `symbol` at `price`, for
+-- the trade type `kind`; none if no commission band applies.
 abbrev pub commission_of : Base → ℕ → TradeType → Text → ℕ → ℕ → Option ℕ
 commission_of base account kind symbol qty price =
     option_map (λ b. commission b.rate qty price) (band_with base (tier_of base account) kind (exchange_of base symbol) qty)
 
--- The tax on the gain of the deal `d` against the shares of an account, in cents; 0 if the account
--- is not taxable.
+-- The tax, in cents, on the gain of the deal `d` against the position `shares` of the account
+-- `account`; 0 if the account is not taxable.
 abbrev pub tax_on_deal : Base → ℕ → Deal → List Share → ℕ
 tax_on_deal base account d shares = if is_taxed base account then tax (gain d shares) (rates_of base (customer_of_account base account)) else 0
 
--- The order as a deal at its requested price, with the id of the next trade and the stamp 0.
+-- The deal of the order `o` at its requested price, with the id of the next trade and the stamp 0.
 abbrev pub deal_at : Base → Order → Deal
 deal_at base o =
     record { trade = length base.trades + 1; side = side_of (kind_of o.order_type); qty = o.qty; price = requested_price base o; stamp = 0; is_lifo = o.is_lifo }
 
--- The account's balance plus the market value of its holdings at last prices, in cents.
+-- The balance of the account `account` plus the market value of its holdings at last prices, in
+-- cents.
 abbrev pub assets_of : Base → ℕ → ℤ
 assets_of base account = balance_of base.accounts (postings_of base) account +ℤ holdings_of base.securities (completed base) account
 
--- The estimate of an order against `shares`, the shares of its account in its security. The
--- commission or the charge is 0 if no band or no charge applies.
+-- The estimate of the order `o` against the position `shares` of its account in its security. The
+-- commission is 0 if no band applies, and the charge is 0 if there is none for the type and tier.
 abbrev pub estimate_upon : List Share → Base → Order → Estimate
 estimate_upon shares base o = record {
   price = requested_price base o;
@@ -67,11 +71,12 @@ estimate_upon shares base o = record {
   assets = assets_of base o.account;
 }
 
--- The estimate of an order against the shares that its account holds of its security.
+-- The estimate of the order `o` against the open shares of its account in its security.
 unfoldable pub estimate : Base → Order → Estimate
 estimate base o = estimate_upon (shares_in (completed base) o.account o.symbol) base o
 
--- The first status of an order: submitted if its type is a market type, otherwise pending.
+-- The first status of a trade of the type `kind`: `Submitted` for a market type, otherwise
+-- `Pending`.
 abbrev pub first_status : TradeType → Status
 first_status kind = if is_market kind then Submitted else Pending
 
@@ -79,7 +84,8 @@ first_status kind = if is_market kind then Submitted else Pending
 abbrev pub executor_name : Executor → Text
 executor_name e = e.first_name ++ 32 ∷ e.last_name
 
--- The trade that an order creates at `stamp`. Its id is the number of earlier trades plus 1.
+-- The trade that the order `o` creates at `stamp`, with its estimated charge and commission, tax 0
+-- and no price. Its id is the number of trades of `base` plus 1.
 abbrev pub ordered_trade : Base → ℕ → Order → Trade
 ordered_trade base stamp o = record {
   id = length base.trades + 1;
@@ -100,10 +106,11 @@ ordered_trade base stamp o = record {
   cash_name = [];
 }
 
--- The base with the trade of the order added at the end.
+-- The base `base` with the trade of the order `o` added at the end.
 abbrev pub with_order : Base → ℕ → Order → Base
 with_order base stamp o = record base { trades = base.trades ++ ordered_trade base stamp o ∷ [] }
 
--- The reply to an order: the stamp, the trade's id, its first status and the estimate.
+-- The reply to the order `o` that is accepted at `stamp`: the stamp, the trade's id, its first
+-- status and the estimate.
 abbrev pub order_reply : Base → ℕ → Order → Reply
 order_reply base stamp o = Ordered stamp (length base.trades + 1) (first_status (kind_of o.order_type)) (estimate base o)

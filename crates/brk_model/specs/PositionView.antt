@@ -10,7 +10,8 @@ use Rattle.brk_model.specs.Tables.{Tables, AccountRow, TradeRow}
 use Rattle.brk_model.specs.Queries.{View}
 use Rattle.brk_model.specs.Joins.{price_in, trades_in, history_in, recent_first}
 
--- The market value of an account's holding summaries at last prices, in cents.
+-- The market value of the account `a`, in cents: the sum over its HOLDING_SUMMARY rows of quantity
+-- times last price.
 abbrev pub asset_total : Tables → AccountRow → ℤ
 asset_total tables a = total_by (λ row. row.qty *ℤ pos (price_in tables row.symbol)) (filter (λ row. row.account == a.id) tables.summaries)
 
@@ -21,17 +22,19 @@ by_worth tables a b =
     int_lt (asset_total tables a) (asset_total tables b) || (not (int_lt (asset_total tables b) (asset_total tables a)) && nat_lt a.id b.id)
 
 -- One record (id, balance, market value) for each account of the customers that pass `test`, sorted
--- by market value, then by id, ascending.
+-- by market value, then by id, both ascending.
 unfoldable pub position_view : Tables → (Customer → Bool) → View
 position_view tables test =
     map (λ a. decimal a.id ∷ cents_text a.balance ∷ cents_text (asset_total tables a) ∷ [])
     (sort_by (by_worth tables) (filter (λ a. list_any (λ c. test c && (c.id == a.customer)) tables.customers) tables.accounts))
 
--- The last 10 trades of an account, most recent first.
+-- The 10 most recent TRADE rows of the account `account`, sorted by stamp, then by id, both
+-- descending.
 abbrev pub last_ten : Tables → ℕ → List TradeRow
 last_ten tables account = take 10 (recent_first (trades_in tables account))
 
--- The last 10 trades of an account, then all history rows of these trades, both most recent first.
+-- One record for each of the 10 most recent trades of the account `account`, then one for each
+-- TRADE_HISTORY row of these trades, both sorted by stamp, then by trade, descending.
 unfoldable pub recent_view : Tables → ℕ → View
 recent_view tables account =
     map (λ t. codes "trade" ∷ decimal t.id ∷ t.symbol ∷ decimal t.qty ∷ []) (last_ten tables account)

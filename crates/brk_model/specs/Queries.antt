@@ -3,7 +3,7 @@ use Rattle.std.specs.Prelude.{ℕ, List}
 use Rattle.brk_money.specs.Spelling.{Text}
 use Rattle.brk_model.specs.Commands.{Order}
 
--- A list of records, each of which is a list of texts.
+-- The type of a view: a list of records, each a list of texts.
 abbrev pub View : Type 0
 View = List (List Text)
 

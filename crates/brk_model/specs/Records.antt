@@ -108,7 +108,8 @@ pub record Movement : Type 0 where
   pub amount : ℤ
   pub name : Text
 
--- The first day whose completions settle after one day; none if no such day is set.
+-- The type of the settlement day: the first day whose completions settle after one day, or none if
+-- no such day is set.
 abbrev pub SettleRule : Type 0
 SettleRule = Option ℕ
 

@@ -10,27 +10,28 @@ use Rattle.brk_model.specs.Derived.{shares_in, amount_of, due_day, postings_of, 
 use Rattle.brk_model.specs.Orders.{commission_of, tax_on_deal}
 use Rattle.brk_model.specs.Commands.{Completion}
 
--- The deal of a trade that is completed at `price` with `stamp`.
+-- The deal of the trade `t` that is completed at `price` with the stamp `stamp`.
 abbrev pub result_deal : ℕ → ℕ → Trade → Deal
 result_deal stamp price t = record { trade = t.id; side = side_of t.kind; qty = t.qty; price = price; stamp = stamp; is_lifo = t.is_lifo }
 
--- The cash type of a settlement at completion (SE_CASH_TYPE): `Cash Account` for a cash trade,
--- otherwise `Margin`.
+-- The cash type of the settlement of the trade `t` at its completion (SE_CASH_TYPE): `Cash Account`
+-- for a cash trade, otherwise `Margin`.
 abbrev pub first_cash_type : Trade → Text
 first_cash_type t = if t.is_cash then codes "Cash Account" else codes "Margin"
 
--- The name of a cash row: the name of the trade type, a space, the quantity, `words`, and the name
--- of the security.
+-- The name of the cash row of the trade `t`: the name of its type, a space, its quantity, the text
+-- `words`, and the name of its security.
 abbrev pub cash_text : Text → Base → Trade → Text
 cash_text words base t = type_name t.kind ++ 32 ∷ decimal t.qty ++ words ++ security_name base t.symbol
 
--- The name of a cash row at completion (CM_NAME; CT_NAME in the first schema); empty if the trade
--- is not a cash trade.
+-- The name of the cash row of the trade `t` at its completion (CM_NAME; CT_NAME in the first
+-- schema); empty if the trade is not a cash trade.
 abbrev pub first_cash_name : Base → Trade → Text
 first_cash_name base t = if t.is_cash then cash_text (codes " shares of ") base t else []
 
--- The trade with the values that its completion at `price` records, and with the status completed
--- at `stamp`.
+-- The trade `t` after its completion at `price`: with the price, the commission, tax, cash type and
+-- cash row name that `base` determines, and with the status `Completed` at `stamp`. The commission
+-- is 0 if no band applies.
 unfoldable pub completed_trade : Base → ℕ → ℕ → Trade → Trade
 completed_trade base stamp price t = marked stamp Completed (record t {
   price = Some price;
@@ -40,11 +41,12 @@ completed_trade base stamp price t = marked stamp Completed (record t {
   cash_name = first_cash_name base t;
 })
 
--- The base in which the trade `t` is completed at `price` with `stamp`.
+-- The base `base` in which the trade with the id of `t` is completed at `price` with the stamp
+-- `stamp`.
 abbrev pub with_result : Base → ℕ → ℕ → Trade → Base
 with_result base stamp price t = with_trades (λ u. u.id == t.id) (completed_trade base stamp price) base
 
--- The figures of a completion, computed from the base before it, the base `after` it, the deal `d`
+-- The figures of a completion, from the base `base` before it, the base `after` it, its deal `d`
 -- and the completed trade `t`.
 abbrev pub completion_after : Base → Base → Deal → Trade → Completion
 completion_after base after d t = record {
@@ -57,8 +59,8 @@ completion_after base after d t = record {
   balance = balance_of after.accounts (postings_of after) t.account;
 }
 
--- The figures of the completion of the trade `t` at `price` with `stamp`, which the reply to a
--- result contains.
+-- The figures of the completion of the trade `t` of `base` at `price` with the stamp `stamp`, as
+-- the reply to a result states them.
 unfoldable pub completion : Base → ℕ → ℕ → Trade → Completion
 completion base stamp price t =
     completion_after base (with_result base stamp price t) (result_deal stamp price t) (completed_trade base stamp price t)

@@ -7,19 +7,20 @@ use Rattle.brk_money.specs.Kinds.{type_code, status_code, tax_status_number}
 use Rattle.brk_money.specs.OrderTypes.{kind_of, price_asked}
 use Rattle.brk_model.specs.Commands.{Command, Order, Tick, Estimate, Completion, Reply, Booked, Ordered, Ticked, CanceledTrade, CompletedTrade, Changed, MovedCash, AddBroker, AddCustomer, AddAccount, AddPermission, AddSecurity, AddCharge, AddBand, AddTaxRate, AddCustomerTax, PlaceOrder, FeedTicks, CancelTrade, CompleteTrade, ChangeExecutors, ChangeCashTypes, ChangeCashNames, DepositCash, WithdrawCash, SetOneDay}
 
--- The text of an amount of `n` cents, which is not below 0.
+-- The canonical text of an amount of `n` cents, which is never negative.
 abbrev pub price_text : ℕ → Text
 price_text n = cents_text (pos n)
 
--- The word `cash` for a cash trade, otherwise `margin`.
+-- The word of an order or a trade: `cash` if `is_cash` is true, otherwise `margin`.
 abbrev pub cash_word : Bool → Text
 cash_word is_cash = if is_cash then codes "cash" else codes "margin"
 
--- The word `lifo` if the last shares are closed first, otherwise `fifo`.
+-- The word of an order or a trade: `lifo` if `is_lifo` is true (the last shares are closed first),
+-- otherwise `fifo`.
 abbrev pub end_word : Bool → Text
 end_word is_lifo = if is_lifo then codes "lifo" else codes "fifo"
 
--- The ten fields of an order; the field of the price is empty if the type asks for none.
+-- The ten fields of the order `o`; the field of the price is empty if its type has no price.
 abbrev pub order_fields : Order → List Text
 order_fields o =
     decimal o.account ∷ type_code (kind_of o.order_type) ∷ o.symbol ∷ decimal o.qty
@@ -30,7 +31,7 @@ order_fields o =
 abbrev pub tick_fields : Tick → List Text
 tick_fields tick = tick.symbol ∷ price_text tick.price ∷ decimal tick.qty ∷ []
 
--- The fields of a command's row, its kind first.
+-- The fields of a command's row, of which the first is the word of its kind.
 unfoldable pub row_fields : Command → List Text
 row_fields (AddBroker b) = codes "broker" ∷ decimal b.id ∷ b.name ∷ []
 row_fields (AddCustomer c) = codes "customer" ∷ decimal c.id ∷ decimal c.tier ∷ c.tax_id ∷ c.last_name ∷ c.first_name ∷ []
@@ -53,7 +54,7 @@ row_fields (DepositCash account amount) = codes "deposit" ∷ decimal account �
 row_fields (WithdrawCash account amount) = codes "withdraw" ∷ decimal account ∷ price_text amount ∷ []
 row_fields (SetOneDay day) = codes "oneday" ∷ day_text day ∷ []
 
--- The text of a command's row that is stored with its key: the fields joined by byte 31.
+-- The text of a command's row, as it is stored with its key: the fields joined by byte 31.
 abbrev pub row_text : Command → Text
 row_text command = join_with_byte 31 (row_fields command)
 
@@ -71,7 +72,7 @@ completion_fields c =
     price_text c.commission ∷ price_text c.tax ∷ cents_text c.amount ∷ day_text c.due_day
     ∷ price_text c.buy_value ∷ price_text c.sell_value ∷ cents_text c.balance ∷ []
 
--- The fields of a reply, its stamp first.
+-- The fields of a reply, of which the first is its stamp.
 unfoldable pub reply_fields : Reply → List Text
 reply_fields (Booked stamp) = decimal stamp ∷ []
 reply_fields (Ordered stamp trade status e) = decimal stamp ∷ decimal trade ∷ status_code status ∷ estimate_fields e
@@ -81,10 +82,10 @@ reply_fields (CompletedTrade stamp c) = decimal stamp ∷ completion_fields c
 reply_fields (Changed stamp count) = decimal stamp ∷ decimal count ∷ []
 reply_fields (MovedCash stamp move balance) = decimal stamp ∷ decimal move ∷ cents_text balance ∷ []
 
--- The fields joined by commas.
+-- The text of the fields joined by commas.
 abbrev pub line_of : List Text → Text
 line_of fields = join_with_byte 44 fields
 
--- The line of a reply that is stored with its key: the fields joined by commas.
+-- The line of a reply, as it is stored with its key: the fields joined by commas.
 abbrev pub line_text : Reply → Text
 line_text reply = line_of (reply_fields reply)

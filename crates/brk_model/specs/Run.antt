@@ -22,32 +22,33 @@ pub data Outcome : Type 0 where
   NoView : Refusal → Outcome
   Failed : Fault → Outcome
 
--- The fault is `Memory` or `Store`, the two with which a call may fail.
+-- The fault is `Memory` or `Store`, the only faults with which a call may fail.
 abbrev pub MayFail : Fault → Type 0
 MayFail fault = (fault ≡ Memory) ⊎ (fault ≡ Store)
 
--- The call is a command, and its keyed step at the clock reading `now` gives `answer` and the base
--- `after`. It is false of a query.
+-- The call is a command whose keyed step at the clock reading `now` on `base` results in `answer`
+-- and the base `after`. It is false for a query.
 abbrev pub GivesAnswer : Base → ℕ → Call → Answer → Base → Type 0
 GivesAnswer base now (Do command key) answer after = keyed_step base now command key ≡ (answer, after)
 GivesAnswer base now (Ask query) answer after = ⊥
 
--- The call is a query, `seen` is its view or its refusal, and `after` equals `base`. It is false of
--- a command.
+-- The call is a query whose view or refusal on `base` is `seen`, and `after` equals `base`. It is
+-- false for a command.
 abbrev pub IsSeen : Base → Call → Result View Refusal → Base → Type 0
 IsSeen base (Ask query) seen after = (ask base query ≡ seen) × (after ≡ base)
 IsSeen base (Do command key) seen after = ⊥
 
--- From `base`, the call at the clock reading `now` may have this outcome and lead to the base
--- `after`.
+-- The call at the clock reading `now` on `base` may have the outcome, and the base after it may
+-- then be `after`. A fault, `Memory` or `Store`, is always possible and leaves the base unchanged.
 abbrev pub Answers : Base → ℕ → Call → Outcome → Base → Type 0
 Answers base now call (Did answer) after = GivesAnswer base now call answer after
 Answers base now call (Saw view) after = IsSeen base call (Ok view) after
 Answers base now call (NoView refusal) after = IsSeen base call (Err refusal) after
 Answers base now call (Failed fault) after = MayFail fault × (after ≡ base)
 
--- From `base`, the calls at their clock readings may have these outcomes, one each and in order,
--- and lead to the base `after`.
+-- The calls, each with its clock reading and executed in sequence from `base` on, may have these
+-- outcomes, one each, and the base after the last may then be `after`. It is false if the lists
+-- have different lengths.
 abbrev pub Run : Base → List (ℕ × Call) → List Outcome → Base → Type 0
 Run base [] [] after = after ≡ base
 Run base (call ∷ calls) (outcome ∷ outcomes) after = (mid : Base) × Answers base call.0 call.1 outcome mid × Run mid calls outcomes after

@@ -4,7 +4,7 @@ use Rattle.brk_model.specs.Schemas.{Schema}
 use Rattle.brk_model.specs.Tables.{Tables, tables_at, tables_of}
 use Rattle.brk_model.specs.Keys.{by_key, kept_key, broker_key, customer_key, account_key, permission_key, security_key, last_trade_key, charge_key, band_key, tax_rate_key, customer_tax_key, trade_key, history_key, request_key, holding_key, summary_key, holding_history_key, settlement_key, cash_key, move_key}
 
--- The tables, each sorted by key, ascending; two rows with one key keep their sequence.
+-- The tables `t`, each sorted by key, ascending; two rows with one key keep their sequence.
 unfoldable pub sheets_of : Tables → Tables
 sheets_of t = record {
   last = t.last;
@@ -31,10 +31,10 @@ sheets_of t = record {
   rule = t.rule;
 }
 
--- The sheets of a base in a schema.
+-- The tables of `base` in the schema `schema`, each sorted by key, ascending.
 abbrev pub sheets_at : Schema → Base → Tables
 sheets_at schema base = sheets_of (tables_at schema base)
 
--- The sheets of a base in the third schema, which a desk uses.
+-- The tables of `base` in the third schema, which a desk uses, each sorted by key, ascending.
 abbrev pub sheets : Base → Tables
 sheets base = sheets_of (tables_of base)

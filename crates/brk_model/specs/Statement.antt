@@ -11,45 +11,46 @@ use Rattle.brk_model.specs.Rows.{price_text}
 use Rattle.brk_model.specs.Joins.{account_in}
 use Rattle.brk_model.specs.PositionView.{asset_total}
 
--- The text, left-aligned and padded with spaces to `places` bytes; unchanged if it is longer.
+-- The text padded with spaces on its right to `places` bytes; unchanged if it is longer.
 abbrev pub at_left : ℕ → Text → Text
 at_left places text = text ++ replicate (places - length text) 32
 
--- The text, right-aligned and padded with spaces to `places` bytes; unchanged if it is longer.
+-- The text padded with spaces on its left to `places` bytes; unchanged if it is longer.
 abbrev pub at_right : ℕ → Text → Text
 at_right places text = replicate (places - length text) 32 ++ text
 
--- A word in 10 places, a space, and an amount, right-aligned in 22 places.
+-- The word `word`, padded on its right to 10 places, a space, and the text of the amount, padded on
+-- its left to 22 places.
 abbrev pub amount_line : Text → ℤ → Text
 amount_line word amount = at_left 10 word ++ 32 ∷ at_right 22 (cents_text amount)
 
--- The account's rows of CASH_MOVE, sorted by stamp, ascending.
+-- The CASH_MOVE rows of the account `account`, sorted by stamp, ascending.
 abbrev pub cash_in : Tables → ℕ → List MoveRow
 cash_in tables account = sort_by_key (λ row. row.stamp) (filter (λ row. row.account == account) tables.moves)
 
--- The cash rows of the days before `from`.
+-- The CASH_MOVE rows of the list whose day is before the day `from`.
 abbrev pub cash_before : ℕ → List MoveRow → List MoveRow
 cash_before from rows = filter (λ row. nat_lt (day_of row.stamp) from) rows
 
--- The cash rows of the days `from` to `to`, both included.
+-- The CASH_MOVE rows of the list whose day is from `from` to `to`, both included.
 abbrev pub cash_within : ℕ → ℕ → List MoveRow → List MoveRow
 cash_within from to rows = filter (λ row. nat_le from (day_of row.stamp) && nat_le (day_of row.stamp) to) rows
 
--- The sum of the amounts of the cash rows, in cents.
+-- The sum of the amounts of the CASH_MOVE rows, in cents.
 abbrev pub cash_total : List MoveRow → ℤ
 cash_total rows = total_by (λ row. row.amount) rows
 
--- The account's lots, sorted by symbol, then by opening stamp, ascending.
+-- The HOLDING rows of the account `account`, sorted by symbol, then by stamp, both ascending.
 abbrev pub lots_in : Tables → ℕ → List HoldingRow
 lots_in tables account =
     sort_by (λ a b. text_before a.symbol b.symbol || (bytes_eq a.symbol b.symbol && nat_lt a.stamp b.stamp))
     (filter (λ row. row.account == account) tables.holdings)
 
--- The line of a cash row: its day, amount and name.
+-- The statement line of a cash row: its day, its amount and its name.
 abbrev pub cash_line : MoveRow → Text
 cash_line row = day_text (day_of row.stamp) ++ 32 ∷ at_right 22 (cents_text row.amount) ++ 32 ∷ row.name
 
--- The line of a lot: its symbol, the trade that opened it, its quantity and its price.
+-- The statement line of a lot: its symbol, the trade that opened it, its quantity and its price.
 abbrev pub lot_line : HoldingRow → Text
 lot_line row =
     at_left 15 row.symbol ++ 32 ∷ at_right 13 (decimal row.trade) ++ 32 ∷ at_right 11 (signed_decimal row.qty) ++ 32 ∷ at_right 10 (price_text row.price)
@@ -73,7 +74,8 @@ statement_lines tables a from to rows =
 abbrev pub lines_text : List Text → Text
 lines_text lines = flat_map (λ line. line ++ 10 ∷ []) lines
 
--- The statement of the account, or the refusal `NoAccount` if there is none.
+-- The statement of the account over the days `from` to `to`, or the refusal `NoAccount` if there is
+-- no account.
 abbrev pub statement_of : Tables → Option AccountRow → ℕ → ℕ → Result Text Refusal
 statement_of tables None from to = Err NoAccount
 statement_of tables (Some a) from to = Ok (lines_text (statement_lines tables a from to (cash_in tables a.id)))

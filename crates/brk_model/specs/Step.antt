@@ -13,17 +13,18 @@ use Rattle.brk_model.specs.Movements.{deposit, withdrawal, with_movement, with_o
 use Rattle.brk_model.specs.Tests.{next_stamp, refusal_of}
 use Rattle.brk_model.specs.Commands.{Command, Listing, Reply, Booked, Ticked, CanceledTrade, CompletedTrade, Changed, AddBroker, AddCustomer, AddAccount, AddPermission, AddSecurity, AddCharge, AddBand, AddTaxRate, AddCustomerTax, PlaceOrder, FeedTicks, CancelTrade, CompleteTrade, ChangeExecutors, ChangeCashTypes, ChangeCashNames, DepositCash, WithdrawCash, SetOneDay}
 
--- The security of a listing, with its first price, the volume 0 and the stamp.
+-- The security of the listing `l`, with its first price as the last price, the volume 0 and the
+-- stamp `stamp`.
 abbrev pub listed : ℕ → Listing → Security
 listed stamp l = record { symbol = l.symbol; name = l.name; exchange = l.exchange; sector = l.sector; last_price = l.price; volume = 0; moment = stamp }
 
--- The base in which the trade with the id `id` is completed at `price`; unchanged if there is no
--- such trade.
+-- The base `base` in which the trade with the id `id` is completed at `price` with the stamp
+-- `stamp`; unchanged if there is no such trade.
 abbrev pub with_result_of : Base → ℕ → ℕ → ℕ → Base
 with_result_of base stamp id price = option_map_or (with_result base stamp price) (trade_with base id) base
 
--- The base after a command that is accepted with `stamp`, except for its last stamp, which is still
--- the earlier one.
+-- The base after a command that is accepted at `stamp`, in which the last stamp is still that of
+-- `base`.
 unfoldable pub records_after : Base → ℕ → Command → Base
 records_after base stamp (AddBroker b) = record base { brokers = base.brokers ++ b ∷ [] }
 records_after base stamp (AddCustomer c) = record base { customers = base.customers ++ c ∷ [] }
@@ -45,7 +46,7 @@ records_after base stamp (DepositCash account amount) = with_movement base (depo
 records_after base stamp (WithdrawCash account amount) = with_movement base (withdrawal stamp account amount)
 records_after base stamp (SetOneDay day) = with_one_day base day
 
--- The reply to a command that is accepted with `stamp`.
+-- The reply to a command that is accepted at `stamp` on `base`.
 unfoldable pub reply_to : Base → ℕ → Command → Reply
 reply_to base stamp (AddBroker b) = Booked stamp
 reply_to base stamp (AddCustomer c) = Booked stamp
@@ -67,17 +68,17 @@ reply_to base stamp (DepositCash account amount) = movement_reply base (deposit 
 reply_to base stamp (WithdrawCash account amount) = movement_reply base (withdrawal stamp account amount)
 reply_to base stamp (SetOneDay day) = Booked stamp
 
--- The base after a command that is accepted with `stamp`, which is then its last stamp.
+-- The base after the command that is accepted at `stamp`, with `stamp` as its last stamp.
 abbrev pub base_after : Base → ℕ → Command → Base
 base_after base stamp command = record (records_after base stamp command) { last = Some stamp }
 
--- The refusal if there is one, otherwise the value.
+-- The refusal as an error if there is one, otherwise `value`.
 abbrev pub unless : {A : Type 0} → Option Refusal → A → Result A Refusal
 unless None value = Ok value
 unless (Some refusal) value = Err refusal
 
--- The result of one command at the clock reading `now`: its refusal, or its reply and the base
--- after it.
+-- The result of one command at the clock reading `now` on `base`: its refusal, or its reply and the
+-- base after it.
 unfoldable pub step : Base → ℕ → Command → Result (Reply × Base) Refusal
 step base now command =
     unless (refusal_of base now command) (reply_to base (next_stamp base now) command, base_after base (next_stamp base now) command)

@@ -150,13 +150,13 @@ pub record Tables : Type 0 where
   pub moves : List MoveRow
   pub rule : SettleRule
 
--- The BROKER row of a broker, with the number of the completed trades `done` of its accounts and
--- the sum of their commissions.
+-- The BROKER row of the broker `b`, with the number and the commission total of those of the
+-- completed trades `done` whose accounts have this broker.
 abbrev pub broker_row : List Account → List Trade → Broker → BrokerRow
 broker_row accounts done b =
     record { id = b.id; name = b.name; trades = pos (trade_count_of accounts done b.id); commissions = commissions_of accounts done b.id }
 
--- The CUSTOMER_ACCOUNT row of an account, with its balance.
+-- The CUSTOMER_ACCOUNT row of the account `a`, with its balance after the postings `posted`.
 abbrev pub account_row : List Account → List Posting → Account → AccountRow
 account_row accounts posted a = record {
   id = a.id;
@@ -176,7 +176,7 @@ security_row s = record { symbol = s.symbol; name = s.name; exchange = s.exchang
 abbrev pub last_trade_row : Security → LastTradeRow
 last_trade_row s = record { symbol = s.symbol; stamp = s.moment; price = s.last_price; volume = s.volume }
 
--- The last status of a trade; `Canceled` if it has none.
+-- The last status of the trade `t`; `Canceled` if it has no status change.
 abbrev pub status_of : Trade → Status
 status_of t = option_map_or (λ m. m.status) (last_mark t) Canceled
 
@@ -205,16 +205,16 @@ trade_row t =
 abbrev pub history_rows : Trade → List HistoryRow
 history_rows t = map (λ m. record { trade = t.id; status = m.status; stamp = m.stamp }) t.marks
 
--- The TRADE_REQUEST row of a pending trade, with the broker of its account.
+-- The TRADE_REQUEST row of the pending trade `t`, with the broker of its account.
 abbrev pub request_row : List Account → Trade → RequestRow
 request_row accounts t = record { trade = t.id; kind = t.kind; symbol = t.symbol; qty = t.qty; bid = t.bid; broker = broker_in accounts t.account }
 
--- The rows that `rows` gives for each account and each symbol of the base.
+-- The rows that `rows` returns for each account and each symbol of `base`, account by account.
 abbrev pub by_position : {Row : Type 0} → Base → (ℕ → Text → List Row) → List Row
 by_position base rows = flat_map (λ a. flat_map (λ s. rows a.id s.symbol) base.securities) base.accounts
 
--- The HOLDING row of the lot that a completed trade opened; its quantity is 0 if no share of the
--- lot is left.
+-- The HOLDING row of the lot that the completed trade `t` opened; its quantity is 0 if no share of
+-- the lot is left after the completed trades `done`.
 abbrev pub holding_row : List Trade → Trade → HoldingRow
 holding_row done t =
     record { trade = t.id; account = t.account; symbol = t.symbol; stamp = moment_of t; price = price_of t; qty = lot_qty (shares_in done t.account t.symbol) t.id }
@@ -231,17 +231,19 @@ touch_of_row row = record { lot = row.lot; before = row.before; after = row.afte
 abbrev pub is_moved : HoldingHistoryRow → Bool
 is_moved row = is_change (touch_of_row row)
 
--- One HOLDING_HISTORY row of the lot `lot` for each deal, executed in order from `shares`.
+-- One HOLDING_HISTORY row of the lot `lot` for each deal, whether or not it changes the lot; the
+-- deals are applied in sequence, from the position `shares` on.
 abbrev pub lot_rows : ℕ → List Share → List Deal → List HoldingHistoryRow
 lot_rows lot shares [] = []
 lot_rows lot shares (d ∷ deals) = touch_row d.trade (touch_by lot d shares) ∷ lot_rows lot (shares_after shares d) deals
 
--- The HOLDING_HISTORY rows of the lot that a completed trade opened: one for each deal that changed
--- it.
+-- The HOLDING_HISTORY rows of the lot that the completed trade `t` opened: one for each deal of its
+-- position that changes the lot's quantity.
 abbrev pub lot_history : List Trade → Trade → List HoldingHistoryRow
 lot_history done t = filter is_moved (lot_rows t.id [] (deals_in done t.account t.symbol))
 
--- The HOLDING_SUMMARY row of a position; none if its quantity is 0.
+-- The HOLDING_SUMMARY row of the account `account` in the symbol `symbol`; no row if its quantity
+-- is 0.
 abbrev pub summary_rows : List Trade → ℕ → Text → List SummaryRow
 summary_rows done account symbol =
     filter (λ row. not (is_zero row.qty)) (record { account = account; symbol = symbol; qty = summary_of done account symbol } ∷ [])
@@ -250,25 +252,26 @@ summary_rows done account symbol =
 abbrev pub settlement_row : List Account → SettleRule → Trade → SettlementRow
 settlement_row accounts rule t = record { trade = t.id; cash_type = t.cash_type; due_day = due_day rule t; amount = amount_of accounts t }
 
--- The CASH_TRANSACTION row of a completed cash trade, which only the first schema has.
+-- The CASH_TRANSACTION row of the completed cash trade `t`, a table that only the first schema
+-- fills.
 abbrev pub cash_row : List Account → Trade → CashRow
 cash_row accounts t = record { trade = t.id; stamp = moment_of t; amount = amount_of accounts t; name = t.cash_name }
 
--- The CASH_MOVE row of a posting, with the number `id`.
+-- The CASH_MOVE row of the posting `p`, with the number `id`.
 abbrev pub move_row : ℕ → Posting → MoveRow
 move_row id p = record { id = id; account = p.account; trade = p.trade; stamp = p.stamp; amount = p.amount; name = p.name }
 
--- The CASH_MOVE rows of the postings, numbered `n`, `n + 1` and so on.
+-- The CASH_MOVE rows of the postings, numbered `n`, `n + 1` and so on in the sequence of the list.
 abbrev pub numbered : ℕ → List Posting → List MoveRow
 numbered n [] = []
 numbered n (p ∷ posted) = move_row n p ∷ numbered (n + 1) posted
 
--- The CASH_MOVE rows: the postings sorted by stamp and numbered from 1; none if the schema does not
--- number cash rows.
+-- The CASH_MOVE rows of the postings `posted`, sorted by stamp and numbered from 1; none if
+-- `schema` does not number cash rows.
 abbrev pub move_rows : Schema → List Posting → List MoveRow
 move_rows schema posted = if schema.has_moves then numbered 1 (in_turn posted) else []
 
--- The CASH_TRANSACTION rows of the completed cash trades; none if the schema numbers cash rows.
+-- The CASH_TRANSACTION rows of the cash trades of `done`; none if `schema` numbers cash rows.
 abbrev pub cash_rows : Schema → List Account → List Trade → List CashRow
 cash_rows schema accounts done = if schema.has_moves then [] else map (cash_row accounts) (cash_trades done)
 
@@ -299,10 +302,10 @@ no_rows = record {
   rule = None;
 }
 
--- The tables of a base in a schema, if `done` are its completed trades. From them the totals of
--- brokers, the balances, lots, summaries, lot changes, settlements and cash rows are computed, and
--- the requests from the pending trades; balances and CASH_MOVE have the movements too. The schema
--- determines only which table has the cash rows; `rule` is that of the base in every schema.
+-- The tables of `base` in the schema `schema`, if `done` are its completed trades. The totals of
+-- brokers, the balances, lots, summaries, lot changes, settlements and cash rows are computed from
+-- `done`, the balances and the CASH_MOVE rows also from the movements, and the requests from the
+-- pending trades. The schema determines only which table has the cash rows.
 abbrev pub tables_upon : Schema → Base → List Trade → Tables
 tables_upon schema base done = record {
   last = base.last;
@@ -329,10 +332,10 @@ tables_upon schema base done = record {
   rule = base.rule;
 }
 
--- The tables of a base in a schema.
+-- The tables of `base` in the schema `schema`, which are computed from its completed trades.
 unfoldable pub tables_at : Schema → Base → Tables
 tables_at schema base = tables_upon schema base (completed base)
 
--- The tables of a base in the third schema, which a desk uses.
+-- The tables of `base` in the third schema, which a desk uses.
 abbrev pub tables_of : Base → Tables
 tables_of base = tables_at third_schema base

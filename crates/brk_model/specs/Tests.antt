@@ -23,66 +23,69 @@ use Rattle.brk_model.specs.Results.{with_result}
 use Rattle.brk_model.specs.Movements.{deposit, withdrawal, with_movement}
 use Rattle.brk_model.specs.Commands.{Command, Order, AddBroker, AddCustomer, AddAccount, AddPermission, AddSecurity, AddCharge, AddBand, AddTaxRate, AddCustomerTax, PlaceOrder, FeedTicks, CancelTrade, CompleteTrade, ChangeExecutors, ChangeCashTypes, ChangeCashNames, DepositCash, WithdrawCash, SetOneDay}
 
--- A check: a refusal, and true if that refusal applies.
+-- The type of a check: true if the refusal applies, and the refusal.
 abbrev pub Test : Type 0
 Test = Bool × Refusal
 
--- The first refusal that applies; none if no check fails.
+-- The refusal of the first check that applies; none if no check applies.
 abbrev pub first_refusal : List Test → Option Refusal
 first_refusal tests = option_map (λ test. test.1) (find (λ test. test.0) tests)
 
--- The stamp of a command that is accepted at the clock reading `now`: `now`, but at least the last
--- stamp plus 1.
+-- The stamp of a command that is accepted at the clock reading `now`: the greater of `now` and the
+-- last stamp of `base` plus 1, or `now` if there is no last stamp.
 abbrev pub next_stamp : Base → ℕ → ℕ
 next_stamp base now = option_map_or (λ last. moved_past last now) base.last now
 
--- The check that fails with `NoAccount` if no account has the id.
+-- The check that refuses with `NoAccount` if no account of `base` has the id `id`.
 abbrev pub lacks_account : Base → ℕ → Test
 lacks_account base id = (is_none (account_with base id), NoAccount)
 
--- The check that fails with `NoCustomer` if no customer has the id.
+-- The check that refuses with `NoCustomer` if no customer of `base` has the id `id`.
 abbrev pub lacks_customer : Base → ℕ → Test
 lacks_customer base id = (is_none (customer_with base id), NoCustomer)
 
--- The check that fails with `NoBroker` if no broker has the id.
+-- The check that refuses with `NoBroker` if no broker of `base` has the id `id`.
 abbrev pub lacks_broker : Base → ℕ → Test
 lacks_broker base id = (is_none (broker_with base id), NoBroker)
 
--- The check that fails with `NoSecurity` if no security has the symbol.
+-- The check that refuses with `NoSecurity` if no security of `base` has the symbol `symbol`.
 abbrev pub lacks_security : Base → Text → Test
 lacks_security base symbol = (is_none (security_with base symbol), NoSecurity)
 
--- The check that fails with `Exists` if `found` is true: the record to be added exists, or a
--- settlement day is set already.
+-- The check that refuses with `Exists` if `found` is true.
 abbrev pub exists_if : Bool → Test
 exists_if found = (found, Exists)
 
--- True if the two bands have the same tier, type and exchange, and some quantity is within both.
+-- True if the bands `b` and `c` have equal tiers, types and exchanges, and some quantity is within
+-- the bounds of both.
 abbrev pub bands_meet : Band → Band → Bool
 bands_meet b c =
     (b.tier == c.tier) && same_type b.kind c.kind && bytes_eq b.exchange c.exchange && nat_le b.from_qty c.to_qty && nat_le c.from_qty b.to_qty
 
--- The check that fails with `NoCharge` if no charge applies to the order.
+-- The check that refuses with `NoCharge` if `base` has no charge for the type of the order `o` and
+-- the tier of its customer.
 abbrev pub lacks_charge : Base → Order → Test
 lacks_charge base o = (is_none (charge_with base (kind_of o.order_type) (tier_of base o.account)), NoCharge)
 
--- The check that fails with `NoRate` if no commission band applies to the order.
+-- The check that refuses with `NoRate` if no commission band of `base` applies to the order `o`.
 abbrev pub lacks_rate : Base → Order → Test
 lacks_rate base o = (is_none (band_with base (tier_of base o.account) (kind_of o.order_type) (exchange_of base o.symbol) o.qty), NoRate)
 
--- The checks of an order and of an estimate, in sequence: account, security, permission, charge and
--- commission band.
+-- The checks of the order `o`, or of its estimate, in sequence: account, security, permission,
+-- charge and commission band.
 abbrev pub order_tests : Base → Order → List Test
 order_tests base o =
     lacks_account base o.account ∷ lacks_security base o.symbol ∷ (not (is_permitted base o.account o.executor), NotPermitted)
     ∷ lacks_charge base o ∷ lacks_rate base o ∷ []
 
--- The check that fails with `WrongStatus` and the trade's status if `right` is false.
+-- The check that refuses with `WrongStatus` and the last status of the trade `t` if `right` is
+-- false.
 abbrev pub wrong_status : Bool → Trade → Test
 wrong_status right t = (not right, WrongStatus (status_of t))
 
--- The checks of a result, in sequence: status, commission band, holding summary, balance,
--- commission total of the broker, and due day. `after` is the base after the result.
+-- The checks of a result of the trade `t` at `stamp`, in sequence: status, commission band, holding
+-- summary, balance of a cash trade, commission total of the broker, and due day. `after` is the
+-- base that would follow the result.
 abbrev pub result_tests : Base → Base → ℕ → Trade → List Test
 result_tests base after stamp t =
     wrong_status (has_status Submitted t) t
@@ -93,8 +96,8 @@ result_tests base after stamp t =
     ∷ (nat_lt last_day (due_after base.rule stamp), ClockEnd)
     ∷ []
 
--- The checks of a movement, in sequence: its account exists, the balance after it is within its
--- limit, and the number of movements is below its limit.
+-- The checks of the movement `m`, in sequence: its account exists, the balance after it is within
+-- the limit, and there are fewer movements than the limit.
 abbrev pub movement_tests : Base → Movement → List Test
 movement_tests base m =
     lacks_account base m.account
@@ -102,12 +105,13 @@ movement_tests base m =
     ∷ (nat_le greatest_id (length base.movements), Range limit.Moves)
     ∷ []
 
--- The checks that `tests` gives for the trade with the id, or the one that fails with `NoTrade` if
--- there is no such trade.
+-- The checks that `tests` returns for the trade with the id `id`; if there is no such trade, one
+-- check that refuses with `NoTrade`.
 abbrev pub tests_of_trade : Base → ℕ → (Trade → List Test) → List Test
 tests_of_trade base id tests = option_map_or tests (trade_with base id) ((true, NoTrade) ∷ [])
 
--- The checks of a command, in the sequence in which they are made.
+-- The checks of a command at the stamp `stamp`, except those of the stamp itself, in the sequence
+-- in which they are made.
 unfoldable pub tests : Base → ℕ → Command → List Test
 tests base stamp (AddBroker b) = exists_if (is_some (broker_with base b.id)) ∷ []
 tests base stamp (AddCustomer c) =
@@ -138,17 +142,18 @@ tests base stamp (DepositCash account amount) = movement_tests base (deposit sta
 tests base stamp (WithdrawCash account amount) = movement_tests base (withdrawal stamp account amount)
 tests base stamp (SetOneDay day) = exists_if (is_some base.rule) ∷ []
 
--- True if the command sets a settlement day that is not after the day of `stamp`.
+-- True if the command sets a settlement day that is not after the day of `stamp`; false for any
+-- other command.
 abbrev pub is_too_early : ℕ → Command → Bool
 is_too_early stamp (SetOneDay day) = nat_le day (day_of stamp)
 is_too_early stamp _ = false
 
--- The checks of the stamp that a command would get: `ClockEnd` if it is past the greatest stamp,
--- and `TooEarly` if the command sets a settlement day that is not after the day of the stamp.
--- `refusal_of` makes them after all others.
+-- The checks of the stamp that the command would get, which are made after all others: `ClockEnd`
+-- if it is past the greatest stamp, and `TooEarly` if the command sets a settlement day that is not
+-- after the day of the stamp.
 abbrev pub stamp_tests : ℕ → Command → List Test
 stamp_tests stamp command = (nat_lt last_stamp stamp, ClockEnd) ∷ (is_too_early stamp command, TooEarly) ∷ []
 
--- The refusal of a command at the clock reading `now`; none if it is accepted.
+-- The refusal of the command at the clock reading `now` on `base`; none if the command is accepted.
 unfoldable pub refusal_of : Base → ℕ → Command → Option Refusal
 refusal_of base now command = first_refusal (tests base (next_stamp base now) command ++ stamp_tests (next_stamp base now) command)

@@ -5,12 +5,12 @@ use Rattle.brk_model.specs.Schemas.{Schema}
 use Rattle.brk_model.specs.Tables.{Tables, numbered}
 use Rattle.brk_model.specs.Adopted.{postings_in}
 
--- The upgraded tables: all cash rows are in CASH_MOVE, sorted by stamp and numbered from 1;
--- CASH_TRANSACTION is empty.
+-- The tables `t` with all cash rows in CASH_MOVE, sorted by stamp and numbered from 1, and with
+-- CASH_TRANSACTION empty.
 unfoldable pub upgraded : Tables → Tables
 upgraded t = record t { cash = []; moves = numbered 1 (in_turn (postings_in t)) }
 
--- The tables of a schema in the third: unchanged if the schema numbers cash rows, otherwise
--- upgraded.
+-- The tables `t` of the schema `schema` as tables of the third schema: unchanged if `schema`
+-- numbers cash rows, otherwise with all cash rows in CASH_MOVE.
 abbrev pub upgraded_from : Schema → Tables → Tables
 upgraded_from schema t = if schema.has_moves then t else upgraded t

@@ -8,7 +8,7 @@ use Rattle.brk_model.specs.StatusView.{status_view, submitted_view}
 use Rattle.brk_model.specs.LookupView.{lookup_view, is_between, lots_view}
 use Rattle.brk_model.specs.VolumeView.{volume_view}
 
--- The view that a query selects from the tables; none if the query is an estimate.
+-- The view of the query over the tables; none if the query is an estimate.
 unfoldable pub view_of : Tables → Query → Option View
 view_of tables (PositionOf customer) = Some (position_view tables (λ c. c.id == customer))
 view_of tables (PositionOfTaxId tax_id) = Some (position_view tables (λ c. bytes_eq c.tax_id tax_id))

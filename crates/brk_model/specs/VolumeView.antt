@@ -9,24 +9,25 @@ use Rattle.brk_model.specs.Rows.{price_text}
 use Rattle.brk_model.specs.Queries.{View}
 use Rattle.brk_model.specs.Joins.{security_in}
 
--- The pending requests of a broker whose securities are in the sector.
+-- The TRADE_REQUEST rows of the broker `broker` whose securities are in the sector `sector`.
 abbrev pub requests_in : Tables → Text → ℕ → List RequestRow
 requests_in tables sector broker =
     filter (λ r. (r.broker == broker) && option_map_or (λ s. bytes_eq s.sector sector) (security_in tables r.symbol) false) tables.requests
 
--- The value of a broker's pending requests in a sector, at their bid prices, in cents.
+-- The value of the pending requests of the broker `broker` in the sector `sector`, at their bid
+-- prices, in cents.
 abbrev pub volume_in : Tables → Text → ℕ → ℕ
 volume_in tables sector broker = sum_by (λ r. r.qty * r.bid) (requests_in tables sector broker)
 
--- True if broker `a` is before broker `b`: sorted by volume, descending, then by name and id,
--- ascending.
+-- True if broker `a` is before broker `b` in the volume view: sorted by volume, descending, then by
+-- name and id, ascending.
 abbrev pub by_volume : Tables → Text → BrokerRow → BrokerRow → Bool
 by_volume tables sector a b =
     nat_lt (volume_in tables sector b.id) (volume_in tables sector a.id)
     || ((volume_in tables sector b.id == volume_in tables sector a.id) && (text_before a.name b.name || (bytes_eq a.name b.name && nat_lt a.id b.id)))
 
--- One record (name, id, volume) for each broker with one of these names and a pending request in
--- the sector, sorted by volume, descending, then by name and id, ascending.
+-- One record (name, id, volume) for each broker that has one of the `names` and a pending request
+-- in the sector, sorted by volume, descending, then by name and id, ascending.
 unfoldable pub volume_view : Tables → Text → List Text → View
 volume_view tables sector names =
     map (λ b. b.name ∷ decimal b.id ∷ price_text (volume_in tables sector b.id) ∷ [])

@@ -10,7 +10,7 @@ use Rattle.brk_model.specs.Records.{StatusChange}
 use Rattle.brk_model.specs.Tables.{Tables, TradeRow}
 use Rattle.brk_model.specs.Adopted.{marks_in}
 
--- True if the statuses are a valid status sequence of a trade.
+-- True if the statuses are one of the six valid status sequences of a trade.
 abbrev pub is_valid_sequence : List Status → Bool
 is_valid_sequence (Submitted ∷ []) = true
 is_valid_sequence (Submitted ∷ Completed ∷ []) = true
@@ -33,21 +33,21 @@ is_last_of row [] = false
 is_last_of row (m ∷ []) = same_status row.status m.status && (row.stamp == m.stamp)
 is_last_of row (m ∷ n ∷ marks) = is_last_of row (n ∷ marks)
 
--- True if the trade's statuses are a valid sequence with strictly ascending stamps, and its row has
--- the last of them.
+-- True if the statuses of the trade of `row` in TRADE_HISTORY are a valid sequence with strictly
+-- ascending stamps, and the row has the status and the stamp of the last one.
 abbrev pub trade_status : Tables → TradeRow → Bool
 trade_status t row =
     is_valid_sequence (map (λ m. m.status) (marks_in t row.id)) && is_rising (map (λ m. m.stamp) (marks_in t row.id)) && is_last_of row (marks_in t row.id)
 
--- The stamps of completions in TRADE_HISTORY.
+-- The stamps of the TRADE_HISTORY rows with the status `Completed`.
 abbrev pub completion_stamps : Tables → List ℕ
 completion_stamps t = map (λ h. h.stamp) (filter (λ h. same_status h.status Completed) t.history)
 
--- The stamps of movements, which are the CASH_MOVE rows without a trade.
+-- The stamps of the CASH_MOVE rows without a trade, which are those of movements.
 abbrev pub movement_stamps : Tables → List ℕ
 movement_stamps t = map (λ r. r.stamp) (filter (λ r. is_none r.trade) t.moves)
 
--- True if every trade passes `trade_status`, and no two completions or movements have the same
--- stamp.
+-- True if the tables `t` satisfy the condition `Status`: every trade passes `trade_status`, and no
+-- two completions or movements have equal stamps.
 unfoldable pub has_status_rows : Tables → Bool
 has_status_rows t = list_all (trade_status t) t.trades && all_distinct (completion_stamps t ++ movement_stamps t)

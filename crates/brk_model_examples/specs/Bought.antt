@@ -7,7 +7,7 @@ use Rattle.brk_money.specs.declared.tax_status.TaxStatus.TheVariants.{Withheld}
 use Rattle.brk_model.specs.Tables.{Tables, AccountRow, TradeRow, HoldingRow, SettlementRow, CashRow, MoveRow}
 use Rattle.brk_model_examples.specs.Setting.{setting}
 
--- The tables after the first purchase, each sorted by key.
+-- The tables after the first purchase in the third schema, each sorted by key.
 unfoldable pub bought_tables : Tables
 bought_tables = record {
   last = Some 1709251200017;
@@ -60,7 +60,7 @@ bought_tables = record {
   rule = None;
 }
 
--- The tables after the first purchase in the first schema.
+-- The tables after the first purchase in the first schema, each sorted by key.
 unfoldable pub first_tables : Tables
 first_tables = record bought_tables {
   cash = record { trade = 1; stamp = 1709251200017; amount = negsuc 102509; name = codes "Market-Buy 100 shares of Acme" } ∷ [];
@@ -69,96 +69,103 @@ first_tables = record bought_tables {
 
 -- ---- tables that another program changed
 
--- A trade has the quantity 0.
+-- The tables after the first purchase, in which the trade has the quantity 0.
 unfoldable pub no_quantity : Tables
 no_quantity = record bought_tables { trades = map {B = TradeRow} (λ t. record t { qty = 0 }) bought_tables.trades }
 
--- The security has no last trade.
+-- The tables after the first purchase, in which the security has no LAST_TRADE row.
 unfoldable pub lacks_last_trade : Tables
 lacks_last_trade = record bought_tables { last_trades = [] }
 
--- The submission of the trade has no row in the history.
+-- The tables after the first purchase, in which TRADE_HISTORY lacks the row of the submission.
 unfoldable pub no_submission : Tables
 no_submission = record bought_tables { history = record { trade = 1; status = Completed; stamp = 1709251200017 } ∷ [] }
 
--- The status of the trade is not the last one of its history.
+-- The tables after the first purchase, in which the TRADE row has another status than the last one
+-- of its history.
 unfoldable pub other_status : Tables
 other_status = record bought_tables { trades = map {B = TradeRow} (λ t. record t { status = Submitted }) bought_tables.trades }
 
--- A completed trade has a request row.
+-- The tables after the first purchase, in which the completed trade has a TRADE_REQUEST row.
 unfoldable pub a_request : Tables
 a_request = record bought_tables { requests = record { trade = 1; kind = MarketBuy; symbol = codes "ABC"; qty = 100; bid = 1000; broker = 1 } ∷ [] }
 
--- The lot has one share less.
+-- The tables after the first purchase, in which the lot has one share less.
 unfoldable pub other_lot : Tables
 other_lot = record bought_tables { holdings = map {B = HoldingRow} (λ h. record h { qty = pos 99 }) bought_tables.holdings }
 
--- The lot has another price.
+-- The tables after the first purchase, in which the lot has another price.
 unfoldable pub other_lot_price : Tables
 other_lot_price = record bought_tables { holdings = map {B = HoldingRow} (λ h. record h { price = 1011 }) bought_tables.holdings }
 
--- The trade has another price.
+-- The tables after the first purchase, in which the trade has another completion price.
 unfoldable pub other_trade_price : Tables
 other_trade_price = record bought_tables { trades = map {B = TradeRow} (λ t. record t { price = Some 1011 }) bought_tables.trades }
 
--- The history of the lot has another quantity.
+-- The tables after the first purchase, in which the HOLDING_HISTORY row has another quantity.
 unfoldable pub other_history : Tables
 other_history = record bought_tables { holding_history = record { lot = 1; trade = 1; before = pos 0; after = pos 99 } ∷ [] }
 
--- The summary has one share more.
+-- The tables after the first purchase, in which the holding summary has one share more.
 unfoldable pub other_summary : Tables
 other_summary = record bought_tables { summaries = record { account = 100; symbol = codes "ABC"; qty = pos 101 } ∷ [] }
 
--- The broker has one trade more.
+-- The tables after the first purchase, in which the broker has one trade more.
 unfoldable pub other_count : Tables
 other_count = record bought_tables { brokers = record { id = 1; name = codes "Bo"; trades = pos 2; commissions = 1010 } ∷ [] }
 
--- The broker has one cent of commissions more.
+-- The tables after the first purchase, in which the commission total of the broker is one cent
+-- more.
 unfoldable pub other_commissions : Tables
 other_commissions = record bought_tables { brokers = record { id = 1; name = codes "Bo"; trades = pos 1; commissions = 1011 } ∷ [] }
 
--- The trade has one cent of commission more.
+-- The tables after the first purchase, in which the commission of the trade is one cent more.
 unfoldable pub other_commission : Tables
 other_commission = record bought_tables { trades = map {B = TradeRow} (λ t. record t { commission = 1011 }) bought_tables.trades }
 
--- The settlement amount is one cent off.
+-- The tables after the first purchase, in which the settlement amount is one cent off.
 unfoldable pub other_settlement : Tables
 other_settlement = record bought_tables { settlements = map {B = SettlementRow} (λ s. record s { amount = negsuc 102508 }) bought_tables.settlements }
 
--- The amount of the cash row is one cent off.
+-- The tables after the first purchase, in which the amount of the cash row is one cent off.
 unfoldable pub other_cash : Tables
 other_cash = record bought_tables { moves = map {B = MoveRow} (λ r. record r { amount = negsuc 102508 }) bought_tables.moves }
 
--- The cash row has another number.
+-- The tables after the first purchase, in which the cash row has another number.
 unfoldable pub other_number : Tables
 other_number = record bought_tables { moves = map {B = MoveRow} (λ r. record r { id = 2 }) bought_tables.moves }
 
--- The trade has a second cash row.
+-- The tables after the first purchase, in which the trade has a second cash row.
 unfoldable pub second_row : Tables
 second_row = record bought_tables { moves = bought_tables.moves ++ map {B = MoveRow} (λ r. record r { id = 2 }) bought_tables.moves }
 
--- The cash table of the first schema still has a row.
+-- The tables after the first purchase, in which CASH_TRANSACTION, the cash table of the first
+-- schema, still has its row.
 unfoldable pub left_behind : Tables
 left_behind = record bought_tables { cash = first_tables.cash }
 
--- A trade has a quantity that is too large for the schemas before the third.
+-- The tables after the first purchase, in which the trade has a quantity above the limit of the
+-- schemas before the third.
 unfoldable pub large_quantity : Tables
 large_quantity = record bought_tables { trades = map {B = TradeRow} (λ t. record t { qty = 1000000 }) bought_tables.trades }
 
--- A band has a quantity that is too large for the schemas before the third.
+-- The tables after the first purchase, in which a commission band has a quantity above the limit of
+-- the schemas before the third.
 unfoldable pub large_band : Tables
 large_band = record bought_tables { bands = record { tier = 1; kind = MarketBuy; exchange = codes "NYSE"; from_qty = 1; to_qty = 9999999; rate = 100 } ∷ [] }
 
--- A settlement day is set, which is later than the completion.
+-- The tables after the first purchase, with a settlement day that is after the day of the
+-- completion.
 unfoldable pub day_set : Tables
 day_set = record bought_tables { rule = Some 19784 }
 
--- A settlement day is set, which is not later than the completion.
+-- The tables after the first purchase, with a settlement day that is not after the day of the
+-- completion.
 unfoldable pub early_day : Tables
 early_day = record bought_tables { rule = Some 19783 }
 
--- A cash row without a trade is added: at `stamp`, of `amount`, under `name`. The balance includes
--- its amount.
+-- The tables after the first purchase, with a second cash row that has no trade, at `stamp`, of
+-- `amount` cents, with the name `name`. The balance includes the amount.
 abbrev pub movement_of : ℕ → ℤ → Text → Tables
 movement_of stamp amount name = record bought_tables {
   last = Some 1709251200018;
@@ -166,10 +173,11 @@ movement_of stamp amount name = record bought_tables {
   accounts = map {B = AccountRow} (λ a. record a { balance = a.balance +ℤ amount }) bought_tables.accounts;
 }
 
--- The balance of the account is one cent more.
+-- The tables after the first purchase, in which the balance of the account is one cent more.
 unfoldable pub other_balance : Tables
 other_balance = record bought_tables { accounts = record { id = 100; customer = 10; broker = 1; name = codes "Main"; tax_status = Withheld; opening = pos 1000000; balance = pos 897491 } ∷ [] }
 
--- Two conditions fail: the lots and the summaries are missing.
+-- The tables after the first purchase without lots and holding summaries, so that two conditions
+-- fail.
 unfoldable pub two_changes : Tables
 two_changes = record bought_tables { holdings = []; summaries = [] }

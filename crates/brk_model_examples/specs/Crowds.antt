@@ -10,7 +10,7 @@ use Rattle.brk_model.specs.Base.{Base}
 use Rattle.brk_model.specs.Queries.{View}
 use Rattle.brk_model_examples.specs.Setting.{setting}
 
--- The pending trade with the id `n`.
+-- A pending limit sell of 10 shares with the id `n`.
 abbrev pub waiting_trade : ℕ → Trade
 waiting_trade n = record {
   id = n;
@@ -35,7 +35,7 @@ waiting_trade n = record {
 unfoldable pub fifty_one : Base
 fifty_one = record setting { trades = map waiting_trade (range_with_len 1 51); last = Some 1709251200066 }
 
--- The trade with the id `n` that bought one share on margin.
+-- A completed purchase of one share on margin with the id `n`.
 abbrev pub margin_trade : ℕ → Trade
 margin_trade n = record {
   id = n;
@@ -56,11 +56,11 @@ margin_trade n = record {
   cash_name = [];
 }
 
--- The setting with twenty-one trades that bought one share each.
+-- The setting with twenty-one completed purchases of one share on margin.
 unfoldable pub twenty_one : Base
 twenty_one = record setting { trades = map margin_trade (range_with_len 1 21); last = Some 1709251200057 }
 
--- The setting, with ` shares of ` in the security's name.
+-- The setting with ` shares of ` in the name of its security.
 unfoldable pub misnamed : Base
 misnamed = record setting {
   securities =
@@ -75,22 +75,23 @@ misnamed = record setting {
       } ∷ [];
 }
 
--- The id in a record of a view, if it is the record of a trade.
+-- The id in a record of a view, as a list of one, if it is the record of a trade; otherwise the
+-- empty list.
 abbrev pub id_in : List Text → List Text
 id_in (word ∷ id ∷ fields) = if bytes_eq word (codes "trade") then id ∷ [] else []
 id_in _ = []
 
--- The ids of the trades in a view.
+-- The ids of the trades in a view; none if the query is refused.
 abbrev pub ids_in : Result View Refusal → List Text
 ids_in (Ok view) = flat_map id_in view
 ids_in (Err refusal) = []
 
--- The first field of a record.
+-- The first field of a record; empty if it has no field.
 abbrev pub first_in : List Text → Text
 first_in [] = []
 first_in (field ∷ fields) = field
 
--- The first fields of the records of a view.
+-- The first fields of the records of a view; none if the query is refused.
 abbrev pub firsts_in : Result View Refusal → List Text
 firsts_in (Ok view) = map first_in view
 firsts_in (Err refusal) = []

@@ -9,23 +9,23 @@ use Rattle.brk_model.specs.Records.{Account, Trade}
 use Rattle.brk_model.specs.Base.{Base}
 use Rattle.brk_model_examples.specs.Setting.{setting}
 
--- The setting with the greatest stamp as its last one.
+-- The setting with the greatest stamp as its last stamp.
 unfoldable pub at_the_end : Base
 at_the_end = record setting { last = Some last_stamp }
 
--- The setting with ten accounts of the customer.
+-- The setting with ten accounts of its customer.
 unfoldable pub ten_accounts : Base
 ten_accounts = record setting {
   accounts = map {B = Account} (λ id. record { id = id; customer = 10; broker = 1; name = codes "Main"; tax_status = Untaxed; opening = pos 0 }) (range_with_len 100 10);
 }
 
--- The setting with a volume that has room for one hundred shares.
+-- The setting with a security whose volume is one hundred shares below its limit.
 unfoldable pub full_volume : Base
 full_volume = record setting {
   securities = record { symbol = codes "ABC"; name = codes "Acme"; exchange = codes "NYSE"; sector = codes "Tech"; last_price = 1000; volume = 99999999999999900; moment = 1709251200003 } ∷ [];
 }
 
--- A completed trade of another security, with this commission.
+-- A completed trade of another security with the commission `commission`, in cents.
 abbrev pub costly : ℕ → Trade
 costly commission = record {
   id = 1;
@@ -46,6 +46,7 @@ costly commission = record {
   cash_name = [];
 }
 
--- The setting with a broker who has this commission from a trade before.
+-- The setting with one completed trade of the commission `commission`, which is the commission
+-- total of its broker.
 abbrev pub commissions_before : ℕ → Base
 commissions_before commission = record setting { trades = costly commission ∷ [] }

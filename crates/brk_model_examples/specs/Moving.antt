@@ -6,7 +6,7 @@ use Rattle.brk_money.specs.declared.status.Status.TheVariants.{Completed, Submit
 use Rattle.brk_model_examples.specs.Setting.{setting}
 use Rattle.brk_model_examples.specs.Trading.{first_purchase, sold}
 
--- The base after the first sale, with a deposit and a withdrawal.
+-- The base after the first sale, a deposit of 100.00 and a withdrawal of 9000.00.
 unfoldable pub deposited : Base
 deposited = record sold {
   movements =
@@ -15,10 +15,11 @@ deposited = record sold {
   last = Some 1709251200023;
 }
 
--- The first purchase, one stamp later.
+-- The first purchase with both of its stamps one millisecond later.
 abbrev pub later_purchase : Trade
 later_purchase = record first_purchase { marks = record { stamp = 1709251200017; status = Submitted } ∷ record { stamp = 1709251200018; status = Completed } ∷ [] }
 
--- The setting with this purchase. From 2024-03-02 on completions settle after one day.
+-- The setting with the first purchase one millisecond later, and with the settlement day
+-- 2024-03-02.
 unfoldable pub one_day : Base
 one_day = record setting { trades = later_purchase ∷ []; rule = Some 19784; last = Some 1709251200018 }

@@ -4,13 +4,13 @@ use Rattle.brk_money.specs.declared.side.Side.{Side}
 use Rattle.brk_money.specs.declared.side.Side.TheVariants.{Buy}
 use Rattle.brk_model.specs.Shares.{Deal, Touch, touches, replay, opened_shares, buy_value, sell_value}
 
--- A purchase of 100 shares at 10.10, and one of 200 shares at 12.00.
+-- The deals of two purchases: 100 shares at 10.10, and 200 shares at 12.00.
 abbrev pub two_deals : List Deal
 two_deals =
     record { trade = 1; side = Buy; qty = 100; price = 1010; stamp = 1; is_lifo = Bool.false }
     ∷ record { trade = 2; side = Buy; qty = 200; price = 1200; stamp = 2; is_lifo = Bool.false } ∷ []
 
--- A deal at 13.00, by a later trade than the two of `two_deals`.
+-- A deal of `qty` shares at 13.00 after the deals of `two_deals`, on the side `side`.
 abbrev pub deal : Side → ℕ → Bool → Deal
 deal side qty is_lifo = record { trade = 9; side = side; qty = qty; price = 1300; stamp = 3; is_lifo = is_lifo }
 
@@ -22,7 +22,7 @@ pub record Closed : Type 0 where
   pub buy_value : ℕ
   pub sell_value : ℕ
 
--- The effect of a deal against these lots.
+-- The effect of the deal `d` on the position after `two_deals`.
 unfoldable pub closed_by : Deal → Closed
 closed_by d = record {
   touched = touches d (replay two_deals);

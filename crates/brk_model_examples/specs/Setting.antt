@@ -5,7 +5,7 @@ use Rattle.brk_money.specs.declared.trade_type.TradeType.TheVariants.{MarketBuy,
 use Rattle.brk_money.specs.declared.tax_status.TaxStatus.TheVariants.{Withheld}
 use Rattle.brk_model.specs.Base.{Base}
 
--- The rows of the setting.
+-- The sixteen rows of the setting.
 abbrev pub setting_rows : List Text
 setting_rows =
     codes "broker,1,Bo"
@@ -25,7 +25,7 @@ setting_rows =
     ∷ codes "taxrate,1,State,20000"
     ∷ codes "custtax,10,1" ∷ []
 
--- The base after these rows, without the stored replies.
+-- The base after the rows of the setting, without its stored rows and replies.
 unfoldable pub setting : Base
 setting = record {
   brokers = record { id = 1; name = codes "Bo" } ∷ [];

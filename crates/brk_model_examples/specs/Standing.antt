@@ -12,7 +12,8 @@ pub record Standing : Type 0 where
   pub balances : List ℤ
   pub brokers : List (ℤ × ℕ)
 
--- The part of the tables that an example shows, with the changes of lots by `trade`.
+-- The part of the tables that an example shows, with the changes of lots by the trade with the id
+-- `trade`.
 abbrev pub standing_in : Tables → ℕ → Standing
 standing_in tables trade = record {
   lots = map {B = ℕ × ℤ} (λ row. (row.trade, row.qty)) tables.holdings;
@@ -22,6 +23,7 @@ standing_in tables trade = record {
   brokers = map {B = ℤ × ℕ} (λ row. (row.trades, row.commissions)) tables.brokers;
 }
 
--- The part of a base's tables that an example shows, with the changes of lots by `trade`.
+-- The part of the tables of `base` that an example shows, with the changes of lots by the trade
+-- with the id `trade`.
 abbrev pub standing : Base → ℕ → Standing
 standing base trade = standing_in (tables_of base) trade

@@ -6,7 +6,7 @@ use Rattle.brk_model.specs.Records.{Trade}
 use Rattle.brk_model.specs.Base.{Base}
 use Rattle.brk_model_examples.specs.Setting.{setting}
 
--- A purchase of 100 shares at 10.10.
+-- The completed trade of a purchase of 100 shares at 10.10.
 abbrev pub first_purchase : Trade
 first_purchase = record {
   id = 1;
@@ -27,7 +27,7 @@ first_purchase = record {
   cash_name = codes "Market-Buy 100 shares of Acme";
 }
 
--- A purchase of 200 shares at 12.00.
+-- The completed trade of a purchase of 200 shares at 12.00.
 abbrev pub second_purchase : Trade
 second_purchase = record {
   id = 2;
@@ -48,7 +48,7 @@ second_purchase = record {
   cash_name = codes "Market-Buy 200 shares of Acme";
 }
 
--- A sale of 150 shares at 13.00, first in first out.
+-- The completed trade of a sale of 150 shares at 13.00, first in first out.
 abbrev pub first_sale : Trade
 first_sale = record {
   id = 3;
@@ -69,7 +69,7 @@ first_sale = record {
   cash_name = codes "Market-Sell 150 shares of Acme";
 }
 
--- A sale of 150 shares at 13.00, last in first out.
+-- The completed trade of a sale of 150 shares at 13.00, last in first out.
 abbrev pub last_sale : Trade
 last_sale = record {
   id = 3;
@@ -90,7 +90,7 @@ last_sale = record {
   cash_name = codes "Market-Sell 150 shares of Acme";
 }
 
--- A sale of 400 shares at 13.00.
+-- The completed trade of a sale of 400 shares at 13.00, which turns the position short.
 abbrev pub short_sale : Trade
 short_sale = record {
   id = 4;
@@ -111,7 +111,7 @@ short_sale = record {
   cash_name = codes "Market-Sell 400 shares of Acme";
 }
 
--- A purchase of 300 shares at 11.00.
+-- The completed trade of a purchase of 300 shares at 11.00, which closes the short position.
 abbrev pub cover : Trade
 cover = record {
   id = 5;
@@ -132,7 +132,7 @@ cover = record {
   cash_name = codes "Market-Buy 300 shares of Acme";
 }
 
--- A sale of 50 shares at 11.00.
+-- The completed trade of a sale of 50 shares at 11.00, which closes the whole position.
 abbrev pub sale_of_all : Trade
 sale_of_all = record {
   id = 6;
@@ -153,7 +153,7 @@ sale_of_all = record {
   cash_name = codes "Market-Sell 50 shares of Acme";
 }
 
--- The setting with these trades and this last stamp.
+-- The setting with the trades `trades` and the last stamp `last`.
 abbrev pub traded : List Trade → ℕ → Base
 traded trades last = record setting { trades = trades; last = Some last }
 
@@ -173,14 +173,15 @@ sold = traded (first_purchase ∷ second_purchase ∷ first_sale ∷ []) 1709251
 unfoldable pub sold_last_first : Base
 sold_last_first = traded (first_purchase ∷ second_purchase ∷ last_sale ∷ []) 1709251200021
 
--- The base after the sale that turns the position short.
+-- The base after both purchases, the sale, first in first out, and the sale that turns the position
+-- short.
 unfoldable pub flipped : Base
 flipped = traded (first_purchase ∷ second_purchase ∷ first_sale ∷ short_sale ∷ []) 1709251200023
 
--- The base after the purchase that turns the position back.
+-- The base `flipped` after the purchase that closes the short position and opens a long one.
 unfoldable pub covered : Base
 covered = traded (first_purchase ∷ second_purchase ∷ first_sale ∷ short_sale ∷ cover ∷ []) 1709251200025
 
--- The base after the sale of all shares.
+-- The base `covered` after the sale of all shares.
 unfoldable pub closed : Base
 closed = traded (first_purchase ∷ second_purchase ∷ first_sale ∷ short_sale ∷ cover ∷ sale_of_all ∷ []) 1709251200027

@@ -6,14 +6,14 @@ use Rattle.brk_money.specs.declared.status.Status.TheVariants.{Pending}
 use Rattle.brk_model.specs.Base.{Base}
 use Rattle.brk_model_examples.specs.Setting.{setting}
 
--- A stop loss, a limit buy and a limit sell.
+-- The rows of three pending orders: a stop-loss, a limit buy and a limit sell.
 abbrev pub waiting_rows : List Text
 waiting_rows =
     codes "order,100,TSL,ABC,10,9.50,cash,fifo,Ann,Lee,T10"
     ∷ codes "order,100,TLB,ABC,10,10.00,cash,fifo,Ann,Lee,T10"
     ∷ codes "order,100,TLS,ABC,10,10.50,cash,fifo,Ann,Lee,T10" ∷ []
 
--- The base after these rows, without the stored replies.
+-- The base after the three pending orders, without its stored rows and replies.
 unfoldable pub waiting : Base
 waiting = record setting {
   trades =

@@ -8,7 +8,8 @@ ghost use Rattle.brk_model.specs.Audit.{IsAudit};
 ghost use Rattle.brk_model.specs.Schemas.{first_schema, second_schema, third_schema};
 ghost use Rattle.brk_model_examples.specs.Bought.{bought_tables, no_quantity, lacks_last_trade, no_submission, other_status, a_request, other_lot, other_lot_price, other_trade_price, other_history, other_summary, other_count, other_commissions, other_commission, other_settlement, other_cash, other_balance, two_changes, first_tables, other_number, second_row, left_behind, large_quantity, large_band, day_set, early_day, movement_of};
 
-/// Shows that the tables after a purchase pass, also with a set settlement day or a movement.
+/// Shows that the tables after a purchase pass the audit of each schema, also with a later
+/// settlement day, a deposit or a withdrawal.
 pub fn tables_pass()
     ensures third { IsAudit third_schema bought_tables None }
     ensures second { IsAudit second_schema bought_tables None }
@@ -18,7 +19,8 @@ pub fn tables_pass()
     ensures withdrawal { IsAudit second_schema (movement_of 1709251200018 (negsuc 9999) (codes "Withdrawal")) None }
 {}
 
-/// Shows the condition that each change fails, and the first condition if two changes fail.
+/// Shows for each changed table which condition the audit returns, and that it returns the first
+/// one if two conditions fail.
 pub fn changes_are_told()
     ensures no_quantity { IsAudit third_schema no_quantity (Some condition.Form) }
     ensures no_last_trade { IsAudit third_schema lacks_last_trade (Some condition.Form) }
@@ -43,7 +45,8 @@ pub fn changes_are_told()
     ensures two_changes { IsAudit third_schema two_changes (Some condition.Lots) }
 {}
 
-/// Shows that a movement must have the name of its sign, and a stamp of its own.
+/// Shows that an audit checks of a movement that its name fits its sign, that its stamp is not
+/// after the last stamp and not that of a completion, and that its number follows its stamp.
 pub fn movements_are_told()
     ensures other_sign { IsAudit third_schema (movement_of 1709251200018 (negsuc 9999) (codes "Deposit")) (Some condition.Form) }
     ensures nothing_moved { IsAudit third_schema (movement_of 1709251200018 (pos 0) (codes "Deposit")) (Some condition.Form) }
@@ -53,7 +56,8 @@ pub fn movements_are_told()
     ensures before_it { IsAudit third_schema (movement_of 1709251200005 (pos 10000) (codes "Deposit")) (Some condition.Cash) }
 {}
 
-/// Shows that tables are audited by the limits and the tables of their own schema.
+/// Shows that an audit applies the limits and the tables of the given schema: larger quantities,
+/// the settlement day and the table of cash rows.
 pub fn schemas_are_told()
     ensures quantity { IsAudit second_schema large_quantity (Some condition.Form) }
     ensures band { IsAudit second_schema large_band (Some condition.Form) }

@@ -7,7 +7,9 @@ ghost use Rattle.brk_money.specs.declared.side.Side.TheVariants.{Buy, Sell};
 ghost use Rattle.brk_model_examples.specs.Batches.{after};
 ghost use Rattle.brk_model_examples.specs.Sales.{deal, closed_by};
 
-/// Shows sales against a lot of 100 shares at 10.10 and a lot of 200 shares at 12.00.
+/// Shows the effect of six deals against a lot of 100 shares at 10.10 and a lot of 200 shares at
+/// 12.00: five sales, of which one closes the last shares first, and a purchase, which closes
+/// nothing.
 pub fn sales_upon_two_lots()
     ensures some { closed_by (deal Sell 99 false)
         ≡ record { touched = record { lot = 1; before = pos 100; after = pos 1 } ∷ []; opened = 0; buy_value = 99990; sell_value = 128700 } }

@@ -6,7 +6,8 @@ ghost use Rattle.std.specs.List.{range_with_len};
 ghost use Rattle.brk_model_examples.specs.Batches.{after, Gives, view};
 ghost use Rattle.brk_model_examples.specs.Crowds.{fifty_one, firsts_in, ids_in, twenty_one};
 
-/// Shows that `recent` returns the last ten trades of an account, and `status` the last fifty.
+/// Shows that the view `recent` returns the last ten trades of an account, and the view `status`
+/// the last fifty.
 pub fn the_last_trades()
     ensures ten { ids_in (view fifty_one (codes "recent") (codes "100" ∷ []))
         ≡ codes "51" ∷ codes "50" ∷ codes "49" ∷ codes "48" ∷ codes "47" ∷ codes "46" ∷ codes "45" ∷ codes "44" ∷ codes "43" ∷ codes "42" ∷ [] }
@@ -24,7 +25,7 @@ pub fn the_first_trades()
         ≡ map (λ n. decimal n) (range_with_len 1 20) }
 {}
 
-/// Shows that a text update changes the first twenty of twenty-one completed trades.
+/// Shows that `upcash` updates the first twenty of twenty-one completed trades.
 pub fn the_first_words()
     ensures line { Gives twenty_one (codes "upcash,100,0,253402300799999" ∷ [])
         (codes "1,ok,1709251200058,20"
@@ -33,7 +34,7 @@ pub fn the_first_words()
         ≡ replicate 20 (codes "Margin Account") ++ codes "Margin" ∷ [] }
 {}
 
-/// Shows that `lots` returns the first twenty changes of the lots that a sale touched.
+/// Shows that the view `lots` returns the first twenty changes of the lots that a sale touched.
 pub fn the_first_changes()
     ensures { view (after twenty_one
         (codes "order,100,TMS,ABC,21,,cash,fifo,Ann,Lee,T10"

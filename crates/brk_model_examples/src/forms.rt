@@ -9,8 +9,9 @@ ghost use Rattle.brk_model.specs.Parse.{parse_row};
 ghost use Rattle.brk_model_examples.specs.Batches.{Gives};
 ghost use Rattle.brk_model_examples.specs.Setting.{setting};
 
-/// Shows that the first malformed field is refused in the order text, quantity, price, type. The
-/// number of ticks is checked last.
+/// Shows that of several malformed fields of a row the refusal is returned that is first in the
+/// sequence text, quantity, price, type; that the price must fit the type; and that the number of
+/// ticks is checked last.
 pub fn order_of_forms()
     ensures text_first { parse_row (codes "charge" ∷ codes "TMX" ∷ codes "9" ∷ codes "5.00" ∷ []) ≡ Err BadText }
     ensures qty_then { parse_row (codes "order" ∷ codes "1" ∷ codes "TMX" ∷ codes "ABC" ∷ codes "0" ∷ codes "x" ∷ codes "cash" ∷ codes "fifo" ∷ codes "A" ∷ codes "B" ∷ codes "C" ∷ []) ≡ Err BadQty }
@@ -25,7 +26,8 @@ pub fn order_of_forms()
     ensures no_field { parse_row [] ≡ Err BadText }
 {}
 
-/// Shows that an amount and a number have one canonical form.
+/// Shows which texts parse as an amount or a number, and that a text that is not canonical does
+/// not.
 pub fn spellings()
     ensures cents { cents_of (codes "10000.00") ≡ Some (pos 1000000) }
     ensures minus { cents_of (codes "-0.01") ≡ Some (negsuc 0) }
@@ -39,7 +41,7 @@ pub fn spellings()
     ensures empty { number_of [] ≡ None }
 {}
 
-/// Shows that an account is refused if its opening balance is not in canonical form.
+/// Shows that an account is refused if the text of its opening balance is not canonical.
 pub fn opening_spelled_otherwise()
     ensures { Gives setting
         (codes "account,101,10,1,Main,1,-0.00"

@@ -9,8 +9,8 @@ ghost use Rattle.brk_model_examples.specs.Setting.{setting};
 ghost use Rattle.brk_model_examples.specs.Waiting.{waiting, waiting_rows};
 ghost use Rattle.brk_model_examples.specs.Extremes.{full_volume};
 
-/// Shows that a feed of two ticks of one symbol triggers two of three pending trades, one each. The
-/// last tick gives the last price.
+/// Shows that a feed of two ticks of one symbol triggers two of three pending trades, both by its
+/// second tick, and that this tick gives the last price.
 pub fn triggers()
     ensures waiting { Gives setting waiting_rows
         (codes "1,ok,1709251200016,1,PNDG,9.50,0.00,0.00,0.00,0.95,5.00,10000.00"
@@ -42,8 +42,8 @@ pub fn triggers()
         (codes "feed,ABC,10.01,100,ABC,9.50,200" ∷ []))).history) ≡ 1 ∷ 2 ∷ [] }
 {}
 
-/// Shows that a cancel needs a pending trade, and a feed known securities. Then it shows the
-/// submitted trades, and an estimate at the new price.
+/// Shows that a cancel is refused unless the trade is pending, and a feed unless its securities
+/// exist. Shows also the submitted trades and an estimate after a cancel and a feed.
 pub fn cancels()
     ensures lines { Gives waiting
         (codes "cancel,1"
@@ -73,8 +73,8 @@ pub fn cancels()
         ∷ []) }
 {}
 
-/// Shows that a volume at its limit takes no more, even if only two ticks of one feed together
-/// exceed it.
+/// Shows that a feed is refused if it takes the volume of a security above its limit, also if only
+/// two ticks together do.
 pub fn volume_at_its_end()
     ensures room { Gives full_volume
         (codes "feed,ABC,10.00,100" ∷ [])

@@ -9,8 +9,8 @@ ghost use Rattle.brk_model_examples.specs.Moving.{deposited};
 ghost use Rattle.brk_model_examples.specs.Setting.{setting};
 ghost use Rattle.brk_model_examples.specs.Trading.{sold};
 
-/// Shows that a balance may fall below 0 and may rise to its limit. The reply to a movement has the
-/// number of its cash row, which follows those of the trades.
+/// Shows that a balance may fall below 0 and rise to its limit, but not above it. The reply to a
+/// movement has the number of its cash row, which follows those of the trades.
 pub fn movements_after_a_sale()
     ensures lines { Gives sold
         (codes "deposit,100,100.00"
@@ -31,8 +31,8 @@ pub fn movements_after_a_sale()
     ensures base { unkept (after sold (codes "deposit,100,100.00" ∷ codes "withdraw,100,9000.00" ∷ [])) ≡ deposited }
 {}
 
-/// Shows that cash rows of movements follow those of trades, also in the statement. A trade's
-/// lookup has only its own cash row, and a text update changes no movement.
+/// Shows that the cash rows of later movements follow those of trades, in CASH_MOVE and in the
+/// statement. The lookup of a trade has only its own cash row, and `uptext` changes no movement.
 pub fn rows_of_movements()
     ensures numbers { map {B = ℕ} (λ row. row.id) (tables_of deposited).moves ≡ 1 ∷ 2 ∷ 3 ∷ 4 ∷ 5 ∷ [] }
     ensures amounts { map {B = ℤ} (λ row. row.amount) (tables_of deposited).moves ≡ negsuc 102509 ∷ negsuc 242899 ∷ pos 185750 ∷ pos 10000 ∷ negsuc 899999 ∷ [] }
@@ -62,7 +62,7 @@ pub fn rows_of_movements()
         ≡ codes "Market-Buy 100 Shares of Acme" ∷ codes "Market-Buy 200 Shares of Acme" ∷ codes "Market-Sell 150 Shares of Acme" ∷ codes "Deposit" ∷ codes "Withdrawal" ∷ [] }
 {}
 
-/// Shows that a movement before the first trade has the first cash row, and the trade the next.
+/// Shows that a movement before the first trade has the first cash row, and the trade the second.
 pub fn movement_before_a_trade()
     ensures { map {B = ℤ} (λ row. row.amount) (tables_of (after setting
         (codes "deposit,100,100.00"

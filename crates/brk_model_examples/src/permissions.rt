@@ -5,8 +5,8 @@ ghost use Rattle.std.specs.Prelude.{◌∷◌, [], codes};
 ghost use Rattle.brk_model_examples.specs.Batches.{Gives};
 ghost use Rattle.brk_model_examples.specs.Setting.{setting};
 
-/// Shows that an executor with another tax id is refused, until a permission has both names and the
-/// tax id.
+/// Shows that an executor with another tax id than the customer's is refused, unless a permission
+/// has the executor's first name, last name and tax id.
 pub fn permission()
     ensures refused { Gives setting
         (codes "order,100,TMB,ABC,100,,cash,fifo,Ann,Lee,T11" ∷ [])
@@ -26,7 +26,8 @@ pub fn permission()
         ∷ codes "end,1,0,1" ∷ []) }
 {}
 
-/// Shows that a customer of another tier needs a charge, and then a commission band.
+/// Shows that an order for a customer of another tier is refused without a charge, and then without
+/// a commission band.
 pub fn charge_and_rate()
     ensures { Gives setting
         (codes "customer,11,2,T11,Kay,Kim"
@@ -42,7 +43,8 @@ pub fn charge_and_rate()
         ∷ codes "end,3,0,2" ∷ []) }
 {}
 
-/// Shows that an order needs an existing account and an existing security.
+/// Shows that an order is refused if its account does not exist, and otherwise if its security does
+/// not exist.
 pub fn unknown_names()
     ensures { Gives setting
         (codes "order,999,TMB,QQQ,100,,cash,fifo,Ann,Lee,T10"

@@ -7,8 +7,8 @@ ghost use Rattle.brk_model_examples.specs.Batches.{after, Gives, unkept};
 ghost use Rattle.brk_model_examples.specs.Setting.{setting, setting_rows};
 ghost use Rattle.brk_model_examples.specs.Extremes.{ten_accounts};
 
-/// Shows a broker, a customer and two accounts. The second account has no existing customer: it is
-/// refused, and its key is not recorded.
+/// Shows the answers to a broker, a customer and two accounts. The second account is refused,
+/// because its customer does not exist, and its key is not recorded.
 pub fn first_run()
     ensures rows { Gives empty_base
         (codes "broker,1,Bo"
@@ -53,7 +53,7 @@ pub fn setting_is_told()
     ensures base { unkept (after empty_base setting_rows) ≡ setting }
 {}
 
-/// Shows the refusals of reference rows.
+/// Shows the refusals of ten malformed or inconsistent reference rows.
 pub fn refused_rows()
     ensures { Gives setting
         (codes "band,1,TMB,NYSE,999999,999999,50"
@@ -81,7 +81,8 @@ pub fn refused_rows()
         ∷ codes "end,1,0,10" ∷ []) }
 {}
 
-/// Shows that a customer has at most ten accounts. That the broker exists is checked before.
+/// Shows that an eleventh account of a customer is refused, and that a missing broker is checked
+/// before.
 pub fn eleventh_account()
     ensures { Gives ten_accounts
         (codes "account,110,10,1,Main,1,0.00"
@@ -91,7 +92,7 @@ pub fn eleventh_account()
         ∷ codes "end,0,0,2" ∷ []) }
 {}
 
-/// Shows that a name that exists is refused: a table has one row per key.
+/// Shows that a reference row is refused if a row with its key exists.
 pub fn names_twice()
     ensures { Gives setting
         (codes "broker,1,Bob"

@@ -8,8 +8,8 @@ ghost use Rattle.brk_model.specs.Computed.{batch};
 ghost use Rattle.brk_model_examples.specs.Batches.{clock, batch_text, in_lines, after, Gives};
 ghost use Rattle.brk_model_examples.specs.Setting.{setting, setting_rows};
 
-/// Shows that a retried batch is answered with its stored replies and does not change the base, and
-/// that a changed row is refused.
+/// Shows that a retried batch is answered with its stored replies and leaves the base unchanged,
+/// and that a changed row under a recorded key is refused.
 pub fn repeats()
     ensures once { Gives setting
         (codes "order,100,TMB,ABC,100,,cash,fifo,Ann,Lee,T10"
@@ -86,7 +86,8 @@ pub fn repeats()
         ∷ codes "result,3,13.00" ∷ []) }
 {}
 
-/// Shows the setting retried, and retried with another first row.
+/// Shows the answers to the setting when it is retried, and when it is retried with another first
+/// row.
 pub fn setting_again()
     ensures again { Gives (after empty_base setting_rows) setting_rows
         (codes "1,again,1709251200000"
@@ -142,7 +143,8 @@ pub fn setting_again()
         ∷ codes "end,0,15,1" ∷ []) }
 {}
 
-/// Shows that a refused row records no key: it is accepted once its cause is gone.
+/// Shows that a refused row records no key: a retry is accepted once the reason for the refusal is
+/// removed.
 pub fn refused_then_accepted()
     ensures { (batch (batch (after setting
         (codes "account,101,11,1,Side,0,0.00" ∷ [])) clock (batch_text (codes "U") (codes "customer,11,1,T11,Kay,Kim" ∷ []))).base clock
@@ -151,7 +153,7 @@ pub fn refused_then_accepted()
         ∷ codes "end,1,0,0" ∷ []) }
 {}
 
-/// Shows that a cut input executes no row that has no record after it.
+/// Shows that of an input without an end record the last row is refused and not executed.
 pub fn cut_input()
     ensures text { (batch setting clock (codes "batch,C\nbroker,2,Cy\nbroker,3\nbroker,4,D")).text ≡ in_lines (codes "1,ok,1709251200016"
         ∷ codes "2,no,18"

@@ -14,7 +14,7 @@ ghost use Rattle.brk_model_examples.specs.Rules.{account_at, ann, her_permission
 ghost use Rattle.brk_model_examples.specs.Setting.{setting};
 ghost use Rattle.brk_model_examples.specs.Trading.{closed, first_purchase, first_sale};
 
-/// Shows that half a cent is rounded up, and that a loss is not taxed.
+/// Shows that half a cent is rounded up and less is rounded down, and that a loss is not taxed.
 pub fn rounding()
     ensures half { commission 100 1 50 ≡ 1 }
     ensures less { commission 100 1 49 ≡ 0 }
@@ -22,8 +22,8 @@ pub fn rounding()
     ensures loss { tax (negsuc 9999) 20000 ≡ 0 }
 {}
 
-/// Shows that a stop loss is triggered at its bid or below, a limit sell at its bid or above, and a
-/// limit buy at its bid or below.
+/// Shows that a stop-loss is triggered at its bid or below, a limit sell at its bid or above, a
+/// limit buy at its bid or below, and a market type never.
 pub fn triggers_at_the_bid()
     ensures stop_loss { map (triggers StopLoss 950) (949 ∷ 950 ∷ 951 ∷ []) ≡ true ∷ true ∷ false ∷ [] }
     ensures limit_sell { map (triggers LimitSell 1050) (1049 ∷ 1050 ∷ 1051 ∷ []) ≡ false ∷ true ∷ true ∷ [] }
@@ -32,7 +32,8 @@ pub fn triggers_at_the_bid()
     ensures market_sell { triggers MarketSell 1000 1000 ≡ false }
 {}
 
-/// Shows that tax is withheld from the settlement of a sale at only one tax status.
+/// Shows that tax is withheld from the settlement amount of a sale at the tax status `Withheld`
+/// only.
 pub fn settled_amounts()
     ensures { map {B = ℤ} (λ status. amount_of (account_at status ∷ []) first_sale) (Untaxed ∷ Withheld ∷ Reported ∷ []) ≡ pos 192550 ∷ pos 185750 ∷ pos 192550 ∷ [] }
 {}
@@ -43,7 +44,7 @@ pub fn balances()
     ensures margin { balance_of (account_at Withheld ∷ []) (postings (account_at Withheld ∷ []) (on_margin ∷ []) []) 100 ≡ pos 1000000 }
 {}
 
-/// Shows that a completion settles after two days, and from a set day on after one.
+/// Shows that a completion settles after two days, and from the settlement day on after one.
 pub fn settlement_days()
     ensures no_day { due_after None 1709251200000 ≡ 19785 }
     ensures before { due_after (Some 19784) 1709337599999 ≡ 19785 }
@@ -51,7 +52,8 @@ pub fn settlement_days()
     ensures after_it { due_after (Some 19784) 1709424000000 ≡ 19786 }
 {}
 
-/// Shows that first name, last name and tax id must be those of the customer or of one permission.
+/// Shows that the executor must have the first name, last name and tax id of the customer or of one
+/// permission.
 pub fn permissions()
     ensures herself { permitted ann [] herself ≡ true }
     ensures namesake { permitted ann [] namesake ≡ false }
@@ -59,8 +61,8 @@ pub fn permissions()
     ensures other { permitted ann (other_permission ∷ []) namesake ≡ false }
 {}
 
-/// Shows that a stamp is the clock reading if this is greater than the last stamp, otherwise the
-/// next one after it.
+/// Shows that the stamp of a command is the clock reading if this is after the last stamp,
+/// otherwise the millisecond after the last stamp.
 pub fn stamps()
     ensures behind { next_stamp closed 0 ≡ 1709251200028 }
     ensures at_it { next_stamp closed 1709251200027 ≡ 1709251200028 }

@@ -8,7 +8,7 @@ ghost use Rattle.brk_model_examples.specs.Batches.{after, batch_text, Gives, in_
 ghost use Rattle.brk_model_examples.specs.Moving.{one_day};
 ghost use Rattle.brk_model_examples.specs.Setting.{setting};
 
-/// Shows that the settlement day must be later than the day of its command, and is set only once. A
+/// Shows that the settlement day must be after the day of its command, and can be set only once. A
 /// trade that is completed before it settles after two days.
 pub fn day_is_set()
     ensures lines { Gives setting
@@ -30,8 +30,8 @@ pub fn day_is_set()
     ensures day { (tables_of one_day).rule ≡ Some 19784 }
 {}
 
-/// Shows that from that day on a trade settles after one day. A trade completed before keeps its
-/// due day.
+/// Shows that from the settlement day on a trade settles after one day. The due day of a trade that
+/// was completed before does not change.
 pub fn days_from_the_set_day()
     ensures lines { (batch one_day (replicate 2 1709337600000) (batch_text (codes "G")
         (codes "order,100,TMB,ABC,200,,cash,fifo,Ann,Lee,T10"
@@ -60,7 +60,8 @@ pub fn last_day_of_a_completion()
         ∷ codes "end,1,0,1" ∷ []) }
 {}
 
-/// Shows that a day has one canonical form, within the calendar.
+/// Shows that a settlement day is refused if its text is not the canonical text of a day of the
+/// calendar, or if there is not exactly one field.
 pub fn days_out_of_form()
     ensures { Gives setting
         (codes "oneday,2024-3-02"
@@ -78,8 +79,8 @@ pub fn days_out_of_form()
         ∷ codes "end,1,0,5" ∷ []) }
 {}
 
-/// Shows that quantities above 999,999 need a band that covers them, and that 10,000,000 is
-/// malformed.
+/// Shows that an order of 1,000,000 shares is accepted once a commission band covers it, and that
+/// 10,000,000 is malformed.
 pub fn large_quantities()
     ensures { Gives setting
         (codes "order,100,TMB,ABC,1000000,,cash,fifo,Ann,Lee,T10"

@@ -10,7 +10,8 @@ ghost use Rattle.brk_model.specs.Statement.{amount_line, statement};
 ghost use Rattle.brk_model_examples.specs.Batches.{in_lines};
 ghost use Rattle.brk_model_examples.specs.Trading.{sold};
 
-/// Shows the statement after a sale, of its month and of the days after it.
+/// Shows the statement after a sale, over its month and over the days after it, and its two
+/// refusals.
 pub fn statement_after_a_sale()
     ensures month { statement (tables_of sold) 100 19783 19813 ≡ Ok (in_lines (codes "Statement of account 100"
         ∷ codes "Main"
@@ -35,14 +36,15 @@ pub fn statement_after_a_sale()
     ensures unknown { statement (tables_of sold) 999 19783 19813 ≡ Err NoAccount }
 {}
 
-/// Shows that an amount is right-aligned in its column, and that a wider one is not cut.
+/// Shows that an amount is right-aligned in its column, and that an amount wider than the column is
+/// not cut.
 pub fn wide_amounts()
     ensures narrow { amount_line (codes "Holdings") (negsuc 0) ≡ codes "Holdings                    -0.01" }
     ensures full { amount_line (codes "Holdings") (pos 100000000000000000000) ≡ codes "Holdings   1000000000000000000.00" }
     ensures wider { amount_line (codes "Holdings") (pos 1000000000000000000000) ≡ codes "Holdings   10000000000000000000.00" }
 {}
 
-/// Shows days and their numbers.
+/// Shows the numbers of some dates, and texts that are no dates.
 pub fn days()
     ensures march { day_of_text (codes "2024-03-01") ≡ Some 19783 }
     ensures leap { day_of_text (codes "2024-02-29") ≡ Some 19782 }

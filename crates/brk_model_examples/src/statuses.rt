@@ -10,7 +10,7 @@ ghost use Rattle.brk_model_examples.specs.Trading.{bought, closed};
 ghost use Rattle.brk_model_examples.specs.Waiting.{waiting};
 ghost use Rattle.brk_model_examples.specs.Extremes.{at_the_end, commissions_before};
 
-/// Shows that a result needs a submitted trade.
+/// Shows that a result is refused if its trade is completed, pending or missing.
 pub fn wrong_status()
     ensures completed { Gives bought
         (codes "result,1,11.00"
@@ -24,8 +24,8 @@ pub fn wrong_status()
         ∷ codes "end,0,0,1" ∷ []) }
 {}
 
-/// Shows that a balance at its limit takes no more: the trade stays submitted, and no lot is
-/// opened.
+/// Shows that a result is refused if it takes the balance above its limit: the trade remains
+/// submitted, and no lot is opened.
 pub fn balance_at_its_end()
     ensures lines { Gives setting
         (codes "account,102,10,1,Rich,0,1000000000000000.00"
@@ -47,7 +47,8 @@ pub fn balance_at_its_end()
         ∷ []) }
 {}
 
-/// Shows that a broker's commissions at their limit take no more.
+/// Shows that a result may take the commission total of a broker to its limit, and is refused if it
+/// takes it above.
 pub fn commissions_at_their_end()
     ensures room { Gives (commissions_before 99999999999998990)
         (codes "order,100,TMB,ABC,100,,cash,fifo,Ann,Lee,T10"
@@ -63,13 +64,13 @@ pub fn commissions_at_their_end()
         ∷ codes "end,1,0,1" ∷ []) }
 {}
 
-/// Shows that stamps continue after the last one if the clock goes back.
+/// Shows that the stamp follows the last stamp if the clock reading is before it.
 pub fn clock_behind()
     ensures { (batch closed (0 ∷ []) (batch_text (codes "Y") (codes "broker,7,Cy" ∷ []))).text ≡ in_lines (codes "1,ok,1709251200028"
         ∷ codes "end,1,0,0" ∷ []) }
 {}
 
-/// Shows that no stamp follows the greatest one: a command that passes all other checks is refused.
+/// Shows that after the greatest stamp a command that passes all other checks is refused with 21.
 pub fn clock_at_its_end()
     ensures { Gives at_the_end
         (codes "broker,7,Cy"
@@ -79,7 +80,7 @@ pub fn clock_at_its_end()
         ∷ codes "end,0,0,2" ∷ []) }
 {}
 
-/// Shows that a result is refused if its due day is beyond the calendar.
+/// Shows that a result is refused if its due day is after 9999-12-31.
 pub fn due_day_at_its_end()
     ensures { (batch setting (253402300799000 ∷ 0 ∷ []) (batch_text (codes "Y")
         (codes "order,100,TMB,ABC,100,,cash,fifo,Ann,Lee,T10"
@@ -89,7 +90,7 @@ pub fn due_day_at_its_end()
         ∷ codes "end,1,0,1" ∷ []) }
 {}
 
-/// Shows that 9999-12-29 is the last day on which a result has its due day in the calendar.
+/// Shows that 9999-12-29 is the last day for a completion that settles after two days.
 pub fn last_days()
     ensures accepted { (batch setting (253402127999998 ∷ 253402127999999 ∷ []) (batch_text (codes "Y")
         (codes "order,100,TMB,ABC,100,,cash,fifo,Ann,Lee,T10"

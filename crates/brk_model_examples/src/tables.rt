@@ -12,8 +12,8 @@ ghost use Rattle.brk_model.specs.Audit.{expected};
 ghost use Rattle.brk_model_examples.specs.Trading.{bought};
 ghost use Rattle.brk_model_examples.specs.Bought.{bought_tables, first_tables};
 
-/// Shows that the tables after the first purchase are well-formed, and that they equal the tables
-/// of the base that they describe.
+/// Shows the tables after the first purchase: they satisfy the conditions `Form` and `Status`, and
+/// equal the tables of the base that they describe.
 pub fn tables_of_a_base()
     ensures tables { sheets bought ≡ bought_tables }
     ensures form { has_form third_schema bought_tables ≡ true }
@@ -22,8 +22,8 @@ pub fn tables_of_a_base()
     ensures expected { expected third_schema bought_tables ≡ bought_tables }
 {}
 
-/// Shows the tables of this base in the two older schemas, and their upgrade. They describe the
-/// same base.
+/// Shows the tables after the first purchase in the two older schemas, and that their upgrade
+/// results in the tables of the third.
 pub fn tables_of_older_schemas()
     ensures first { sheets_at first_schema bought ≡ first_tables }
     ensures first_form { has_form first_schema first_tables ≡ true }

@@ -5,7 +5,7 @@ ghost use Rattle.std.specs.Prelude.{◌∷◌, [], codes};
 ghost use Rattle.brk_model_examples.specs.Batches.{Gives};
 ghost use Rattle.brk_model_examples.specs.Setting.{setting};
 
-/// Shows that tax is recorded at the statuses 1 and 2, and withheld at 1 only.
+/// Shows that the tax on a gain is recorded at the tax statuses 1 and 2, and withheld at 1 only.
 pub fn tax_statuses()
     ensures none { Gives setting
         (codes "account,102,10,1,Tax,0,10000.00"
@@ -57,7 +57,7 @@ pub fn tax_statuses()
         ∷ codes "end,7,0,0" ∷ []) }
 {}
 
-/// Shows that a loss is not taxed at any status.
+/// Shows that a loss is taxed at none of the three tax statuses.
 pub fn loss()
     ensures none { Gives setting
         (codes "account,102,10,1,Tax,0,10000.00"

@@ -5,8 +5,8 @@ ghost use Rattle.std.specs.Prelude.{◌≡◌, ◌∷◌, [], Ok, codes};
 ghost use Rattle.brk_model_examples.specs.Batches.{after, view};
 ghost use Rattle.brk_model_examples.specs.Waiting.{waiting};
 
-/// Shows two trades with one stamp, which one feed triggered: by descending id if the last comes
-/// first, by ascending id if the oldest does.
+/// Shows the views of two trades with one stamp: sorted by id, descending where the most recent
+/// trade is first, and ascending where the oldest is.
 pub fn trades_of_one_stamp()
     ensures recent { view (after waiting (codes "feed,ABC,10.01,100,ABC,9.50,200" ∷ [])) (codes "recent") (codes "100" ∷ [])
         ≡ Ok ((codes "trade" ∷ codes "2" ∷ codes "ABC" ∷ codes "10" ∷ [])
@@ -38,8 +38,8 @@ pub fn trades_of_one_stamp()
         ≡ view (after waiting (codes "feed,ABC,10.01,100,ABC,9.50,200" ∷ [])) (codes "accounttrades") (codes "100" ∷ codes "1709251200019" ∷ codes "1709251200019" ∷ []) }
 {}
 
-/// Shows brokers in descending order of volume, then by name, then by id. A repeated name counts
-/// once, and an unknown one adds nothing.
+/// Shows that the view `volume` sorts brokers by volume, descending, then by name, then by id. A
+/// repeated name counts once, and an unknown name adds nothing.
 pub fn brokers_of_one_volume()
     ensures tech { view (after waiting
         (codes "broker,2,Bo"

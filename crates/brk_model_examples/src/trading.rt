@@ -9,8 +9,8 @@ ghost use Rattle.brk_model_examples.specs.Setting.{setting};
 ghost use Rattle.brk_model_examples.specs.Trading.{bought, bought_twice, sold, sold_last_first, flipped, covered, closed};
 ghost use Rattle.brk_model_examples.specs.Standing.{standing};
 
-/// Shows a market purchase and its result. The commission is that of the completion price, not the
-/// estimated one.
+/// Shows a market purchase and its result, whose commission is computed from the completion price
+/// and not from the estimate.
 pub fn purchase()
     ensures lines { Gives setting
         (codes "order,100,TMB,ABC,100,,cash,fifo,Ann,Lee,T10"
@@ -50,8 +50,8 @@ pub fn second_lot()
     } }
 {}
 
-/// Shows that a sale first in first out closes the first lot and a part of the second, and is taxed
-/// on its gain.
+/// Shows that a sale, first in first out, closes the first lot and a part of the second, and is
+/// taxed on its gain.
 pub fn first_in_first_out()
     ensures lines { Gives bought_twice
         (codes "order,100,TMS,ABC,150,,cash,fifo,Ann,Lee,T10"
@@ -71,7 +71,7 @@ pub fn first_in_first_out()
     } }
 {}
 
-/// Shows that a sale last in first out closes only a part of the second lot.
+/// Shows that a sale, last in first out, closes a part of the second lot, and none of the first.
 pub fn last_in_first_out()
     ensures lines { Gives bought_twice
         (codes "order,100,TMS,ABC,150,,cash,lifo,Ann,Lee,T10"
@@ -91,7 +91,7 @@ pub fn last_in_first_out()
     } }
 {}
 
-/// Shows that a sale of more shares than are held closes all of them, and opens a short lot.
+/// Shows that a sale of more shares than the position has closes all of them and opens a short lot.
 pub fn sign_flips()
     ensures lines { Gives sold
         (codes "order,100,TMS,ABC,400,,cash,fifo,Ann,Lee,T10"
@@ -111,7 +111,8 @@ pub fn sign_flips()
     } }
 {}
 
-/// Shows that a purchase covers the short lot, is taxed on its gain, and opens a long lot again.
+/// Shows that a purchase of more shares than were sold short closes the short lot, is taxed on its
+/// gain, and opens a long lot.
 pub fn cover_and_flip_back()
     ensures lines { Gives flipped
         (codes "order,100,TMB,ABC,300,,cash,fifo,Ann,Lee,T10"
@@ -131,7 +132,7 @@ pub fn cover_and_flip_back()
     } }
 {}
 
-/// Shows that a sale of exactly all shares leaves no lot and no summary.
+/// Shows that a sale of all shares of a position leaves no lot and no summary row.
 pub fn exactly_all()
     ensures lines { Gives covered
         (codes "order,100,TMS,ABC,50,,cash,fifo,Ann,Lee,T10"
@@ -151,7 +152,7 @@ pub fn exactly_all()
     } }
 {}
 
-/// Shows that a margin trade has a settlement and no cash row.
+/// Shows that a completed margin trade has a settlement and no cash row.
 pub fn margin_trade()
     ensures lines { Gives setting
         (codes "order,100,TMB,ABC,100,,margin,fifo,Ann,Lee,T10"

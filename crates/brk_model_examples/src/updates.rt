@@ -9,7 +9,7 @@ ghost use Rattle.brk_model_examples.specs.Crowds.{misnamed};
 ghost use Rattle.brk_model_examples.specs.Setting.{setting};
 ghost use Rattle.brk_model_examples.specs.Trading.{sold};
 
-/// Shows the three text updates after a sale.
+/// Shows the answers to text updates after a sale, and the texts of a trade after them.
 pub fn updates()
     ensures lines { Gives sold
         (codes "upname,1"
@@ -47,8 +47,8 @@ pub fn updates()
         ∷ codes "upcash,100,5,4" ∷ []))).settlements ≡ codes "Cash" ∷ codes "Cash" ∷ codes "Cash" ∷ [] }
 {}
 
-/// Shows that `upname` inserts ` X` into an executor's name, and removes it again. Of two it
-/// removes one.
+/// Shows that `upname` replaces spaces by ` X ` in an executor's name, and the other way round if
+/// it contains ` X `.
 pub fn names()
     ensures in_it { map (λ t. t.executor) (after sold
         (codes "upname,1" ∷ [])).trades ≡ codes "Ann X Lee" ∷ codes "Ann Lee" ∷ codes "Ann Lee" ∷ [] }
@@ -62,8 +62,8 @@ pub fn names()
     ensures out_of_the_head { changed_executor (codes "X X Lee") ≡ codes "X Lee" }
 {}
 
-/// Shows a security whose own name contains ` shares of `. `uptext` searches the whole text, which
-/// then always contains it.
+/// Shows a security whose own name contains ` shares of `: `uptext` searches the whole text, so
+/// that every update writes ` Shares of `.
 pub fn words_in_a_name()
     ensures lines { Gives misnamed
         (codes "order,100,TMB,ABC,100,,cash,fifo,Ann,Lee,T10"
@@ -89,7 +89,8 @@ pub fn words_in_a_name()
         ∷ codes "uptext,ABC,0,253402300799999" ∷ [])).trades ≡ codes "Market-Buy 100 Shares of Big shares of Small" ∷ [] }
 {}
 
-/// Shows the text updates of a margin trade: it has no cash row, and `uptext` does not select it.
+/// Shows the text updates of a margin trade: `upcash` changes its cash type, and `uptext` does not
+/// select it.
 pub fn margin_words()
     ensures once { map (λ t. t.cash_type) (after setting
         (codes "order,100,TMB,ABC,100,,margin,fifo,Ann,Lee,T10"

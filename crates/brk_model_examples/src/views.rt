@@ -18,7 +18,8 @@ pub fn customer_position()
         ≡ Err NoCustomer }
 {}
 
-/// Shows the last trades of an account, with their statuses.
+/// Shows the view `recent` of an account with one trade: the trade and its status changes, the last
+/// first.
 pub fn recent_trades()
     ensures { view bought (codes "recent") (codes "100" ∷ [])
         ≡ Ok ((codes "trade" ∷ codes "1" ∷ codes "ABC" ∷ codes "100" ∷ [])
@@ -27,7 +28,7 @@ pub fn recent_trades()
         ∷ []) }
 {}
 
-/// Shows the customer and the broker of an account, and its trades, the last first.
+/// Shows the view `status` of an account: its customer and broker, and its trades, the last first.
 pub fn trade_status()
     ensures { view sold (codes "status") (codes "100" ∷ [])
         ≡ Ok ((codes "Lee" ∷ codes "Ann" ∷ codes "Bo" ∷ [])
@@ -37,7 +38,7 @@ pub fn trade_status()
         ∷ []) }
 {}
 
-/// Shows a trade by its id, by its account and by its symbol.
+/// Shows the lookup of a trade by its id, by its account and by its symbol, and its refusals.
 pub fn trade_lookup()
     ensures by_id { view sold (codes "trades") (codes "3" ∷ [])
         ≡ Ok ((codes "trade" ∷ codes "3" ∷ codes "1709251200021" ∷ codes "CMPT" ∷ codes "TMS" ∷ codes "ABC" ∷ codes "150" ∷ codes "10.00" ∷ codes "Ann Lee" ∷ codes "13.00" ∷ codes "5.00" ∷ codes "19.50" ∷ codes "68.00" ∷ codes "cash" ∷ codes "fifo" ∷ [])
@@ -84,8 +85,8 @@ pub fn touched_lots()
         ≡ Ok ([]) }
 {}
 
-/// Shows that an estimate returns the numbers of an order without the order, and is refused like an
-/// order.
+/// Shows that an estimate returns the figures of an order, and is refused for the executor of whom
+/// the order would be refused.
 pub fn estimates()
     ensures numbers { view bought_twice (codes "estimate") (codes "100" ∷ codes "TMS" ∷ codes "ABC" ∷ codes "150" ∷ [] ∷ codes "cash" ∷ codes "fifo" ∷ codes "Ann" ∷ codes "Lee" ∷ codes "T10" ∷ [])
         ≡ Ok ((codes "10.00" ∷ codes "1610.00" ∷ codes "1500.00" ∷ codes "0.00" ∷ codes "15.00" ∷ codes "5.00" ∷ codes "9545.90" ∷ [])

@@ -10,7 +10,7 @@ use Rattle.brk_model.specs.Tables.{Tables}
 use Rattle.brk_model.specs.Form.{kept_form, broker_form, customer_form, customer_limits, account_form, permission_form, security_form, last_trade_form, charge_form, band_form, no_overlap, tax_rate_form, customer_tax_form, trade_form, same_numbers, history_form, request_form, holding_form, summary_form, holding_history_form, settlement_form, cash_form, move_form, trades_moved, lacks_later_rows, has_keys, distinct_tax_ids, rises}
 use Rattle.brk_model.specs.Keys.{kept_key, broker_key, customer_key, account_key, permission_key, security_key, last_trade_key, charge_key, band_key, tax_rate_key, customer_tax_key, trade_key, history_key, request_key, holding_key, summary_key, holding_history_key, settlement_key, cash_key, move_key}
 
--- Every part of the condition `Form` holds of the tables, by the limits of a schema.
+-- The tables satisfy every part of the audit's condition `Form`, by the limits of `schema`.
 pub record FormParts (schema : Schema) (t : Tables) : Type 0 where
   pub clock : option_map_or (λ last. nat_le last last_stamp) t.last true ≡ true
   pub keys : has_keys t ≡ true

@@ -24,7 +24,8 @@ stamp_of_reply (CompletedTrade stamp completion) = stamp
 stamp_of_reply (Changed stamp count) = stamp
 stamp_of_reply (MovedCash stamp move balance) = stamp
 
--- The stamp of an outcome that accepts a command, as a list; empty for other outcomes.
+-- The stamp of the reply if the outcome accepts a command, as a list of one element; the empty list
+-- for other outcomes.
 abbrev pub stamp_in : Outcome → List ℕ
 stamp_in (Did (Done reply)) = stamp_of_reply reply ∷ []
 stamp_in (Did (Again line)) = []
@@ -33,48 +34,49 @@ stamp_in (Saw view) = []
 stamp_in (NoView refusal) = []
 stamp_in (Failed fault) = []
 
--- The stamps of the accepted commands, in order.
+-- The stamps of the replies to the accepted commands, in the order of the outcomes.
 abbrev pub accepted_stamps : List Outcome → List ℕ
 accepted_stamps [] = []
 accepted_stamps (outcome ∷ outcomes) = stamp_in outcome ++ accepted_stamps outcomes
 
--- The stamps are strictly ascending, and the first is greater than `last` if there is one.
+-- The stamps are strictly ascending, and the first is greater than `last`. Without a stamp `last`
+-- there is no lower bound.
 abbrev pub RiseFrom : Option ℕ → List ℕ → Type 0
 RiseFrom last [] = ⊤
 RiseFrom last (stamp ∷ stamps) = IfSome last (λ l. l < stamp) × RiseFrom (Some stamp) stamps
 
--- The base after a call with this answer: that of the keyed step if the answer is `Done`, otherwise
--- `base`.
+-- The base after the call at the clock reading `now`: that of the keyed step if the answer is
+-- `Done`, otherwise `base`.
 abbrev pub base_after_answer : Base → ℕ → Call → Answer → Base
 base_after_answer base now (Do command key) (Done reply) = (keyed_step base now command key).1
 base_after_answer base now (Do command key) (Again line) = base
 base_after_answer base now (Do command key) (Refused refusal) = base
 base_after_answer base now (Ask query) answer = base
 
--- The base after a call with this outcome: that of the keyed step if a command was accepted,
--- otherwise `base`.
+-- The base after the call at the clock reading `now`: that of the keyed step if the outcome accepts
+-- a command, otherwise `base`.
 abbrev pub moved : Base → ℕ → Call → Outcome → Base
 moved base now call (Did answer) = base_after_answer base now call answer
 moved base now call (Saw view) = base
 moved base now call (NoView refusal) = base
 moved base now call (Failed fault) = base
 
--- The base after the accepted commands of the calls, executed in order.
+-- The base after exactly the calls whose commands were accepted, executed in order from `base`.
 abbrev pub accepted_after : Base → List (ℕ × Call) → List Outcome → Base
 accepted_after base [] outcomes = base
 accepted_after base (call ∷ calls) [] = base
 accepted_after base (call ∷ calls) (outcome ∷ outcomes) = accepted_after (moved base call.0 call.1 outcome) calls outcomes
 
--- The call of a row of a batch, with its clock reading.
+-- The call of a row of a batch, with its clock reading and its key.
 abbrev pub call_of_row : RowCall Command → ℕ × Call
 call_of_row call = (call.now, Do call.command (Some call.key))
 
--- The call is a command with this key, and it was accepted.
+-- The call is a command with the key `key`, and the outcome accepts it.
 abbrev pub IsDoneUnder : Key → Call → Outcome → Type 0
 IsDoneUnder key (Do command (Some other)) (Did (Done reply)) = other ≡ key
 IsDoneUnder key call outcome = ⊥
 
--- No command with this key was accepted in the calls.
+-- No call of the list is a command with the key `key` that its outcome accepts.
 abbrev pub NoneDoneUnder : Key → List (ℕ × Call) → List Outcome → Type 0
 NoneDoneUnder key (call ∷ calls) (outcome ∷ outcomes) = ¬ (IsDoneUnder key call.1 outcome) × NoneDoneUnder key calls outcomes
 NoneDoneUnder key calls outcomes = ⊤
@@ -83,19 +85,20 @@ NoneDoneUnder key calls outcomes = ⊤
 abbrev pub LeadsTo : Base → Base → Type 0
 LeadsTo base after = (calls : List (ℕ × Call)) × (outcomes : List Outcome) × Run base calls outcomes after
 
--- Some run of calls leads from the empty base to this base.
+-- Some run of calls leads from the empty base to `base`.
 abbrev pub IsReached : Base → Type 0
 IsReached base = LeadsTo empty_base base
 
--- The batch is complete, it has these answers, and it refused no row; `form` is its format check.
+-- The batch over the input is complete, its rows have the answers `answers`, and none of them is a
+-- refusal. The format check of the rows is `form`.
 pub record IsCleanBatch (form : Fields → Read Command) (base : Base) (moments : List ℕ) (input : Text) (answers : List Answer) (batch : Batch Base) : Type 0 where
   pub answered : IsAnswered form row_step base moments (Some (text_of input)) batch
   pub ended : batch.ending ≡ EndedWell
   pub these : answered.answers ≡ answers
   pub none_refused : count_refused answers ≡ 0
 
--- The answer to a retried row: the stored line if the row was accepted, otherwise its former
--- answer.
+-- The answer to a retry of a row with this answer: the stored line if the row was accepted,
+-- otherwise the same answer.
 abbrev pub again_of : Answer → Answer
 again_of (Done reply) = Again (line_text reply)
 again_of (Again line) = Again line
@@ -103,59 +106,61 @@ again_of (Refused refusal) = Refused refusal
 
 -- ---- rows of which some have their keys in a base
 
--- The calls whose keys the base does not contain.
+-- The calls whose keys are not stored in the base.
 abbrev pub calls_left : Base → List (RowCall Command) → List (RowCall Command)
 calls_left base calls = filter (λ call. is_none (kept_under base call.key)) calls
 
--- The answers to the calls whose keys the base does not contain.
+-- The answers to the calls whose keys are not stored in the base.
 abbrev pub answers_left : Base → List (RowCall Command) → List Answer → List Answer
 answers_left base (call ∷ calls) (answer ∷ answers) =
     if is_none (kept_under base call.key) then answer ∷ answers_left base calls answers else answers_left base calls answers
 answers_left base calls answers = []
 
--- If a row is stored under the key of the call, the call is answered with its line if it is the
--- same row, and refused if it is another row.
+-- If `k` is stored under the key of the call, the answer is the answer to a repeated key: the
+-- stored line if the row texts are equal, otherwise a refusal. Vacuous if nothing is stored.
 abbrev pub IsKeptAnswer : Base → Option Kept → RowCall Command → Answer → Type 0
 IsKeptAnswer base None call answer = ⊤
 IsKeptAnswer base (Some k) call answer = answer ≡ (repeated base call.command k).0
 
--- Each call whose key the base contains is answered with the stored line if it is the same row, and
--- refused if it is another row.
+-- Each call whose key is stored in the base is answered with the stored line if the row texts are
+-- equal, and refused otherwise. Vacuous for other calls.
 abbrev pub AreKeptAnswers : Base → List (RowCall Command) → List Answer → Type 0
 AreKeptAnswers base (call ∷ calls) (answer ∷ answers) = IsKeptAnswer base (kept_under base call.key) call answer × AreKeptAnswers base calls answers
 AreKeptAnswers base calls answers = ⊤
 
 -- ---- rows that were accepted
 
--- The calls that were accepted.
+-- The calls that were accepted: those whose answer is `Done`.
 abbrev pub done_calls : List (RowCall Command) → List Answer → List (RowCall Command)
 done_calls (call ∷ calls) (Done reply ∷ answers) = call ∷ done_calls calls answers
 done_calls (call ∷ calls) (Again line ∷ answers) = done_calls calls answers
 done_calls (call ∷ calls) (Refused refusal ∷ answers) = done_calls calls answers
 done_calls calls answers = []
 
--- The answers of the calls that were accepted.
+-- The answers that are `Done`.
 abbrev pub done_answers : List Answer → List Answer
 done_answers [] = []
 done_answers (Done reply ∷ answers) = Done reply ∷ done_answers answers
 done_answers (Again line ∷ answers) = done_answers answers
 done_answers (Refused refusal ∷ answers) = done_answers answers
 
--- If the call was accepted, the base contains its row and its line under its key.
+-- If the answer is `Done`, the base stores the row text and the reply of the call under its key.
+-- Vacuous for other answers.
 abbrev pub IsRemembered : Base → RowCall Command → Answer → Type 0
 IsRemembered base call (Done reply) = kept_under base call.key ≡ Some (record { key = call.key; row_text = row_text call.command; line = line_text reply })
 IsRemembered base call (Again line) = ⊤
 IsRemembered base call (Refused refusal) = ⊤
 
--- The base contains the row and the line of each accepted call under its key.
+-- For each call whose answer is `Done`, the base stores its row text and its reply under its key.
+-- Vacuous for other answers.
 abbrev pub AreRemembered : Base → List (RowCall Command) → List Answer → Type 0
 AreRemembered base (call ∷ calls) (answer ∷ answers) = IsRemembered base call answer × AreRemembered base calls answers
 AreRemembered base calls answers = ⊤
 
 -- ---- rows of a batch that was interrupted
 
--- The row after the rows `front` of a batch is well-formed. Executed from `mid` at the clock
--- reading `moment`, it has the answer `answer` and leads to the base `stood`.
+-- The row after the rows `front` of the batch `name` is well-formed. Executed from `mid` at the
+-- clock reading `moment` under its key, it has the answer `answer` and leads to the base `stood`.
 pub record IsBookedNext (form : Fields → Read Command) (name : Text) (mid : Base) (front more : List Fields) (moment : ℕ) (answer : Answer) (stood : Base) : Type 0 where
   pub row : Fields
   pub rest : List Fields
@@ -169,9 +174,9 @@ pub record IsBookedNext (form : Fields → Read Command) (name : Text) (mid : Ba
 abbrev pub IsBaseAfter : (Fields → Read Command) → Text → Base → List Fields → List Fields → Base → Type 0
 IsBaseAfter form name mid front more stood = (stood ≡ mid) ⊎ ((moment : ℕ) × (answer : Answer) × IsBookedNext form name mid front more moment answer stood)
 
--- The rows of a batch are decided as by one uninterrupted run. The first rows have `answers`, at
--- the clock readings `earlier`, and their retry has the answers that `again_of` gives. The other
--- rows have the answers in `told`, at the clock readings `later`.
+-- The rows of the batch `name` are decided as by one uninterrupted run to the base `last`. The
+-- first rows have `answers`, at the clock readings `earlier`, and their retry has the answers that
+-- `again_of` gives. The other rows have the answers in `told`, at the clock readings `later`.
 pub record IsCompleted (form : Fields → Read Command) (name : Text) (base : Base) (earlier later : List ℕ) (rows : List Fields) (answers told : List Answer) (last : Base) : Type 0 where
   pub again : take (length answers) told ≡ map again_of answers
   pub settled : AreDecided form row_step name base (earlier ++ drop (length earlier) later) rows (answers ++ drop (length answers) told) last

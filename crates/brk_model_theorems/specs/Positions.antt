@@ -6,14 +6,14 @@ use Rattle.brk_money.specs.declared.side.Side.{Side}
 use Rattle.brk_model.specs.Shares.{Share}
 use Rattle.brk_model.specs.Tables.{HoldingRow}
 
--- All shares are of the side.
+-- All shares of the list have the side `side`.
 abbrev pub AllOf : Side → List Share → Type 0
 AllOf side shares = AllByRecursion (λ share. share.side ≡ side) shares
 
--- All shares are of one side: the position is long or short.
+-- All shares of the list have the same side.
 abbrev pub IsOneSided : List Share → Type 0
 IsOneSided shares = (side : Side) × AllOf side shares
 
--- True if the HOLDING row belongs to the account and the symbol.
+-- True if the row of HOLDING belongs to the account and the symbol.
 abbrev pub in_position : ℕ → Text → HoldingRow → Bool
 in_position account symbol row = (row.account == account) && bytes_eq row.symbol symbol

@@ -14,31 +14,32 @@ ghost use Rattle.brk_model.specs.Computed.{batch, complete_batch};
 ghost use Rattle.brk_model.specs.Run.{Did, Run};
 ghost use Rattle.brk_model_theorems.specs.Laws.{AreKeptAnswers, AreRemembered, IsBookedNext, IsCompleted, LeadsTo, IsBaseAfter, IsCleanBatch, again_of, answers_left, call_of_row, calls_left, done_answers, done_calls};
 
-/// Proves that the batch that the function `batch` computes is the result of the input by the rows
-/// and the step of the brokerage, with the first `n` of the clock readings, for some `n`. It needs at
-/// least as many clock readings as the input has records.
+/// Proves that the function `batch` computes the specified result of the input. It uses the first
+/// `n` clock readings, for some `n`. There must be at least as many clock readings as the input has
+/// records.
 pub fn batch_is_computed()
     ensures { (base : Base) (moments : List ℕ) (input : List ℕ) → length (records default_config (text_of input)) ≤ length moments
         → (n : ℕ) × BatchText parse_row row_step base (take n moments) input (batch base moments input) }
 {}
 
-/// Proves that the well-formed rows of a batch are the calls of a run, each with its key.
+/// Proves that the rows of a batch that are executed in order form a run of calls, each with its
+/// key, with the same answers.
 pub fn rows_are_calls()
     ensures { (base after : Base) (calls : List (RowCall Command)) (answers : List Answer) → InTurn row_step base calls answers after
         → Run base (map call_of_row calls) (map Did answers) after }
 {}
 
-/// Proves that the retry of a complete batch that refused no row changes nothing and is answered
-/// with the stored lines. The retry may be over the base after the batch or any later one, at any
-/// clock readings; the format check may be any.
+/// Proves that a retry of a complete batch that refused no row changes nothing and is answered with
+/// the stored lines. The retry may start from the base after the batch or from any later one, at
+/// any clock readings. The format check may be any.
 pub fn a_retried_batch_changes_nothing()
     ensures { (form : Fields → Read Command) (base later : Base) (moments others : List ℕ) (input : List ℕ) (answers : List Answer) (first second : Batch Base) → IsCleanBatch form base moments input answers first
         → LeadsTo first.base later → BatchText form row_step later others input second → second ≡ complete_batch (map again_of answers, later) }
 {}
 
-/// Proves that the rows that a retry decides, of a complete batch that refused no row, change
-/// nothing and are answered with the stored lines. This holds however the retry ends, also by a
-/// fault.
+/// Proves that the rows that a retry of a complete batch without refusals decides change nothing
+/// and are answered with the stored lines. It holds for any number of decided rows, so also for a
+/// retry that fails.
 pub fn rows_settled_again_change_nothing()
     ensures { (form : Fields → Read Command) (base later last : Base) (moments others : List ℕ) (input : List ℕ) (answers told : List Answer)
         (first : Batch Base) (name : List ℕ) (rows : List Fields) → IsCleanBatch form base moments input answers first
@@ -47,18 +48,18 @@ pub fn rows_settled_again_change_nothing()
         → (told ≡ map again_of (take (length rows) answers)) × (last ≡ later) }
 {}
 
-/// Proves that rows whose keys a base contains change nothing: the other rows alone, in order, lead
-/// to the base after all of them, with the same answers. A row that is stored is answered with its
-/// line, and another row under its key is refused.
+/// Proves that rows whose keys a base stores change nothing. The other rows alone, in order, have
+/// the same answers and lead to the same base. A stored row is answered with its line, and another
+/// row under its key is refused.
 pub fn kept_rows_change_nothing()
     ensures { (base after : Base) (calls : List (RowCall Command)) (answers : List Answer) → InTurn row_step base calls answers after
         → InTurn row_step base (calls_left base calls) (answers_left base calls answers) after × AreKeptAnswers base calls answers }
 {}
 
-/// Proves that two attempts at rows are equivalent to one run, whichever rows either attempt
-/// refuses. The run consists of the rows that the first attempt accepted, at its clock readings.
-/// After them come the rows of the second attempt whose keys were not yet stored, at the clock
-/// readings of the second. Every row that the first attempt accepted is stored under its key.
+/// Proves that two attempts at rows equal one run, whichever rows either attempt refuses. The run
+/// has the rows that the first attempt accepted, and then the rows of the second attempt whose keys
+/// were not yet stored, each with the clock reading of its attempt. Every row that the first
+/// attempt accepted is stored under its key.
 pub fn two_attempts_are_one_run()
     ensures run { (base mid last : Base) (first again : List (RowCall Command)) (answers told : List Answer) → InTurn row_step base first answers mid
         → InTurn row_step mid again told last
@@ -67,10 +68,10 @@ pub fn two_attempts_are_one_run()
         → AreRemembered mid first answers }
 {}
 
-/// Proves that a batch of which the first rows were decided, without a refusal, and then all rows,
-/// equals one uninterrupted run of the batch. The first rows have the clock readings of the first
-/// attempt, and the others those of the second. The second attempt answers the first rows with the
-/// stored lines.
+/// Proves that a batch whose first rows were decided without a refusal, and whose rows are then all
+/// decided by a retry, equals one uninterrupted run. The first rows have the clock readings of the
+/// first attempt, the others those of the retry. The retry answers the first rows with the stored
+/// lines.
 pub fn a_retried_batch_is_completed()
     ensures { (form : Fields → Read Command) (name : List ℕ) (base mid last : Base) (moments others : List ℕ) (front more : List Fields)
         (answers told : List Answer) → count_refused answers ≡ 0 → AreDecided form row_step name base moments front answers mid
@@ -80,10 +81,10 @@ pub fn a_retried_batch_is_completed()
         (answers ++ drop (length front) told) last }
 {}
 
-/// Proves that an interrupted batch, of which the first rows were decided without a refusal, equals
-/// one uninterrupted run after all its rows are decided. The next row may have been executed
-/// without being acknowledged. The run then has that row at its own clock reading and with its own
-/// answer, or it is decided in the retry.
+/// Proves that an interrupted batch, whose first rows were decided without a refusal, equals one
+/// uninterrupted run after a retry has decided all rows. The row after them may have been executed
+/// without being acknowledged. The run has that row at the clock reading of its execution, or at
+/// the clock reading of the retry.
 pub fn a_stopped_batch_is_completed()
     ensures { (form : Fields → Read Command) (name : List ℕ) (base mid stood last : Base) (moments others : List ℕ) (front more : List Fields)
         (answers told : List Answer) → count_refused answers ≡ 0 → AreDecided form row_step name base moments front answers mid

@@ -6,8 +6,8 @@ ghost use Rattle.brk_model.specs.Schemas.{Schema};
 ghost use Rattle.brk_model.specs.Tables.{Tables};
 ghost use Rattle.brk_model_theorems.specs.FormParts.{FormParts, KeysRise};
 
-/// Proves that tables satisfy `has_form`, by the limits of a schema, if and only if every part of
-/// the condition holds.
+/// Proves that tables satisfy the condition `Form`, by the limits of a schema, if and only if they
+/// satisfy every part of it.
 pub fn form_has_parts()
     ensures parts { (schema : Schema) (t : Tables) → has_form schema t ≡ true → FormParts schema t }
     ensures whole { (schema : Schema) (t : Tables) → FormParts schema t → has_form schema t ≡ true }

@@ -12,23 +12,24 @@ ghost use Rattle.brk_model.specs.Step.{step};
 ghost use Rattle.brk_model.specs.Run.{Call, Outcome, Run};
 ghost use Rattle.brk_model_theorems.specs.Laws.{NoneDoneUnder};
 
-/// Proves that an accepted row that is retried under its key, over the base after it and at any
-/// clock reading, is answered with the stored line and changes nothing.
+/// Proves that a retry of an accepted row under its key, from the base after it and at any clock
+/// reading, returns the stored line and changes nothing.
 pub fn repeat_is_answered()
     ensures { (base after : Base) (now later : ℕ) (command : Command) (key : Key) (reply : Reply) → keyed_step base now command (Some key) ≡ (Done reply, after)
         → keyed_step after later command (Some key) ≡ (Again (line_text reply), after) }
 {}
 
-/// Proves that another row under the key of an accepted row, over the base after it, is refused
-/// with `KeyReused` and changes nothing.
+/// Proves that a row with another text under the key of an accepted row, from the base after it, is
+/// refused with `KeyReused` and changes nothing.
 pub fn changed_repeat_is_refused()
     ensures { (base after : Base) (now later : ℕ) (command other : Command) (key : Key) (reply : Reply) → keyed_step base now command (Some key) ≡ (Done reply, after)
         → bytes_eq (row_text command) (row_text other) ≡ false → keyed_step after later other (Some key) ≡ (Refused KeyReused, after) }
 {}
 
-/// Proves that a refused row stores no key, so it may be retried. If it is refused for another
-/// reason than its key, nothing was stored under the key. A key stays free while no row under it is
-/// accepted. Over a base in which the key is free, its row is accepted if the command is.
+/// Proves that a row that is refused under an unused key changes nothing and stores no key. If the
+/// reason of a refusal is not `KeyReused`, the key was unused. A key stays unused in any run that
+/// accepts no row under it. From a base that does not store the key, the row is accepted if the
+/// command is.
 pub fn a_refused_row_keeps_no_key()
     ensures keeps_none { (base after : Base) (now : ℕ) (command : Command) (key : Key) (refusal : Refusal) → keyed_step base now command (Some key) ≡ (Refused refusal, after)
         → kept_under base key ≡ None → (after ≡ base) × (kept_under after key ≡ None) }

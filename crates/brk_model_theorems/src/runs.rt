@@ -9,7 +9,7 @@ ghost use Rattle.brk_model.specs.Keyed.{keyed_step};
 ghost use Rattle.brk_model.specs.Run.{Call, Outcome, Run};
 ghost use Rattle.brk_model_theorems.specs.Laws.{RiseFrom, accepted_after, accepted_stamps};
 
-/// Proves that a row that is refused, or answered with its stored line, leaves the base unchanged.
+/// Proves that a command that is refused, or answered with a stored line, does not change the base.
 pub fn others_leave_the_base()
     ensures refused { (base after : Base) (now : ℕ) (command : Command) (key : Option Key) (refusal : Refusal) → keyed_step base now command key ≡ (Refused refusal, after) → after ≡ base }
     ensures again { (base after : Base) (now : ℕ) (command : Command) (key : Option Key) (line : List ℕ) → keyed_step base now command key ≡ (Again line, after) → after ≡ base }
@@ -21,7 +21,7 @@ pub fn accepted_commands_make_the_base()
 {}
 
 /// Proves that the stamps of a run's accepted commands are strictly ascending and greater than the
-/// last stamp before it.
+/// last stamp before the run.
 pub fn stamps_rise()
     ensures { (base after : Base) (calls : List (ℕ × Call)) (outcomes : List Outcome) → Run base calls outcomes after → RiseFrom base.last (accepted_stamps outcomes) }
 {}

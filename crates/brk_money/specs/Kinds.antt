@@ -27,7 +27,7 @@ side_of StopLoss = Sell
 side_of LimitSell = Sell
 side_of LimitBuy = Buy
 
--- True if a trade of this type is at the market price (TT_IS_MRKT).
+-- True if a trade of this type is executed at the market price (TT_IS_MRKT).
 abbrev pub is_market : TradeType → Bool
 is_market MarketBuy = true
 is_market MarketSell = true
@@ -67,7 +67,7 @@ status_name Submitted = codes "Submitted"
 status_name Pending = codes "Pending"
 status_name Canceled = codes "Canceled"
 
--- True if two types of trade are equal.
+-- True if the two trade types are equal.
 abbrev pub same_type : TradeType → TradeType → Bool
 same_type MarketBuy MarketBuy = true
 same_type MarketSell MarketSell = true
@@ -76,7 +76,7 @@ same_type LimitSell LimitSell = true
 same_type LimitBuy LimitBuy = true
 same_type _ _ = false
 
--- True if two statuses are equal.
+-- True if the two statuses are equal.
 abbrev pub same_status : Status → Status → Bool
 same_status Completed Completed = true
 same_status Active Active = true
@@ -85,7 +85,7 @@ same_status Pending Pending = true
 same_status Canceled Canceled = true
 same_status _ _ = false
 
--- True if two sides are equal.
+-- True if the two sides are equal.
 abbrev pub same_side : Side → Side → Bool
 same_side Buy Buy = true
 same_side Sell Sell = true
@@ -127,14 +127,14 @@ refusal_number TooMany = 20
 refusal_number ClockEnd = 21
 refusal_number TooEarly = 22
 
--- The fields that follow the number of a refusal: the status code for `WrongStatus`, the word of
--- the limit for `Range`, and none otherwise.
+-- The fields that follow the number of a refusal: the code of the status for `WrongStatus`, the
+-- word of the limit for `Range`, and none for any other.
 abbrev pub refusal_words : Refusal → List (List ℕ)
 refusal_words (WrongStatus status) = status_code status ∷ []
 refusal_words (Range limit) = limit_word limit ∷ []
 refusal_words _ = []
 
--- The fields that are printed for a refusal: its number, then its `refusal_words`.
+-- The fields that are printed for a refusal: its number, followed by its `refusal_words`.
 abbrev pub refusal_fields : Refusal → List (List ℕ)
 refusal_fields refusal = decimal (refusal_number refusal) ∷ refusal_words refusal
 

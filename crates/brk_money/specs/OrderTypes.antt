@@ -5,7 +5,7 @@ use Rattle.brk_money.specs.declared.order_type.OrderType.TheVariants as asked
 use Rattle.brk_money.specs.declared.trade_type.TradeType.{TradeType}
 use Rattle.brk_money.specs.declared.trade_type.TradeType.TheVariants.{MarketBuy, MarketSell, StopLoss, LimitSell, LimitBuy}
 
--- The type of the trade that an order creates.
+-- The type of the trade that an order of this type creates.
 abbrev pub kind_of : OrderType → TradeType
 kind_of asked.MarketBuy = MarketBuy
 kind_of asked.MarketSell = MarketSell
@@ -13,7 +13,7 @@ kind_of (asked.StopLoss price) = StopLoss
 kind_of (asked.LimitSell price) = LimitSell
 kind_of (asked.LimitBuy price) = LimitBuy
 
--- The price that an order asks for; none for a market type.
+-- The price that an order of this type asks for; none for a market type.
 abbrev pub price_asked : OrderType → Option ℕ
 price_asked asked.MarketBuy = None
 price_asked asked.MarketSell = None

@@ -8,7 +8,8 @@ use crate::qty::Qty;
 use crate::rate::Rate;
 use crate::tax_rate::TaxRate;
 
-/// Returns `n / d`, rounded to the nearest whole number; a half is rounded up.
+/// Returns `n / d`, rounded to the nearest whole number; a half is rounded up. Requires that `d` is
+/// above 0 and that `2 * n + d` is below 2^128.
 pub fn half_up(n: u128, d: u128) -> u128
     requires divisor { 0 < d }
     requires fits { 2 * n + d < 2 ^ 128 }
@@ -18,7 +19,7 @@ pub fn half_up(n: u128, d: u128) -> u128
     (2 * n + d) / 2 / d
 }
 
-// Returns the amount of `cents`, which is within the limit.
+// Returns the amount of `cents` cents, which must be within the limit.
 fn natural(cents: u128) -> Cents
     requires { cents ≤ Cents.GREATEST }
     ensures { result ≡ pos cents }
@@ -26,7 +27,8 @@ fn natural(cents: u128) -> Cents
     Cents::new(cents as i64).unwrap()
 }
 
-/// Returns the commission of a trade in cents, rounded once (T_COMM, Trade-Result).
+/// Returns the commission on `qty` shares at `price` in cents, rounded once, a half up (T_COMM,
+/// Trade-Result).
 pub fn commission(rate: Rate, qty: Qty, price: Price) -> Cents
     ensures { result ≡ pos (spec.commission rate qty price) }
 {
@@ -34,8 +36,8 @@ pub fn commission(rate: Rate, qty: Qty, price: Price) -> Cents
     natural(half_up(product, 10_000))
 }
 
-/// Returns the tax on a trade's gain in cents, rounded once; the tax on a loss is 0 (T_TAX,
-/// Trade-Result).
+/// Returns the tax on a trade's gain in cents, rounded once, a half up; 0 if the gain is 0 or below
+/// (T_TAX, Trade-Result).
 pub fn tax(gain: Cents, rates: TaxRate) -> Cents
     ensures { result ≡ pos (spec.tax gain rates) }
 {

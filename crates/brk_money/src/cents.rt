@@ -45,7 +45,8 @@ impl Cents {
     }
 }
 
-// Returns the cents that the bytes spell without a sign, or `None` if they spell none.
+// Parses the canonical text of an amount that is not negative, and returns its cents. Returns
+// `None` for any other bytes, and for an amount above the limit.
 #[tactic(auto, using(crate::proofs::Plain::plain_split, crate::proofs::Plain::plain_joined))]
 fn parse_plain(bytes: &[u8]) -> Option<u64>
     ensures found { IfSome result (λ n. (n ≤ Cents.GREATEST) × (bytes.now ≡ magnitude_text n)) }
@@ -70,9 +71,9 @@ fn parse_plain(bytes: &[u8]) -> Option<u64>
     Some(n)
 }
 
-/// Returns the amount that the bytes spell, or `None` if they spell none within the limits: a minus
-/// if it is negative, digits without a leading zero, a point and two digits. `-0.00`, `010.00` and
-/// `10.0` spell none.
+/// Parses the canonical text of an amount: a minus if it is negative, digits without a leading
+/// zero, a point and two digits. Returns `None` for any other bytes, such as `-0.00`, `010.00` and
+/// `10.0`, and for an amount outside the limits.
 #[tactic(auto, using(crate::proofs::Plain::plain_split))]
 pub fn parse_cents(bytes: &[u8]) -> Option<Cents>
     ensures found { IfSome result (λ cents. IsAmount cents × (bytes.now ≡ cents_text cents)) }
@@ -97,8 +98,8 @@ pub fn parse_cents(bytes: &[u8]) -> Option<Cents>
     }
 }
 
-/// Proof-only: does nothing at run time. No two amounts within the limits have the same canonical
-/// text.
+/// Proof-only: does nothing at run time. Proves that two amounts within the limits are equal if
+/// their canonical texts are.
 pub fn one_spelling()
     ensures { (y z : ℤ) → IsAmount y → IsAmount z → cents_text y ≡ cents_text z → y ≡ z }
 {}

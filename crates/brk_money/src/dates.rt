@@ -9,7 +9,7 @@ use crate::fault::Fault;
 use jiff::ToSpan;
 use jiff::civil::{Date, date};
 
-// Returns the date of a day.
+// Returns the calendar date of a day.
 fn date_of(day: Day) -> Date
     ensures { epoch_day result ≡ pos day }
 {
@@ -18,7 +18,7 @@ fn date_of(day: Day) -> Date
         .unwrap()
 }
 
-// Returns the number below 100 that two digits spell, or `None` if a byte is no digit.
+// Parses two decimal digits as a number below 100, or returns `None` if a byte is no digit.
 fn two_digits(tens: u8, ones: u8) -> Option<u8>
     ensures found { IfSome result (λ n. (n < 100) × (tens ≡ 48 + n / 10) × (ones ≡ 48 + n % 10)) }
     ensures none { IfNone result ((n : ℕ) → n < 100 → tens ≡ 48 + n / 10 → ones ≢ 48 + n % 10) }
@@ -29,7 +29,8 @@ fn two_digits(tens: u8, ones: u8) -> Option<u8>
     Some((tens - b'0') * 10 + (ones - b'0'))
 }
 
-// Returns the date of a year, a month and a day of the month, or `None` if the calendar lacks it.
+// Returns the date of a year, a month and a day of the month, or `None` if the calendar has no such
+// date.
 fn calendar_date(year: u16, month: u8, day: u8) -> Option<Date>
     requires year { year < 10000 }
     requires month { month < 100 }
@@ -43,8 +44,8 @@ fn calendar_date(year: u16, month: u8, day: u8) -> Option<Date>
     }
 }
 
-// Returns the date that the bytes spell, or `None` if they spell none: four digits of a year, two
-// of a month and two of a day, with a hyphen between.
+// Parses the text of a date: four digits of a year, two of a month and two of a day, with a hyphen
+// between. Returns `None` for any other bytes, and for a date that the calendar does not have.
 #[tactic(auto, using(crate::proofs::DayTexts::spelled, crate::proofs::DayTexts::parts_spelled))]
 fn date_spelled(bytes: &[u8]) -> Option<Date>
     ensures found { IfSome result (λ date. (pos 0 ≤ℤ date.year) × (bytes.now ≡ date_digits (unsigned_abs date.year) date.month date.day)) }
@@ -68,8 +69,9 @@ fn date_spelled(bytes: &[u8]) -> Option<Date>
     calendar_date(u16::from(century) * 100 + u16::from(year), month, day)
 }
 
-/// Returns the day that the bytes spell, such as `2024-03-01`, or `None` if they spell none: four
-/// digits of a year, two of a month and two of a day, from 1970-01-01 to 9999-12-31, both included.
+/// Parses the canonical text of a day, such as `2024-03-01`: four digits of a year, two of a month
+/// and two of a day, from 1970-01-01 to 9999-12-31, both included. Returns `None` for any other
+/// bytes.
 pub fn parse_day(bytes: &[u8]) -> Option<Day>
     ensures found { IfSome result (λ day. bytes.now ≡ day_text day) }
     ensures none { IfNone result ((n : ℕ) → n ≤ last_day → bytes.now ≢ day_text n) }
@@ -80,7 +82,7 @@ pub fn parse_day(bytes: &[u8]) -> Option<Day>
     Day::new(date.to_plain().to_unix_epoch_day())
 }
 
-// Returns the ten bytes of a date whose year is not negative.
+// Returns the ten bytes of the text of a date whose year is not negative.
 fn date_bytes(date: Date) -> [u8; 10]
     requires { pos 0 ≤ℤ date.year }
     ensures { result ≡ date_digits (unsigned_abs date.year) date.month date.day }
@@ -120,7 +122,8 @@ pub fn write_day(out: &mut Vec<u8>, day: Day) -> Result<(), Fault>
     }
 }
 
-/// Proof-only: does nothing at run time. No two days have the same canonical text.
+/// Proof-only: does nothing at run time. Proves that two days are equal if their canonical texts
+/// are.
 pub fn one_day_spelling()
     ensures { (m n : ℕ) → m ≤ last_day → n ≤ last_day → day_text m ≡ day_text n → m ≡ n }
 {}

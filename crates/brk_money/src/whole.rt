@@ -4,8 +4,8 @@ ghost use Rattle.std.specs.Str.{all_ascii_digits};
 ghost use Rattle.brk_money.specs.declared.cents.TheConstants.Cents;
 ghost use Rattle.brk_money.specs.Spelling.{read_on};
 
-// Returns the number that the bytes spell in decimal digits, or `None` if a byte is no digit or the
-// number is above `limit`.
+// Parses decimal digits as a number; no bytes parse as 0. Returns `None` if a byte is no digit or
+// the number is above `limit`.
 #[tactic(auto, using(crate::proofs::Digits::read_on_le))]
 fn read_digits(bytes: &[u8], limit: u64) -> Option<u64>
     requires { limit ≤ Cents.GREATEST }
@@ -25,8 +25,8 @@ fn read_digits(bytes: &[u8], limit: u64) -> Option<u64>
     Some(value)
 }
 
-/// Returns the whole number up to `limit` that the bytes spell, or `None` if they spell none:
-/// decimal digits without a sign or a leading zero.
+/// Parses the canonical text of a whole number: decimal digits without a sign or a leading zero.
+/// Returns `None` for any other bytes, and for a number above `limit`.
 #[tactic(auto, using(crate::proofs::Digits::whole_found, crate::proofs::Digits::whole_only))]
 pub fn parse_whole(bytes: &[u8], limit: u64) -> Option<u64>
     requires { limit ≤ Cents.GREATEST }

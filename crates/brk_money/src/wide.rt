@@ -71,7 +71,9 @@ impl fmt::Display for Wide {
     }
 }
 
-// Appends three texts in order. Fails with `Memory` only; `out` is then unchanged.
+// Appends the bytes of `first`, `second` and `third`, in this sequence.
+//
+// Fails with `Memory` only; `out` is then unchanged.
 fn append_three(out: &mut Vec<u8>, first: &[u8], second: &[u8], third: &[u8]) -> Result<(), Fault>
     ensures ok { OnOk result (out.new.items ≡ out.old.items ++ (first.now ++ (second.now ++ third.now))) }
     ensures err { OnErr result (out.new.items ≡ out.old.items) }

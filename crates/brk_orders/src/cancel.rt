@@ -4,10 +4,10 @@ ghost use Rattle.brk_ref.specs.Fields.{ParsesAs, texts};
 use brk_money::{Id, Refusal};
 use brk_ref::parse_id;
 
-/// Reads the trade to cancel from the field TRADE.
+/// Parses the field TRADE: the id of the trade to cancel.
 ///
-/// Refuses with `BadText` if there is not exactly one field, or if it is not an id. Does not
-/// allocate.
+/// Refuses with `BadText` if there is not exactly one field, or if it is not an id. Never
+/// allocates.
 pub fn check_cancel(fields: &[&[u8]]) -> Result<Id, Refusal>
     ensures { ParsesAs (λ trade. trade) result (read_cancel (texts fields.now)) }
 {

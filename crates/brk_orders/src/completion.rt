@@ -14,10 +14,10 @@ pub struct Completion {
     pub price: Price,
 }
 
-/// Reads a completion from the fields TRADE and PRICE.
+/// Parses a completion from the fields TRADE and PRICE.
 ///
 /// Refuses with `BadText` (18) if there are not exactly two fields or TRADE is not an id, otherwise
-/// with `BadPrice` (9) if PRICE is not a price. Does not allocate.
+/// with `BadPrice` (9) if PRICE is not a price. Never allocates.
 pub fn check_result(fields: &[&[u8]]) -> Result<Completion, Refusal>
     ensures { ParsesAs result_of result (read_result (texts fields.now)) }
 {

@@ -12,7 +12,7 @@ use brk_money::{Planned, Refusal};
 use std::alloc::Global;
 use std::marker::Model;
 
-/// The ticks of a feed, in order, 1 to 20 of them.
+/// The 1 to 20 ticks of a market feed, in the sequence in which they are applied.
 #[derive(Drop)]
 pub struct Feed {
     ticks: Vec<Tick>,
@@ -47,7 +47,7 @@ impl Feed {
         Ok(Feed { ticks })
     }
 
-    /// Returns the ticks, in order.
+    /// Returns the ticks, in the sequence in which they are applied.
     pub fn ticks(&self) -> &[Tick]
         ensures { result.now ≡ self.now }
     {
@@ -55,7 +55,8 @@ impl Feed {
     }
 }
 
-// Returns the rank of a refusal among the format checks.
+// Returns the rank of a refusal in the sequence of the format checks: texts, quantities, prices,
+// types, and then all others.
 fn form_rank(refusal: Refusal) -> u8
     ensures { result ≡ forms.form_rank refusal }
 {
@@ -68,7 +69,8 @@ fn form_rank(refusal: Refusal) -> u8
     }
 }
 
-// Returns the refusal of the format check that comes first.
+// Returns the refusal of the earlier one of two format checks, and `one` if both have the same
+// rank.
 fn first_of(one: Refusal, other: Refusal) -> Refusal
     ensures { result ≡ (if nat_le (forms.form_rank one) (forms.form_rank other) then one else other) }
 {
@@ -79,8 +81,8 @@ fn first_of(one: Refusal, other: Refusal) -> Refusal
     }
 }
 
-// Appends one tick to ticks that were parsed, or returns the refusal of the format check that comes
-// first.
+// Appends a parsed tick to parsed ticks. If one of them is refused, returns its refusal, and if
+// both are, that of the earlier format check. Fails with `Memory` only.
 fn with_tick(ticks: Result<Vec<Tick>, Refusal>, tick: Result<Tick, Refusal>) -> Planned<Vec<Tick>>
     ensures read { IfOk result (λ read. seen items_of read ≡ joined_lists (seen items_of ticks) (seen alone tick)) }
     ensures fault { OnErr result (result ≡ Err Memory) }
@@ -96,8 +98,9 @@ fn with_tick(ticks: Result<Vec<Tick>, Refusal>, tick: Result<Tick, Refusal>) -> 
     }
 }
 
-// Parses the texts of ticks, three for each. All are checked, and the refusal is that of the first
-// failing format check, of whichever tick.
+// Parses the fields of ticks, three for each. All fields are checked, and the refusal is that of
+// the first failing format check, of whichever tick. Refuses a number of fields that is not a
+// multiple of three with `BadText`. Fails with `Memory` only.
 fn ticks_from(alloc: Global, fields: &[&[u8]]) -> Planned<Vec<Tick>>
     ensures read { IfOk result (λ read. ParsesAs items_of read (read_ticks (texts fields.now))) }
     ensures fault { OnErr result (result ≡ Err Memory) }
@@ -115,7 +118,7 @@ fn ticks_from(alloc: Global, fields: &[&[u8]]) -> Planned<Vec<Tick>>
     Ok(ticks)
 }
 
-/// Reads a feed from the fields SYMBOL, PRICE and QTY of each tick. Fails with `Memory` only.
+/// Parses a feed from the fields SYMBOL, PRICE and QTY of each tick. Fails with `Memory` only.
 ///
 /// Refuses with `BadText` (18) for a malformed text, otherwise with `BadQty` (8) for a quantity,
 /// with `BadPrice` (9) for a price, and with `TooMany` (20) for more than 20 ticks. All fields are

@@ -22,10 +22,10 @@ pub struct Movement {
     pub amount: MovedAmount,
 }
 
-/// Reads a deposit or a withdrawal from the fields ACCOUNT and AMOUNT.
+/// Parses a deposit or a withdrawal from the fields ACCOUNT and AMOUNT.
 ///
-/// Refuses with `BadText` if there are not exactly two fields, or if a field is malformed or not
-/// within its limits. Does not allocate.
+/// Refuses with `BadText` if there are not exactly two fields, or if a field is malformed or out of
+/// range. Never allocates.
 pub fn check_move(direction: Direction, fields: &[&[u8]]) -> Result<Movement, Refusal>
     ensures { ParsesAs movement_of result (read_movement (moved_by direction) (texts fields.now)) }
 {

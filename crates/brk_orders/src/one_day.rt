@@ -7,7 +7,8 @@ ghost use Rattle.brk_ref.specs.Fields.{ParsesAs, texts};
 
 use brk_money::{Day, Refusal, parse_day};
 
-// Parses a day of the calendar.
+// Parses a day, YYYY-MM-DD. Returns `None` if the bytes are malformed or the day is not within
+// 1970-01-01 to 9999-12-31.
 fn calendar_day(bytes: &[u8]) -> Option<Day>
     ensures { ok_or result BadText ≡ read_day bytes.now }
 {
@@ -19,11 +20,10 @@ fn calendar_day(bytes: &[u8]) -> Option<Day>
     Some(day)
 }
 
-/// Reads the settlement day, the first day whose completions settle after one day, from the field
-/// DAY.
+/// Parses the field DAY: the settlement day, the first day whose completions settle after one day.
 ///
 /// Refuses with `BadText` if there is not exactly one field, or if it is not a day of the calendar.
-/// Does not allocate.
+/// Never allocates.
 pub fn check_oneday(fields: &[&[u8]]) -> Result<Day, Refusal>
     ensures { ParsesAs (λ day. day) result (read_oneday (texts fields.now)) }
 {

@@ -31,7 +31,7 @@ pub struct Order {
     pub executor: Executor,
 }
 
-// The fields of an order, as they were received.
+// The ten fields of an order, as they were received.
 #[derive(Clone, Copy)]
 struct Told<'a> {
     account: &'a [u8],
@@ -46,7 +46,8 @@ struct Told<'a> {
     tax_id: &'a [u8],
 }
 
-// Returns true for the word `yes`, false for the word `no`, and otherwise `None`.
+// Returns true if the bytes are the word `yes`, false if they are the word `no`, and otherwise
+// `None`.
 fn parse_either(yes: &str, no: &str, bytes: &[u8]) -> Option<bool>
     ensures { ok_or result BadText ≡ read_either yes.now no.now bytes.now }
 {
@@ -59,7 +60,8 @@ fn parse_either(yes: &str, no: &str, bytes: &[u8]) -> Option<bool>
     None
 }
 
-// Parses the names and the tax id of an executor. Returns `None` if one is malformed.
+// Parses the names and the tax id of an executor. Returns `None` if one is malformed. Fails with
+// `Memory` only.
 fn parse_executor(
     alloc: Global,
     first_name: &[u8],
@@ -85,8 +87,8 @@ fn parse_executor(
     }))
 }
 
-// Returns an order type without a price. Refuses with `BadPrice` if the text of the price is not
-// empty.
+// Returns the order type, which has no price. Refuses with `BadPrice` if the text of the price is
+// not empty.
 fn without_price(order_type: OrderType, price: &[u8]) -> Result<OrderType, Refusal>
     ensures { result ≡ forms.without_price order_type price.now }
 {
@@ -97,7 +99,7 @@ fn without_price(order_type: OrderType, price: &[u8]) -> Result<OrderType, Refus
     }
 }
 
-// Parses a price. Refuses with `BadPrice` if the text is malformed.
+// Parses the price of an order. Refuses with `BadPrice` if the text is malformed or out of range.
 fn named_price(price: &[u8]) -> Result<Price, Refusal>
     ensures { result ≡ read_price price.now }
 {
@@ -118,7 +120,8 @@ fn without_type(price: &[u8]) -> Refusal
     }
 }
 
-// Returns the order type with its price, which the text must contain if the type requires one.
+// Returns the order type of `kind` with its price. Refuses with `BadPrice` if the text of the price
+// does not fit the type, and otherwise with `BadType` if the type is unknown.
 fn order_type_for(kind: Option<TradeType>, price: &[u8]) -> Result<OrderType, Refusal>
     ensures { result ≡ forms.order_type_for kind price.now }
 {
@@ -132,7 +135,8 @@ fn order_type_for(kind: Option<TradeType>, price: &[u8]) -> Result<OrderType, Re
     }
 }
 
-// Parses the fields of an order.
+// Parses the ten fields of an order, or returns the refusal of malformed fields. Fails with
+// `Memory` only.
 fn order_from(alloc: Global, told: Told<'_>) -> Planned<Order>
     ensures read { IfOk result (λ read. ParsesAs order_of read (read_order (told_texts told.entry))) }
     ensures fault { OnErr result (result ≡ Err Memory) }
@@ -170,12 +174,13 @@ fn order_from(alloc: Global, told: Told<'_>) -> Planned<Order>
     }))
 }
 
-/// Reads an order from the fields ACCOUNT, TYPE, SYMBOL, QTY, PRICE, CASH, END, FIRST, LAST and
+/// Parses an order from the fields ACCOUNT, TYPE, SYMBOL, QTY, PRICE, CASH, END, FIRST, LAST and
 /// TAXID. PRICE is empty for a market type, a price for the other types, and either of them for an
 /// unknown type. Fails with `Memory` only.
 ///
-/// Refuses with `BadText` (18) for a malformed text, otherwise with `BadQty` (8) for the quantity,
-/// with `BadPrice` (9) for the price, and with `BadType` (7) for the type.
+/// Refuses with `BadText` (18) for a malformed text or another number of fields, otherwise with
+/// `BadQty` (8) for the quantity, with `BadPrice` (9) for the price, and with `BadType` (7) for the
+/// type.
 pub fn check_order(alloc: Global, fields: &[&[u8]]) -> Planned<Order>
     ensures read { IfOk result (λ read. ParsesAs order_of read (read_order (texts fields.now))) }
     ensures fault { OnErr result (result ≡ Err Memory) }

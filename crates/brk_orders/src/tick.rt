@@ -18,7 +18,8 @@ pub struct Tick {
     pub qty: Qty,
 }
 
-// Parses the fields of a tick, or returns the refusal of malformed fields.
+// Parses the three fields of a tick, or returns the refusal of malformed fields. Fails with
+// `Memory` only.
 pub(crate) fn tick_from(alloc: Global, symbol: &[u8], price: &[u8], qty: &[u8]) -> Planned<Tick>
     ensures read { IfOk result (λ read. ParsesAs alone read (read_ticks (symbol.now ∷ price.now ∷ qty.now ∷ []))) }
     ensures fault { OnErr result (result ≡ Err Memory) }

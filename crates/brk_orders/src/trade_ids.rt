@@ -10,7 +10,7 @@ use brk_ref::parse_id;
 use std::alloc::Global;
 use std::marker::Model;
 
-/// Distinct trades in the order in which they are named, 1 to 20 of them.
+/// The 1 to 20 different ids of trades that a row names, in the sequence of the row.
 #[derive(Drop)]
 pub struct TradeIds {
     ids: Vec<Id>,
@@ -48,7 +48,7 @@ impl TradeIds {
         Ok(TradeIds { ids })
     }
 
-    /// Returns the trades, in order.
+    /// Returns the ids of the trades, in the sequence in which the row names them.
     pub fn ids(&self) -> &[Id]
         ensures { result.now ≡ self.now }
     {
@@ -56,14 +56,14 @@ impl TradeIds {
     }
 }
 
-// Returns true if the trade is one of `ids`.
+// Returns true if `id` is one of `ids`.
 fn is_among(id: Id, ids: &[Id]) -> bool
     ensures { result ≡ contains_number id ids.now }
 {
     ids.iter().any(|other| *other == id)
 }
 
-// Returns true if no trade is named twice.
+// Returns true if no id occurs twice.
 fn are_distinct(ids: &[Id]) -> bool
     ensures { result ≡ all_distinct ids.now }
 {
@@ -75,7 +75,7 @@ fn are_distinct(ids: &[Id]) -> bool
     true
 }
 
-// Parses the ids of trades.
+// Parses ids of trades. Refuses with `BadText` if a field is malformed. Fails with `Memory` only.
 fn ids_from(alloc: Global, fields: &[&[u8]]) -> Planned<Vec<Id>>
     ensures read { IfOk result (λ read. ParsesAs ids_in read (read_each read_id (texts fields.now))) }
     ensures fault { OnErr result (result ≡ Err Memory) }
@@ -90,9 +90,9 @@ fn ids_from(alloc: Global, fields: &[&[u8]]) -> Planned<Vec<Id>>
     Ok(Ok(ids))
 }
 
-/// Reads 1 to 20 distinct ids of trades from the fields. Fails with `Memory` only.
+/// Parses 1 to 20 different ids of trades from the fields. Fails with `Memory` only.
 ///
-/// Refuses with `BadText` (18) if a field is malformed, if an id is named twice, or if there are
+/// Refuses with `BadText` (18) if a field is malformed, if an id occurs twice, or if there are
 /// none. Otherwise refuses with `TooMany` (20) if there are more than 20.
 pub fn check_ids(alloc: Global, fields: &[&[u8]]) -> Planned<TradeIds>
     ensures read { IfOk result (λ read. ParsesAs (λ trades. trades) read (read_ids (texts fields.now))) }

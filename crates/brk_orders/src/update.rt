@@ -24,8 +24,8 @@ pub enum Update {
     CashNames { symbol: Symbol, span: Span },
 }
 
-/// Reads an update of executors' names from the fields, 1 to 20 distinct ids of trades, or returns
-/// the refusal of malformed fields. Fails with `Memory` only.
+/// Parses an update of executors' names from the fields, 1 to 20 different ids of trades, or
+/// returns the refusal of malformed fields. Fails with `Memory` only.
 pub fn check_upname(alloc: Global, fields: &[&[u8]]) -> Planned<Update>
     ensures read { IfOk result (λ read. ParsesAs update_of read (read_as ChangeExecutors read_ids (texts fields.now))) }
     ensures fault { OnErr result (result ≡ Err Memory) }
@@ -36,8 +36,8 @@ pub fn check_upname(alloc: Global, fields: &[&[u8]]) -> Planned<Update>
     }
 }
 
-/// Reads an update of cash types from the fields ACCOUNT, FROM and TO, or returns the refusal of
-/// malformed fields. Never allocates.
+/// Parses an update of cash types from the fields ACCOUNT, FROM and TO. Refuses malformed fields,
+/// or another number of them, with `BadText`. Never allocates.
 pub fn check_upcash(fields: &[&[u8]]) -> Result<Update, Refusal>
     ensures { ParsesAs update_of result (read_upcash (texts fields.now)) }
 {
@@ -57,8 +57,8 @@ pub fn check_upcash(fields: &[&[u8]]) -> Result<Update, Refusal>
     Ok(Update::CashTypes { account, span })
 }
 
-/// Reads an update of cash texts from the fields SYMBOL, FROM and TO, or returns the refusal of
-/// malformed fields. Fails with `Memory` only.
+/// Parses an update of cash texts from the fields SYMBOL, FROM and TO. Refuses malformed fields, or
+/// another number of them, with `BadText`. Fails with `Memory` only.
 pub fn check_uptext(alloc: Global, fields: &[&[u8]]) -> Planned<Update>
     ensures read { IfOk result (λ read. ParsesAs update_of read (read_uptext (texts fields.now))) }
     ensures fault { OnErr result (result ≡ Err Memory) }

@@ -13,17 +13,20 @@ use Rattle.brk_changes.specs.declared.change.Change.TheVariants.{SetLast}
 use Rattle.brk_plans.specs.declared.plan.Plan.{Plan}
 use Rattle.brk_plans.specs.declared.reply.Reply.TheVariants as reply
 
--- The checks of the trade with this status: it exists and is pending.
+-- The checks of a cancel against the status of its trade, none if the trade does not exist: the
+-- trade exists and is pending.
 abbrev pub cancel_tests : Option Status → List Test
 cancel_tests None = (true, NoTrade) ∷ []
 cancel_tests (Some status) = (not (same_status status Pending), WrongStatus status) ∷ []
 
--- The row changes of a canceled trade, with the last stamp.
+-- The row changes of a cancel at `stamp`: those by which `trade` changes from pending to canceled,
+-- and the last stamp.
 abbrev pub cancel_changes : ℕ → ℕ → List Change
 cancel_changes trade stamp = left_waiting trade Canceled stamp ++ SetLast stamp ∷ []
 
--- The plan cancels the trade, deletes its request and sets the last stamp, and its reply has the
--- stamp. The trade passes its checks.
+-- `plan` cancels `trade`, whose status is `found`, at the stamp of the command. The trade passes
+-- its checks, and a later stamp is left. Its row changes are `cancel_changes`, and its reply has
+-- the stamp. `last` is the stamp of the last accepted command, and `now` the clock reading.
 pub record IsCancel (trade : ℕ) (found : Option Status) (last : Option ℕ) (now : ℕ) (plan : Plan) : Type 0 where
   pub stamp : ℕ
   pub accepted : first_refusal (cancel_tests found ++ clock_test last now ∷ []) ≡ None

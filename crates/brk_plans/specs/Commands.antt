@@ -4,7 +4,7 @@ use Rattle.brk_ref.specs.Records.{broker_of, customer_of, account_of, permission
 use Rattle.brk_plans.specs.declared.reference.Reference.{Reference}
 use Rattle.brk_plans.specs.declared.reference.Reference.TheVariants as reference
 
--- The model's command that adds the record.
+-- The model's command that adds a typed record of reference data.
 abbrev pub adding_command : Reference → Command
 adding_command (reference.Broker broker) = AddBroker (broker_of broker)
 adding_command (reference.Customer customer) = AddCustomer (customer_of customer)

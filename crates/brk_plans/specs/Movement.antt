@@ -19,48 +19,54 @@ use Rattle.brk_plans.specs.declared.movement.MoveFound.{MoveFound}
 use Rattle.brk_plans.specs.declared.plan.Plan.{Plan}
 use Rattle.brk_plans.specs.declared.reply.Reply.TheVariants as reply
 
--- The amount in cents, negative for a withdrawal.
+-- The `amount` of a movement in cents, negated for a withdrawal.
 abbrev pub signed_by : Direction → ℕ → ℤ
 signed_by Deposit amount = pos amount
 signed_by Withdrawal amount = neg_ℤ (pos amount)
 
--- The amount of the movement in cents, negative for a withdrawal.
+-- The amount of the movement `m` in cents, negated for a withdrawal.
 abbrev pub signed_amount : Movement → ℤ
 signed_amount m = signed_by m.direction m.amount
 
--- The text of the cash row (CM_NAME).
+-- The text of the cash row of a deposit or of a withdrawal (CM_NAME).
 abbrev pub name_of : Direction → Text
 name_of Deposit = codes "Deposit"
 name_of Withdrawal = codes "Withdrawal"
 
--- The balance of the account after the movement.
+-- The balance of the account after the movement `m`, in cents, where a missing account counts as
+-- balance 0.
 abbrev pub moved_balance : Movement → MoveFound → ℤ
 moved_balance m found = unwrap_or found.balance (pos 0) +ℤ signed_amount m
 
--- The checks of a movement against the facts in the tables.
+-- The checks of the movement `m` against the facts `found`: the account exists, the balance after
+-- it does not exceed the limit, and not all numbers of movements are used.
 abbrev pub move_tests : Movement → MoveFound → List Test
 move_tests m found =
     (is_none found.balance, NoAccount) ∷ (nat_lt greatest_amount (nat_abs (moved_balance m found)), Range limit.Balance)
     ∷ (found.has_all_movements, Range limit.Moves) ∷ []
 
--- The cash row of a movement.
+-- The CASH_MOVE row of the movement `m` with the id `number` and the stamp `stamp`. It has no
+-- trade.
 abbrev pub planned_move_row : Movement → (number stamp : ℕ) → tables.MoveRow
 planned_move_row m number stamp = record { id = number; account = m.account; trade = None; stamp = stamp; amount = signed_amount m; name = name_of m.direction }
 
--- The row changes of a movement: its cash row, the balance of the account, and the last stamp.
+-- The row changes of a movement: the cash row `row` is added, the balance of `account` is set to
+-- `balance`, and the last stamp to `stamp`.
 abbrev pub move_changes : ℕ → MoveRow → ℤ → ℕ → List Change
 move_changes account row balance stamp = change.AddMove row ∷ change.SetBalance account balance ∷ change.SetLast stamp ∷ []
 
--- The plan adds the cash row with this number, and sets the balance of the account and the last
--- stamp. Its reply has the stamp, the number and the balance.
+-- `plan` adds the cash row of the movement `m` with the id `number`, sets the balance of its
+-- account to `balance` and the last stamp to `stamp`. Its reply has the stamp, the id and the
+-- balance.
 pub record IsMoved (m : Movement) (number : ℕ) (balance : ℤ) (stamp : ℕ) (plan : Plan) : Type 0 where
   pub row : MoveRow
   pub posted : move_row_of row ≡ planned_move_row m number stamp
   pub told : plan.reply ≡ reply.Moved stamp number balance
   pub changes : plan.changes.items ≡ move_changes m.account row balance stamp
 
--- The plan applies the movement with the next number and the balance after it. The movement passes
--- its checks.
+-- `plan` applies the movement `m` at the stamp of the command, with the next id of a cash row and
+-- the balance after it. The movement passes its checks against the facts `found`, and a later stamp
+-- is left.
 pub record IsMove (m : Movement) (found : MoveFound) (last : Option ℕ) (now : ℕ) (plan : Plan) : Type 0 where
   pub stamp : ℕ
   pub accepted : first_refusal (move_tests m found ++ clock_test last now ∷ []) ≡ None

@@ -16,31 +16,34 @@ use Rattle.brk_plans.specs.declared.reference.Reference.{Reference}
 use Rattle.brk_plans.specs.declared.reference.Reference.TheVariants as reference
 use Rattle.brk_plans.specs.declared.reply.Reply.TheVariants.{Booked}
 
--- The checks of an account.
+-- The checks of a new account against the facts `found`: its customer and its broker exist, its id
+-- is new, and its customer has fewer accounts than the greatest number.
 abbrev pub account_tests : ReferenceFacts → List Test
 account_tests found =
     (not found.customer, NoCustomer) ∷ (not found.broker, NoBroker) ∷ exists_if found.same_id ∷ (nat_le most_accounts found.accounts, Range limit.Accounts) ∷ []
 
--- The checks of a permission.
+-- The checks of a new permission against the facts `found`: its account exists, and its key is new.
 abbrev pub permission_tests : ReferenceFacts → List Test
 permission_tests found = (not found.account, NoAccount) ∷ exists_if found.same_id ∷ []
 
--- The checks of a band.
+-- The checks of a new commission band `band` against the facts `found`: its bounds are not
+-- reversed, and no band shares a quantity with it.
 abbrev pub band_tests : Band → ReferenceFacts → List Test
 band_tests band found = (nat_lt band.to_qty band.from_qty, BadQty) ∷ (found.overlaps, Overlap) ∷ []
 
--- True if the customer's rates plus another rate exceed the greatest rate, or the customer's rates
--- alone do (`None`).
+-- True if the sum of a customer's tax rates plus another rate (0 if it is none) exceeds the
+-- greatest rate. If the sum is none, it exceeds the greatest rate itself.
 abbrev pub exceeds_whole : Option ℕ → Option ℕ → Bool
 exceeds_whole None rate = true
 exceeds_whole (Some rates) rate = nat_lt greatest_tax_rate (rates + unwrap_or rate 0)
 
--- The checks of a tax that a customer is to pay.
+-- The checks of a new tax of a customer against the facts `found`: the customer and the tax exist,
+-- the customer does not pay it yet, and the sum of its rates does not exceed the greatest rate.
 abbrev pub customer_tax_tests : ReferenceFacts → List Test
 customer_tax_tests found =
     (not found.customer, NoCustomer) ∷ (is_none found.rate, NoTax) ∷ exists_if found.same_id ∷ (exceeds_whole found.rates found.rate, TaxSum) ∷ []
 
--- The checks of a record against the facts in the tables.
+-- The checks of a new record of reference data against the facts `found`, by its kind.
 abbrev pub tests_of : Reference → ReferenceFacts → List Test
 tests_of (reference.Broker broker) found = exists_if found.same_id ∷ []
 tests_of (reference.Customer customer) found = exists_if found.same_id ∷ exists_if found.same_tax_id ∷ []
@@ -52,11 +55,11 @@ tests_of (reference.Band band) found = band_tests band found
 tests_of (reference.TaxRate tax) found = exists_if found.same_id ∷ []
 tests_of (reference.CustomerTax pays) found = customer_tax_tests found
 
--- The check that a later stamp is left.
+-- The check that a stamp after `last` is left for a command at the clock reading `now`.
 abbrev pub clock_test : Option ℕ → ℕ → Test
 clock_test last now = (is_none (stamp_after last now), ClockEnd)
 
--- The row change that adds the record.
+-- The row change that adds the record, of a listing its security.
 abbrev pub row_added : Reference → Change
 row_added (reference.Broker broker) = change.AddBroker broker
 row_added (reference.Customer customer) = change.AddCustomer customer
@@ -68,17 +71,20 @@ row_added (reference.Band band) = change.AddBand band
 row_added (reference.TaxRate tax) = change.AddTaxRate tax
 row_added (reference.CustomerTax pays) = change.AddCustomerTax pays
 
--- The last trade of a newly listed security: its first price, and volume 0.
+-- The first LAST_TRADE row of the security of `listing`: its first price, volume 0 and the stamp
+-- `stamp`.
 abbrev pub first_trade : ℕ → Listing → LastTrade
 first_trade stamp listing = record { symbol = listing.security.symbol; stamp = stamp; price = listing.price; volume = 0 }
 
--- The row changes that add the record: of a security, its last trade too.
+-- The row changes that add the record at `stamp`: its own row, and of a listing its first
+-- LAST_TRADE row too.
 abbrev pub rows_added : ℕ → Reference → List Change
 rows_added stamp (reference.Security listing) = change.AddSecurity listing.security ∷ change.AddLastTrade (first_trade stamp listing) ∷ []
 rows_added stamp other = row_added other ∷ []
 
--- The plan adds the rows of the record and sets the last stamp, and its reply has the stamp. The
--- record passes its checks.
+-- `plan` adds the record `reference` at the stamp of the command. The record passes its checks
+-- against the facts `found`, and a later stamp is left. Its row changes are those that add the
+-- record and the last stamp, and its reply has the stamp.
 pub record IsPlanned (reference : Reference) (found : ReferenceFacts) (last : Option ℕ) (now : ℕ) (plan : Plan) : Type 0 where
   pub stamp : ℕ
   pub accepted : first_refusal (tests_of reference found ++ clock_test last now ∷ []) ≡ None

@@ -6,7 +6,7 @@ use Rattle.brk_plans.specs.declared.reply.Completed.{Completed}
 use Rattle.brk_plans.specs.declared.reply.Reply as trade
 use Rattle.brk_plans.specs.declared.reply.Reply.TheVariants as reply
 
--- The model's estimate with the figures of `e`.
+-- The model's estimate with the values of the typed estimate `e`.
 abbrev pub estimate_of : Estimate → model.Estimate
 estimate_of e = record {
   price = e.price;
@@ -18,7 +18,7 @@ estimate_of e = record {
   assets = e.assets;
 }
 
--- The model's completion with the figures of `c`.
+-- The model's completion with the values of the typed completion `c`.
 abbrev pub completion_of : Completed → model.Completion
 completion_of c = record {
   commission = c.commission;
@@ -30,7 +30,7 @@ completion_of c = record {
   balance = c.balance;
 }
 
--- The model's reply for a reply of the program.
+-- The model's reply with the values of a typed reply.
 abbrev pub reply_of : trade.Reply → Reply
 reply_of (reply.Booked stamp) = Booked stamp
 reply_of (reply.Ordered ordered) = Ordered ordered.stamp ordered.trade ordered.status (estimate_of ordered.estimate)
@@ -40,7 +40,7 @@ reply_of (reply.Completed completed) = CompletedTrade completed.stamp (completio
 reply_of (reply.Changed stamp count) = Changed stamp count
 reply_of (reply.Moved stamp number balance) = MovedCash stamp number balance
 
--- The program's estimate with the figures of the model's estimate `e`.
+-- The typed estimate with the values of the model's estimate `e`.
 abbrev pub estimate_with : model.Estimate → Estimate
 estimate_with e = record {
   price = e.price;

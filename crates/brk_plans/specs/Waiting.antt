@@ -4,8 +4,8 @@ use Rattle.brk_money.specs.declared.status.Status.{Status}
 use Rattle.brk_changes.specs.declared.change.Change.{Change}
 use Rattle.brk_changes.specs.declared.change.Change.TheVariants.{SetStatus, AddHistory, RemoveRequest}
 
--- The row changes of a pending trade that changes to `status`: its status, a history row, and the
--- deletion of its request.
+-- The row changes by which the pending `trade` changes to `status` at `stamp`: its status is set, a
+-- TRADE_HISTORY row is added, and its request is deleted.
 abbrev pub left_waiting : ℕ → Status → ℕ → List Change
 left_waiting trade status stamp =
     SetStatus trade status stamp ∷ AddHistory (record { trade = trade; status = status; stamp = stamp }) ∷ RemoveRequest trade ∷ []

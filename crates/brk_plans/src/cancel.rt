@@ -11,7 +11,8 @@ use brk_changes::Change;
 use brk_money::{Fault, Id, Planned, Refusal, Stamp, Status, stamp_after};
 use std::alloc::Global;
 
-// Returns the first refusal that applies to a cancel of a trade of this status.
+// Returns the refusal of a cancel of a trade with the status `found`, none if it does not exist:
+// `NoTrade`, or `WrongStatus` if it is not pending. Returns `None` if neither applies.
 fn refusal_of(found: Option<Status>) -> Option<Refusal>
     ensures { result ≡ first_refusal (cancel_tests found) }
 {
@@ -22,7 +23,8 @@ fn refusal_of(found: Option<Status>) -> Option<Refusal>
     }
 }
 
-// Returns the row changes of a canceled trade, with the last stamp.
+// Returns the row changes that cancel a trade, and that set the last stamp. Fails with `Memory`
+// only.
 fn changes_of(alloc: Global, trade: Id, stamp: Stamp) -> Result<Vec<Change>, Fault>
     ensures changes { IfOk result (λ changes. changes.items ≡ cancel_changes trade stamp) }
     ensures fault { OnErr result (result ≡ Err Memory) }

@@ -2,7 +2,8 @@ use brk_changes::{CashType, TradeRow};
 use brk_money::{Id, Qty, TradeType};
 use brk_ref::Name;
 
-/// The settlement text of a completed trade (SE_CASH_TYPE), and whether it is a cash trade.
+/// The settlement text of a completed trade (SE_CASH_TYPE), and the type of its account: cash or
+/// margin.
 #[derive(Clone, Copy)]
 pub struct SettlementText {
     pub trade: Id,
@@ -10,8 +11,8 @@ pub struct SettlementText {
     pub cash_type: CashType,
 }
 
-/// A completed cash trade whose text (CM_NAME) may be updated: the facts that make the text, and
-/// the stored text.
+/// The text of the cash row of a completed cash trade (CM_NAME), and the facts that make its new
+/// text.
 #[derive(Drop)]
 pub struct CashText {
     pub trade: Id,
@@ -20,7 +21,7 @@ pub struct CashText {
     pub name: String,
 }
 
-/// The trades of a text update, in order, with the facts that make their new texts.
+/// The trades that a text update selects, in sequence, with the facts that make their new texts.
 #[derive(Drop)]
 pub enum TextUpdate {
     /// Trades whose executors' names are updated.

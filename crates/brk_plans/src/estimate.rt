@@ -1,6 +1,6 @@
 use brk_money::{Amount, Price, Wide};
 
-/// The figures of an order, in cents (Trade-Order).
+/// The estimated figures of an order, in cents (Trade-Order).
 #[derive(Clone, Copy, PartialEq, Eq)]
 pub struct Estimate {
     /// The requested price.

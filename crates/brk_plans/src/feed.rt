@@ -33,7 +33,7 @@ pub fn triggers(kind: TradeType, bid: Price, price: Price) -> bool
     }
 }
 
-// Returns true if this is the quote of the symbol.
+// Returns true if the last trade of the quote is of the symbol.
 fn is_quote_of(quote: &Quote, symbol: &Symbol) -> bool
     ensures { result ≡ is_of symbol.now (held_of quote.now) }
 {
@@ -47,14 +47,15 @@ pub fn has_no_quote(quotes: &[Quote], tick: &Tick) -> bool
     !quotes.iter().any(|quote| is_quote_of(quote, &tick.symbol))
 }
 
-// Returns true if the symbol of some tick has no quote.
+// Returns true if there is no quote of the symbol of one of the ticks.
 fn has_unknown(quotes: &[Quote], ticks: &[Tick]) -> bool
     ensures { result ≡ list_any (lacks_quote (held quotes.now)) ticks.now }
 {
     ticks.iter().any(|tick| has_no_quote(quotes, tick))
 }
 
-// Returns the last trade after the tick, or `Range(Volume)` if the volume would exceed its limit.
+// Returns the last trade after the tick: its price and stamp are those of the tick, and its volume
+// is greater by its quantity. Refuses with `Range(Volume)` if the volume would exceed its limit.
 fn last_after(stamp: Stamp, tick: &Tick, last: LastTrade) -> Result<LastTrade, Refusal>
     ensures after { IfOk result (λ after. after ≡ spec.last_after stamp tick.now last) }
     ensures refusal { IfErr result (λ refusal. (refusal ≡ Range limit.Volume) × (exceeds (record { last = spec.last_after stamp tick.now last; requests = [] }) ≡ true)) }
@@ -71,7 +72,7 @@ fn last_after(stamp: Stamp, tick: &Tick, last: LastTrade) -> Result<LastTrade, R
     })
 }
 
-// Returns the row change that sets the last trade.
+// Returns the row change that sets the last trade of a symbol. Fails with `Memory` only.
 fn set_to(last: &LastTrade) -> Result<Change, Fault>
     ensures change { IfOk result (λ change. change ≡ SetLastTrade last.now) }
     ensures fault { OnErr result (result ≡ Err Memory) }
@@ -84,7 +85,8 @@ fn set_to(last: &LastTrade) -> Result<Change, Fault>
     }))
 }
 
-// Appends the row changes of the requests that the price triggers, and their trades.
+// Appends the row changes by which the trades that the price triggers are submitted, and the ids of
+// these trades. Fails with `Memory` only.
 fn submit_triggered(
     stamp: Stamp,
     price: Price,
@@ -105,7 +107,7 @@ fn submit_triggered(
     Ok(())
 }
 
-// Returns the requests that the price does not trigger.
+// Returns those of `requests` that the price does not trigger. Fails with `Memory` only.
 fn still_waiting(
     alloc: Global,
     price: Price,
@@ -125,7 +127,7 @@ fn still_waiting(
 
 // Returns the quote after the tick, and appends the row changes and the triggered trades. A quote
 // of another symbol is unchanged. Refuses with `Range(Volume)` if the volume would exceed its
-// limit.
+// limit. Fails with `Memory` only.
 fn take_price(
     alloc: Global,
     stamp: Stamp,
@@ -156,7 +158,7 @@ fn take_price(
 }
 
 // Returns the quotes after the tick, and appends the row changes and the triggered trades. Refuses
-// with `Range(Volume)` if the volume would exceed its limit.
+// with `Range(Volume)` if a volume would exceed its limit. Fails with `Memory` only.
 fn take_tick(
     alloc: Global,
     stamp: Stamp,
@@ -182,7 +184,7 @@ fn take_tick(
     Ok(Ok(after))
 }
 
-// Proves that no volume exceeds its limit, by its type. It only reads them.
+// Proof-only: its contract states that no volume exceeds its limit. It only reads the volumes.
 fn tell_limits(quotes: &[Quote])
     ensures { list_any exceeds (held quotes.now) ≡ false }
 {
@@ -191,8 +193,8 @@ fn tell_limits(quotes: &[Quote])
     }
 }
 
-// Appends the row changes and the triggered trades of the ticks, in order. Refuses with
-// `Range(Volume)` if a volume would exceed its limit.
+// Appends the row changes and the triggered trades of the ticks, applied in sequence. Refuses with
+// `Range(Volume)` if a volume would exceed its limit. Fails with `Memory` only.
 fn take_ticks(
     alloc: Global,
     stamp: Stamp,

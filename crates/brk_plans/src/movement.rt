@@ -25,7 +25,7 @@ pub struct MoveFound {
     pub next: MoveId,
 }
 
-// Returns the amount in cents, negative for a withdrawal.
+// Returns the amount of the movement in cents, negated for a withdrawal.
 fn signed(movement: &Movement) -> Cents
     ensures { result ≡ spec.signed_amount movement.now }
 {
@@ -37,7 +37,7 @@ fn signed(movement: &Movement) -> Cents
     Cents::new(cents).unwrap()
 }
 
-// Returns the text of the cash row (CM_NAME).
+// Returns the text of the cash row of a deposit or of a withdrawal (CM_NAME).
 fn name_of(direction: Direction) -> &'static str
     ensures { result.now ≡ spec.name_of direction }
 {
@@ -56,7 +56,8 @@ pub fn added(balance: Cents, amount: Cents) -> Option<Cents>
     Cents::new(balance.get() + amount.get())
 }
 
-// Returns the balance after the movement, or the first refusal that applies.
+// Returns the balance of the account after the movement, or the first refusal that applies of
+// `NoAccount`, `Range(Balance)` and `Range(Moves)`.
 fn balance_after(movement: &Movement, found: &MoveFound) -> Result<Cents, Refusal>
     ensures { MatchResult result
         (λ balance. (first_refusal (move_tests movement.now found.now) ≡ None) × (balance ≡ spec.moved_balance movement.now found.now))
@@ -74,7 +75,7 @@ fn balance_after(movement: &Movement, found: &MoveFound) -> Result<Cents, Refusa
     Ok(balance)
 }
 
-// Returns the cash row of a movement.
+// Returns the cash row of the movement with this id and stamp. Fails if memory runs out.
 fn move_row(
     alloc: Global,
     movement: &Movement,
@@ -93,7 +94,8 @@ fn move_row(
     })
 }
 
-// Returns the row changes of a movement: its row, the balance of the account, and the last stamp.
+// Returns the row changes of a movement: the cash row is added, and the balance of the account and
+// the last stamp are set. Fails with `Memory` only.
 fn changes_of(
     alloc: Global,
     account: Id,
@@ -111,7 +113,8 @@ fn changes_of(
     Ok(changes)
 }
 
-// Returns the plan of an accepted movement with this number and this balance after it.
+// Returns the plan of an accepted movement with this id of its cash row, and this balance after it.
+// Fails with `Memory` only.
 fn plan_of(
     alloc: Global,
     movement: &Movement,

@@ -10,7 +10,7 @@ use brk_changes::Change;
 use brk_money::{Day, Fault, Planned, Refusal, Stamp, day_of, stamp_after};
 use std::alloc::Global;
 
-// Returns the row changes that set the settlement day: its row, and the last stamp.
+// Returns the row changes that set the settlement day and the last stamp. Fails with `Memory` only.
 fn changes_of(alloc: Global, day: Day, stamp: Stamp) -> Result<Vec<Change>, Fault>
     ensures changes { IfOk result (λ changes. changes.items ≡ change.SetRule day ∷ change.SetLast stamp ∷ []) }
     ensures fault { OnErr result (result ≡ Err Memory) }

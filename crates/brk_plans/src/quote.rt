@@ -7,15 +7,16 @@ use brk_changes::RequestRow;
 use brk_money::Fault;
 use brk_ref::LastTrade;
 
-/// The last trade of one security, and its pending requests, sorted by trade.
+/// The last trade of one security on the market, and its pending requests, sorted by trade,
+/// ascending.
 #[derive(Drop)]
 pub struct Quote {
     pub last: LastTrade,
     pub requests: Vec<RequestRow>,
 }
 
-/// Creates a quote of a last trade and of the requests of each pending type, which are merged in
-/// ascending order of their trades. Fails with `Memory` only.
+/// Returns the quote of a last trade and of the requests of each pending type, sorted by trade,
+/// ascending. Fails with `Memory` only.
 pub fn quote_with(
     last: LastTrade,
     stop_losses: Vec<RequestRow>,

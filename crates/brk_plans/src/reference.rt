@@ -58,14 +58,14 @@ pub struct ReferenceFacts {
 /// The greatest number of accounts of a customer.
 pub const MOST_ACCOUNTS: usize = 10;
 
-// Returns `Exists` if the record was found.
+// Returns the refusal `Exists` if `found`, otherwise `None`.
 fn exists_if(found: bool) -> Option<Refusal>
     ensures { result ≡ (if found then Some Exists else None) }
 {
     if found { Some(Refusal::Exists) } else { None }
 }
 
-// Returns the first refusal that applies to the record.
+// Returns the first refusal that applies to the record, by its kind, or `None`.
 fn refusal_of(reference: &Reference, found: ReferenceFacts) -> Option<Refusal>
     ensures { result ≡ first_refusal (tests_of reference.now found) }
 {
@@ -82,7 +82,7 @@ fn refusal_of(reference: &Reference, found: ReferenceFacts) -> Option<Refusal>
     }
 }
 
-// Returns the first refusal that applies to an account.
+// Returns the first refusal that applies to a new account, or `None`.
 fn account_refusal(found: ReferenceFacts) -> Option<Refusal>
     ensures { result ≡ first_refusal (account_tests found) }
 {
@@ -101,7 +101,7 @@ fn account_refusal(found: ReferenceFacts) -> Option<Refusal>
     None
 }
 
-// Returns the first refusal that applies to a permission.
+// Returns the first refusal that applies to a new permission, or `None`.
 fn permission_refusal(found: ReferenceFacts) -> Option<Refusal>
     ensures { result ≡ first_refusal (permission_tests found) }
 {
@@ -111,7 +111,7 @@ fn permission_refusal(found: ReferenceFacts) -> Option<Refusal>
     exists_if(found.same_id)
 }
 
-// Returns the first refusal that applies to a band.
+// Returns the first refusal that applies to a new commission band, or `None`.
 fn band_refusal(band: &Band, found: ReferenceFacts) -> Option<Refusal>
     ensures { result ≡ first_refusal (band_tests band.now found) }
 {
@@ -124,7 +124,8 @@ fn band_refusal(band: &Band, found: ReferenceFacts) -> Option<Refusal>
     None
 }
 
-// Returns true if the customer's rates plus another one exceed the greatest rate.
+// Returns true if the sum of a customer's rates plus another rate exceeds the greatest rate, or if
+// the sum is `None`, which exceeds it itself.
 fn exceeds_whole(rates: Option<TaxRate>, rate: TaxRate) -> bool
     ensures { result ≡ spec.exceeds_whole rates (Some rate) }
 {
@@ -134,7 +135,7 @@ fn exceeds_whole(rates: Option<TaxRate>, rate: TaxRate) -> bool
     }
 }
 
-// Returns the first refusal that applies to a tax that a customer is to pay.
+// Returns the first refusal that applies to a new tax of a customer, or `None`.
 fn customer_tax_refusal(found: ReferenceFacts) -> Option<Refusal>
     ensures { result ≡ first_refusal (customer_tax_tests found) }
 {
@@ -153,7 +154,7 @@ fn customer_tax_refusal(found: ReferenceFacts) -> Option<Refusal>
     None
 }
 
-// Returns the row change that adds the record.
+// Returns the row change that adds the record, of a listing its security. Fails if memory runs out.
 fn added(reference: &Reference) -> Result<Change, AllocError>
     ensures { IfOk result (λ change. change ≡ row_added reference.now) }
 {
@@ -170,7 +171,8 @@ fn added(reference: &Reference) -> Result<Change, AllocError>
     }
 }
 
-// Returns the last trade of a newly listed security: its first price, and volume 0.
+// Returns the first LAST_TRADE row of a newly listed security: its first price, volume 0 and the
+// stamp. Fails if memory runs out.
 fn first_trade(listing: &Listing, stamp: Stamp) -> Result<LastTrade, AllocError>
     ensures { IfOk result (λ row. row ≡ spec.first_trade stamp listing.now) }
 {
@@ -182,7 +184,8 @@ fn first_trade(listing: &Listing, stamp: Stamp) -> Result<LastTrade, AllocError>
     })
 }
 
-// Returns the row changes of an accepted record: its rows, and the last stamp.
+// Returns the row changes that add the record, of a listing its LAST_TRADE row too, and that set
+// the last stamp. Fails with `Memory` only.
 fn changes_of(alloc: Global, reference: &Reference, stamp: Stamp) -> Result<Vec<Change>, Fault>
     ensures changes { IfOk result (λ changes. changes.items ≡ rows_added stamp reference.now ++ change.SetLast stamp ∷ []) }
     ensures fault { OnErr result (result ≡ Err Memory) }

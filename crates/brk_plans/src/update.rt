@@ -16,7 +16,8 @@ use brk_orders::Update;
 use brk_ref::Name;
 use std::alloc::Global;
 
-// Returns the refusal if what the update names does not exist.
+// Returns the refusal of a text update if the trades, the account or the security that it names
+// does not exist.
 fn missing(update: &Update) -> Refusal
     ensures { result ≡ spec.missing update.now }
 {
@@ -27,7 +28,7 @@ fn missing(update: &Update) -> Refusal
     }
 }
 
-// Returns the row change of an executor's name.
+// Returns the row change that sets the new executor's name of a trade. Fails with `Memory` only.
 fn set_executor(alloc: Global, trade: &TradeRow) -> Result<Change, Fault>
     ensures change { IfOk result (λ change. after_change change ≡ executor_set trade.now) }
     ensures fault { OnErr result (result ≡ Err Memory) }
@@ -39,7 +40,7 @@ fn set_executor(alloc: Global, trade: &TradeRow) -> Result<Change, Fault>
     })
 }
 
-// Returns the row change of a settlement text.
+// Returns the row change that sets the new settlement text of a trade.
 fn set_cash_type(settled: &SettlementText) -> Change
     ensures { after_change result ≡ cash_type_set settled.now }
 {
@@ -49,7 +50,7 @@ fn set_cash_type(settled: &SettlementText) -> Change
     }
 }
 
-// Returns the row change of a cash text.
+// Returns the row change that sets the new cash text of a trade. Fails with `Memory` only.
 fn set_cash_name(alloc: Global, security: &Name, paid: &CashText) -> Result<Change, Fault>
     ensures change { IfOk result (λ change. after_change change ≡ cash_name_set security.now paid.now) }
     ensures fault { OnErr result (result ≡ Err Memory) }
@@ -61,6 +62,8 @@ fn set_cash_name(alloc: Global, security: &Name, paid: &CashText) -> Result<Chan
     })
 }
 
+// Returns the row changes that set the new executors' names of the trades, in sequence. Fails with
+// `Memory` only.
 fn set_executors(alloc: Global, trades: &[TradeRow]) -> Result<Vec<Change>, Fault>
     ensures changes { IfOk result (λ changes. map after_change changes.items ≡ map executor_set trades.now) }
     ensures fault { OnErr result (result ≡ Err Memory) }
@@ -72,6 +75,8 @@ fn set_executors(alloc: Global, trades: &[TradeRow]) -> Result<Vec<Change>, Faul
     Ok(changes)
 }
 
+// Returns the row changes that set the new settlement texts of the trades, in sequence. Fails with
+// `Memory` only.
 fn set_cash_types(alloc: Global, settled: &[SettlementText]) -> Result<Vec<Change>, Fault>
     ensures changes { IfOk result (λ changes. map after_change changes.items ≡ map cash_type_set settled.now) }
     ensures fault { OnErr result (result ≡ Err Memory) }
@@ -83,6 +88,8 @@ fn set_cash_types(alloc: Global, settled: &[SettlementText]) -> Result<Vec<Chang
     Ok(changes)
 }
 
+// Returns the row changes that set the new cash texts of the trades, in sequence. Fails with
+// `Memory` only.
 fn set_cash_names(alloc: Global, security: &Name, paid: &[CashText]) -> Result<Vec<Change>, Fault>
     ensures changes { IfOk result (λ changes. map after_change changes.items ≡ map (cash_name_set security.now) paid.now) }
     ensures fault { OnErr result (result ≡ Err Memory) }
@@ -94,7 +101,8 @@ fn set_cash_names(alloc: Global, security: &Name, paid: &[CashText]) -> Result<V
     Ok(changes)
 }
 
-// Returns the row changes of the texts of the trades.
+// Returns the row changes of a text update, one for each of its trades, in sequence. Fails with
+// `Memory` only.
 fn set_words(alloc: Global, found: &TextUpdate) -> Result<Vec<Change>, Fault>
     ensures changes { IfOk result (λ changes. map after_change changes.items ≡ words_set found.now) }
     ensures fault { OnErr result (result ≡ Err Memory) }
@@ -106,7 +114,7 @@ fn set_words(alloc: Global, found: &TextUpdate) -> Result<Vec<Change>, Fault>
     }
 }
 
-// Returns the number of trades whose text is updated.
+// Returns the number of trades that a text update selects.
 fn count(found: &TextUpdate) -> usize
     ensures { result ≡ count_of found.now }
 {

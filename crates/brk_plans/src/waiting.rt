@@ -5,7 +5,8 @@ ghost use Rattle.brk_plans.specs.Waiting.{left_waiting};
 use brk_changes::{Change, HistoryRow};
 use brk_money::{Fault, Id, Stamp, Status};
 
-// Appends the row changes by which a pending trade changes to another status.
+// Appends the row changes by which a pending trade changes to another status: its status is set, a
+// history row is added, and its request is deleted. Fails with `Memory` only.
 pub(crate) fn leave_waiting(
     trade: Id,
     status: Status,

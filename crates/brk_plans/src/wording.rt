@@ -12,7 +12,8 @@ use brk_money::Qty;
 use brk_ref::Name;
 use std::alloc::{AllocError, Global};
 
-// Returns the text with each occurrence of `part` replaced by `new`, from the left without overlap.
+// Returns the text with each occurrence of `part`, which is not empty, replaced by `new`, from the
+// left without overlap. Fails if memory runs out.
 fn replaced(alloc: Global, text: &str, part: &str, new: &str) -> Result<String, AllocError>
     requires { 1 ≤ length part.now }
     ensures { IfOk result (λ result. string_bytes result ≡ replace_text part.now new.now text.now) }
@@ -28,7 +29,7 @@ fn replaced(alloc: Global, text: &str, part: &str, new: &str) -> Result<String, 
     Ok(written)
 }
 
-// Returns true if the text contains the part.
+// Returns true if the text contains `part`.
 fn holds(text: &str, part: &str) -> bool
     ensures { result ≡ holds_text part.now text.now }
 {
@@ -36,7 +37,7 @@ fn holds(text: &str, part: &str) -> bool
 }
 
 /// Returns the executor's name with each " X " replaced by a space. If the name has no " X ", each
-/// space is replaced by " X ".
+/// space is replaced by " X ". Fails if memory runs out.
 pub fn changed_executor(alloc: Global, name: &str) -> Result<String, AllocError>
     ensures { IfOk result (λ result. string_bytes result ≡ definition.changed_executor name.now) }
 {
@@ -47,7 +48,9 @@ pub fn changed_executor(alloc: Global, name: &str) -> Result<String, AllocError>
     }
 }
 
-/// Returns the other settlement text of a cash trade (`is_cash`) or of a margin trade.
+/// Returns the new settlement text: of a cash trade (`is_cash`) `Cash` if the present one is
+/// `CashAccount`, otherwise `CashAccount`; of a margin trade `Margin` if it is `MarginAccount`,
+/// otherwise `MarginAccount`.
 pub fn changed_cash_type(is_cash: bool, cash_type: CashType) -> CashType
     ensures { cash_type_word result ≡ spec.cash_type_anew is_cash (cash_type_word cash_type) }
 {
@@ -59,14 +62,15 @@ pub fn changed_cash_type(is_cash: bool, cash_type: CashType) -> CashType
     }
 }
 
-// Appends a space, the number of shares and `words`.
+// Appends a space, the quantity and `words`. Fails if memory runs out.
 fn add_shares(text: &mut String, qty: Qty, words: &str) -> Result<(), AllocError>
     ensures { OnOk result (string_bytes text.new ≡ string_bytes text.old ++ 32 ∷ decimal qty ++ words.now) }
 {
     write!(text, " {}{words}", qty.get())
 }
 
-// Returns the cash text of a trade with these words and the name of its security.
+// Returns the cash text of a trade: the name of its type, its quantity, `words`, and the name of
+// its security. Fails if memory runs out.
 fn cash_text(
     alloc: Global,
     paid: &CashText,
@@ -82,7 +86,7 @@ fn cash_text(
 }
 
 /// Returns the new cash text of a trade with the name of its security: with " Shares of " if the
-/// old text contains " shares of ", otherwise with " shares of ".
+/// present text contains " shares of ", otherwise with " shares of ". Fails if memory runs out.
 pub fn changed_cash_name(
     alloc: Global,
     paid: &CashText,

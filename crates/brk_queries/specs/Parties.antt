@@ -7,7 +7,8 @@ use Rattle.brk_model.specs.Tables.{AccountRow, Tables}
 use Rattle.brk_view.specs.declared.statuses.AccountStatus.{AccountStatus}
 use Rattle.brk_view.specs.declared.statuses.TradeStatus.{TradeStatus}
 
--- The status has these trades, the names of the account's customer, and the name of its broker.
+-- The status has the trades `trades`, the names of the account's customer, who exists in the
+-- tables, and the name of the account's broker.
 abbrev pub ArePartiesOf : AccountRow → Vec TradeStatus → AccountStatus → Tables → Type 0
 ArePartiesOf a trades status t =
     (c : Customer) × (Some c ≡ find (λ c. c.id == a.customer) t.customers) × (status.last_name ≡ c.last_name) × (status.first_name ≡ c.first_name)

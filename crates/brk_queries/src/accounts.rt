@@ -16,7 +16,8 @@ use brk_view::{AccountWorth, View, position};
 use sqlite::Alter;
 use std::alloc::Global;
 
-// Returns the balance and the market value of an account.
+// Returns the balance and the market value of an account. Changes nothing. Fails with `Memory` or
+// `Store` only.
 fn worth_of<S: Alter>(
     alloc: Global,
     store: &mut Store<S>,
@@ -33,7 +34,8 @@ fn worth_of<S: Alter>(
     })
 }
 
-// Returns the balances and market values of a customer's accounts, sorted by id, ascending.
+// Returns the balances and market values of a customer's accounts, sorted by id, ascending. Changes
+// nothing. Fails with `Memory` or `Store` only.
 fn worths_of<S: Alter>(
     alloc: Global,
     store: &mut Store<S>,
@@ -51,7 +53,8 @@ fn worths_of<S: Alter>(
     Ok(worths)
 }
 
-// Returns the view of a customer's accounts, or refuses with `NoCustomer`.
+// Returns the view of a customer's accounts, or refuses with `NoCustomer`. Changes nothing. Fails
+// with `Memory` or `Store` only.
 pub(crate) fn see_position<S: Alter>(
     alloc: Global,
     store: &mut Store<S>,
@@ -69,6 +72,7 @@ pub(crate) fn see_position<S: Alter>(
 }
 
 // Returns the view of the accounts of the customer with a tax id, or refuses with `NoCustomer`.
+// Changes nothing. Fails with `Memory` or `Store` only.
 pub(crate) fn see_position_by_tax_id<S: Alter>(
     alloc: Global,
     store: &mut Store<S>,

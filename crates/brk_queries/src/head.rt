@@ -20,8 +20,8 @@ pub struct Head {
     pub holdings: Wide,
 }
 
-/// Returns the head of an account, or `None` if the account does not exist. Fails with `Memory` or
-/// `Store` only.
+/// Returns the head of an account, or `None` if the account does not exist. Changes nothing. Fails
+/// with `Memory` or `Store` only.
 pub fn find_head<S: Alter>(
     alloc: Global,
     store: &mut Store<S>,

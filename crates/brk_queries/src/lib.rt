@@ -1,5 +1,5 @@
-//! The answers to queries, read from a store: each view as typed rows, or a refusal. Also the head of
-//! an account's statement.
+//! The answers to queries, read from a store: each view as typed rows, or a refusal. Also the head
+//! of the statement of an account.
 #![tactic(auto)]
 
 mod accounts;

@@ -20,7 +20,8 @@ use brk_view::{
 use sqlite::Alter;
 use std::alloc::Global;
 
-// Returns a trade with its settlement, cash row and history.
+// Returns a trade with its settlement, cash row and history. Changes nothing. Fails with `Memory`
+// or `Store` only.
 fn look_up<S: Alter>(
     alloc: Global,
     store: &mut Store<S>,
@@ -35,7 +36,8 @@ fn look_up<S: Alter>(
     looked_up(alloc, trade, settlement, cash, &history)
 }
 
-// Returns trades, in their order, each with its settlement, cash row and history.
+// Returns trades, in their order, each with its settlement, cash row and history. Changes nothing.
+// Fails with `Memory` or `Store` only.
 fn look_up_all<S: Alter>(
     alloc: Global,
     store: &mut Store<S>,
@@ -55,7 +57,8 @@ fn look_up_all<S: Alter>(
     Ok(found)
 }
 
-// Returns the view of trades by their ids, or refuses with `NoTrade`.
+// Returns the view of trades by their ids, or refuses with `NoTrade`. Changes nothing. Fails with
+// `Memory` or `Store` only.
 pub(crate) fn see_trades<S: Alter>(
     alloc: Global,
     store: &mut Store<S>,
@@ -73,7 +76,7 @@ pub(crate) fn see_trades<S: Alter>(
 }
 
 // Returns the view of the first trades of an account between two stamps, or refuses with
-// `NoAccount`.
+// `NoAccount`. Changes nothing. Fails with `Memory` or `Store` only.
 pub(crate) fn see_account_trades<S: Alter>(
     alloc: Global,
     store: &mut Store<S>,
@@ -92,7 +95,7 @@ pub(crate) fn see_account_trades<S: Alter>(
 }
 
 // Returns the view of the first trades of a symbol between two stamps, or refuses with
-// `NoSecurity`.
+// `NoSecurity`. Changes nothing. Fails with `Memory` or `Store` only.
 pub(crate) fn see_symbol_trades<S: Alter>(
     alloc: Global,
     store: &mut Store<S>,

@@ -14,7 +14,8 @@ use brk_view::{LotTouch, TouchedLots, View, keep_first, lookup_lots};
 use sqlite::Alter;
 use std::alloc::Global;
 
-// Returns the stamp of a trade's last status. Fails with `Store` if the trade does not exist.
+// Returns the stamp of a trade's last status. Changes nothing. Fails with `Memory` or `Store` only;
+// with `Store` also if the trade does not exist.
 fn known_stamp<S: Alter>(store: &mut Store<S>, trade: Id) -> Result<Stamp, Fault>
     ensures read { ReadPost S.Store store.old store.new result (λ stamp t. stamp ≡ stamp_of t trade) }
     ensures fault { IfErr result MayFail }
@@ -25,7 +26,8 @@ fn known_stamp<S: Alter>(store: &mut Store<S>, trade: Id) -> Result<Stamp, Fault
     }
 }
 
-// Returns the changes of a lot, each with the stamp of the trade that made it.
+// Returns the changes of a lot, each with the stamp of the trade that made it. Changes nothing.
+// Fails with `Memory` or `Store` only.
 fn touches_of<S: Alter>(
     alloc: Global,
     store: &mut Store<S>,
@@ -46,8 +48,8 @@ fn touches_of<S: Alter>(
     Ok(touches)
 }
 
-// Returns the first changes of the lots that a trade touched. They are gathered lot by lot, the
-// last lot first.
+// Returns the first 20 changes of all lots that a trade touched, sorted as the view shows them.
+// Changes nothing. Fails with `Memory` or `Store` only.
 fn touched_lots<S: Alter>(
     alloc: Global,
     store: &mut Store<S>,
@@ -69,7 +71,7 @@ fn touched_lots<S: Alter>(
 }
 
 // Returns the view of the changes of the lots that the oldest trade of an account at or after a
-// stamp touched, or refuses with `NoAccount`.
+// stamp touched, or refuses with `NoAccount`. Changes nothing. Fails with `Memory` or `Store` only.
 pub(crate) fn see_lots<S: Alter>(
     alloc: Global,
     store: &mut Store<S>,

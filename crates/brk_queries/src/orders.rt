@@ -15,7 +15,7 @@ use brk_view::{View, submitted};
 use sqlite::Alter;
 use std::alloc::Global;
 
-// Returns the view of the submitted trades.
+// Returns the view of the submitted trades. Changes nothing. Fails with `Memory` or `Store` only.
 pub(crate) fn see_submitted<S: Alter>(alloc: Global, store: &mut Store<S>) -> Planned<View>
     ensures read { ReadPost S.Store store.old store.new result (Shows SubmittedTrades) }
     ensures fault { IfErr result MayFail }
@@ -25,7 +25,8 @@ pub(crate) fn see_submitted<S: Alter>(alloc: Global, store: &mut Store<S>) -> Pl
     Ok(Ok(view))
 }
 
-// Returns the view of an order's estimate, or the refusal.
+// Returns the view of an order's estimate, or the refusal. Changes nothing. Fails with `Memory` or
+// `Store` only.
 pub(crate) fn see_estimate<S: Alter>(
     alloc: Global,
     store: &mut Store<S>,

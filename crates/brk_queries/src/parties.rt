@@ -14,7 +14,8 @@ use brk_store::Store;
 use brk_view::{AccountStatus, TradeStatus};
 use sqlite::Alter;
 
-// Returns the customer with an id. Fails with `Store` if there is none.
+// Returns the customer with an id. Changes nothing. Fails with `Memory` or `Store` only; with
+// `Store` also if there is none.
 fn known_customer<S: Alter>(store: &mut Store<S>, id: Id) -> Result<Customer, Fault>
     ensures read { ReadPost S.Store store.old store.new result (λ customer t. Some (customer_of customer) ≡ find (λ c. c.id == id) t.customers) }
     ensures fault { IfErr result MayFail }
@@ -25,7 +26,8 @@ fn known_customer<S: Alter>(store: &mut Store<S>, id: Id) -> Result<Customer, Fa
     }
 }
 
-// Returns the name of the broker with an id. Fails with `Store` if there is none.
+// Returns the name of the broker with an id. Changes nothing. Fails with `Memory` or `Store` only;
+// with `Store` also if there is none.
 fn known_broker_name<S: Alter>(store: &mut Store<S>, id: Id) -> Result<Name, Fault>
     ensures read { ReadPost S.Store store.old store.new result (λ name t. name ≡ name_of_broker t id) }
     ensures fault { IfErr result MayFail }
@@ -36,7 +38,8 @@ fn known_broker_name<S: Alter>(store: &mut Store<S>, id: Id) -> Result<Name, Fau
     }
 }
 
-// Returns the trades of an account with the names of its customer and its broker.
+// Returns the trades of an account with the names of its customer and its broker. Changes nothing.
+// Fails with `Memory` or `Store` only.
 pub(crate) fn with_parties<S: Alter>(
     store: &mut Store<S>,
     row: &AccountRow,

@@ -16,7 +16,7 @@ use brk_view::{View, recent};
 use sqlite::Alter;
 use std::alloc::Global;
 
-// Appends statuses to others.
+// Appends statuses to others. Fails with `Memory` or `Store` only.
 fn add_all(history: &mut Vec<HistoryRow>, rows: &[HistoryRow]) -> Result<(), Fault>
     ensures added { OnOk result (history.new.items ≡ history.old.items ++ rows.now) }
     ensures fault { IfErr result MayFail }
@@ -28,6 +28,7 @@ fn add_all(history: &mut Vec<HistoryRow>, rows: &[HistoryRow]) -> Result<(), Fau
 }
 
 // Returns the last trades of an account, the most recent first, and all rows of their history.
+// Changes nothing. Fails with `Memory` or `Store` only.
 fn read_recent<S: Alter>(
     alloc: Global,
     store: &mut Store<S>,
@@ -48,6 +49,7 @@ fn read_recent<S: Alter>(
 }
 
 // Returns the view of an account's last trades and their statuses, or refuses with `NoAccount`.
+// Changes nothing. Fails with `Memory` or `Store` only.
 pub(crate) fn see_recent<S: Alter>(
     alloc: Global,
     store: &mut Store<S>,

@@ -17,7 +17,8 @@ use brk_view::{TradeStatus, View, status};
 use sqlite::Alter;
 use std::alloc::Global;
 
-// Returns a trade with its security. Fails with `Store` if the security does not exist.
+// Returns a trade with its security. Changes nothing. Fails with `Memory` or `Store` only; with
+// `Store` also if the security does not exist.
 fn with_security<S: Alter>(store: &mut Store<S>, trade: TradeRow) -> Result<TradeStatus, Fault>
     ensures read { ReadPost S.Store store.old store.new result (λ status t. status_rows status ≡ status_rows_in t (trade_row_of trade)) }
     ensures fault { IfErr result MayFail }
@@ -28,7 +29,8 @@ fn with_security<S: Alter>(store: &mut Store<S>, trade: TradeRow) -> Result<Trad
     }
 }
 
-// Returns the last trades of an account, each with its security, the most recent first.
+// Returns the last trades of an account, each with its security, the most recent first. Changes
+// nothing. Fails with `Memory` or `Store` only.
 fn read_statuses<S: Alter>(
     alloc: Global,
     store: &mut Store<S>,
@@ -48,6 +50,7 @@ fn read_statuses<S: Alter>(
 }
 
 // Returns the view of an account's parties and its last trades, or refuses with `NoAccount`.
+// Changes nothing. Fails with `Memory` or `Store` only.
 pub(crate) fn see_status<S: Alter>(
     alloc: Global,
     store: &mut Store<S>,

@@ -19,7 +19,8 @@ use brk_view::{BrokerNames, BrokerVolume, View, broker_volume, request_volume};
 use sqlite::Alter;
 use std::alloc::Global;
 
-// Returns true if the security of a symbol exists and is in a sector.
+// Returns true if the security of a symbol exists and is in a sector. Changes nothing. Fails with
+// `Memory` or `Store` only.
 fn is_in_sector<S: Alter>(
     store: &mut Store<S>,
     symbol: &Symbol,
@@ -34,7 +35,7 @@ fn is_in_sector<S: Alter>(
     }
 }
 
-// Appends a request to others if its security is in a sector.
+// Appends a request to others if its security is in a sector. Fails with `Memory` or `Store` only.
 fn keep_in_sector<S: Alter>(
     store: &mut Store<S>,
     sector: &Name,
@@ -51,7 +52,8 @@ fn keep_in_sector<S: Alter>(
     Ok(())
 }
 
-// Returns the requests of a broker in a sector, sorted by trade, ascending.
+// Returns the requests of a broker in a sector, sorted by trade, ascending. Changes nothing. Fails
+// with `Memory` or `Store` only.
 fn requests_of<S: Alter>(
     alloc: Global,
     store: &mut Store<S>,
@@ -70,7 +72,8 @@ fn requests_of<S: Alter>(
     Ok(found)
 }
 
-// Appends the volume of a broker in a sector, if the broker has a request in it.
+// Appends the volume of a broker in a sector, if the broker has a request in it. Fails with
+// `Memory` or `Store` only.
 fn add_volume<S: Alter>(
     alloc: Global,
     store: &mut Store<S>,
@@ -95,7 +98,7 @@ fn add_volume<S: Alter>(
     Ok(())
 }
 
-// Appends the volumes in a sector of the brokers with a name.
+// Appends the volumes in a sector of the brokers with a name. Fails with `Memory` or `Store` only.
 fn add_named<S: Alter>(
     alloc: Global,
     store: &mut Store<S>,
@@ -113,7 +116,8 @@ fn add_named<S: Alter>(
     Ok(())
 }
 
-// Returns the volumes in a sector of the brokers with these names, name by name.
+// Returns the volumes in a sector of the brokers with these names, name by name. Changes nothing.
+// Fails with `Memory` or `Store` only.
 fn volumes_of<S: Alter>(
     alloc: Global,
     store: &mut Store<S>,
@@ -131,7 +135,8 @@ fn volumes_of<S: Alter>(
     Ok(found)
 }
 
-// Returns the view of the volumes in a sector of the brokers with these names.
+// Returns the view of the volumes in a sector of the brokers with these names. Changes nothing.
+// Fails with `Memory` or `Store` only.
 pub(crate) fn see_volume<S: Alter>(
     alloc: Global,
     store: &mut Store<S>,

@@ -20,67 +20,68 @@ use Rattle.brk_ref.specs.declared.customer_tax.CustomerTax as customer_tax
 use Rattle.brk_ref.specs.declared.key.Key as key
 use Rattle.brk_ref.specs.declared.key.Kept as kept
 
--- The abstract broker of a broker.
+-- The model's broker with the values of the typed broker `b`.
 abbrev pub broker_of : broker.Broker → Broker
 broker_of b = record { id = b.id; name = b.name }
 
--- The abstract customer of a customer.
+-- The model's customer with the values of the typed customer `c`.
 abbrev pub customer_of : customer.Customer → Customer
 customer_of c = record { id = c.id; tier = c.tier; tax_id = c.tax_id; last_name = c.last_name; first_name = c.first_name }
 
--- The abstract account of an account.
+-- The model's account with the values of the typed account `a`.
 abbrev pub account_of : account.Account → Account
 account_of a = record { id = a.id; customer = a.customer; broker = a.broker; name = a.name; tax_status = a.tax_status; opening = a.opening }
 
--- The abstract permission of a permission.
+-- The model's permission with the values of the typed permission `p`.
 abbrev pub permission_of : permission.Permission → Permission
 permission_of p = record { account = p.account; acl = p.acl; tax_id = p.tax_id; last_name = p.last_name; first_name = p.first_name }
 
--- The abstract executor of an executor.
+-- The model's executor with the values of the typed executor `e`.
 abbrev pub executor_of : executor.Executor → Executor
 executor_of e = record { first_name = e.first_name; last_name = e.last_name; tax_id = e.tax_id }
 
--- The abstract SECURITY row of a security.
+-- The model's SECURITY row with the values of the typed security `s`.
 abbrev pub security_of : security.Security → SecurityRow
 security_of s = record { symbol = s.symbol; name = s.name; exchange = s.exchange; sector = s.sector }
 
--- The abstract listing of a listing.
+-- The model's listing with the values of the typed listing `l`: a security and its first price.
 abbrev pub listing_of : listing.Listing → Listing
 listing_of l = record { symbol = l.security.symbol; name = l.security.name; exchange = l.security.exchange; sector = l.security.sector; price = l.price }
 
--- The abstract LAST_TRADE row of a last trade.
+-- The model's LAST_TRADE row with the values of the typed row `l`.
 abbrev pub last_trade_of : last_trade.LastTrade → LastTradeRow
 last_trade_of l = record { symbol = l.symbol; stamp = l.stamp; price = l.price; volume = l.volume }
 
--- The abstract charge of a charge.
+-- The model's charge with the values of the typed charge `c`.
 abbrev pub charge_of : charge.Charge → Charge
 charge_of c = record { kind = c.kind; tier = c.tier; amount = c.amount }
 
--- The abstract commission band of a band.
+-- The model's commission band with the values of the typed band `b`.
 abbrev pub band_of : band.Band → Band
 band_of b = record { tier = b.tier; kind = b.kind; exchange = b.exchange; from_qty = b.from_qty; to_qty = b.to_qty; rate = b.rate }
 
--- The abstract tax rate of a tax.
+-- The model's tax rate with the values of the typed tax `t`.
 abbrev pub tax_of : tax.Tax → TaxRate
 tax_of t = record { id = t.id; name = t.name; rate = t.rate }
 
--- The abstract customer's tax of a customer's tax.
+-- The model's tax of a customer with the values of the typed row `x`.
 abbrev pub customer_tax_of : customer_tax.CustomerTax → CustomerTax
 customer_tax_of x = record { customer = x.customer; tax = x.tax }
 
--- The abstract key of a key.
+-- The model's key of a command with the values of the typed key `k`.
 abbrev pub key_of : key.Key → Key
 key_of k = record { batch = k.batch; row = k.row }
 
--- The abstract KEPT row of a stored reply.
+-- The model's KEPT row with the values of the typed row `k`: its key, and the bytes of the stored
+-- request and of the stored reply.
 abbrev pub kept_of : kept.Kept → Kept
 kept_of k = record { key = key_of k.key; row_text = string_bytes k.row_text; line = string_bytes k.line }
 
--- The abstract BROKER row of a broker's row.
+-- The model's BROKER row with the values of the typed row `r`.
 abbrev pub broker_row_of : broker_row.BrokerRow → BrokerRow
 broker_row_of r = record { id = r.broker.id; name = r.broker.name; trades = r.trades; commissions = r.commissions }
 
--- The abstract CUSTOMER_ACCOUNT row of an account's row.
+-- The model's CUSTOMER_ACCOUNT row with the values of the typed row `r`.
 abbrev pub account_row_of : account_row.AccountRow → AccountRow
 account_row_of r = record {
   id = r.account.id;

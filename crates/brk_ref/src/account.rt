@@ -28,7 +28,8 @@ pub struct AccountRow {
     pub balance: Cents,
 }
 
-// Parses the fields of an account.
+// Parses the six fields of an account, or returns the refusal of malformed fields. Fails with
+// `Memory` only.
 fn account_from(
     alloc: Global,
     id: &[u8],
@@ -69,7 +70,8 @@ fn account_from(
     }))
 }
 
-// Parses the fields of an account, the last three of them in `terms`.
+// Parses the fields of an account, of which `terms` are those after the first three. Refuses
+// malformed fields, and another number of them with `BadText`. Fails with `Memory` only.
 fn account_on(
     alloc: Global,
     id: &[u8],

@@ -8,20 +8,21 @@ use crate::text::{Form, Text};
 /// The rights of a permission (AP_ACL): four characters, each 0 or 1, which are stored as they are.
 pub type Acl = Text<AclForm>;
 
-// Returns true if every byte is a 0 or a 1.
+// Returns true if every byte is the digit 0 or 1.
 fn has_bits_only(text: &[u8]) -> bool
     ensures { result ≡ list_all (λ c. (c == 48) || (c == 49)) text.now }
 {
     text.iter().all(|c| *c == b'0' || *c == b'1')
 }
 
-/// The format of the rights of a permission.
+/// The format of the rights of a permission (`Acl`).
 #[derive(Drop)]
 pub struct AclForm;
 
 impl Form for AclForm {
     ghost form = { is_acl };
 
+    /// Returns true if the text has 4 characters, each 0 or 1.
     fn has_form(text: &str) -> bool {
         let text = text.as_bytes();
         if text.len() != 4 {

@@ -44,7 +44,8 @@ fn parse_bounds(low: &[u8], high: &[u8]) -> Option<(Qty, Qty)>
     }
 }
 
-// Parses the fields of a band.
+// Parses the six fields of a band, or returns the refusal of malformed fields. Fails with `Memory`
+// only.
 fn band_from(
     alloc: Global,
     tier: &[u8],
@@ -82,7 +83,8 @@ fn band_from(
     }))
 }
 
-// Parses the fields of a band, the last three of them in `terms`.
+// Parses the fields of a band, of which `terms` are those after the first three. Refuses malformed
+// fields, and another number of them with `BadText`. Fails with `Memory` only.
 fn band_on(
     alloc: Global,
     tier: &[u8],
@@ -111,14 +113,15 @@ pub fn check_band(alloc: Global, fields: &[&[u8]]) -> Planned<Band>
     band_on(alloc, tier, kind, exchange, terms)
 }
 
-// Returns true if the quantity is between the band's bounds, both included.
+// Returns true if the bounds of the band contain the quantity.
 fn holds(band: &Band, qty: Qty) -> bool
     ensures { result ≡ nat_le band.now.from_qty qty && nat_le qty band.now.to_qty }
 {
     band.from_qty.get() <= qty.get() && qty.get() <= band.to_qty.get()
 }
 
-/// Returns true if two bands have the same tier, type and exchange and share a quantity.
+/// Returns true if two bands have the same tier, type and exchange, and bounds that share a
+/// quantity.
 pub fn share_quantity(one: &Band, other: &Band) -> bool
     ensures { result ≡ bands_meet (band_of one.now) (band_of other.now) }
 {

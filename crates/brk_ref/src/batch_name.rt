@@ -9,20 +9,22 @@ use crate::text::{Form, Text};
 /// The name of a batch (K_BATCH): 1 to 40 ASCII letters, digits, points, hyphens and underscores.
 pub type BatchName = Text<BatchNameForm>;
 
-// Returns true if every byte is a letter, a digit, a point, a hyphen or an underscore.
+// Returns true if every byte is an ASCII letter, a digit, a point, a hyphen or an underscore.
 fn has_letters_only(text: &[u8]) -> bool
     ensures { result ≡ list_all (λ c. is_ascii_alphanumeric c || (c == 46) || (c == 45) || (c == 95)) text.now }
 {
     text.iter().all(|c| c.is_ascii_alphanumeric() || *c == b'.' || *c == b'-' || *c == b'_')
 }
 
-/// The format of the name of a batch.
+/// The format of the name of a batch (`BatchName`).
 #[derive(Drop)]
 pub struct BatchNameForm;
 
 impl Form for BatchNameForm {
     ghost form = { is_batch_name };
 
+    /// Returns true if the text has 1 to 40 bytes, each an ASCII letter, a digit, a point, a hyphen
+    /// or an underscore.
     #[tactic(auto, using(crate::proofs::Texts::too_short, crate::proofs::Texts::too_long, crate::proofs::Texts::word_is))]
     fn has_form(text: &str) -> bool {
         let text = text.as_bytes();

@@ -17,7 +17,7 @@ pub struct Charge {
     pub amount: ChargeAmount,
 }
 
-// Parses the fields of a charge.
+// Parses the three fields of a charge, or returns the refusal of malformed fields.
 fn charge_from(kind: &[u8], tier: &[u8], amount: &[u8]) -> Result<Charge, Refusal>
     ensures { ParsesAs charge_of result (read_charge (kind.now ∷ tier.now ∷ amount.now ∷ [])) }
 {

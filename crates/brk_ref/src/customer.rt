@@ -21,7 +21,8 @@ pub struct Customer {
     pub first_name: Name,
 }
 
-// Parses the fields of a customer.
+// Parses the five fields of a customer, or returns the refusal of malformed fields. Fails with
+// `Memory` only.
 fn customer_from(
     alloc: Global,
     id: &[u8],

@@ -9,20 +9,21 @@ use crate::text::{Form, Text};
 /// An exchange (S_EX_ID): 1 to 6 capital letters.
 pub type Exchange = Text<ExchangeForm>;
 
-// Returns true if every byte is a capital letter.
+// Returns true if every byte is an ASCII capital letter.
 fn has_letters_only(text: &[u8]) -> bool
     ensures { result ≡ list_all (λ c. is_ascii_uppercase c) text.now }
 {
     text.iter().all(|c| c.is_ascii_uppercase())
 }
 
-/// The format of an exchange.
+/// The format of an exchange (`Exchange`).
 #[derive(Drop)]
 pub struct ExchangeForm;
 
 impl Form for ExchangeForm {
     ghost form = { is_exchange };
 
+    /// Returns true if the text has 1 to 6 bytes, each an ASCII capital letter.
     #[tactic(auto, using(crate::proofs::Texts::too_short, crate::proofs::Texts::too_long, crate::proofs::Texts::word_is))]
     fn has_form(text: &str) -> bool {
         let text = text.as_bytes();

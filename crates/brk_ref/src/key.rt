@@ -1,8 +1,8 @@
 use crate::batch_name::BatchName;
 use crate::row_number::RowNumber;
 
-/// The number of a row within a named batch. As the key of a command it makes the command
-/// idempotent.
+/// The idempotency key of a command: the name of a batch and the number of a row in it. A command
+/// is accepted under a key at most once.
 #[derive(Clone, Drop)]
 pub struct Key {
     pub batch: BatchName,

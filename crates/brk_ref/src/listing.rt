@@ -19,7 +19,8 @@ pub struct Listing {
     pub price: Price,
 }
 
-// Parses the fields of a listing.
+// Parses the five fields of a listing, or returns the refusal of malformed fields. Fails with
+// `Memory` only.
 fn listing_from(
     alloc: Global,
     symbol: &[u8],

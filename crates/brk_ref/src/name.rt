@@ -9,20 +9,21 @@ use crate::text::{Form, Text};
 /// A name or a sector: text of 1 to 60 bytes of UTF-8 without control characters.
 pub type Name = Text<NameForm>;
 
-// Returns true if no character is a control character.
+// Returns true if no character of the text is a control character.
 fn has_no_control(text: &str) -> bool
     ensures { result ≡ list_all (λ c. not (is_control c)) (chars text.now) }
 {
     text.chars().all(|c| !c.is_control())
 }
 
-/// The format of a name.
+/// The format of a name (`Name`).
 #[derive(Drop)]
 pub struct NameForm;
 
 impl Form for NameForm {
     ghost form = { is_name };
 
+    /// Returns true if the text has 1 to 60 bytes and no control character.
     fn has_form(text: &str) -> bool {
         if text.is_empty() {
             return false;

@@ -19,7 +19,8 @@ pub fn parse_id(bytes: &[u8]) -> Option<Id>
     Id::new(number)
 }
 
-/// Parses the number of a tax status. Returns `None` if the bytes are not one.
+/// Parses the number of a tax status, 0 to 2. Returns `None` if the bytes are malformed or out of
+/// range.
 pub fn parse_tax_status(bytes: &[u8]) -> Option<TaxStatus>
     ensures { ok_or result BadText ≡ read_tax_status bytes.now }
 {

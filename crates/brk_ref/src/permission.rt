@@ -22,7 +22,8 @@ pub struct Permission {
     pub first_name: Name,
 }
 
-// Parses the fields of a permission.
+// Parses the five fields of a permission, or returns the refusal of malformed fields. Fails with
+// `Memory` only.
 fn permission_from(
     alloc: Global,
     account: &[u8],

@@ -9,20 +9,22 @@ use crate::text::{Form, Text};
 /// The symbol of a security (S_SYMB): 1 to 15 capital letters, digits, points and hyphens.
 pub type Symbol = Text<SymbolForm>;
 
-// Returns true if every byte is a capital letter, a digit, a point or a hyphen.
+// Returns true if every byte is an ASCII capital letter, a digit, a point or a hyphen.
 fn has_letters_only(text: &[u8]) -> bool
     ensures { result ≡ list_all (λ c. is_ascii_uppercase c || is_ascii_digit c || (c == 46) || (c == 45)) text.now }
 {
     text.iter().all(|c| c.is_ascii_uppercase() || c.is_ascii_digit() || *c == b'.' || *c == b'-')
 }
 
-/// The format of a symbol.
+/// The format of a symbol (`Symbol`).
 #[derive(Drop)]
 pub struct SymbolForm;
 
 impl Form for SymbolForm {
     ghost form = { is_symbol };
 
+    /// Returns true if the text has 1 to 15 bytes, each an ASCII capital letter, a digit, a point
+    /// or a hyphen.
     #[tactic(auto, using(crate::proofs::Texts::too_short, crate::proofs::Texts::too_long, crate::proofs::Texts::word_is))]
     fn has_form(text: &str) -> bool {
         let text = text.as_bytes();

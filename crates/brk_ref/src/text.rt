@@ -76,7 +76,7 @@ impl<F: Form> Text<F> {
         self.text.as_str()
     }
 
-    /// Proof-only: states that the text has its format. Does nothing at run time.
+    /// Proof-only: its contract states that the text has its format. Does nothing at run time.
     pub fn keeps_form(&self)
         ensures { F.form self.now ≡ true }
     {
@@ -87,6 +87,7 @@ impl<F: Form> Text<F> {
 impl<F: Form> Clone for Text<F> {
     ghost is_clone = { λ one other. other ≡ one };
 
+    /// Returns a copy of the text. Fails if memory runs out.
     fn clone(&self) -> Result<Text<F>, AllocError> {
         let text = self.text.clone()?;
         Ok(Text {

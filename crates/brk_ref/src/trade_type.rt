@@ -13,7 +13,7 @@ fn is_code_of(kind: TradeType, bytes: &[u8]) -> bool
     kind.code().as_bytes() == bytes
 }
 
-/// Returns the trade type with this code, or `None` if no type has it.
+/// Parses the code of a trade type. Returns `None` if no type has this code.
 pub fn parse_type(bytes: &[u8]) -> Option<TradeType>
     ensures { ok_or result BadType ≡ read_type bytes.now }
 {

@@ -18,7 +18,8 @@ use Rattle.brk_report_lines.specs.declared.fault.ReportFault.{ReportFault}
 use Rattle.brk_report_lines.specs.declared.fault.ReportFault.TheVariants.{Refused, Desk, Write}
 use Rattle.brk_report.specs.declared.visitors.Moved.{Moved}
 
--- The desk is unchanged.
+-- The call from `old` to `new` changes nothing of the desk: its rows and its database are the same,
+-- and a crash exposes no new state.
 pub record Keeps {S : Type 0} (g : Ghosts S) (old new : Held S) : Type 0 where
   -- The store holds the rows that it held.
   pub kept : (t : Tables) → Holds g old t → Holds g new t
@@ -27,47 +28,52 @@ pub record Keeps {S : Type 0} (g : Ghosts S) (old new : Held S) : Type 0 where
   -- A crash exposes only states that were possible before.
   pub survives : Survives (state g old) (state g new) (λ _. ⊥)
 
--- Under the disk assumption, `So` holds of the rows that the store held before, whatever they are.
+-- Under the disk assumption, `So` holds of the tables that the store held before the call, whatever
+-- they are.
 abbrev pub OverRows : {S : Type 0} → Ghosts S → Held S → Held S → (Tables → Type 0) → Type 0
 OverRows g old new So = HasCleanDisk (state g new) → (t : Tables) → Holds g old t → So t
 
 -- ---- the parts of a statement
 
--- The result is `total`, or the desk failed with `Memory` or `Store`.
+-- `Ok`: the sum is `total`. `Err`: the desk failed with `Memory` or `Store`.
 abbrev pub IsTotal : ℤ → Result ℤ LinesFault → Type 0
 IsTotal total (Ok sum) = sum ≡ total
 IsTotal total (Err e) = (f : Fault) × (e ≡ lines.Desk f) × MayFail f
 
--- The lines of the cash rows of the days were written. The result has their number, and `amount`
--- plus their total. Or writing failed as `BreaksOff` specifies.
+-- `Ok`: the writer got exactly the lines of the cash rows of `account` from the day `from` to the
+-- day `to`, and the result has their number, and `amount` plus their total. `Err`: writing them
+-- failed as `BreaksOff` specifies.
 abbrev pub WritesCash : Tables → ℕ → ℕ → ℕ → ℤ → Option Text → Option Text → Result Moved LinesFault → Type 0
 WritesCash t account from to amount old new (Ok moved) =
     Appends old new (lines_text (map cash_line (cash_within from to (cash_in t account)))) × (moved.count ≡ length (cash_within from to (cash_in t account)))
     × (moved.total ≡ amount +ℤ cash_total (cash_within from to (cash_in t account)))
 WritesCash t account from to amount old new (Err e) = BreaksOff (map cash_line (cash_within from to (cash_in t account))) old new e
 
--- The lines of the lots were written, and the result is their number; or writing failed as
--- `BreaksOff` specifies.
+-- `Ok`: the writer got exactly the lines of the lots of `account`, and the count is their number.
+-- `Err`: writing them failed as `BreaksOff` specifies.
 abbrev pub WritesLots : Tables → ℕ → Option Text → Option Text → Result ℕ LinesFault → Type 0
 WritesLots t account old new (Ok count) = Appends old new (lines_text (map lot_line (lots_in t account))) × (count ≡ length (lots_in t account))
 WritesLots t account old new (Err e) = BreaksOff (map lot_line (lots_in t account)) old new e
 
 -- ---- the whole
 
--- The statement of `account` from `from` to `to` is not refused, and has these lines.
+-- The statement of `account` from the day `from` to the day `to` is not refused, and `lines` are
+-- its lines.
 abbrev pub AreLines : Tables → ℕ → ℕ → ℕ → List Text → Type 0
 AreLines t account from to lines = (nat_lt to from ≡ false) × ((a : AccountRow) × (account_in t account ≡ Some a) × (lines ≡ statement_lines t a from to (cash_in t account)))
 
--- The result of a statement is as specified. `Ok`: its text was written. `Refused`: the model
--- refuses it with this refusal. `Desk`: nothing was written, or whole lines from the first on,
--- without the last one. `Write`: whole lines from the first on, and a part of the next one.
+-- The result of writing the statement of `account` from the day `from` to the day `to` is as
+-- specified. `Ok`: the writer got exactly its text. `Refused`: the model refuses the statement with
+-- this refusal. `Desk`: the writer got nothing, or whole lines from the first on without the last
+-- one. `Write`: it got whole lines from the first on and a part of the next one.
 abbrev pub States : Tables → ℕ → ℕ → ℕ → Option Text → Option Text → Result (Unit {0}) ReportFault → Type 0
 States t account from to old new (Ok u) = (text : Text) × (statement t account from to ≡ Ok text) × Appends old new text
 States t account from to old new (Err (Refused refusal)) = statement t account from to ≡ Err refusal
 States t account from to old new (Err (Desk fault)) = MayFail fault × (Appends old new [] ⊎ ((lines : List Text) × AreLines t account from to lines × WroteFirst lines old new))
 States t account from to old new (Err Write) = (lines : List Text) × AreLines t account from to lines × WrotePart lines old new
 
--- The postcondition of a statement of an account, which only reads the desk.
+-- The postcondition of writing the statement of `account` from the day `from` to the day `to`. The
+-- desk is unchanged.
 pub record IsStated {S : Type 0} (g : Ghosts S) (old new : Held S) (account from to : ℕ) (before after : Option Text) (result : Result (Unit {0}) ReportFault) : Type 0 where
   -- The output is as specified for the rows that the store holds, whatever they are.
   pub told : OverRows g old new (λ t. States t account from to before after result)

@@ -4,7 +4,8 @@ use Rattle.brk_tables_walks.specs.declared.walking.WalkError.TheVariants.{Failed
 use Rattle.brk_report_lines.specs.declared.fault.LinesFault.{LinesFault}
 use Rattle.brk_report_lines.specs.declared.fault.LinesFault.TheVariants.{Desk}
 
--- The statement's fault of a failed walk: that of the desk or of the visitor.
+-- The fault with which writing lines fails if its walk failed: the fault of the desk, or that of
+-- the visitor.
 abbrev pub fault_of : WalkError LinesFault → LinesFault
 fault_of (Failed fault) = Desk fault
 fault_of (Cause fault) = fault

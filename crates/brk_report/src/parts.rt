@@ -14,7 +14,7 @@ use sqlite::Alter;
 use std::alloc::Global;
 use std::io::Write;
 
-/// Writes the first four lines.
+/// Writes the first four lines of a statement. Fails with `Desk` or `Write`.
 pub(crate) fn write_top<W: Write>(
     alloc: Global,
     account: Id,
@@ -32,8 +32,8 @@ pub(crate) fn write_top<W: Write>(
     write_line(writer, amount_line(alloc, "Opening", opening))
 }
 
-/// Writes the lines of the cash rows of the days, and the closing line. Returns the number of the
-/// cash rows.
+/// Writes a line for each cash row of the days, and the line of the closing amount. Returns the
+/// number of the cash rows. Fails with `Desk` or `Write`.
 pub(crate) fn write_days<W: Write, S: Alter>(
     alloc: Global,
     desk: &mut Desk<S>,
@@ -51,7 +51,8 @@ pub(crate) fn write_days<W: Write, S: Alter>(
     Ok(moved.count)
 }
 
-/// Writes the lines of the lots, of their market value, and of the numbers of cash rows and lots.
+/// Writes a line for each lot, the line of their market value, and the line of the numbers of cash
+/// rows and lots. Fails with `Desk` or `Write`.
 pub(crate) fn write_held<W: Write, S: Alter>(
     alloc: Global,
     desk: &mut Desk<S>,

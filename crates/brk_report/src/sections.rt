@@ -13,7 +13,7 @@ use sqlite::Alter;
 use std::alloc::Global;
 use std::io::Write;
 
-// Returns the fault of a statement whose walk failed.
+// Returns the fault with which writing lines fails if its walk failed.
 fn broken(stop: WalkError<LinesFault>) -> LinesFault
     ensures { result ≡ fault_of stop }
 {
@@ -23,7 +23,7 @@ fn broken(stop: WalkError<LinesFault>) -> LinesFault
     }
 }
 
-/// Returns the opening balance plus the cash rows of the days before `from`.
+/// Returns `opening` plus the cash rows of the days before `from`. Fails with `Desk` only.
 pub(crate) fn sum_before<S: Alter>(
     desk: &mut Desk<S>,
     account: Id,
@@ -46,7 +46,7 @@ pub(crate) fn sum_before<S: Alter>(
 }
 
 /// Writes a line for each cash row of the days. Returns their number, and `opening` plus their
-/// total.
+/// total. Fails with `Desk` or `Write`.
 pub(crate) fn write_cash<W: Write, S: Alter>(
     alloc: Global,
     desk: &mut Desk<S>,
@@ -73,7 +73,8 @@ pub(crate) fn write_cash<W: Write, S: Alter>(
     }
 }
 
-/// Writes a line for each lot, and returns the number of lots.
+/// Writes a line for each lot of an account, and returns the number of lots. Fails with `Desk` or
+/// `Write`.
 pub(crate) fn write_lots<W: Write, S: Alter>(
     alloc: Global,
     desk: &mut Desk<S>,

@@ -11,7 +11,7 @@ use sqlite::Alter;
 use std::alloc::Global;
 use std::io::Write;
 
-// Writes all lines of a statement that is not refused.
+// Writes all lines of a statement that is not refused. Fails with `Desk` or `Write`.
 fn write_all<W: Write, S: Alter>(
     alloc: Global,
     desk: &mut Desk<S>,

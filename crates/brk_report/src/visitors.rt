@@ -31,6 +31,7 @@ impl Line for HoldingRow {
 
     ghost line = { λ r. lot_line (holding_row_of r) };
 
+    /// Returns the line of the lot with its line feed. Fails with `Memory` or `Store`.
     fn line(&self, alloc: Global) -> Result<Vec<u8>, Fault> {
         lot_line(alloc, self)
     }
@@ -42,12 +43,13 @@ impl Line for MoveRow {
 
     ghost line = { λ r. cash_line (move_row_of r) };
 
+    /// Returns the line of the cash row with its line feed. Fails with `Memory` or `Store`.
     fn line(&self, alloc: Global) -> Result<Vec<u8>, Fault> {
         cash_line(alloc, self)
     }
 }
 
-// Returns `total` plus `amount`. Fails with `Desk(Store)` only.
+// Returns `total` plus `amount`. Fails with `Desk(Store)` if the sum does not fit.
 fn added(total: Wide, amount: Cents) -> Result<Wide, LinesFault>
     ensures sum { IfOk result (λ sum. sum ≡ total +ℤ amount) }
     ensures fault { OnErr result (result ≡ Err (Desk fault.Store)) }
@@ -77,6 +79,8 @@ impl Visitor<MoveRow, LinesFault> for Sum {
 
     ghost stops = { λ p row e q. e ≡ Desk Store };
 
+    /// Adds the amount of the cash row to the total. Fails with `Desk(Store)` if the sum does not
+    /// fit.
     fn visit(&mut self, item: &MoveRow) -> Result<(), LinesFault> {
         self.total = added(self.total, item.amount)?;
         Ok(())
@@ -109,6 +113,8 @@ impl<R: Line, W: Write> Visitor<R, LinesFault> for Lines<'_, W> {
 
     ghost stops = { λ p r e q. BreaksIn (R.line r ∷ []) (W.contents p.writer.now) (W.contents q.writer.now) e };
 
+    /// Writes the line of the record, and counts it. Fails with `Desk` or `Write`; the count is
+    /// then unchanged.
     fn visit(&mut self, item: &R) -> Result<(), LinesFault> {
         let Some(count) = self.count.checked_add(1) else {
             return Err(LinesFault::Desk(Fault::Store));
@@ -139,7 +145,7 @@ pub struct CashLines<'a, W> {
 }
 
 impl<W> CashLines<'_, W> {
-    /// Returns the count and the total so far.
+    /// Returns the number of cash rows so far, and the total so far.
     pub fn moved(&self) -> Moved
         ensures { result ≡ self.now.moved }
     {
@@ -163,6 +169,8 @@ impl<W: Write> Visitor<MoveRow, LinesFault> for CashLines<'_, W> {
 
     ghost stops = { λ p r e q. BreaksIn (cash_line (move_row_of r) ∷ []) (W.contents p.writer.now) (W.contents q.writer.now) e };
 
+    /// Writes the line of the cash row, counts it and adds its amount. Fails with `Desk` or
+    /// `Write`; the count and the total are then unchanged.
     fn visit(&mut self, item: &MoveRow) -> Result<(), LinesFault> {
         let total = added(self.moved.total, item.amount)?;
         let Some(count) = self.moved.count.checked_add(1) else {

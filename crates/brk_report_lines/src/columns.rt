@@ -6,6 +6,7 @@ ghost use Rattle.brk_model.specs.Statement.{at_left, at_right};
 
 use brk_money::Fault;
 
+// Appends `count` spaces, at most 22. Fails with `Memory` only.
 fn put_spaces(out: &mut Vec<u8>, count: usize) -> Result<(), Fault>
     requires { count ≤ 22 }
     ensures ok { OnOk result (out.new.items ≡ out.old.items ++ replicate count 32) }

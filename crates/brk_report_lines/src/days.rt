@@ -4,6 +4,7 @@ ghost use Rattle.std.specs.Prelude.{◌≡◌, ◌+◌, ◌-◌, ◌*◌, ◌<�
 
 use brk_money::{Day, Stamp};
 
+// The number of milliseconds of a day.
 const DAY: i64 = 86_400_000;
 
 /// Returns the first stamp of a day.

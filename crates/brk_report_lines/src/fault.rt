@@ -1,6 +1,6 @@
 use brk_money::{Fault, Refusal};
 
-/// The cause that left lines unwritten.
+/// A cause for which the writing of lines failed.
 #[derive(Debug, Drop)]
 pub enum LinesFault {
     /// The desk failed, or memory ran out. Only whole lines are written, and not the last one.
@@ -9,7 +9,8 @@ pub enum LinesFault {
     Write,
 }
 
-/// The cause that ended a report early: a statement, or the view of a query.
+/// A cause for which the writing of a report failed: of a statement, an explanation or the view of
+/// a query.
 #[derive(Debug, Drop)]
 pub enum ReportFault {
     /// The report is refused, and nothing is written.

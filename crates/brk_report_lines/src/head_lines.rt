@@ -13,7 +13,7 @@ use brk_ref::Name;
 use itoa::Buffer;
 use std::alloc::Global;
 
-/// Returns the title line, with the account's id.
+/// Returns the title of a statement, with the id of the account.
 pub fn title_line(alloc: Global, account: Id) -> Result<Vec<u8>, Fault>
     ensures line { IfOk result (λ line. line.items ≡ ended (codes "Statement of account " ++ decimal account)) }
     ensures fault { OnErr result (result ≡ Err Memory) }

@@ -9,7 +9,8 @@ use brk_io::write_out;
 use brk_money::Fault;
 use std::io::Write;
 
-/// Writes `line`, or returns `Desk` with the fault that `line` has instead.
+/// Writes `line`. Fails with `Desk` and the fault if `line` is a fault, and with `Write` if the
+/// writer fails or accepts no byte.
 pub fn write_line<W: Write>(writer: &mut W, line: Result<Vec<u8>, Fault>) -> Result<(), LinesFault>
     ensures written { (text : Text) → IfOk line (λ l. l.items ≡ ended text) → IfErr line MayFail → WritesLines (text ∷ []) (W.contents writer.old) (W.contents writer.new) result }
 {
@@ -24,7 +25,8 @@ pub fn write_line<W: Write>(writer: &mut W, line: Result<Vec<u8>, Fault>) -> Res
     Ok(())
 }
 
-/// Writes `text`, which is some lines, or returns `Desk` with the fault that `text` has instead.
+/// Writes `text`, which is one or more lines. Fails with `Desk` and the fault if `text` is a fault,
+/// and with `Write` if the writer fails or accepts no byte.
 pub fn write_lines<W: Write>(writer: &mut W, text: Result<Vec<u8>, Fault>) -> Result<(), LinesFault>
     ensures written { (line : Text) (lines : List Text) → IfOk text (λ t. t.items ≡ lines_text (line ∷ lines)) → IfErr text MayFail → WritesLines (line ∷ lines) (W.contents writer.old) (W.contents writer.new) result }
 {

@@ -25,27 +25,29 @@ use Rattle.brk_sql.specs.Rows.{TreeHolds}
 
 -- ---- The definition of a table
 
--- A NOT NULL column of a STRICT table, of the given kind and without a default.
+-- A column of a STRICT table, with this name and of this kind, NOT NULL and without a default.
 abbrev pub of_kind : Kind → List ℕ → Column
 of_kind kind name = record { name = name; kind = kind; is_strict = true; not_null = true; default = Null; collation = Binary }
 
--- A text column that may not be null.
+-- A TEXT column, NOT NULL and without a default.
 abbrev pub text : List ℕ → Column
 text = of_kind Text
 
--- An integer column that may not be null.
+-- An INTEGER column, NOT NULL and without a default.
 abbrev pub whole : List ℕ → Column
 whole = of_kind Integer
 
--- An integer column that may be null.
+-- An INTEGER column that may be null, without a default.
 abbrev pub perhaps : List ℕ → Column
 perhaps name = record (whole name) { not_null = false }
 
--- A foreign key of one column to one column, with no action on delete or update.
+-- The foreign key of the column at `place` to the column `column` of the table `parent`, with no
+-- action on delete or update.
 abbrev pub refers : ℕ → List ℕ → List ℕ → Reference
 refers place parent column = record { columns = place ∷ []; parent = parent; parent_columns = column ∷ []; on_delete = NoAction; on_update = NoAction; is_deferred = false }
 
--- A table of these columns, keys and foreign keys, without checks and computed columns.
+-- A table with this name, tree, columns, keys and foreign keys, and without checks and computed
+-- columns.
 abbrev pub table_of : List ℕ → ℕ → List Column → Option ℕ → List ℕ → List (List ℕ) → List Reference → Table
 table_of name tree columns key primary uniques references = record {
   name = name;
@@ -64,13 +66,14 @@ table_of name tree columns key primary uniques references = record {
 
 -- ---- The place of a table in a schema
 
--- The schema contains `table` at the position `at`, and its name refers to it.
+-- The table `table` is at the position `at` of the schema's list of tables, and its name refers to
+-- it.
 pub record Stands (schema : Schema) (table : Table) (at : ℕ) : Type 0 where
   pub named : table_named schema table.name ≡ Some at
   pub found : slice_get schema.tables at ≡ Some table
 
--- True if a foreign-key action writes the referring rows. The other actions at most refuse the
--- change.
+-- True if the foreign-key action changes or deletes the referring rows. The other actions at most
+-- refuse the change.
 abbrev pub writes_rows : Action → Bool
 writes_rows NoAction = false
 writes_rows Restrict = false
@@ -78,25 +81,26 @@ writes_rows Cascade = true
 writes_rows SetNull = true
 writes_rows SetDefault = true
 
--- True if a foreign key writes referring rows when the row that they refer to is deleted or its key
--- changes.
+-- True if the foreign key, on delete or on update, changes or deletes the rows that refer by it.
 abbrev pub acts : Reference → Bool
 acts ref = writes_rows ref.on_delete || writes_rows ref.on_update
 
--- True if no foreign key of the table writes rows, or if the table is not at `tree`.
+-- True if the rows of the table are not at `tree`, or if none of its foreign keys changes or
+-- deletes rows.
 abbrev pub is_calm_at : ℕ → Table → Bool
 is_calm_at tree t = not (t.tree == tree) || list_all (λ ref. not (acts ref)) t.references
 
--- No foreign key of a table at `tree` writes rows, so no foreign-key action changes its rows.
+-- For each table of the schema whose rows are at `tree`: none of its foreign keys changes or
+-- deletes rows. So no foreign-key action changes the rows at `tree`.
 abbrev pub IsCalm : Schema → ℕ → Type 0
 IsCalm schema tree = list_all (is_calm_at tree) schema.tables ≡ true
 
--- True if no foreign key of the table writes rows.
+-- True if none of the table's foreign keys changes or deletes its rows.
 abbrev pub is_inert : Table → Bool
 is_inert t = list_all (λ ref. not (acts ref)) t.references
 
--- The database `new` has an empty table of this shape, and each table of `old` at its position with
--- its rows.
+-- The database `new` has a table of this shape that `old` did not have, without rows, and all
+-- tables of `old` at their positions with their rows.
 pub record Makes (old new : Database) (shape : ℕ → Table) : Type 0 where
   pub tree : ℕ
   pub at : ℕ
@@ -112,7 +116,8 @@ pub record Makes (old new : Database) (shape : ℕ → Table) : Type 0 where
   pub inert : list_all is_inert more ≡ true
   pub sound : IsDatabase new
 
--- The tables of these shapes are created in order.
+-- The database `new` is `old` after the tables of these shapes were created, in order, each as
+-- `Makes` specifies.
 abbrev pub MakesEach : List (ℕ → Table) → Database → Database → Type 0
 MakesEach [] old new = new ≡ old
 MakesEach (shape ∷ shapes) old new = (mid : Database) × Makes old mid shape × MakesEach shapes mid new
@@ -139,8 +144,8 @@ pub record HasTables {W T : Type 0} (desk : Desk W T) (t : T) (tree : W → ℕ)
   pub sound : IsDatabase db
   pub rows : (w : W) → TreeHolds (desk.shape w (tree w)) (desk.encode w) (desk.order w) (desk.list w t) (db.trees (tree w))
 
--- The database contains the tables that are `In`, at the trees `tree`, with the records of `t`. It
--- may contain other tables.
+-- The database contains those tables of the program that are `In`, at the trees `tree`, with their
+-- records of `t`. It may contain other tables.
 pub record HasSome {W T : Type 0} (desk : Desk W T) (In : W → Type 0) (t : T) (tree : W → ℕ) (db : Database) : Type 0 where
   pub place : W → ℕ
   pub stands : (w : W) → In w → Stands db.schema (desk.shape w (tree w)) (place w)
@@ -149,43 +154,46 @@ pub record HasSome {W T : Type 0} (desk : Desk W T) (In : W → Type 0) (t : T) 
   pub sound : IsDatabase db
   pub rows : (w : W) → In w → TreeHolds (desk.shape w (tree w)) (desk.encode w) (desk.order w) (desk.list w t) (db.trees (tree w))
 
--- The schema is unchanged, and so are the rows of each table at none of the trees `tree`, unless a
--- foreign key of that table writes its rows.
+-- The schema of `new` equals that of `old`. So do the rows of each table that is at none of the
+-- trees `tree`, unless a foreign key of that table changes or deletes its rows.
 pub record SparesStrangers {W : Type 0} (tree : W → ℕ) (old new : Database) : Type 0 where
   pub schema : new.schema ≡ old.schema
   pub rows : AllByRecursion (λ k. ((w : W) → k.tree ≢ tree w) → IsCalm old.schema k.tree → new.trees k.tree ≡ old.trees k.tree) old.schema.tables
 
--- If the database contains the tables with records `t`, it contains them with `f t` afterwards, at
--- the same trees. Other tables are unchanged, unless their own foreign keys write their rows.
+-- For all records `t` and trees `tree`: if the database `old` contains the tables with the records
+-- `t` at these trees, `new` contains them with the records `f t` at the same trees. Other tables
+-- are unchanged, unless a foreign key of their own writes their rows. Vacuous if `old` does not
+-- contain the tables.
 abbrev pub Turns : {W T : Type 0} → Desk W T → (T → T) → Database → Database → Type 0
 Turns {W} {T} desk f old new = (t : T) (tree : W → ℕ) → HasTables desk t tree old → HasTables desk (f t) tree new × SparesStrangers tree old new
 
--- `P` holds of the records that the database contains. Vacuous if the database does not contain the
--- program's tables.
+-- `P` holds of the records that the database contains in the program's tables. Vacuous if the
+-- database does not contain these tables.
 abbrev pub Tells : {W T : Type 0} → Desk W T → (T → Type 0) → Database → Type 0
 Tells {W} {T} desk P db = (t : T) (tree : W → ℕ) → HasTables desk t tree db → P t
 
--- Each table of `old` is in `new` at the same position, with the same rows.
+-- Each table of `old` is in `new`, at the same position and with the same rows. The database `new`
+-- may have more tables.
 pub record KeepsOthers (old new : Database) : Type 0 where
   pub more : List Table
   pub tables : new.schema.tables ≡ old.schema.tables ++ more
   pub rows : AllByRecursion (λ t. new.trees t.tree ≡ old.trees t.tree) old.schema.tables
 
--- The tables are created with the records `t`, at trees that belonged to no table. The other tables
--- are unchanged.
+-- The database `new` contains the program's tables with the records `t`, at trees that belong to no
+-- table of `old`, and all tables of `old` with their rows.
 pub record Founds {W T : Type 0} (desk : Desk W T) (t : T) (old new : Database) : Type 0 where
   pub tree : W → ℕ
   pub tables : HasTables desk t tree new
   pub fresh : (w : W) → AllByRecursion (λ t. t.tree ≢ tree w) old.schema.tables
   pub others : KeepsOthers old new
 
--- If the Boolean is true, the text compiles. Otherwise it does not, as a table that it names does
--- not exist.
+-- If the Boolean is true, the statement `text` compiles in the schema. If it is false, `text` does
+-- not compile, because a table that it names does not exist.
 abbrev pub Probes : List ℕ → Bool → Schema → Type 0
 Probes text true schema = (c : Compiled) × (understood schema text ≡ Ok c)
 Probes text false schema = understood schema text ≡ Err NoSuchTable
 
--- The text compiles, and `has` is true if and only if its result columns are exactly `names`, in
--- order.
+-- The statement `text` compiles in the schema, and `has` is true if and only if the columns of its
+-- result have exactly the names `names`, in order.
 abbrev pub Heads : List ℕ → List (List ℕ) → Bool → Schema → Type 0
 Heads text names has schema = (c : Compiled) × (understood schema text ≡ Ok c) × (IsTrue has ↔ column_names c ≡ names)

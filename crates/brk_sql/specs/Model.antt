@@ -7,36 +7,41 @@ use Rattle.sqlite.specs.Held.{state}
 use Rattle.sqlite.specs.State.{State, HasCleanDisk, KeepsCommit, Survives, Executes, Shown}
 use Rattle.brk_sql.specs.Desk.{Desk, Turns, Tells}
 
--- Under the disk assumption the call commits nothing and adds no state that a crash can expose. If
--- it returns `Ok v` within a transaction, the transaction is still open and `Made v` relates the
--- two states.
+-- Under the disk assumption the call commits nothing, and a crash after it exposes only states that
+-- a crash before it could expose. If it returns `Ok v` within a transaction, the transaction is
+-- still open, and `Made v` relates the two states.
 pub record IsStep {V E : Type 0} (old new : State) (result : Result V E) (Made : V → State → State → Type 0) : Type 0 where
   pub kept : HasCleanDisk new → KeepsCommit old new
   pub made : HasCleanDisk new → IsTrue old.in_transaction → IfOk result (λ v. IsTrue new.in_transaction × Made v old new)
   pub survives : Survives old new (λ _. ⊥)
 
--- The statement `sql` is executed with the parameters `params` and succeeds.
+-- The statement `sql` was executed with the parameters `params` on the state `old`, succeeded, and
+-- resulted in the state `new`.
 abbrev pub Ran : List ℕ → Row → State → State → Type 0
 Ran sql params old new = (count : ℕ) × Executes sql params old new (Ok count)
 
--- The query `sql` yields `rows` of an open database, which is unchanged.
+-- The query `sql` with the parameters `params` yields `rows` of the open database `old`, whose
+-- contents are unchanged in `new`.
 abbrev pub Selected : List ℕ → Row → List Row → State → State → Type 0
 Selected sql params rows old new = Shown sql params old new rows × (new.now ≡ old.now) × IsTrue old.is_open
 
--- The database is open and unchanged, and `P` holds of its tables.
+-- The database was open and its contents are unchanged, and `P` holds of the records of the
+-- program's tables. The last part is vacuous if the database does not contain these tables.
 abbrev pub Looks : {W T : Type 0} → Desk W T → (T → Type 0) → State → State → Type 0
 Looks desk P old new = IsTrue old.is_open × (new.now ≡ old.now) × Tells desk P old.now
 
--- A call of a transaction is a step (`IsStep`) of its connection.
+-- A call on a transaction is a step (`IsStep`) of the connection of the transaction: `Made` relates
+-- its value and the states before and after it.
 abbrev pub Steps : {S V E : Type 0} → Ghosts S → Transaction S → Transaction S → Result V E → (V → State → State → Type 0) → Type 0
 Steps g old new result Made = IsStep (state g old.conn.now) (state g new.conn.now) result Made
 
--- If the call succeeds, it changes the tables by `f`, whatever records they contain. It commits
--- nothing. Both under the disk assumption, within a transaction.
+-- If the call succeeds, it changes the records of the program's tables from `t` to `f t`, whatever
+-- `t` is, and leaves other tables unchanged (`Turns`). It commits nothing. Vacuous if the disk
+-- assumption fails, or outside a transaction.
 abbrev pub WritesTables : {W T S V E : Type 0} → Desk W T → Ghosts S → Transaction S → Transaction S → Result V E → (T → T) → Type 0
 WritesTables desk g old new result f = Steps g old new result (λ _ a b. Turns desk f a.now b.now)
 
 -- If the call succeeds, it changes nothing, and `Told` relates its value to the records of the
--- tables. Vacuous if the disk assumption fails.
+-- program's tables. Vacuous if the disk assumption fails, or outside a transaction.
 abbrev pub ReadsTables : {W T S V E : Type 0} → Desk W T → Ghosts S → Transaction S → Transaction S → Result V E → (V → T → Type 0) → Type 0
 ReadsTables desk g old new result Told = Steps g old new result (λ v. Looks desk (Told v))

@@ -24,7 +24,7 @@ fn are_named(columns: &[Bytes], names: &[&str]) -> bool
 }
 
 /// Returns true if the columns of the statement's result are exactly `names`, in order. If it
-/// returns a value, the database is unchanged.
+/// returns a value, the database was open and is unchanged. Fails with the error of the database.
 pub fn shows_columns<S: Alter>(
     tx: &mut Transaction<'_, S>,
     text: &str,

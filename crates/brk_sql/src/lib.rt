@@ -31,7 +31,8 @@ pub fn climbs(numbers: &[i64]) -> bool
     true
 }
 
-/// Returns the number in column `at` of each row.
+/// Returns the numbers in column `at` of the rows, in order. Fails if one of these columns is not
+/// an INTEGER, or with the error of an allocation.
 pub fn numbers_in(alloc: Global, rows: &[Row], at: usize) -> Result<Vec<i64>, Error>
     ensures { IfOk result (λ all. map Int all.items ≡ map (λ r. column r at) rows.now) }
 {
@@ -43,7 +44,7 @@ pub fn numbers_in(alloc: Global, rows: &[Row], at: usize) -> Result<Vec<i64>, Er
 }
 
 /// Returns true if the statement compiles, and false if it names a table that does not exist. If it
-/// returns a value, the database is unchanged.
+/// returns a value, the database was open and is unchanged. Fails with the error of the database.
 pub fn is_understood<S: Alter>(tx: &mut Transaction<'_, S>, text: &str) -> Result<bool, Error>
     ensures same_reference { tx.new.conn.ghost_name ≡ tx.old.conn.ghost_name }
     ensures step { Steps S.Store tx.old tx.new result (λ has old new. IsTrue old.is_open × (new.now ≡ old.now) × Probes text.now has old.now.schema) }

@@ -29,13 +29,14 @@ use Rattle.brk_store.specs.Holds.{AreTreesOf, Holds, IsSame}
 
 -- ---- answers of an audit
 
--- The database has the rows `t` of the schema, with texts in UTF-8, and `answer` is their audit by
--- the conditions of the schema.
+-- The database `db` contains the tables of `schema` with the rows `t`, whose texts are UTF-8, and
+-- `answer` is the audit of `t` by the conditions of `schema`: the first condition that fails, or
+-- `None`.
 abbrev pub Answered : Schema → Tables → Database → Option Condition → Type 0
 Answered schema t db answer = HasRowsIn schema t db × IsTrue (has_texts t) × IsAudit schema t answer
 
--- An audit of the database by one schema answers the first condition that fails, or `None` if its
--- rows pass.
+-- `answer` is what an audit of the database `db` by the one schema `schema` returns: the first
+-- condition that fails, or `None` if the rows pass.
 abbrev pub AuditedBy : Schema → Database → Option Condition → Type 0
 -- No audit answers `NotEmpty`, which only a creation returns.
 AuditedBy schema db (Some condition.NotEmpty) = ⊥
@@ -48,20 +49,21 @@ AuditedBy schema db (Some condition.Form) =
 -- The answer is the audit of the rows that the database has.
 AuditedBy schema db answer = (t : Tables) × Answered schema t db answer
 
--- The database has a desk of the given schema or, for `None`, no desk of any schema.
+-- The database has a desk of the given schema. For `None`: it has a desk of no schema.
 abbrev pub HasDeskOf : Option known.Schema → Database → Type 0
 HasDeskOf (Some schema) db = HasDesk (schema_of schema) db
 HasDeskOf None db = (schema : known.Schema) → ¬ HasDesk (schema_of schema) db
 
--- An audit of the database by the schema whose desk it has gives this answer: rows of an older
--- schema are audited by its own conditions.
+-- `answer` is what an audit of the database `db` returns that audits its desk by the conditions of
+-- the desk's own schema. `NotEmpty` is never the answer; `Schema` is the answer if there is no desk
+-- of any schema.
 abbrev pub Audited : Database → Option Condition → Type 0
 Audited db (Some condition.NotEmpty) = ⊥
 Audited db (Some condition.Schema) = HasDeskOf None db
 Audited db answer = (schema : known.Schema) × AuditedBy (schema_of schema) db answer
 
--- The answer of an audit satisfies `P`: `None` at `Ok`, the condition at `Damaged`. Says nothing if
--- the result is `Memory` or `Store`.
+-- `P` holds of the answer of an audit that returned this result: of `None` at `Ok`, and of the
+-- condition at `Damaged`. Vacuous if the result is `Memory` or `Store`.
 abbrev pub OnAnswer : Result (Unit {0}) Fault → (Option Condition → Type 0) → Type 0
 OnAnswer (Ok x) P = P None
 OnAnswer (Err (Damaged failing)) P = P (Some failing)
@@ -70,18 +72,20 @@ OnAnswer (Err Store) P = ⊤
 
 -- ---- premises on the database
 
--- If the database has all tables of a desk of any schema by their names and columns, they are as
--- the desk creates them. Says nothing if the disk assumption fails, or once the store is closed.
+-- For each schema: if the current database has all tables of a desk by their names and columns,
+-- they are defined as a desk defines them (`IsDefined`). So a database without these tables, an
+-- empty one too, satisfies it. Vacuous if the disk assumption fails, or once the database is
+-- closed.
 abbrev pub IsDefinedIn : {S : Type 0} → Ghosts S → Held S → Type 0
 IsDefinedIn g held = HasCleanDisk (state g held) → IsTrue (state g held).is_open → IsDefined (state g held).now
 
--- If the database has all tables of schema 3 by their names and columns, they are as the desk
--- creates them. Says nothing if the disk assumption fails, or once the store is closed.
+-- If the current database has all tables of schema 3 by their names and columns, they are defined
+-- as a desk defines them. Vacuous if the disk assumption fails, or once the database is closed.
 abbrev pub IsThirdDefinedIn : {S : Type 0} → Ghosts S → Held S → Type 0
 IsThirdDefinedIn g held = HasCleanDisk (state g held) → IsTrue (state g held).is_open → IsDefinedAs third_schema (state g held).now
 
--- The database has a desk of schema 3. Says nothing if the disk assumption fails, or once the store
--- is closed.
+-- The current database has a desk of schema 3. Vacuous if the disk assumption fails, or once the
+-- database is closed.
 abbrev pub HasThirdIn : {S : Type 0} → Ghosts S → Held S → Type 0
 HasThirdIn g held = HasCleanDisk (state g held) → IsTrue (state g held).is_open → HasDesk third_schema (state g held).now
 
@@ -90,56 +94,63 @@ HasThirdIn g held = HasCleanDisk (state g held) → IsTrue (state g held).is_ope
 -- The postcondition of an audit by the conditions of schema 3, which writes nothing.
 pub record AuditPost {S : Type 0} (g : Ghosts S) (old new : Held S) (result : Result (Unit {0}) Fault) : Type 0 where
   -- `Ok` is returned only if the rows pass, and `Damaged` only with the first condition that fails.
-  -- Vacuous if the old database is not defined as schema 3 (`IsThirdDefinedIn`).
+  -- Vacuous if the disk assumption fails after the call, or if the old database does not satisfy
+  -- `IsThirdDefinedIn`.
   pub told : HasCleanDisk (state g new) → IsThirdDefinedIn g old → OnAnswer result (AuditedBy third_schema (state g old).now)
   -- `Ok` and `Damaged` are returned only if the database was open.
   pub opened : HasCleanDisk (state g new) → OnAnswer result (λ _. IsTrue (state g old).is_open)
-  -- The rows that were held are held, whatever the result.
+  -- The store holds after the call the rows that it held before, whatever the result.
   pub kept : (t : Tables) → Holds g old t → Holds g new t
-  -- The database was open and is unchanged, if it is open after the call.
+  -- If the database is open after the call, it was open before and is unchanged.
   pub same : HasCleanDisk (state g new) → IsTrue (state g new).is_open → IsSame (state g old) (state g new)
-  -- A crash exposes only states that were possible before the call.
+  -- A crash exposes only states that a crash before the call could expose.
   pub survives : Survives (state g old) (state g new) (λ _. ⊥)
 
 -- ---- an adoption
 
--- Rows of some schema passed in `db`, and `after` has the tables of their base in schema 3. Tables
--- that are not the desk's still exist, with their rows unless a foreign key of their own acts on
+-- Rows of some schema in the database `db` pass the audit of this schema, and the database `after`
+-- contains the tables of schema 3 with the tables of the base that these rows determine. The other
+-- tables of `db` still exist in `after`, with their rows unless a foreign key of their own writes
 -- them.
 abbrev pub IsUpgraded : Database → Database → Type 0
 IsUpgraded db after =
     (schema : known.Schema) × (t : Tables) × (passed : Answered (schema_of schema) t db None) × HasRows (sheets (base_of t)) after × KeepsOtherTables (IsOf (schema_of schema)) passed.0.0 db after
 
--- Rows of an older schema passed in `db`, and `trees` have the tables of their base in schema 3.
+-- Rows of an older schema in the database `db` pass the audit of that schema, and `trees` contain
+-- the tables of schema 3 of the base that these rows determine.
 abbrev pub AreUpgraded : Database → Trees → Type 0
 AreUpgraded db trees = (schema : known.Schema) × (t : Tables) × (schema ≢ Third) × Answered (schema_of schema) t db None × AreTreesOf (sheets (base_of t)) trees
 
--- The postcondition of an adoption: an audit by the conditions of the schema that the database has
--- and, at `Ok`, a store that holds the rows in schema 3. The clauses with `IsDefinedIn` say nothing
--- of a database whose tables have the names and columns of a desk's, and are not as a desk creates
--- them.
+-- The postcondition of an adoption: an audit by the conditions of the schema of the desk that the
+-- database has and, at `Ok`, a store that holds the rows in schema 3. The clauses with the premise
+-- `IsDefinedIn` are vacuous for a database whose tables have the names and columns of a desk's, but
+-- are not defined as a desk defines them.
 pub record AdoptPost {S : Type 0} (g : Ghosts S) (old new : Held S) (result : Result (Unit {0}) Fault) : Type 0 where
   -- `Ok` is returned only if the rows pass, and `Damaged` only with the first condition that fails.
+  -- Vacuous if the disk assumption fails after the call, or if the old database does not satisfy
+  -- `IsDefinedIn`.
   pub told : HasCleanDisk (state g new) → IsDefinedIn g old → OnAnswer result (Audited (state g old).now)
   -- `Ok` and `Damaged` are returned only if the database was open.
   pub opened : HasCleanDisk (state g new) → OnAnswer result (λ _. IsTrue (state g old).is_open)
-  -- At `Ok` the store holds rows that pass the audit of schema 3, with texts in UTF-8.
+  -- At `Ok` the store holds rows that pass the audit of schema 3, with texts in UTF-8. Vacuous if
+  -- the old database does not satisfy `IsDefinedIn`.
   pub adopted : IsDefinedIn g old → OnOk result ((t : Tables) × Holds g new t × Passes third_schema t × IsTrue (has_texts t))
   -- At `Ok` the store has the tables of the base of the old rows, committed, if it is open.
   pub upgraded : HasCleanDisk (state g new) → IsTrue (state g new).is_open → IsDefinedIn g old → OnOk result (IsUpgraded (state g old).now (state g new).now × ((state g new).committed ≡ (state g new).now))
   -- At `Ok` the database had a desk of schema 3, or the store is open.
   pub stays : HasCleanDisk (state g new) → IsDefinedIn g old → OnOk result (HasThirdIn g old ⊎ IsTrue (state g new).is_open)
-  -- At an error the database was open and is unchanged, if it is open after the call.
+  -- At an error: if the database is open after the call, it was open before and is unchanged.
   pub same : HasCleanDisk (state g new) → IsTrue (state g new).is_open → OnErr result (IsSame (state g old) (state g new))
-  -- A crash exposes a state that was possible before the call or, if rows of an older schema
-  -- passed, the tables of their base in schema 3.
+  -- A crash exposes a state that a crash before the call could expose or, if rows of an older
+  -- schema passed, the tables of their base in schema 3.
   pub survives : IsDefinedIn g old → Survives (state g old) (state g new) (AreUpgraded (state g old).now)
   -- If the database had a desk of schema 3, the call satisfies the postcondition of an audit, which
   -- writes nothing.
   pub audited : IsDefinedIn g old → HasThirdIn g old → AuditPost g old new result
 
--- The abstraction relation: the store holds the tables of `base`, which satisfies the books
--- invariant and the audit invariant, and whose texts are UTF-8.
+-- The abstraction relation: the store holds the tables of `base`, and `base` satisfies the books
+-- invariant and the audit invariant and has texts in UTF-8. The clause on the rows is vacuous if
+-- the disk assumption fails, or once the store is closed.
 pub record Represents {S : Type 0} (g : Ghosts S) (store : Held S) (base : Base) : Type 0 where
   pub rows : Holds g store (sheets base)
   pub books : BooksInvariant base

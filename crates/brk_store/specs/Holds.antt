@@ -14,37 +14,39 @@ use Rattle.brk_tables_schema.specs.Desk.{Which, desk}
 use Rattle.brk_tables_schema.specs.Made.{HasRows}
 use Rattle.brk_tables_create.specs.Present.{has_table_of_desk}
 
--- The store's tables hold exactly the rows `t`. Says nothing if the disk assumption fails
--- (`HasCleanDisk`), or once the store is closed.
+-- The database of `store` contains all tables of a desk with exactly the rows `t`. Vacuous if the
+-- disk assumption fails (`HasCleanDisk`), or once the store is closed.
 abbrev pub Holds : {S : Type 0} → Ghosts S → Held S → Tables → Type 0
 Holds g store t = HasCleanDisk (state g store) → IsTrue (state g store).is_open → HasRows t (state g store).now
 
--- The trees are those of a database whose desk tables hold exactly the rows `t`, under the schema
--- that the trees themselves list.
+-- The trees, which are the contents of a database on disk, are those of some database that contains
+-- all tables of a desk with exactly the rows `t` (`HasRows`).
 abbrev pub AreTreesOf : Tables → Trees → Type 0
 AreTreesOf t trees = (db : Database) × HasRows t db × (trees ≡ db.trees)
 
--- Every state that a crash may expose satisfies `P`.
+-- Every state of the disk that a crash may expose now satisfies `P`.
 abbrev pub OnlyCrashState : {S : Type 0} → Ghosts S → Held S → (Trees → Type 0) → Type 0
 OnlyCrashState g store P = (trees : Trees) → (state g store).may_leave trees → P trees
 
--- The database was open, and its current and its committed state are unchanged.
+-- The database `old` was open, and neither its current nor its committed state differs in `new`.
 pub record IsSame (old new : State) : Type 0 where
   pub was_open : IsTrue old.is_open
   pub now : new.now ≡ old.now
   pub committed : new.committed ≡ old.committed
 
--- The postcondition of a call that reads: `Told` relates the returned value to the rows.
+-- The postcondition of a call that reads and writes nothing. `Told` is the relation between the
+-- returned value and the rows.
 pub record ReadPost {S V E : Type 0} (g : Ghosts S) (old new : Held S) (result : Result V E) (Told : V → Tables → Type 0) : Type 0 where
-  -- A returned value satisfies `Told` with whatever rows the store holds.
+  -- A returned value satisfies `Told` with the rows that the store held. Vacuous if the disk
+  -- assumption fails after the call.
   pub told : HasCleanDisk (state g new) → IfOk result (λ answer. (t : Tables) → Holds g old t → Told answer t)
   -- A value is returned only if the store was open.
   pub opened : HasCleanDisk (state g new) → OnOk result (IsTrue (state g old).is_open)
-  -- The store holds the rows that it held, whatever the result.
+  -- The store holds after the call the rows that it held before, whatever the result.
   pub kept : (t : Tables) → Holds g old t → Holds g new t
-  -- The database was open and is unchanged, if it is open after the call.
+  -- If the database is open after the call, it was open before and is unchanged.
   pub same : HasCleanDisk (state g new) → IsTrue (state g new).is_open → IsSame (state g old) (state g new)
-  -- A crash exposes only states that were possible before the call.
+  -- A crash exposes only states that a crash before the call could expose.
   pub survives : Survives (state g old) (state g new) (λ _. ⊥)
 
 -- The postcondition of an atomic call that changes the rows `t` to `after t`.
@@ -56,11 +58,11 @@ pub record ApplyPost {S V E : Type 0} (g : Ghosts S) (old new : Held S) (result 
   -- At `Ok` the database schema is unchanged. The rows of each table that is not the desk's are
   -- unchanged too, unless a foreign key of that table acts on them.
   pub others : HasCleanDisk (state g new) → OnOk result ((t : Tables) (tree : Which → ℕ) → HasTables desk t tree (state g old).now → SparesStrangers tree (state g old).now (state g new).now)
-  -- At an error the store holds the rows that it held.
+  -- At an error the store holds the rows that it held before.
   pub kept : OnErr result ((t : Tables) → Holds g old t → Holds g new t)
-  -- At an error the database was open and is unchanged, if it is open after the call.
+  -- At an error: if the database is open after the call, it was open before and is unchanged.
   pub same : HasCleanDisk (state g new) → IsTrue (state g new).is_open → OnErr result (IsSame (state g old) (state g new))
-  -- A crash exposes a state that was possible before the call, or the changed rows. It exposes the
+  -- A crash exposes a state that a crash before the call could expose, or the changed rows; the
   -- changed rows only if the store was open.
   pub survives : Survives (state g old) (state g new) (λ trees. IsTrue (state g old).is_open × ((t : Tables) → HasRows t (state g old).now → AreTreesOf (after t) trees))
   -- At `Ok` a crash exposes only the changed rows.
@@ -81,14 +83,15 @@ pub record CreatePost {S : Type 0} (g : Ghosts S) (old new : Held S) (result : R
   -- If one of the tables existed, the error is `Damaged(NotEmpty)`, or `Store`.
   pub occupied : HasCleanDisk (state g new) → has_table_of_desk (state g old).now.schema ≡ true
       → (result ≡ Err (Damaged NotEmpty)) ⊎ (result ≡ Err Store)
-  -- At an error the database was open and is unchanged, if it is open after the call.
+  -- At an error: if the database is open after the call, it was open before and is unchanged.
   pub same : HasCleanDisk (state g new) → IsTrue (state g new).is_open → OnErr result (IsSame (state g old) (state g new))
-  -- A crash exposes a state that was possible before the call, or the tables without rows.
+  -- A crash exposes a state that a crash before the call could expose, or the tables without rows.
   pub survives : Survives (state g old) (state g new) (AreTreesOf no_rows)
   -- At `Ok` a crash exposes only the tables without rows.
   pub durable : HasCleanDisk (state g new) → OnOk result (OnlyCrashState g new (AreTreesOf no_rows))
 
--- The connection was opened over `trees`, under the schema that they list.
+-- The connection was opened over `trees`: under the disk assumption it is live, and its database
+-- has these trees.
 pub record IsOpenedOver {S : Type 0} (g : Ghosts S) (trees : Trees) (conn : Held S) : Type 0 where
   pub live : HasCleanDisk (state g conn) → IsLive (state g conn)
   pub same : HasCleanDisk (state g conn) → (state g conn).now.trees ≡ trees

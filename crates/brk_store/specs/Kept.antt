@@ -9,8 +9,9 @@ use Rattle.brk_model.specs.Tables.{Tables}
 use Rattle.brk_sql.proofs.Inside.{clean_before}
 use Rattle.brk_store.specs.Holds.{Holds, ReadPost, IsSame}
 
--- The postcondition of any number of reads: the store holds the rows that it held, the database is
--- unchanged, and a crash exposes only states that were possible before.
+-- The postcondition of any number of reads: the store holds the rows that it held before them; if
+-- the database is open after them, it was open and is unchanged; and a crash exposes only states
+-- that a crash before the reads could expose.
 pub record IsKept {S : Type 0} (g : Ghosts S) (old new : Held S) : Type 0 where
   pub kept : (t : Tables) → Holds g old t → Holds g new t
   pub same : HasCleanDisk (state g new) → IsTrue (state g new).is_open → IsSame (state g old) (state g new)

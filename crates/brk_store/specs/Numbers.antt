@@ -3,7 +3,8 @@ use Rattle.std.specs.Prelude.{◌≡◌, Option, Some, None, pos}
 use Rattle.brk_model.specs.Tables.{BrokerRow}
 use Rattle.brk_changes.specs.declared.broker_numbers.BrokerNumbers.{BrokerNumbers}
 
--- The totals equal those of the broker's row, or both are `None`.
+-- The totals, a number of trades and a sum of commissions, equal those of the broker's row. If the
+-- totals are `None`, so is the row.
 abbrev pub AreBrokerTotals : Option BrokerNumbers → Option BrokerRow → Type 0
 AreBrokerTotals None row = row ≡ None
 AreBrokerTotals (Some n) row = (r : BrokerRow) × (row ≡ Some r) × (pos n.trades ≡ r.trades) × (n.commissions ≡ r.commissions)

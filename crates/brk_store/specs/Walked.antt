@@ -12,16 +12,16 @@ use Rattle.brk_tables_walks.specs.declared.walking.WalkError.{WalkError}
 use Rattle.brk_tables_walks.specs.declared.walking.WalkError.TheVariants.{Failed, Cause}
 use Rattle.brk_store.specs.Holds.{Holds, IsSame}
 
--- The cash rows of the account with stamps from `from` to `to`, both included, sorted by stamp,
+-- The cash rows of `account` whose stamps are from `from` to `to`, both included, sorted by stamp,
 -- ascending.
 abbrev pub cash_of : ℕ → ℕ → ℕ → Tables → List MoveRow
 cash_of account from to t = filter (λ r. nat_le from r.stamp && nat_le r.stamp to) (cash_in t account)
 
--- The records `all` are the whole list, for whatever rows the store holds.
+-- The records `all` equal the whole `list` of the rows that the store holds.
 abbrev pub AreAllStored : {S M : Type 0} → Ghosts S → Held S → (Tables → List M) → List M → Type 0
 AreAllStored g store list all = (t : Tables) → Holds g store t → all ≡ list t
 
--- The records `first` are a prefix of the list, for whatever rows the store holds.
+-- The records `first` are a prefix of the `list` of the rows that the store holds.
 abbrev pub AreFirstStored : {S M : Type 0} → Ghosts S → Held S → (Tables → List M) → List M → Type 0
 AreFirstStored {S} {M} g store list first = (t : Tables) → Holds g store t → (rest : List M) × (first ++ rest ≡ list t)
 
@@ -41,20 +41,21 @@ pub record WalkPost {S X M V E : Type 0} (g : Ghosts S) (old new : Held S) (of :
   pub opened : HasCleanDisk (state g new) → OnOk result (IsTrue (state g old).is_open)
   -- The store holds the rows that it held, whatever the result.
   pub kept : (t : Tables) → Holds g old t → Holds g new t
-  -- The database was open and is unchanged, if it is open after the call.
+  -- If the database is open after the call, it was open before and is unchanged.
   pub same : HasCleanDisk (state g new) → IsTrue (state g new).is_open → IsSame (state g old) (state g new)
-  -- A crash exposes only states that were possible before the call.
+  -- A crash exposes only states that a crash before the call could expose.
   pub survives : Survives (state g old) (state g new) (λ _. ⊥)
 
--- The result of a walk that calls a closure is `Ok`, the closure's own error, or an error that
--- `gives` allows for the fault.
+-- The result of a closure's walk follows from the outcome of the walk: `Ok` from `Ok`, the
+-- closure's own error from `Cause`, and from `Failed` an error that `gives` relates to the fault.
 abbrev pub AnswersAs : {E : Type 0} → (Fault → E → Type 0) → Result (Unit {0}) (WalkError E) → Result (Unit {0}) E → Type 0
 AnswersAs {E} gives (Ok u) result = result ≡ Ok tt
 AnswersAs {E} gives (Err (Cause e)) result = result ≡ Err e
 AnswersAs {E} gives (Err (Failed fault)) result = (e : E) × (result ≡ Err e) × gives fault e
 
--- A walk calls the closure with each record of the list, in order, until the closure returns an
--- error, which is the result.
+-- The closure was called with the records of the list, in order, one at a time, until it returned
+-- an error or the walk failed. The result is `Ok` after the last record, the closure's error, or an
+-- error that `gives` relates to the fault. All this as `WalkPost` specifies a walk.
 abbrev pub CallsEach : {S X M F E : Type 0} → Ghosts S → Held S → Held S → (X → M) → (Tables → List M) → (F → X → Result (Unit {0}) E → F → Type 0) → (Fault → E → Type 0) → F → Result (Unit {0}) E → Type 0
 CallsEach {S} {X} {M} {F} {E} g old new of list called gives call result =
     (last : F) × (outcome : Result (Unit {0}) (WalkError E)) × WalkPost g old new of list (λ p x q. called p x (Ok tt) q) (λ p x e q. called p x (Err e) q) call last outcome × AnswersAs gives outcome result

@@ -20,22 +20,23 @@ ghost use Rattle.brk_store.specs.Holds.{Holds};
 
 use sqlite::Alter;
 
-/// Proves that an audit has one answer for a database, by the schema whose desk exists and by each
-/// schema: the rows pass, or one condition is the first that fails.
+/// Proves that at most one answer is that of an audit of a database (`whole`), and at most one that
+/// of an audit by a given schema (`by`).
 pub fn an_audit_has_one_answer()
     ensures whole { (db : Database) (a b : Option Condition) → Audited db a → Audited db b → a ≡ b }
     ensures by { (schema : Schema) (db : Database) (a b : Option Condition) → AuditedBy (schema_of schema) db a → AuditedBy (schema_of schema) db b → a ≡ b }
 {}
 
-/// Proves that a store that holds rows of schema 3, whatever they are, is defined and has a desk of
-/// schema 3.
+/// Proves that a store that holds the tables of schema 3 with any rows satisfies the premise of an
+/// adoption (`IsDefinedIn`) and has a desk of schema 3.
 pub fn a_desk_is_defined<S: Alter>()
     ensures defined { (held : Held S) (t : Tables) → Holds S.Store held t → IsDefinedIn S.Store held }
     ensures there { (held : Held S) (t : Tables) → Holds S.Store held t → HasThirdIn S.Store held }
 {}
 
-/// Proves that an audit of a store that holds rows whose texts are UTF-8 returns the audit of these
-/// rows, and never `Damaged` if the store represents a base.
+/// Proves that an audit of a store that holds rows with texts in UTF-8 returns the audit of these
+/// rows, unless it fails with `Memory` or `Store`, and that it never returns `Damaged` if the store
+/// represents a base. Both under the disk assumption.
 pub fn an_audit_tells_of_the_rows<S: Alter>()
     ensures rows { (old new : Held S) (result : Result (Unit {0}) Fault) (t : Tables)
         → AuditPost S.Store old new result → Holds S.Store old t → IsTrue (has_texts t) → HasCleanDisk (state S.Store new) → OnAnswer result (IsAudit third_schema t) }
@@ -43,16 +44,20 @@ pub fn an_audit_tells_of_the_rows<S: Alter>()
         → AuditPost S.Store old new result → Represents S.Store old base → HasCleanDisk (state S.Store new) → OnAnswer result (λ answer. answer ≡ None) }
 {}
 
-/// Proves that an adoption of a database that holds rows of schema 3 is an audit: it writes
-/// nothing.
+/// Proves that an adoption of a database that holds rows of schema 3 satisfies the postcondition of
+/// an audit: it writes nothing.
 pub fn an_adoption_of_rows_is_an_audit<S: Alter>()
     ensures { (old new : Held S) (result : Result (Unit {0}) Fault) (t : Tables)
         → AdoptPost S.Store old new result → Holds S.Store old t → AuditPost S.Store old new result }
 {}
 
-/// Proves that a store represents the base of its rows if these pass and their texts are UTF-8. A
-/// store that was adopted from a defined database (`IsDefinedIn`) represents a base too; if it is
-/// open, this is the base of the rows that were found, of whichever schema.
+/// Proves that a store represents the base that its rows determine, if these pass the audit of
+/// schema 3 and their texts are UTF-8 (`rows`).
+///
+/// `adopted`: a store that was adopted under the premise `IsDefinedIn` represents some base.
+///
+/// `found`: if this store is open, under the disk assumption, the base is the one that the rows of
+/// the old database determine, of whichever schema, and these passed their audit.
 pub fn an_adopted_store_holds_its_books<S: Alter>()
     ensures rows { (store : Held S) (t : Tables) → Holds S.Store store t → Passes third_schema t → IsTrue (has_texts t) → Represents S.Store store (base_of t) }
     ensures adopted { (old new : Held S) → AdoptPost S.Store old new (Ok tt) → IsDefinedIn S.Store old → (base : Base) × Represents S.Store new base }

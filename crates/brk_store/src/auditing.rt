@@ -19,8 +19,9 @@ use brk_tables_scan::{has_desk, read_sheets};
 use sqlite::{Alter, Connection, Transaction};
 use std::alloc::Global;
 
-/// Returns the first condition that the rows of a schema fail, or `None` if they pass. The desk of
-/// the schema has to exist.
+/// Returns the first condition that the rows of a schema fail, or `None` if they pass. Fails with
+/// `Memory` or `Store` only. The result is specified only if the database has a desk of the schema,
+/// defined as a desk defines it.
 pub(crate) fn audit_desk_of<S: Alter>(
     tx: &mut Transaction<'_, S>,
     alloc: Global,
@@ -37,7 +38,9 @@ pub(crate) fn audit_desk_of<S: Alter>(
     }
 }
 
-// Returns the first condition of schema 3 that the database fails, or `None` if it passes.
+// Returns the first condition of schema 3 that the database fails, or `None` if it passes. Fails
+// with `Memory` or `Store` only. The result is specified only if tables with the names and columns
+// of schema 3 are defined as a desk defines them.
 fn first_failing<S: Alter>(
     tx: &mut Transaction<'_, S>,
     alloc: Global,
@@ -53,7 +56,8 @@ fn first_failing<S: Alter>(
     audit_desk_of(tx, alloc, Schema::Third)
 }
 
-// Audits the database in a transaction, which is rolled back.
+// Audits the database by the conditions of schema 3 in a transaction, which is rolled back. Fails
+// with `Damaged` and the first condition that fails, or with `Memory` or `Store`.
 #[tactic(auto, using(crate::proofs::Closing::audit_passes, crate::proofs::Closing::audit_fails, crate::proofs::Closing::audit_gives_up))]
 fn audit_desk<S: Alter>(conn: &mut Connection<S>, alloc: Global) -> Result<(), Fault>
     requires { conn.old.in_transaction ≡ false }
@@ -69,15 +73,16 @@ fn audit_desk<S: Alter>(conn: &mut Connection<S>, alloc: Global) -> Result<(), F
 }
 
 impl<S: Alter> Store<S> {
-    /// Audits the database by the conditions of schema 3. Returns `Ok` only if its rows pass.
-    /// Writes nothing.
+    /// Audits the database by the conditions of schema 3 and writes nothing. Returns `Ok` only if
+    /// its rows pass.
     ///
     /// Fails with `Damaged` and the first condition that fails, or with `Memory` or `Store`. The
     /// rows and the open database are unchanged, whatever the result.
     ///
-    /// A crash exposes only states that were possible before the call.
+    /// A crash exposes only states that a crash before the call could expose.
     ///
-    /// The result is specified only of a database that is defined (`Store::adopt`).
+    /// The result is specified only under the premise of `Store::adopt`, for schema 3. Every store
+    /// that holds rows satisfies it (`a_desk_is_defined`).
     pub fn audit(&mut self, alloc: Global) -> Result<(), Fault>
         ensures audited { AuditPost S.Store self.old self.new result }
         ensures condition { IfErr result (λ f. f ≢ fault.Damaged NotEmpty) }

@@ -19,7 +19,8 @@ use std::alloc::Global;
 
 #[tactic(auto, using(crate::proofs::Ending::is_read_of))]
 impl<S: Alter> Store<S> {
-    /// Returns the brokers with a name, sorted by id, ascending. Fails with `Memory` or `Store`.
+    /// Returns the brokers with a name, sorted by id, ascending. Changes nothing. Fails with
+    /// `Memory` or `Store`.
     pub fn brokers_named(&mut self, alloc: Global, name: &Name) -> Result<Vec<BrokerRow>, Fault>
         ensures read { ReadPost S.Store self.old self.new result (Listed Brokers broker_row_of (λ r. bytes_eq r.name name.now)) }
         ensures fault { IfErr result MayFail }
@@ -28,8 +29,8 @@ impl<S: Alter> Store<S> {
         brk_tables_views::brokers_named(&mut tx, alloc, name)
     }
 
-    /// Returns the requests of a broker, sorted by trade, ascending. Fails with `Memory` or
-    /// `Store`.
+    /// Returns the requests of a broker, sorted by trade, ascending. Changes nothing. Fails with
+    /// `Memory` or `Store`.
     pub fn requests_of_broker(
         &mut self,
         alloc: Global,

@@ -23,7 +23,7 @@ const ALL_MOVEMENTS: u64 = 1_000_000_000_000;
 #[tactic(auto, using(crate::proofs::Ending::is_read_of))]
 impl<S: Alter> Store<S> {
     /// Returns the settlement day, the first day whose completions settle after one day, or `None`
-    /// if none is set. Fails with `Store` only.
+    /// if none is set. Changes nothing. Fails with `Store` only.
     pub fn one_day(&mut self) -> Result<Option<Day>, Fault>
         ensures read { ReadPost S.Store self.old self.new result (λ day t. day ≡ t.rule) }
         ensures fault { OnErr result (result ≡ Err fault.Store) }
@@ -32,7 +32,8 @@ impl<S: Alter> Store<S> {
         brk_tables_cash::one_day(&mut tx)
     }
 
-    /// Returns the cash row of a trade, or `None` if it has none. Fails with `Store` only.
+    /// Returns the cash row of a trade, or `None` if it has none. Changes nothing. Fails with
+    /// `Store` only.
     pub fn cash_row(&mut self, trade: Id) -> Result<Option<MoveRow>, Fault>
         ensures read { ReadPost S.Store self.old self.new result (Found CashMoves move_row_of (is_cash_of trade)) }
         ensures fault { OnErr result (result ≡ Err fault.Store) }
@@ -41,7 +42,8 @@ impl<S: Alter> Store<S> {
         brk_tables_cash::move_by_trade(&mut tx, trade)
     }
 
-    // Returns the cash row with the greatest number, if there is one.
+    // Returns the cash row with the greatest number, or `None` if there is none. Changes nothing.
+    // Fails with `Store` only.
     fn last_cash_row(&mut self) -> Result<Option<MoveRow>, Fault>
         ensures read { ReadPost S.Store self.old self.new result (λ o t. option_map move_row_of o ≡ slice_get (reverse t.moves) 0) }
         ensures fault { OnErr result (result ≡ Err fault.Store) }
@@ -51,7 +53,7 @@ impl<S: Alter> Store<S> {
     }
 
     // Returns true if there are at least `ALL_MOVEMENTS` deposits and withdrawals. The database
-    // goes over all cash rows.
+    // steps over the cash rows. Changes nothing. Fails with `Store` only.
     fn counts_all_movements(&mut self) -> Result<bool, Fault>
         ensures read { ReadPost S.Store self.old self.new result (λ all t. all ≡ nat_le greatest_id (length (filter (λ r. is_none r.trade) t.moves))) }
         ensures fault { OnErr result (result ≡ Err fault.Store) }
@@ -61,7 +63,7 @@ impl<S: Alter> Store<S> {
     }
 
     /// Returns the number of the next cash row: one more than the greatest, or 1 if there is none.
-    /// Fails with `Store` only, also if no number is left.
+    /// Changes nothing. Fails with `Store` only, also if the greatest number is taken.
     pub fn next_move(&mut self) -> Result<MoveId, Fault>
         ensures read { ReadPost S.Store self.old self.new result (λ next t. next ≡ last_move t + 1) }
         ensures fault { OnErr result (result ≡ Err fault.Store) }
@@ -76,8 +78,8 @@ impl<S: Alter> Store<S> {
         }
     }
 
-    /// Returns true if there are at least `Id::GREATEST` deposits and withdrawals. Fails with
-    /// `Store` only.
+    /// Returns true if there are at least `Id::GREATEST` deposits and withdrawals. Changes nothing.
+    /// Fails with `Store` only.
     pub fn has_all_movements(&mut self) -> Result<bool, Fault>
         ensures read { ReadPost S.Store self.old self.new result (λ all t. all ≡ nat_le greatest_id (length (filter (λ r. is_none r.trade) t.moves))) }
         ensures fault { OnErr result (result ≡ Err fault.Store) }

@@ -14,7 +14,7 @@ use brk_changes::Change;
 use brk_money::{Condition, Fault};
 use sqlite::{Alter, Connection, Transaction};
 
-// Applies one change to its row. Fails with `Store` only.
+// Applies one change to its row in the transaction. Fails with `Store` only.
 fn make<S: Alter>(tx: &mut Transaction<'_, S>, change: &Change) -> Result<(), Fault>
     ensures same_reference { tx.new.conn.ghost_name ≡ tx.old.conn.ghost_name }
     ensures step { IsStep (state S.Store tx.old.conn.now) (state S.Store tx.new.conn.now) result (λ _ a b. Turns desk (after_change change.now) a.now b.now) }
@@ -86,7 +86,7 @@ fn make<S: Alter>(tx: &mut Transaction<'_, S>, change: &Change) -> Result<(), Fa
     }
 }
 
-// Applies the changes in order. Fails with `Store` only.
+// Applies the changes in order in the transaction. Fails with `Store` only.
 fn make_all<S: Alter>(tx: &mut Transaction<'_, S>, changes: &[Change]) -> Result<(), Fault>
     ensures same_reference { tx.new.conn.ghost_name ≡ tx.old.conn.ghost_name }
     ensures step { IsStep (state S.Store tx.old.conn.now) (state S.Store tx.new.conn.now) result (λ _ a b. Turns desk (after_changes changes.now) a.now b.now) }
@@ -98,7 +98,8 @@ fn make_all<S: Alter>(tx: &mut Transaction<'_, S>, changes: &[Change]) -> Result
     Ok(())
 }
 
-/// Applies the changes in order, in one transaction, or none of them. Fails with `Store` only.
+/// Applies the changes in order in one transaction and commits them, or changes nothing in the open
+/// database. Fails with `Store` only.
 pub(crate) fn apply_all<S: Alter>(conn: &mut Connection<S>, changes: &[Change]) -> Result<(), Fault>
     requires { conn.old.in_transaction ≡ false }
     ensures mode { conn.new.in_transaction ≡ false }
@@ -116,8 +117,9 @@ pub(crate) fn apply_all<S: Alter>(conn: &mut Connection<S>, changes: &[Change]) 
     }
 }
 
-/// Creates the tables in one transaction, or none of them. Fails with `Store`, or with
-/// `Damaged(NotEmpty)`, only if one of the tables exists.
+/// Creates the tables in one transaction and commits them, or changes nothing in the open database.
+/// Fails with `Store`; or with `Damaged(NotEmpty)`, which it returns only if one of the tables
+/// exists.
 pub(crate) fn make_desk<S: Alter>(conn: &mut Connection<S>) -> Result<(), Fault>
     requires { conn.old.in_transaction ≡ false }
     ensures mode { conn.new.in_transaction ≡ false }

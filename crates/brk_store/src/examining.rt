@@ -26,7 +26,8 @@ pub enum AuditResult {
     Fails(Condition),
 }
 
-// Returns the schema of the desk in the database, or `None` if it has no desk.
+// Returns the schema of the desk in the database, or `None` if it has a desk of no schema. Fails
+// with `Store` only. The result is specified only under the premise `IsDefined`.
 fn schema_of_desk<S: Alter>(tx: &mut Transaction<'_, S>) -> Result<Option<Schema>, Fault>
     ensures same_reference { tx.new.conn.ghost_name ≡ tx.old.conn.ghost_name }
     ensures step { Steps S.Store tx.old tx.new result (λ found a b. IsTrue a.is_open × (b.now ≡ a.now) × (IsDefined a.now → HasDeskOf found a.now)) }
@@ -44,7 +45,9 @@ fn schema_of_desk<S: Alter>(tx: &mut Transaction<'_, S>) -> Result<Option<Schema
     Ok(None)
 }
 
-/// Audits the rows of the desk in the database by the conditions of its own schema.
+/// Audits the desk in the database by the conditions of its own schema and returns the result,
+/// which is `Fails` with the condition `Schema` if there is no desk. Fails with `Memory` or `Store`
+/// only. The result is specified only under the premise `IsDefined`.
 pub(crate) fn audit_by_own_schema<S: Alter>(
     tx: &mut Transaction<'_, S>,
     alloc: Global,

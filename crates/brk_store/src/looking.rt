@@ -18,8 +18,8 @@ use std::alloc::Global;
 
 #[tactic(auto, using(crate::proofs::Ending::is_read_of))]
 impl<S: Alter> Store<S> {
-    /// Returns the last ten trades of an account, the most recent first. Fails with `Memory` or
-    /// `Store`.
+    /// Returns the last ten trades of an account, the most recent first. Changes nothing. Fails
+    /// with `Memory` or `Store`.
     pub fn last_ten_of_account(
         &mut self,
         alloc: Global,
@@ -32,8 +32,8 @@ impl<S: Alter> Store<S> {
         brk_tables_trading::last_ten_of_account(&mut tx, alloc, account)
     }
 
-    /// Returns the last fifty trades of an account, the most recent first. Fails with `Memory` or
-    /// `Store`.
+    /// Returns the last fifty trades of an account, the most recent first. Changes nothing. Fails
+    /// with `Memory` or `Store`.
     pub fn last_fifty_of_account(
         &mut self,
         alloc: Global,
@@ -46,8 +46,8 @@ impl<S: Alter> Store<S> {
         brk_tables_trading::last_fifty_of_account(&mut tx, alloc, account)
     }
 
-    /// Returns the history of a trade, sorted by status code, ascending. Fails with `Memory` or
-    /// `Store`.
+    /// Returns the history of a trade, sorted by status code, ascending. Changes nothing. Fails
+    /// with `Memory` or `Store`.
     pub fn history_of(&mut self, alloc: Global, trade: Id) -> Result<Vec<HistoryRow>, Fault>
         ensures read { ReadPost S.Store self.old self.new result (Listed TradeHistory history_row_of (λ r. r.trade == trade)) }
         ensures fault { IfErr result MayFail }

@@ -17,8 +17,8 @@ use std::alloc::Global;
 
 #[tactic(auto, using(crate::proofs::Ending::is_read_of))]
 impl<S: Alter> Store<S> {
-    /// Returns the changes that a trade made to lots, sorted by lot, ascending. Fails with `Memory`
-    /// or `Store`.
+    /// Returns the changes that a trade made to lots, sorted by lot, ascending. Changes nothing.
+    /// Fails with `Memory` or `Store`.
     pub fn changes_by(&mut self, alloc: Global, trade: Id) -> Result<Vec<LotChange>, Fault>
         ensures read { ReadPost S.Store self.old self.new result (Listed HoldingHistory lot_change_of (λ r. r.trade == trade)) }
         ensures fault { IfErr result MayFail }
@@ -27,8 +27,8 @@ impl<S: Alter> Store<S> {
         brk_tables_views::changes_by(&mut tx, alloc, trade)
     }
 
-    /// Returns the changes of the lot that a trade opened, sorted by trade, ascending. Fails with
-    /// `Memory` or `Store`.
+    /// Returns the changes of the lot that a trade opened, sorted by trade, ascending. Changes
+    /// nothing. Fails with `Memory` or `Store`.
     pub fn changes_of(&mut self, alloc: Global, lot: Id) -> Result<Vec<LotChange>, Fault>
         ensures read { ReadPost S.Store self.old self.new result (Listed HoldingHistory lot_change_of (λ r. r.lot == lot)) }
         ensures fault { IfErr result MayFail }

@@ -21,7 +21,7 @@ use std::alloc::Global;
 #[tactic(auto, using(crate::proofs::Ending::is_read_of))]
 impl<S: Alter> Store<S> {
     /// Returns the first twenty trades of an account in a span, both ends included, the oldest
-    /// first. Fails with `Memory` or `Store`.
+    /// first. Changes nothing. Fails with `Memory` or `Store`.
     pub fn twenty_of_account(
         &mut self,
         alloc: Global,
@@ -36,7 +36,7 @@ impl<S: Alter> Store<S> {
     }
 
     /// Returns the first twenty trades of a symbol in a span, both ends included, the oldest first.
-    /// Fails with `Memory` or `Store`.
+    /// Changes nothing. Fails with `Memory` or `Store`.
     pub fn twenty_of_symbol(
         &mut self,
         alloc: Global,
@@ -51,7 +51,7 @@ impl<S: Alter> Store<S> {
     }
 
     /// Returns the oldest trade of an account at or after a stamp, or `None` if there is none.
-    /// Fails with `Store` only.
+    /// Changes nothing. Fails with `Store` only.
     pub fn first_since(&mut self, account: Id, first: Stamp) -> Result<Option<TradeRow>, Fault>
         ensures read { ReadPost S.Store self.old self.new result (λ o t. option_to_list (option_map trade_row_of o) ≡ take 1 (oldest_first_rows (filter (λ r. nat_le first r.stamp) (trades_in t account)))) }
         ensures fault { OnErr result (result ≡ Err fault.Store) }

@@ -11,7 +11,7 @@ use brk_money::{Cents, Fault, Id};
 use brk_ref::BrokerRow;
 use sqlite::Alter;
 
-// Returns the totals in a broker's row, or `None` if one is out of range.
+// Returns the totals in a broker's row, or `None` if one of them is out of range.
 fn numbers_in(row: &BrokerRow) -> Option<BrokerNumbers>
     ensures { IfSome result (λ numbers. (pos numbers.trades ≡ row.now.trades) × (numbers.commissions ≡ row.now.commissions)) }
 {
@@ -32,8 +32,8 @@ fn numbers_in(row: &BrokerRow) -> Option<BrokerNumbers>
 
 #[tactic(auto, using(crate::proofs::Ending::is_read_of))]
 impl<S: Alter> Store<S> {
-    /// Returns the totals of a broker, or `None` if the broker does not exist. Fails with `Store`
-    /// only, also if a total is out of range.
+    /// Returns the totals of a broker, or `None` if the broker does not exist. Changes nothing.
+    /// Fails with `Store` only, also if a total is out of range.
     pub fn broker_numbers(&mut self, broker: Id) -> Result<Option<BrokerNumbers>, Fault>
         ensures read { ReadPost S.Store self.old self.new result (λ numbers t. AreBrokerTotals numbers (find (λ r. r.id == broker) t.brokers)) }
         ensures fault { OnErr result (result ≡ Err fault.Store) }
@@ -48,7 +48,7 @@ impl<S: Alter> Store<S> {
     }
 
     /// Returns the balance of an account in cents (CA_BAL), or `None` if the account does not
-    /// exist. Fails with `Store` only.
+    /// exist. Changes nothing. Fails with `Store` only.
     pub fn balance_of(&mut self, account: Id) -> Result<Option<Cents>, Fault>
         ensures read { ReadPost S.Store self.old self.new result (λ balance t. balance ≡ option_map (λ r. r.balance) (find (λ r. r.id == account) t.accounts)) }
         ensures fault { OnErr result (result ≡ Err fault.Store) }

@@ -29,8 +29,8 @@ pub struct Page {
     ghost some_shares: { All (λ r. r.qty ≢ pos 0) rows.items },
 }
 
-/// A source of the lots of an account in a security, from one end. It has read at most 15 rows more
-/// than the lots that it returned (`rows_read`). It borrows the store.
+/// A source of the lots of an account in a security, sorted by age, from one end. It reads at most
+/// 15 rows more than the lots that it returns (`rows_read`). It borrows the store.
 pub type LotPages<'a, S> = Pages<'a, S, Page>;
 
 /// Pages of a borrowed store. The page is a type parameter, so that a caller knows the store's
@@ -66,7 +66,9 @@ impl<S: Alter, P: Drop> Drop for Pages<'_, S, P> {
     }
 }
 
-// Returns the page of rows after the first `skipped`, from one end.
+// Returns a page of the lots of an account in a security: at most 16 after the first `skipped`, the
+// newest first if `lifo`, otherwise the oldest first. Changes nothing. Fails with `Memory` or
+// `Store` only.
 fn read_page<S: Alter>(
     store: &mut Store<S>,
     alloc: Global,
@@ -85,15 +87,16 @@ fn read_page<S: Alter>(
     }
 }
 
-// Returns true if the rows are at most a page and each has shares.
+// Returns true only if there are at most 16 rows and each has shares.
 fn is_page(rows: &[HoldingRow]) -> bool
     ensures { IsTrue result → (length rows.now ≤ page_size) × All (λ r. r.qty ≢ pos 0) rows.now }
 {
     rows.len() <= PAGE_SIZE && rows.iter().all(|row| row.qty != 0)
 }
 
-// Returns the next page. Fails with `Memory` or `Store`, also with `Store` if the page has more
-// rows than were asked for, or a lot without shares.
+// Returns a page of the lots of an account in a security, as `read_page` does. Changes nothing.
+// Fails with `Memory` or `Store` only; with `Store` also if the page has more than 16 rows, or a
+// lot without shares.
 fn known_page<S: Alter>(
     store: &mut Store<S>,
     alloc: Global,
@@ -115,7 +118,7 @@ fn known_page<S: Alter>(
     }
 }
 
-// Returns the lot of a row.
+// Returns the lot in a row of HOLDING.
 fn lot_of(row: &HoldingRow) -> Lot
     ensures { result ≡ lot_in row.now }
 {
@@ -136,12 +139,12 @@ impl<S: Alter> Store<S> {
     ghost use Rattle.brk_book_theorems.specs.TradeReads.{position_in};
 
     /// Returns a source of the lots of an account in a security, the newest first if `lifo`,
-    /// otherwise the oldest first. Has read no row yet.
+    /// otherwise the oldest first. It has read no row yet.
     ///
     /// A call of the source fails with `Memory` or `Store`. The remaining lots and the open
     /// database are then unchanged, so the call may be retried.
     ///
-    /// A crash during its reads exposes only states that were possible before.
+    /// A crash during its reads exposes only states that a crash before them could expose.
     pub fn lot_pages<'a>(
         &'a mut self,
         alloc: Global,
@@ -187,7 +190,8 @@ impl<S: Alter> Pages<'_, S, Page> {
     ghost use Rattle.brk_store.specs.Resting.{Rests, rows_read_by};
     ghost use Rattle.brk_tables_trading.specs.Pages.{on_page, page_size};
 
-    /// Returns the number of rows read: at least the number of lots returned, and at most 15 more.
+    /// Returns the number of rows that were read: at least the number of lots that were returned,
+    /// and at most 15 more.
     pub fn rows_read(&self) -> u64
         ensures counted { result ≡ rows_read_by self.now }
         ensures least { ⟦<Pages<'static, S, Page> as LotSource>⟧.asked self.now ≤ result }
@@ -196,8 +200,9 @@ impl<S: Alter> Pages<'_, S, Page> {
         u64::from(self.read)
     }
 
-    // Reads the next page and adds its rows to the number of rows read. Fails with `Memory` or
-    // `Store`, also with `Store` if that number exceeds 32 bits; the number is then unchanged.
+    // Reads the next page and adds the number of its rows to that of the rows read. Fails with
+    // `Memory` or `Store` only; with `Store` also if this number exceeds 32 bits. At an error the
+    // number is unchanged.
     fn next_page(&mut self) -> Result<Vec<HoldingRow>, Fault>
         ensures same_reference { self.new.store.ghost_name ≡ self.old.store.ghost_name }
         ensures same { self.new ≡ record self.old { store = self.new.store; read = self.new.read } }
@@ -225,7 +230,8 @@ impl<S: Alter> Pages<'_, S, Page> {
         Ok(page)
     }
 
-    // Turns to the next page and returns its first lot, or `None` if no lot remains.
+    // Reads the next page and returns its first lot, or `None` if no lot remains. Fails with
+    // `Memory` or `Store` only; the remaining lots are then unchanged.
     fn turn(&mut self) -> Result<Option<Lot>, Fault>
         requires { length self.old.page.rows.items ≤ self.old.page.given }
         ensures same_reference { self.new.store.ghost_name ≡ self.old.store.ghost_name }

@@ -18,8 +18,8 @@ use std::alloc::Global;
 
 #[tactic(auto, using(crate::proofs::Ending::is_read_of))]
 impl<S: Alter> Store<S> {
-    /// Returns the stamp of the last accepted command, or `None` if there is none. Fails with
-    /// `Store` only.
+    /// Returns the stamp of the last accepted command, or `None` if there is none. Changes nothing.
+    /// Fails with `Store` only.
     pub fn last(&mut self) -> Result<Option<Stamp>, Fault>
         ensures read { ReadPost S.Store self.old self.new result (λ last t. last ≡ t.last) }
         ensures fault { OnErr result (result ≡ Err fault.Store) }
@@ -28,7 +28,8 @@ impl<S: Alter> Store<S> {
         brk_tables_schema::last_stamp(&mut tx)
     }
 
-    /// Returns the broker with an id, or `None` if there is none. Fails with `Store` only.
+    /// Returns the broker with an id, or `None` if there is none. Changes nothing. Fails with
+    /// `Store` only.
     pub fn broker(&mut self, id: Id) -> Result<Option<BrokerRow>, Fault>
         ensures read { ReadPost S.Store self.old self.new result (Found Brokers broker_row_of (λ r. r.id == id)) }
         ensures fault { OnErr result (result ≡ Err fault.Store) }
@@ -37,7 +38,8 @@ impl<S: Alter> Store<S> {
         brk_tables_reference::broker_by_id(&mut tx, id)
     }
 
-    /// Returns the customer with an id, or `None` if there is none. Fails with `Store` only.
+    /// Returns the customer with an id, or `None` if there is none. Changes nothing. Fails with
+    /// `Store` only.
     pub fn customer(&mut self, id: Id) -> Result<Option<Customer>, Fault>
         ensures read { ReadPost S.Store self.old self.new result (Found Customers customer_of (λ r. r.id == id)) }
         ensures fault { OnErr result (result ≡ Err fault.Store) }
@@ -46,7 +48,8 @@ impl<S: Alter> Store<S> {
         brk_tables_reference::customer_by_id(&mut tx, id)
     }
 
-    /// Returns the customer with a tax id, or `None` if there is none. Fails with `Store` only.
+    /// Returns the customer with a tax id, or `None` if there is none. Changes nothing. Fails with
+    /// `Store` only.
     pub fn customer_by_tax_id(&mut self, tax_id: &TaxId) -> Result<Option<Customer>, Fault>
         ensures read { ReadPost S.Store self.old self.new result (Found Customers customer_of (λ r. bytes_eq r.tax_id tax_id.now)) }
         ensures fault { OnErr result (result ≡ Err fault.Store) }
@@ -55,7 +58,8 @@ impl<S: Alter> Store<S> {
         brk_tables_reference::customer_by_tax_id(&mut tx, tax_id)
     }
 
-    /// Returns the account with an id, or `None` if there is none. Fails with `Store` only.
+    /// Returns the account with an id, or `None` if there is none. Changes nothing. Fails with
+    /// `Store` only.
     pub fn account(&mut self, id: Id) -> Result<Option<AccountRow>, Fault>
         ensures read { ReadPost S.Store self.old self.new result (Found Accounts account_row_of (λ r. r.id == id)) }
         ensures fault { OnErr result (result ≡ Err fault.Store) }
@@ -64,7 +68,8 @@ impl<S: Alter> Store<S> {
         brk_tables_reference::account_by_id(&mut tx, id)
     }
 
-    /// Returns the accounts of a customer, sorted by id, ascending. Fails with `Memory` or `Store`.
+    /// Returns the accounts of a customer, sorted by id, ascending. Changes nothing. Fails with
+    /// `Memory` or `Store`.
     pub fn accounts_of(&mut self, alloc: Global, customer: Id) -> Result<Vec<AccountRow>, Fault>
         ensures read { ReadPost S.Store self.old self.new result (Listed Accounts account_row_of (λ r. r.customer == customer)) }
         ensures fault { IfErr result MayFail }
@@ -73,7 +78,8 @@ impl<S: Alter> Store<S> {
         brk_tables_reference::accounts_of_customer(&mut tx, alloc, customer)
     }
 
-    /// Returns the row of KEPT under a key, or `None` if there is none. Fails with `Store` only.
+    /// Returns the row of KEPT under a key, or `None` if there is none. Changes nothing. Fails with
+    /// `Store` only.
     pub fn kept(&mut self, key: &Key) -> Result<Option<Kept>, Fault>
         ensures read { ReadPost S.Store self.old self.new result (Found KeptRows kept_of (λ k. bytes_eq k.key.batch key.now.batch && (k.key.row == key.now.row))) }
         ensures fault { OnErr result (result ≡ Err fault.Store) }

@@ -11,17 +11,18 @@ ghost use Rattle.brk_store.specs.Holds.{AreTreesOf, Holds, IsOpenedOver, OnlyCra
 
 use sqlite::Alter;
 
-/// Proves that a connection opened over trees that have the rows `t` holds these rows.
+/// Proves that a connection that was opened over trees with the rows `t` holds these rows.
 pub fn reopening_finds_the_rows<S: Alter>()
     ensures { (t : Tables) (trees : Trees) (conn : Held S) → AreTreesOf t trees → IsOpenedOver S.Store trees conn → Holds S.Store conn t }
 {}
 
-/// Proves that a crash of an open store exposes only its last commit.
+/// Proves that a crash of an open store exposes no state of the disk but the trees of its last
+/// commit.
 pub fn an_open_store_leaves_its_last_commit<S: Alter>()
     ensures { (store : Held S) → IsTrue (state S.Store store).is_open → OnlyCrashState S.Store store (λ trees. trees ≡ (state S.Store store).committed.trees) }
 {}
 
-/// Proves that a store in memory is always open, and that its disk assumption always holds.
+/// Proves that a store in memory is open and satisfies the disk assumption, always.
 pub fn a_store_in_memory_is_open()
     ensures { (store : Held MemStore) → HasCleanDisk (state over_memory store) × IsTrue (state over_memory store).is_open }
 {}

@@ -4,8 +4,8 @@ use brk_money::Fault;
 use sqlite::{Alter, Connection};
 use std::marker::Model;
 
-/// The tables of a desk in the database of a connection, on which no transaction is open between
-/// calls. Contracts see a store as the state of its connection.
+/// The database of a connection that contains the tables of a desk. No transaction is open on it
+/// between calls. Contracts see a store as the state of its connection.
 pub struct Store<S: Alter> {
     pub(crate) conn: Connection<S>,
 }
@@ -36,16 +36,18 @@ impl<S: Alter> Store<S> {
     ghost use Rattle.brk_changes.specs.Changes.{after_changes};
     ghost use Rattle.brk_store.specs.Holds.{ApplyPost, CreatePost};
 
-    /// Creates the tables of a desk, without rows, in the database of `conn` and commits them.
-    /// Returns the store. Tables that existed keep their rows.
+    /// Creates the tables of a desk, without rows but the one of DESK, in the database of `conn`,
+    /// commits them and returns the store. Tables that existed keep their rows.
     ///
-    /// Errors return the connection, with no transaction open that was not open before, and the
-    /// open database unchanged: `Damaged(NotEmpty)`, only if one of the tables exists; `Store`,
-    /// also if a transaction is open on `conn`, which is then returned unchanged. If one of the
-    /// tables exists, the result is one of these errors.
+    /// Errors return the connection; a database that is still open is unchanged.
+    /// `Damaged(NotEmpty)` is returned only if one of the tables exists. `Store` is returned also
+    /// if a transaction is open on `conn`, and then the connection is unchanged; otherwise no
+    /// transaction is open on the returned connection. If one of the tables exists, the result is
+    /// one of these two errors.
     ///
-    /// A crash exposes a state that was possible before the call, or the tables without rows; after
-    /// `Ok` only the latter. After an error too, a crash may find the tables created.
+    /// A crash exposes a state that a crash before the call could expose, or the tables without
+    /// rows; after `Ok` only the latter. After an error, too, a crash may expose the created
+    /// tables.
     pub fn create(mut conn: Connection<S>) -> Result<Store<S>, (Connection<S>, Fault)>
         ensures created { MatchResult result (λ store. CreatePost S.Store conn store (Ok tt)) (λ e. CreatePost S.Store conn e.0 (Err e.1)) }
         ensures fault { IfErr result (λ e. (e.1 ≡ fault.Store) ⊎ (e.1 ≡ fault.Damaged NotEmpty)) }
@@ -62,12 +64,12 @@ impl<S: Alter> Store<S> {
     }
 
     /// Applies `changes` in order, in one transaction, and commits them. Tables that are not the
-    /// desk's keep their rows, unless a foreign key of their own acts on them.
+    /// desk's keep their rows, unless a foreign key of their own writes them.
     ///
     /// Fails with `Store` only. The rows and the open database are then unchanged.
     ///
-    /// A crash exposes a state that was possible before the call, or the changed rows; after `Ok`
-    /// only the latter. After an error too, a crash may find the changes committed.
+    /// A crash exposes a state that a crash before the call could expose, or the changed rows;
+    /// after `Ok` only the latter. After an error, too, a crash may expose the changed rows.
     pub fn apply(&mut self, changes: &[Change]) -> Result<(), Fault>
         ensures applied { ApplyPost S.Store self.old self.new result (after_changes changes.now) }
         ensures fault { OnErr result (result ≡ Err fault.Store) }
@@ -75,7 +77,7 @@ impl<S: Alter> Store<S> {
         apply_all(&mut self.conn, changes)
     }
 
-    /// Returns the connection, on which no transaction is open.
+    /// Returns the connection of the store, on which no transaction is open.
     pub fn into_conn(self) -> Connection<S>
         ensures same { result ≡ self }
         ensures idle { result.in_transaction ≡ false }

@@ -20,8 +20,8 @@ use std::alloc::Global;
 
 #[tactic(auto, using(crate::proofs::Ending::is_read_of))]
 impl<S: Alter> Store<S> {
-    /// Returns the permission of an account for a tax id, or `None` if there is none. Fails with
-    /// `Store` only.
+    /// Returns the permission of an account for a tax id, or `None` if there is none. Changes
+    /// nothing. Fails with `Store` only.
     pub fn permission(&mut self, account: Id, tax_id: &TaxId) -> Result<Option<Permission>, Fault>
         ensures read { ReadPost S.Store self.old self.new result (Found Permissions permission_of (λ r. (r.account == account) && bytes_eq r.tax_id tax_id.now)) }
         ensures fault { OnErr result (result ≡ Err fault.Store) }
@@ -30,7 +30,8 @@ impl<S: Alter> Store<S> {
         brk_tables_reference::permission_by_key(&mut tx, account, tax_id)
     }
 
-    /// Returns the security with a symbol, or `None` if there is none. Fails with `Store` only.
+    /// Returns the security with a symbol, or `None` if there is none. Changes nothing. Fails with
+    /// `Store` only.
     pub fn security(&mut self, symbol: &Symbol) -> Result<Option<Security>, Fault>
         ensures read { ReadPost S.Store self.old self.new result (Found Securities security_of (λ r. bytes_eq r.symbol symbol.now)) }
         ensures fault { OnErr result (result ≡ Err fault.Store) }
@@ -39,8 +40,8 @@ impl<S: Alter> Store<S> {
         brk_tables_reference::security_by_symbol(&mut tx, symbol)
     }
 
-    /// Returns the charge of a type and a tier, or `None` if there is none. Fails with `Store`
-    /// only.
+    /// Returns the charge of a type and a tier, or `None` if there is none. Changes nothing. Fails
+    /// with `Store` only.
     pub fn charge(&mut self, kind: TradeType, tier: Tier) -> Result<Option<Charge>, Fault>
         ensures read { ReadPost S.Store self.old self.new result (Found Charges charge_of (λ r. same_type r.kind kind && (r.tier == tier))) }
         ensures fault { OnErr result (result ≡ Err fault.Store) }
@@ -49,8 +50,8 @@ impl<S: Alter> Store<S> {
         brk_tables_reference::charge_by_key(&mut tx, kind, tier)
     }
 
-    /// Returns the bands of a tier, a type and an exchange, sorted by lower bound, ascending. Fails
-    /// with `Memory` or `Store`.
+    /// Returns the bands of a tier, a type and an exchange, sorted by lower bound, ascending.
+    /// Changes nothing. Fails with `Memory` or `Store`.
     pub fn bands_for(
         &mut self,
         alloc: Global,
@@ -65,7 +66,8 @@ impl<S: Alter> Store<S> {
         brk_tables_reference::bands_for(&mut tx, alloc, tier, kind, exchange)
     }
 
-    /// Returns the tax with an id, or `None` if there is none. Fails with `Store` only.
+    /// Returns the tax with an id, or `None` if there is none. Changes nothing. Fails with `Store`
+    /// only.
     pub fn tax_rate(&mut self, id: Id) -> Result<Option<Tax>, Fault>
         ensures read { ReadPost S.Store self.old self.new result (Found TaxRates tax_of (λ r. r.id == id)) }
         ensures fault { OnErr result (result ≡ Err fault.Store) }
@@ -75,7 +77,7 @@ impl<S: Alter> Store<S> {
     }
 
     /// Returns the row of a customer and a tax, or `None` if the customer does not pay the tax.
-    /// Fails with `Store` only.
+    /// Changes nothing. Fails with `Store` only.
     pub fn customer_tax(&mut self, customer: Id, tax: Id) -> Result<Option<CustomerTax>, Fault>
         ensures read { ReadPost S.Store self.old self.new result (Found CustomerTaxes customer_tax_of (λ r. (r.customer == customer) && (r.tax == tax))) }
         ensures fault { OnErr result (result ≡ Err fault.Store) }
@@ -84,8 +86,8 @@ impl<S: Alter> Store<S> {
         brk_tables_reference::customer_tax_by_key(&mut tx, customer, tax)
     }
 
-    /// Returns the taxes that a customer pays, sorted by the id of the tax, ascending. Fails with
-    /// `Memory` or `Store`.
+    /// Returns the taxes that a customer pays, sorted by the id of the tax, ascending. Changes
+    /// nothing. Fails with `Memory` or `Store`.
     pub fn customer_taxes_of(
         &mut self,
         alloc: Global,

@@ -23,7 +23,8 @@ use std::alloc::Global;
 
 #[tactic(auto, using(crate::proofs::Ending::is_read_of))]
 impl<S: Alter> Store<S> {
-    /// Returns the trade with an id, or `None` if there is none. Fails with `Store` only.
+    /// Returns the trade with an id, or `None` if there is none. Changes nothing. Fails with
+    /// `Store` only.
     pub fn trade(&mut self, id: Id) -> Result<Option<TradeRow>, Fault>
         ensures read { ReadPost S.Store self.old self.new result (Found Trades trade_row_of (λ r. r.id == id)) }
         ensures fault { OnErr result (result ≡ Err fault.Store) }
@@ -32,7 +33,8 @@ impl<S: Alter> Store<S> {
         brk_tables_trading::trade_by_id(&mut tx, id)
     }
 
-    /// Returns the greatest trade id, or `None` if there is no trade. Fails with `Store` only.
+    /// Returns the greatest trade id, or `None` if there is no trade. Changes nothing. Fails with
+    /// `Store` only.
     pub fn last_trade_id(&mut self) -> Result<Option<Id>, Fault>
         ensures read { ReadPost S.Store self.old self.new result (λ o t. o ≡ option_map (λ r. r.id) (slice_get (reverse t.trades) 0)) }
         ensures fault { OnErr result (result ≡ Err fault.Store) }
@@ -41,7 +43,8 @@ impl<S: Alter> Store<S> {
         brk_tables_trading::last_trade_id(&mut tx)
     }
 
-    /// Returns the submitted trades, sorted by id, ascending. Fails with `Memory` or `Store`.
+    /// Returns the submitted trades, sorted by id, ascending. Changes nothing. Fails with `Memory`
+    /// or `Store`.
     pub fn submitted_trades(&mut self, alloc: Global) -> Result<Vec<TradeRow>, Fault>
         ensures read { ReadPost S.Store self.old self.new result (Listed Trades trade_row_of (λ r. same_status r.status Submitted)) }
         ensures fault { IfErr result MayFail }
@@ -51,7 +54,7 @@ impl<S: Alter> Store<S> {
     }
 
     /// Returns the requests of a symbol and a type with a bid of at least `price`, sorted by trade,
-    /// ascending. Fails with `Memory` or `Store`.
+    /// ascending. Changes nothing. Fails with `Memory` or `Store`.
     pub fn requests_at_or_above(
         &mut self,
         alloc: Global,
@@ -67,7 +70,7 @@ impl<S: Alter> Store<S> {
     }
 
     /// Returns the requests of a symbol and a type with a bid of at most `price`, sorted by trade,
-    /// ascending. Fails with `Memory` or `Store`.
+    /// ascending. Changes nothing. Fails with `Memory` or `Store`.
     pub fn requests_at_or_below(
         &mut self,
         alloc: Global,
@@ -82,7 +85,8 @@ impl<S: Alter> Store<S> {
         brk_tables_trading::requests_at_or_below(&mut tx, alloc, symbol, kind, price)
     }
 
-    /// Returns the last trade of a symbol, or `None` if there is none. Fails with `Store` only.
+    /// Returns the last trade of a symbol, or `None` if there is none. Changes nothing. Fails with
+    /// `Store` only.
     pub fn last_trade(&mut self, symbol: &Symbol) -> Result<Option<LastTrade>, Fault>
         ensures read { ReadPost S.Store self.old self.new result (Found LastTrades last_trade_of (λ r. bytes_eq r.symbol symbol.now)) }
         ensures fault { OnErr result (result ≡ Err fault.Store) }
@@ -92,8 +96,8 @@ impl<S: Alter> Store<S> {
     }
 
     // Returns a page of the lots of an account in a security: at most 16, after the first
-    // `skipped`, sorted by opening stamp and then by trade, the oldest first. Fails with `Memory`
-    // or `Store`.
+    // `skipped`, sorted by opening stamp and then by trade, the oldest first. Changes nothing.
+    // Fails with `Memory` or `Store`.
     pub(crate) fn oldest_lots(
         &mut self,
         alloc: Global,
@@ -109,8 +113,8 @@ impl<S: Alter> Store<S> {
     }
 
     // Returns a page of the lots of an account in a security: at most 16, after the first
-    // `skipped`, sorted by opening stamp and then by trade, the newest first. Fails with `Memory`
-    // or `Store`.
+    // `skipped`, sorted by opening stamp and then by trade, the newest first. Changes nothing.
+    // Fails with `Memory` or `Store`.
     pub(crate) fn newest_lots(
         &mut self,
         alloc: Global,
@@ -125,8 +129,8 @@ impl<S: Alter> Store<S> {
         brk_tables_trading::newest_lots(&mut tx, alloc, account, symbol, skipped)
     }
 
-    /// Returns the summaries of an account, sorted by symbol, ascending. Fails with `Memory` or
-    /// `Store`.
+    /// Returns the summaries of an account, sorted by symbol, ascending. Changes nothing. Fails
+    /// with `Memory` or `Store`.
     pub fn summaries_of(&mut self, alloc: Global, account: Id) -> Result<Vec<SummaryRow>, Fault>
         ensures read { ReadPost S.Store self.old self.new result (Listed Summaries summary_row_of (λ r. r.account == account)) }
         ensures fault { IfErr result MayFail }
@@ -135,8 +139,8 @@ impl<S: Alter> Store<S> {
         brk_tables_trading::summaries_of(&mut tx, alloc, account)
     }
 
-    /// Returns the summary of an account in a security, or `None` if there is none. Fails with
-    /// `Store` only.
+    /// Returns the summary of an account in a security, or `None` if there is none. Changes
+    /// nothing. Fails with `Store` only.
     pub fn summary_of(&mut self, account: Id, symbol: &Symbol) -> Result<Option<SummaryRow>, Fault>
         ensures read { ReadPost S.Store self.old self.new result (Found Summaries summary_row_of (λ r. (r.account == account) && bytes_eq r.symbol symbol.now)) }
         ensures fault { OnErr result (result ≡ Err fault.Store) }

@@ -21,7 +21,7 @@ use std::alloc::Global;
 #[tactic(auto, using(crate::proofs::Ending::is_read_of))]
 impl<S: Alter> Store<S> {
     /// Returns the first twenty trades of an account that were completed in a span, both ends
-    /// included, the oldest first. Fails with `Memory` or `Store`.
+    /// included, the oldest first. Changes nothing. Fails with `Memory` or `Store`.
     pub fn completed_of_account(
         &mut self,
         alloc: Global,
@@ -36,7 +36,7 @@ impl<S: Alter> Store<S> {
     }
 
     /// Returns the first twenty cash trades of a symbol that were completed in a span, both ends
-    /// included, the oldest first. Fails with `Memory` or `Store`.
+    /// included, the oldest first. Changes nothing. Fails with `Memory` or `Store`.
     pub fn completed_cash_of_symbol(
         &mut self,
         alloc: Global,
@@ -50,7 +50,8 @@ impl<S: Alter> Store<S> {
         brk_tables_trading::completed_cash_of_symbol(&mut tx, alloc, symbol, span.first, span.last)
     }
 
-    /// Returns the settlement of a trade, or `None` if it has none. Fails with `Store` only.
+    /// Returns the settlement of a trade, or `None` if it has none. Changes nothing. Fails with
+    /// `Store` only.
     pub fn settlement(&mut self, trade: Id) -> Result<Option<SettlementRow>, Fault>
         ensures read { ReadPost S.Store self.old self.new result (Found Settlements settlement_row_of (λ r. r.trade == trade)) }
         ensures fault { OnErr result (result ≡ Err fault.Store) }

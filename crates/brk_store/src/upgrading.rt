@@ -14,7 +14,8 @@ use sqlite::{Alter, Connection};
 use std::alloc::Global;
 
 // Audits the rows of the desk in the database by the conditions of its own schema. If they pass and
-// the schema is older, upgrades them to schema 3 in the same transaction.
+// the schema is older, upgrades them to schema 3 in the same transaction. Fails with `Damaged`,
+// `Memory` or `Store`.
 fn adopt_desk<S: Alter>(conn: &mut Connection<S>, alloc: Global) -> Result<(), Fault>
     requires { conn.old.in_transaction ≡ false }
     ensures mode { conn.new.in_transaction ≡ false }
@@ -42,16 +43,20 @@ impl<S: Alter> Store<S> {
     /// opens it as a store. A database of an older schema is upgraded to schema 3 in one
     /// transaction; one of schema 3 is not written.
     ///
-    /// Errors return the connection, with no transaction open that was not open before, and the
-    /// open database unchanged: `Damaged` with the first condition that fails; `Memory`; `Store`,
-    /// also if a transaction is open on `conn`, which is then returned unchanged.
+    /// Errors return the connection; a database that is still open is unchanged. The error is
+    /// `Damaged` with the first condition that fails, `Memory` or `Store`. `Store` is returned also
+    /// if a transaction is open on `conn`, and then the connection is unchanged; otherwise no
+    /// transaction is open on the returned connection.
     ///
-    /// A crash exposes a state that was possible before the call or, if rows of an older schema
-    /// passed, the upgraded tables. After an error too, a crash may find the upgrade committed.
+    /// A crash exposes a state that a crash before the call could expose or, if rows of an older
+    /// schema passed, the upgraded tables. After an error, too, a crash may expose the upgraded
+    /// tables.
     ///
-    /// The result and the crash states are specified only of a database that is defined: if it has
-    /// all tables of a desk of some schema by their names and columns, they have its types, keys
-    /// and references too.
+    /// The result and the crash states are specified only under a premise on the database
+    /// (`IsDefinedIn`): if it has all tables of a desk of some schema by their names and columns,
+    /// then these are defined as a desk defines them, with the same types, keys and references, and
+    /// no foreign key of theirs writes rows. A database without such tables, an empty one too,
+    /// satisfies it.
     pub fn adopt(alloc: Global, mut conn: Connection<S>) -> Result<Store<S>, (Connection<S>, Fault)>
         ensures adopted { MatchResult result (λ store. AdoptPost S.Store conn store (Ok tt)) (λ e. AdoptPost S.Store conn e.0 (Err e.1)) }
         ensures condition { IfErr result (λ e. e.1 ≢ fault.Damaged NotEmpty) }

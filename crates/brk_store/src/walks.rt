@@ -23,7 +23,7 @@ impl<S: Alter> Store<S> {
     /// Fails with `Cause` and the visitor's error, or with `Failed` and the fault `Memory` or
     /// `Store` after a prefix of the rows. The open database is unchanged, whatever the result.
     ///
-    /// A crash exposes only states that were possible before the call.
+    /// A crash exposes only states that a crash before the call could expose.
     pub fn visit_cash<E, V: Visitor<MoveRow, E>>(
         &mut self,
         account: Id,
@@ -45,7 +45,7 @@ impl<S: Alter> Store<S> {
     /// Fails with `Cause` and the visitor's error, or with `Failed` and the fault `Memory` or
     /// `Store` after a prefix of the lots. The open database is unchanged, whatever the result.
     ///
-    /// A crash exposes only states that were possible before the call.
+    /// A crash exposes only states that a crash before the call could expose.
     pub fn visit_lots<E, V: Visitor<HoldingRow, E>>(
         &mut self,
         account: Id,
@@ -65,7 +65,7 @@ impl<S: Alter> Store<S> {
     /// Fails with the closure's first error, or with a fault (`Memory` or `Store`) as an error of
     /// type `E`, after a prefix of the rows. The open database is unchanged, whatever the result.
     ///
-    /// A crash exposes only states that were possible before the call.
+    /// A crash exposes only states that a crash before the call could expose.
     pub fn walk_cash<E: From<Fault>, F: FnMut(&MoveRow) -> Result<(), E> + Drop>(
         &mut self,
         account: Id,
@@ -90,7 +90,7 @@ impl<S: Alter> Store<S> {
     /// Fails with the closure's first error, or with a fault (`Memory` or `Store`) as an error of
     /// type `E`, after a prefix of the lots. The open database is unchanged, whatever the result.
     ///
-    /// A crash exposes only states that were possible before the call.
+    /// A crash exposes only states that a crash before the call could expose.
     pub fn walk_lots<E: From<Fault>, F: FnMut(&str, &Lot) -> Result<(), E> + Drop>(
         &mut self,
         account: Id,

@@ -18,7 +18,7 @@ use brk_tables_schema::values::{
 };
 use sqlite::{Alter, Transaction};
 
-/// Inserts a cash row, whose number has to be new.
+/// Inserts a cash row. Fails with `Store` only, also if its number exists.
 pub fn add_move<S: Alter>(tx: &mut Transaction<'_, S>, row: &MoveRow) -> Result<(), Fault>
     ensures same_reference { tx.new.conn.ghost_name ≡ tx.old.conn.ghost_name }
     ensures step { Writes S.Store tx.old tx.new result (with_move (move_row_of row.now)) }
@@ -38,7 +38,8 @@ pub fn add_move<S: Alter>(tx: &mut Transaction<'_, S>, row: &MoveRow) -> Result<
     )
 }
 
-/// Returns the cash row with the greatest number, if there is one.
+/// Returns the cash row with the greatest number, or `None` if there is none. Changes nothing.
+/// Fails with `Store` only.
 pub fn last_move<S: Alter>(tx: &mut Transaction<'_, S>) -> Result<Option<MoveRow>, Fault>
     ensures same_reference { tx.new.conn.ghost_name ≡ tx.old.conn.ghost_name }
     ensures step { Reads S.Store tx.old tx.new result (λ o t. option_map move_row_of o ≡ slice_get (reverse t.moves) 0) }
@@ -52,8 +53,8 @@ pub fn last_move<S: Alter>(tx: &mut Transaction<'_, S>) -> Result<Option<MoveRow
     first_row(&rows)
 }
 
-/// Returns whether there are at least 10^12 deposits and withdrawals. The database steps over all
-/// of them but the last.
+/// Returns true if there are at least 10^12 deposits and withdrawals. The database steps over all
+/// of them but the last. Changes nothing. Fails with `Store` only.
 pub fn has_all_movements<S: Alter>(tx: &mut Transaction<'_, S>) -> Result<bool, Fault>
     ensures same_reference { tx.new.conn.ghost_name ≡ tx.old.conn.ghost_name }
     ensures step { Reads S.Store tx.old tx.new result (λ all t. all ≡ nat_le greatest_id (length (filter (λ r. is_none r.trade) t.moves))) }
@@ -67,7 +68,8 @@ pub fn has_all_movements<S: Alter>(tx: &mut Transaction<'_, S>) -> Result<bool, 
     Ok(!rows.is_empty())
 }
 
-/// Returns the cash row of a trade, or `None` if it has none.
+/// Returns the cash row of a trade, or `None` if it has none. Changes nothing. Fails with `Store`
+/// only.
 pub fn move_by_trade<S: Alter>(
     tx: &mut Transaction<'_, S>,
     trade: Id,
@@ -84,7 +86,7 @@ pub fn move_by_trade<S: Alter>(
     first_row(&rows)
 }
 
-/// Sets the text of a trade's cash row (CM_NAME).
+/// Sets the text of a trade's cash row (CM_NAME). Fails with `Store` only.
 pub fn set_cash_name<S: Alter>(
     tx: &mut Transaction<'_, S>,
     trade: Id,

@@ -13,8 +13,8 @@ use brk_tables_schema::rule_row::day_in_rows;
 use brk_tables_schema::values::{day_value, number_value};
 use sqlite::{Alter, Row, Transaction};
 
-/// Inserts the settlement day, the first day whose completions settle after one day. None may be
-/// set before.
+/// Inserts the settlement day, the first day whose completions settle after one day (SR_DAY). Fails
+/// with `Store` only, also if one is set.
 pub fn set_one_day<S: Alter>(tx: &mut Transaction<'_, S>, day: Day) -> Result<(), Fault>
     ensures same_reference { tx.new.conn.ghost_name ≡ tx.old.conn.ghost_name }
     ensures step { Writes S.Store tx.old tx.new result (with_rule day) }
@@ -35,7 +35,8 @@ fn only_day(rows: &[Row]) -> Result<Option<Day>, Fault>
     Ok(day_in_rows(rows)?)
 }
 
-/// Returns the settlement day, if one is set (SR_DAY).
+/// Returns the settlement day, the first day whose completions settle after one day (SR_DAY), or
+/// `None` if none is set. Changes nothing. Fails with `Store` only.
 pub fn one_day<S: Alter>(tx: &mut Transaction<'_, S>) -> Result<Option<Day>, Fault>
     ensures same_reference { tx.new.conn.ghost_name ≡ tx.old.conn.ghost_name }
     ensures step { Reads S.Store tx.old tx.new result (λ day t. day ≡ t.rule) }

@@ -12,7 +12,8 @@ use brk_tables_schema::calls::run;
 use brk_tables_schema::values::number_value;
 use sqlite::{Alter, Transaction};
 
-/// Sets the number of the schema to 3 (D_SCHEMA). The tables of schema 3 have to exist.
+/// Sets the number of the schema to 3 (D_SCHEMA). Fails with `Store` only. The effect is specified
+/// only if all tables of a desk exist.
 pub fn set_schema<S: Alter>(tx: &mut Transaction<'_, S>) -> Result<(), Fault>
     ensures same_reference { tx.new.conn.ghost_name ≡ tx.old.conn.ghost_name }
     ensures step { Steps S.Store tx.old tx.new result (λ _ a b. SetsThirdSchema a.now b.now) }
@@ -25,7 +26,7 @@ pub fn set_schema<S: Alter>(tx: &mut Transaction<'_, S>) -> Result<(), Fault>
     )
 }
 
-/// Deletes all rows of CASH_TRANSACTION.
+/// Deletes all rows of CASH_TRANSACTION. Fails with `Store` only.
 pub fn remove_cash_rows<S: Alter>(tx: &mut Transaction<'_, S>) -> Result<(), Fault>
     ensures same_reference { tx.new.conn.ghost_name ≡ tx.old.conn.ghost_name }
     ensures step { Writes S.Store tx.old tx.new result without_cash }

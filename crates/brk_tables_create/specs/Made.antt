@@ -7,16 +7,16 @@ use Rattle.brk_sql.specs.Desk.{KeepsOthers}
 use Rattle.brk_tables_schema.specs.Desk.{Which, all_tables, has_table}
 use Rattle.brk_tables_schema.specs.Made.{HasRows}
 
--- The tables that later schemas add to this one.
+-- The tables of a desk that this schema does not have, which later schemas add.
 abbrev pub later_than : Schema → List Which
 later_than schema = filter (λ w. not (has_table schema w)) all_tables
 
--- The database `new` has the tables of a desk, without rows except the one of DESK, and the tables
--- of `old` unchanged.
+-- The database `new` contains the tables of a desk in schema 3, without rows but the one of DESK,
+-- and all tables of `old` with their rows.
 pub record MakesDesk (old new : Database) : Type 0 where
   pub rows : HasRows no_rows new
   pub others : KeepsOthers old new
 
--- The statement that inserts the row of DESK.
+-- The text of the SQL statement that inserts the one row of DESK, with schema 3 and no stamp.
 abbrev pub desk_row_text : List ℕ
 desk_row_text = codes "INSERT INTO DESK (D_ID, D_SCHEMA, D_LAST) VALUES (1, 3, NULL)"

@@ -7,15 +7,15 @@ use Rattle.brk_model.specs.Schemas.{Schema}
 use Rattle.brk_tables_schema.specs.Desk.{Which, all_tables, name_of, tables_in}
 use Rattle.brk_tables_create.specs.Made.{later_than}
 
--- True if a table with the name of this one exists.
+-- True if the schema of the database has a table with the name of `w`, whatever its columns are.
 abbrev pub is_named : database.Schema → Which → Bool
 is_named schema w = is_some (table_named schema (name_of w))
 
--- True if a table with the name of some table of a desk exists.
+-- True if the schema of the database has a table with the name of some table of a desk.
 abbrev pub has_table_of_desk : database.Schema → Bool
 has_table_of_desk schema = list_any (is_named schema) all_tables
 
--- True if a table exists with the name of each table of the schema, and none with the name of a
--- table that a later schema adds.
+-- True if the database has, by name, each table of the desk's schema `desk`, and none that a later
+-- schema adds.
 abbrev pub has_tables_of_schema : Schema → database.Schema → Bool
 has_tables_of_schema desk schema = list_all (is_named schema) (tables_in desk) && not (list_any (is_named schema) (later_than desk))

@@ -29,7 +29,7 @@ which_of table.CashRows = CashRows
 which_of table.CashMoves = CashMoves
 which_of table.SettleRules = SettleRules
 
--- The text of the statement that creates a table.
+-- The text of the CREATE TABLE statement of a table.
 abbrev pub create_text : Which → List ℕ
 create_text TheDesk = codes "CREATE TABLE DESK (D_ID INTEGER PRIMARY KEY NOT NULL, D_SCHEMA INTEGER NOT NULL, D_LAST INTEGER) STRICT"
 create_text KeptRows = codes "CREATE TABLE KEPT (K_BATCH TEXT NOT NULL, K_N INTEGER NOT NULL, K_ROW TEXT NOT NULL, K_LINE TEXT NOT NULL, PRIMARY KEY (K_BATCH, K_N)) STRICT"
@@ -54,6 +54,6 @@ create_text CashRows = codes "CREATE TABLE CASH_TRANSACTION (CT_T_ID INTEGER PRI
 create_text CashMoves = codes "CREATE TABLE CASH_MOVE (CM_ID INTEGER PRIMARY KEY NOT NULL, CM_CA_ID INTEGER NOT NULL REFERENCES CUSTOMER_ACCOUNT (CA_ID), CM_T_ID INTEGER UNIQUE REFERENCES TRADE (T_ID), CM_DTS INTEGER NOT NULL, CM_AMT INTEGER NOT NULL, CM_NAME TEXT NOT NULL) STRICT"
 create_text SettleRules = codes "CREATE TABLE SETTLE_RULE (SR_ID INTEGER PRIMARY KEY NOT NULL, SR_DAY INTEGER NOT NULL) STRICT"
 
--- The text of a statement on a table, which is prepared and never run.
+-- The text of a DELETE on a table. It is prepared, to see if the table exists, and never run.
 abbrev pub probe_text : Which → List ℕ
 probe_text w = codes "DELETE FROM " ++ name_of w

@@ -15,7 +15,7 @@ use brk_money::Fault;
 use brk_tables_schema::calls::run;
 use sqlite::{Alter, Transaction};
 
-// Creates a table.
+// Creates a table without rows. Fails with `Store` only.
 fn make<S: Alter>(tx: &mut Transaction<'_, S>, table: Table) -> Result<(), Fault>
     ensures same_reference { tx.new.conn.ghost_name ≡ tx.old.conn.ghost_name }
     ensures step { Steps S.Store tx.old tx.new result (λ _ a b. Makes a.now b.now (shape (which_of table))) }
@@ -24,7 +24,7 @@ fn make<S: Alter>(tx: &mut Transaction<'_, S>, table: Table) -> Result<(), Fault
     run(tx, table.create_text(), &[])
 }
 
-// Creates tables, in order.
+// Creates the tables in order, without rows. Fails with `Store` only.
 fn make_each<S: Alter>(tx: &mut Transaction<'_, S>, tables: &[Table]) -> Result<(), Fault>
     ensures same_reference { tx.new.conn.ghost_name ≡ tx.old.conn.ghost_name }
     ensures step { Steps S.Store tx.old tx.new result (λ _ a b. MakesEach (map (λ table. shape (which_of table)) tables.now) a.now b.now) }
@@ -36,7 +36,7 @@ fn make_each<S: Alter>(tx: &mut Transaction<'_, S>, tables: &[Table]) -> Result<
     Ok(())
 }
 
-// Inserts the one row of DESK, with schema 3 and no stamp.
+// Inserts the one row of DESK, with schema 3 and no stamp. Fails with `Store` only.
 fn add_desk_row<S: Alter>(tx: &mut Transaction<'_, S>) -> Result<(), Fault>
     ensures same_reference { tx.new.conn.ghost_name ≡ tx.old.conn.ghost_name }
     ensures step { Steps S.Store tx.old tx.new result (λ _. Ran desk_row_text []) }
@@ -49,8 +49,8 @@ fn add_desk_row<S: Alter>(tx: &mut Transaction<'_, S>) -> Result<(), Fault>
     )
 }
 
-/// Creates the tables of schema 3, empty but for the one row of DESK. Tables that exist keep their
-/// rows.
+/// Creates the tables of schema 3, without rows but the one of DESK. Tables that exist keep their
+/// rows. Fails with `Store` only.
 pub fn make_tables<S: Alter>(tx: &mut Transaction<'_, S>) -> Result<(), Fault>
     ensures same_reference { tx.new.conn.ghost_name ≡ tx.old.conn.ghost_name }
     ensures step { Steps S.Store tx.old tx.new result (λ _ a b. MakesDesk a.now b.now) }
@@ -60,7 +60,8 @@ pub fn make_tables<S: Alter>(tx: &mut Transaction<'_, S>) -> Result<(), Fault>
     add_desk_row(tx)
 }
 
-/// Creates the tables that later schemas add to `schema`, without rows.
+/// Creates the tables that `schema` does not have and later schemas add, without rows. Fails with
+/// `Store` only.
 pub fn make_later_tables<S: Alter>(tx: &mut Transaction<'_, S>, schema: Schema) -> Result<(), Fault>
     ensures same_reference { tx.new.conn.ghost_name ≡ tx.old.conn.ghost_name }
     ensures step { Steps S.Store tx.old tx.new result (λ _ a b. MakesEach (map shape (later_than (schema_of schema))) a.now b.now) }

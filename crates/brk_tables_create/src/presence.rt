@@ -14,7 +14,8 @@ use brk_money::Fault;
 use brk_tables_schema::calls::is_understood;
 use sqlite::{Alter, Transaction};
 
-// Returns whether a table with this name exists. If it returns a value, the database is open.
+// Returns true if a table with the name of `table` exists. If it returns a value, the database was
+// open and is unchanged. Fails with `Store` only.
 fn is_there<S: Alter>(tx: &mut Transaction<'_, S>, table: Table) -> Result<bool, Fault>
     ensures same_reference { tx.new.conn.ghost_name ≡ tx.old.conn.ghost_name }
     ensures step { Steps S.Store tx.old tx.new result (λ has a b. IsTrue a.is_open × (b.now ≡ a.now) × (has ≡ is_named a.now.schema (which_of table))) }
@@ -23,7 +24,7 @@ fn is_there<S: Alter>(tx: &mut Transaction<'_, S>, table: Table) -> Result<bool,
     is_understood(tx, table.probe_text())
 }
 
-// Returns whether one of the tables exists.
+// Returns true if one of the tables exists, by name. Fails with `Store` only.
 fn has_one_of<S: Alter>(tx: &mut Transaction<'_, S>, tables: &[Table]) -> Result<bool, Fault>
     ensures same_reference { tx.new.conn.ghost_name ≡ tx.old.conn.ghost_name }
     ensures step { Steps S.Store tx.old tx.new result (λ has a b. (b.now ≡ a.now) × (has ≡ list_any (λ table. is_named a.now.schema (which_of table)) tables.now)) }
@@ -37,7 +38,7 @@ fn has_one_of<S: Alter>(tx: &mut Transaction<'_, S>, tables: &[Table]) -> Result
     Ok(false)
 }
 
-// Returns whether each of the tables exists.
+// Returns true if each of the tables exists, by name. Fails with `Store` only.
 fn has_each_of<S: Alter>(tx: &mut Transaction<'_, S>, tables: &[Table]) -> Result<bool, Fault>
     ensures same_reference { tx.new.conn.ghost_name ≡ tx.old.conn.ghost_name }
     ensures step { Steps S.Store tx.old tx.new result (λ has a b. (b.now ≡ a.now) × (has ≡ list_all (λ table. is_named a.now.schema (which_of table)) tables.now)) }
@@ -51,7 +52,8 @@ fn has_each_of<S: Alter>(tx: &mut Transaction<'_, S>, tables: &[Table]) -> Resul
     Ok(true)
 }
 
-/// Returns true if the database has a table with the name of some table of a desk.
+/// Returns true if the database has a table with the name of some table of a desk. Fails with
+/// `Store` only.
 pub fn has_some_table<S: Alter>(tx: &mut Transaction<'_, S>) -> Result<bool, Fault>
     ensures same_reference { tx.new.conn.ghost_name ≡ tx.old.conn.ghost_name }
     ensures step { Steps S.Store tx.old tx.new result (λ has a b. (b.now ≡ a.now) × (has ≡ has_table_of_desk a.now.schema)) }
@@ -60,7 +62,8 @@ pub fn has_some_table<S: Alter>(tx: &mut Transaction<'_, S>) -> Result<bool, Fau
     has_one_of(tx, &IN_THIRD)
 }
 
-// Returns whether each table of `there` exists, and none of `absent`.
+// Returns true if each table of `there` exists and none of `absent`, by name. Fails with `Store`
+// only.
 fn has_just<S: Alter>(
     tx: &mut Transaction<'_, S>,
     there: &[Table],
@@ -76,7 +79,8 @@ fn has_just<S: Alter>(
     Ok(!has_one_of(tx, absent)?)
 }
 
-// Returns whether the tables of a schema exist, and none that a later schema adds.
+// Returns true if the tables that a schema has exist, by name, and none that a later schema adds.
+// Fails with `Store` only.
 fn has_just_of<S: Alter>(tx: &mut Transaction<'_, S>, schema: Schema) -> Result<bool, Fault>
     ensures same_reference { tx.new.conn.ghost_name ≡ tx.old.conn.ghost_name }
     ensures step { Steps S.Store tx.old tx.new result (λ has a b. (b.now ≡ a.now) × (has ≡ has_tables_of_schema (schema_of schema) a.now.schema)) }
@@ -89,8 +93,8 @@ fn has_just_of<S: Alter>(tx: &mut Transaction<'_, S>, schema: Schema) -> Result<
     }
 }
 
-/// Returns whether a table with the name of each of a schema's exists, and none with the name of
-/// one that a later schema adds. If it returns a value, the database is open.
+/// Returns true if the tables that a schema has exist, by name, and none that a later schema adds.
+/// If it returns a value, the database was open and is unchanged. Fails with `Store` only.
 pub fn has_tables_of<S: Alter>(tx: &mut Transaction<'_, S>, schema: Schema) -> Result<bool, Fault>
     ensures same_reference { tx.new.conn.ghost_name ≡ tx.old.conn.ghost_name }
     ensures step { Steps S.Store tx.old tx.new result (λ has a b. IsTrue a.is_open × (b.now ≡ a.now) × (has ≡ has_tables_of_schema (schema_of schema) a.now.schema)) }

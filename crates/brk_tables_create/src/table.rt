@@ -53,7 +53,7 @@ pub enum Table {
 }
 
 impl Table {
-    /// Returns the text of the statement that creates the table.
+    /// Returns the text of the CREATE TABLE statement of the table.
     pub fn create_text(self) -> &'static str
         ensures { result.now ≡ create_text (which_of self) }
     {
@@ -105,7 +105,7 @@ impl Table {
         }
     }
 
-    /// Returns the text of a statement on the table, which is prepared and never run.
+    /// Returns the text of a DELETE on the table, which is prepared and never run.
     pub fn probe_text(self) -> &'static str
         ensures { result.now ≡ probe_text (which_of self) }
     {

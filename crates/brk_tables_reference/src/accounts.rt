@@ -14,7 +14,8 @@ use brk_tables_schema::values::{cents_value, id_value, tax_status_value, text_va
 use sqlite::{Alter, Transaction};
 use std::alloc::Global;
 
-/// Inserts an account, whose id is new. Its balance is its opening balance.
+/// Inserts the row of an account, whose balance is its opening balance. Fails with `Store` only,
+/// also if the id exists.
 pub fn add_account<S: Alter>(tx: &mut Transaction<'_, S>, account: &Account) -> Result<(), Fault>
     ensures same_reference { tx.new.conn.ghost_name ≡ tx.old.conn.ghost_name }
     ensures step { Writes S.Store tx.old tx.new result (with_account (account_of account.now)) }
@@ -34,7 +35,8 @@ pub fn add_account<S: Alter>(tx: &mut Transaction<'_, S>, account: &Account) -> 
     )
 }
 
-/// Returns the account with this id, or `None` if there is none.
+/// Returns the account with this id, or `None` if there is none. Changes nothing. Fails with
+/// `Store` only.
 pub fn account_by_id<S: Alter>(
     tx: &mut Transaction<'_, S>,
     id: Id,
@@ -51,7 +53,8 @@ pub fn account_by_id<S: Alter>(
     first_row(&rows)
 }
 
-/// Returns the accounts of a customer, sorted by id, ascending. Fails with `Memory` or `Store`.
+/// Returns the accounts of a customer, sorted by id, ascending. Changes nothing. Fails with
+/// `Memory` or `Store`.
 pub fn accounts_of_customer<S: Alter>(
     tx: &mut Transaction<'_, S>,
     alloc: Global,

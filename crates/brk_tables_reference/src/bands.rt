@@ -15,7 +15,8 @@ use brk_tables_schema::values::{qty_value, rate_value, text_value, tier_value, t
 use sqlite::{Alter, Transaction};
 use std::alloc::Global;
 
-/// Inserts a band, whose combination of tier, type, exchange and lower bound is new.
+/// Inserts a band. Fails with `Store` only, also if a band of its tier, type, exchange and lower
+/// bound exists.
 pub fn add_band<S: Alter>(tx: &mut Transaction<'_, S>, band: &Band) -> Result<(), Fault>
     ensures same_reference { tx.new.conn.ghost_name ≡ tx.old.conn.ghost_name }
     ensures step { Writes S.Store tx.old tx.new result (with_band (band_of band.now)) }
@@ -35,8 +36,8 @@ pub fn add_band<S: Alter>(tx: &mut Transaction<'_, S>, band: &Band) -> Result<()
     )
 }
 
-/// Returns the bands of a tier, a type and an exchange, sorted by lower bound, ascending. Fails
-/// with `Memory` or `Store`.
+/// Returns the bands of a tier, a type and an exchange, sorted by lower bound, ascending. Changes
+/// nothing. Fails with `Memory` or `Store`.
 pub fn bands_for<S: Alter>(
     tx: &mut Transaction<'_, S>,
     alloc: Global,

@@ -12,7 +12,8 @@ use brk_tables_schema::record::first_row;
 use brk_tables_schema::values::{id_value, text_value};
 use sqlite::{Alter, Transaction};
 
-/// Inserts a broker, whose id is new, with no trades and no commissions yet.
+/// Inserts the row of a broker, with no trades and no commissions yet. Fails with `Store` only,
+/// also if the id exists.
 pub fn add_broker<S: Alter>(tx: &mut Transaction<'_, S>, broker: &Broker) -> Result<(), Fault>
     ensures same_reference { tx.new.conn.ghost_name ≡ tx.old.conn.ghost_name }
     ensures step { Writes S.Store tx.old tx.new result (with_broker (broker_of broker.now)) }
@@ -25,7 +26,8 @@ pub fn add_broker<S: Alter>(tx: &mut Transaction<'_, S>, broker: &Broker) -> Res
     )
 }
 
-/// Returns the broker with this id, or `None` if there is none.
+/// Returns the broker with this id, or `None` if there is none. Changes nothing. Fails with `Store`
+/// only.
 pub fn broker_by_id<S: Alter>(
     tx: &mut Transaction<'_, S>,
     id: Id,

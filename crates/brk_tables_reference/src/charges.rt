@@ -13,7 +13,7 @@ use brk_tables_schema::record::first_row;
 use brk_tables_schema::values::{charge_amount_value, tier_value, type_value};
 use sqlite::{Alter, Transaction};
 
-/// Inserts a charge, whose combination of type and tier is new.
+/// Inserts a charge. Fails with `Store` only, also if a charge of its type and tier exists.
 pub fn add_charge<S: Alter>(tx: &mut Transaction<'_, S>, charge: &Charge) -> Result<(), Fault>
     ensures same_reference { tx.new.conn.ghost_name ≡ tx.old.conn.ghost_name }
     ensures step { Writes S.Store tx.old tx.new result (with_charge (charge_of charge.now)) }
@@ -30,7 +30,8 @@ pub fn add_charge<S: Alter>(tx: &mut Transaction<'_, S>, charge: &Charge) -> Res
     )
 }
 
-/// Returns the charge of a type and a tier, or `None` if there is none.
+/// Returns the charge of a type and a tier, or `None` if there is none. Changes nothing. Fails with
+/// `Store` only.
 pub fn charge_by_key<S: Alter>(
     tx: &mut Transaction<'_, S>,
     kind: TradeType,

@@ -12,7 +12,7 @@ use brk_tables_schema::record::first_row;
 use brk_tables_schema::values::{id_value, text_value, tier_value};
 use sqlite::{Alter, Transaction};
 
-/// Inserts a customer, whose id and tax id are new.
+/// Inserts a customer. Fails with `Store` only, also if the id or the tax id exists.
 pub fn add_customer<S: Alter>(tx: &mut Transaction<'_, S>, customer: &Customer) -> Result<(), Fault>
     ensures same_reference { tx.new.conn.ghost_name ≡ tx.old.conn.ghost_name }
     ensures step { Writes S.Store tx.old tx.new result (with_customer (customer_of customer.now)) }
@@ -31,7 +31,8 @@ pub fn add_customer<S: Alter>(tx: &mut Transaction<'_, S>, customer: &Customer) 
     )
 }
 
-/// Returns the customer with this id, or `None` if there is none.
+/// Returns the customer with this id, or `None` if there is none. Changes nothing. Fails with
+/// `Store` only.
 pub fn customer_by_id<S: Alter>(
     tx: &mut Transaction<'_, S>,
     id: Id,
@@ -48,7 +49,8 @@ pub fn customer_by_id<S: Alter>(
     first_row(&rows)
 }
 
-/// Returns the customer with this tax id, or `None` if there is none.
+/// Returns the customer with this tax id, or `None` if there is none. Changes nothing. Fails with
+/// `Store` only.
 pub fn customer_by_tax_id<S: Alter>(
     tx: &mut Transaction<'_, S>,
     tax_id: &TaxId,

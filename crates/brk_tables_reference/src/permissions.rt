@@ -12,7 +12,7 @@ use brk_tables_schema::record::first_row;
 use brk_tables_schema::values::{id_value, text_value};
 use sqlite::{Alter, Transaction};
 
-/// Inserts a permission, whose combination of account and tax id is new.
+/// Inserts a permission. Fails with `Store` only, also if the account has one for the tax id.
 pub fn add_permission<S: Alter>(
     tx: &mut Transaction<'_, S>,
     permission: &Permission,
@@ -34,7 +34,8 @@ pub fn add_permission<S: Alter>(
     )
 }
 
-/// Returns the permission of an account for a tax id, or `None` if there is none.
+/// Returns the permission of an account for a tax id, or `None` if there is none. Changes nothing.
+/// Fails with `Store` only.
 pub fn permission_by_key<S: Alter>(
     tx: &mut Transaction<'_, S>,
     account: Id,

@@ -12,7 +12,7 @@ use brk_tables_schema::record::first_row;
 use brk_tables_schema::values::{price_value, stamp_value, text_value, volume_value};
 use sqlite::{Alter, Transaction};
 
-/// Inserts a security, whose symbol is new. Its last trade is a separate row.
+/// Inserts a security, without its last trade. Fails with `Store` only, also if the symbol exists.
 pub fn add_security<S: Alter>(tx: &mut Transaction<'_, S>, security: &Security) -> Result<(), Fault>
     ensures same_reference { tx.new.conn.ghost_name ≡ tx.old.conn.ghost_name }
     ensures step { Writes S.Store tx.old tx.new result (with_security (security_of security.now)) }
@@ -30,7 +30,7 @@ pub fn add_security<S: Alter>(tx: &mut Transaction<'_, S>, security: &Security) 
     )
 }
 
-/// Inserts the last trade of a security, which has none yet.
+/// Inserts the last trade of a security. Fails with `Store` only, also if the security has one.
 pub fn add_last_trade<S: Alter>(
     tx: &mut Transaction<'_, S>,
     last_trade: &LastTrade,
@@ -51,7 +51,8 @@ pub fn add_last_trade<S: Alter>(
     )
 }
 
-/// Returns the security with this symbol, or `None` if there is none.
+/// Returns the security with this symbol, or `None` if there is none. Changes nothing. Fails with
+/// `Store` only.
 pub fn security_by_symbol<S: Alter>(
     tx: &mut Transaction<'_, S>,
     symbol: &Symbol,

@@ -14,7 +14,7 @@ use brk_tables_schema::values::{id_value, tax_rate_value, text_value};
 use sqlite::{Alter, Transaction};
 use std::alloc::Global;
 
-/// Inserts a tax with its rate, whose id is new.
+/// Inserts a tax with its rate. Fails with `Store` only, also if the id exists.
 pub fn add_tax_rate<S: Alter>(tx: &mut Transaction<'_, S>, tax: &Tax) -> Result<(), Fault>
     ensures same_reference { tx.new.conn.ghost_name ≡ tx.old.conn.ghost_name }
     ensures step { Writes S.Store tx.old tx.new result (with_tax_rate (tax_of tax.now)) }
@@ -31,7 +31,7 @@ pub fn add_tax_rate<S: Alter>(tx: &mut Transaction<'_, S>, tax: &Tax) -> Result<
     )
 }
 
-/// Inserts a tax for a customer who does not pay it yet.
+/// Inserts the row by which a customer pays a tax. Fails with `Store` only, also if the row exists.
 pub fn add_customer_tax<S: Alter>(
     tx: &mut Transaction<'_, S>,
     pays: &CustomerTax,
@@ -47,7 +47,8 @@ pub fn add_customer_tax<S: Alter>(
     )
 }
 
-/// Returns the tax with this id, or `None` if there is none.
+/// Returns the tax with this id, or `None` if there is none. Changes nothing. Fails with `Store`
+/// only.
 pub fn tax_rate_by_id<S: Alter>(tx: &mut Transaction<'_, S>, id: Id) -> Result<Option<Tax>, Fault>
     ensures same_reference { tx.new.conn.ghost_name ≡ tx.old.conn.ghost_name }
     ensures step { Finds S.Store tx.old tx.new result TaxRates tax_of (λ r. r.id == id) }
@@ -61,7 +62,8 @@ pub fn tax_rate_by_id<S: Alter>(tx: &mut Transaction<'_, S>, id: Id) -> Result<O
     first_row(&rows)
 }
 
-/// Returns the row of a customer and a tax, or `None` if the customer does not pay it.
+/// Returns the row of a customer and a tax, or `None` if the customer does not pay it. Changes
+/// nothing. Fails with `Store` only.
 pub fn customer_tax_by_key<S: Alter>(
     tx: &mut Transaction<'_, S>,
     customer: Id,
@@ -79,8 +81,8 @@ pub fn customer_tax_by_key<S: Alter>(
     first_row(&rows)
 }
 
-/// Returns the taxes that a customer pays, sorted by id of the tax, ascending. Fails with `Memory`
-/// or `Store`.
+/// Returns the taxes that a customer pays, sorted by id of the tax, ascending. Changes nothing.
+/// Fails with `Memory` or `Store`.
 pub fn customer_taxes_of<S: Alter>(
     tx: &mut Transaction<'_, S>,
     alloc: Global,

@@ -24,19 +24,20 @@ use Rattle.brk_tables_scan.specs.declared.decoding.TradeSheets.{TradeSheets}
 use Rattle.brk_tables_scan.specs.declared.decoding.LastSheets.{LastSheets}
 use Rattle.brk_tables_scan.specs.declared.decoding.LaterSheets.{LaterSheets}
 
--- The raw rows of DESK, KEPT, BROKER and CUSTOMER encode the typed rows.
+-- The raw rows of DESK, KEPT, BROKER and CUSTOMER are, in order, the encodings of the typed rows.
 pub record IsFirst (schema : Schema) (sheets : FirstSheets) (raw : FirstRows) : Type 0 where
   pub desk : map desk_row_cells (desk_rows schema sheets.last) ≡ raw.desk.items
   pub kept : map (λ r. kept_cells (kept_of r)) sheets.kept.items ≡ raw.kept.items
   pub brokers : map (λ r. broker_cells (broker_row_of r)) sheets.brokers.items ≡ raw.brokers.items
   pub customers : map (λ r. customer_cells (customer_of r)) sheets.customers.items ≡ raw.customers.items
 
--- True if each column of each raw row of DESK, KEPT, BROKER and CUSTOMER is well-formed.
+-- True if each column of each raw row of DESK, KEPT, BROKER and CUSTOMER is well-formed. There is
+-- one row of DESK, with the number of the schema.
 abbrev pub formed_first : Schema → FirstRows → Bool
 formed_first desk raw = is_desk_row desk raw.desk.items && list_all (all_formed kept_forms) raw.kept.items && list_all (all_formed broker_forms) raw.brokers.items && list_all (all_formed customer_forms) raw.customers.items
 
--- The raw rows of CUSTOMER_ACCOUNT, ACCOUNT_PERMISSION, SECURITY and LAST_TRADE encode the typed
--- rows.
+-- The raw rows of CUSTOMER_ACCOUNT, ACCOUNT_PERMISSION, SECURITY and LAST_TRADE are, in order, the
+-- encodings of the typed rows.
 pub record IsAccount (sheets : AccountSheets) (raw : AccountRows) : Type 0 where
   pub accounts : map (λ r. account_cells (account_row_of r)) sheets.accounts.items ≡ raw.accounts.items
   pub permissions : map (λ r. permission_cells (permission_of r)) sheets.permissions.items ≡ raw.permissions.items
@@ -48,7 +49,8 @@ pub record IsAccount (sheets : AccountSheets) (raw : AccountRows) : Type 0 where
 abbrev pub formed_accounts : AccountRows → Bool
 formed_accounts raw = list_all (all_formed account_forms) raw.accounts.items && list_all (all_formed permission_forms) raw.permissions.items && list_all (all_formed security_forms) raw.securities.items && list_all (all_formed last_trade_forms) raw.last_trades.items
 
--- The raw rows of CHARGE, COMMISSION_RATE, TAXRATE and CUSTOMER_TAXRATE encode the typed rows.
+-- The raw rows of CHARGE, COMMISSION_RATE, TAXRATE and CUSTOMER_TAXRATE are, in order, the
+-- encodings of the typed rows.
 pub record IsRate (sheets : RateSheets) (raw : RateRows) : Type 0 where
   pub charges : map (λ r. charge_cells (charge_of r)) sheets.charges.items ≡ raw.charges.items
   pub bands : map (λ r. band_cells (band_of r)) sheets.bands.items ≡ raw.bands.items
@@ -60,7 +62,8 @@ pub record IsRate (sheets : RateSheets) (raw : RateRows) : Type 0 where
 abbrev pub formed_rates : RateRows → Bool
 formed_rates raw = list_all (all_formed charge_forms) raw.charges.items && list_all (all_formed band_forms) raw.bands.items && list_all (all_formed tax_rate_forms) raw.tax_rates.items && list_all (all_formed customer_tax_forms) raw.customer_taxes.items
 
--- The raw rows of TRADE, TRADE_HISTORY, TRADE_REQUEST and HOLDING encode the typed rows.
+-- The raw rows of TRADE, TRADE_HISTORY, TRADE_REQUEST and HOLDING are, in order, the encodings of
+-- the typed rows.
 pub record IsTrade (sheets : TradeSheets) (raw : TradeRows) : Type 0 where
   pub trades : map (λ r. trade_cells (trade_row_of r)) sheets.trades.items ≡ raw.trades.items
   pub history : map (λ r. history_cells (history_row_of r)) sheets.history.items ≡ raw.history.items
@@ -72,8 +75,8 @@ pub record IsTrade (sheets : TradeSheets) (raw : TradeRows) : Type 0 where
 abbrev pub formed_trades : TradeRows → Bool
 formed_trades raw = list_all (all_formed trade_forms) raw.trades.items && list_all (all_formed history_forms) raw.history.items && list_all (all_formed request_forms) raw.requests.items && list_all (all_formed holding_forms) raw.holdings.items
 
--- The raw rows of HOLDING_SUMMARY, HOLDING_HISTORY, SETTLEMENT and CASH_TRANSACTION encode the
--- typed rows.
+-- The raw rows of HOLDING_SUMMARY, HOLDING_HISTORY, SETTLEMENT and CASH_TRANSACTION are, in order,
+-- the encodings of the typed rows.
 pub record IsLast (sheets : LastSheets) (raw : LastRows) : Type 0 where
   pub summaries : map (λ r. summary_cells (summary_row_of r)) sheets.summaries.items ≡ raw.summaries.items
   pub holding_history : map (λ r. holding_history_cells (lot_change_of r)) sheets.holding_history.items ≡ raw.holding_history.items
@@ -85,20 +88,22 @@ pub record IsLast (sheets : LastSheets) (raw : LastRows) : Type 0 where
 abbrev pub formed_last : LastRows → Bool
 formed_last raw = list_all (all_formed summary_forms) raw.summaries.items && list_all (all_formed holding_history_forms) raw.holding_history.items && list_all (all_formed settlement_forms) raw.settlements.items && list_all (all_formed cash_forms) raw.cash.items
 
--- The raw rows of CASH_MOVE and SETTLE_RULE encode the typed rows.
+-- The raw rows of CASH_MOVE and SETTLE_RULE are, in order, the encodings of the typed rows.
 pub record IsLater (sheets : LaterSheets) (raw : LaterRows) : Type 0 where
   pub moves : map (λ r. move_cells (move_row_of r)) sheets.moves.items ≡ raw.moves.items
   pub rule : map rule_cells (rule_rows sheets.rule) ≡ raw.rule.items
 
--- True if each column of each raw row of CASH_MOVE and SETTLE_RULE is well-formed.
+-- True if each column of each raw row of CASH_MOVE and SETTLE_RULE is well-formed. There is at most
+-- one row of SETTLE_RULE.
 abbrev pub formed_later : LaterRows → Bool
 formed_later raw = list_all (all_formed move_forms) raw.moves.items && is_rule raw.rule.items
 
--- True if each column of each raw row is well-formed, and the row of DESK is that of the schema
--- `desk`.
+-- True if each column of each raw row is well-formed, there is one row of DESK, with the number of
+-- the schema `desk`, and there is at most one row of SETTLE_RULE.
 abbrev pub formed : Schema → RawSheets → Bool
 formed desk raw = formed_first desk raw.first && formed_accounts raw.accounts && formed_rates raw.rates && formed_trades raw.trades && formed_last raw.last && formed_later raw.later
 
--- The sheets are the typed rows of all tables: the raw rows encode them, in the schema `desk`.
+-- The raw rows of each table are, in order, the encodings of the typed rows `sheets`. The row of
+-- DESK has the number of the schema `desk`.
 abbrev pub AreSheets : Schema → Sheets → RawSheets → Type 0
 AreSheets desk sheets raw = (w : Which) → map (encode w) (list_in desk w (tables_in_sheets sheets)) ≡ raw_rows raw w

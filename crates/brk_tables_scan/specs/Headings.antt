@@ -6,24 +6,24 @@ use Rattle.brk_sql.specs.Desk.{Heads}
 use Rattle.brk_tables_schema.specs.Desk.{Which, name_of, shape}
 use Rattle.brk_tables_scan.specs.Schemas.{names_of}
 
--- A statement, and the column names that its result must have.
+-- A statement and the column names that its result is to have.
 abbrev pub Heading : Type 0
 Heading = List ℕ × List (List ℕ)
 
--- The heading of a borrowed text and borrowed names.
+-- The heading of a text and of names that are borrowed.
 abbrev pub heading : Bor (List ℕ) × Bor (List (Bor (List ℕ))) → Heading
 heading told = (told.0.now, map (λ (name : Bor (List ℕ)). name.now) told.1.now)
 
--- The statement that selects all columns of a table.
+-- The text `SELECT * FROM` with the name of the table.
 abbrev pub star : Which → List ℕ
 star w = codes "SELECT * FROM " ++ name_of w
 
--- The statement that selects all columns of a table, and the names of these columns.
+-- The statement that selects all columns of a table, and the names of these columns, in order.
 abbrev pub heading_of : Which → Heading
 heading_of w = (star w, (names_of (shape w 0)).columns)
 
--- If `has` is true, each statement's result has exactly its column names, in order. Otherwise one
--- of them does not.
+-- If `has` is true, the result of each statement has exactly the column names of its heading, in
+-- order. If it is false, the result of one statement has not.
 abbrev pub HeadsEach : List Heading → Bool → Schema → Type 0
 HeadsEach [] has schema = has ≡ true
 HeadsEach (h ∷ headings) has schema = (Heads h.0 h.1 false schema × (has ≡ false)) ⊎ (Heads h.0 h.1 true schema × HeadsEach headings has schema)

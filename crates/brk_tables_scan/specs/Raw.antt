@@ -13,11 +13,12 @@ use Rattle.brk_tables_scan.specs.declared.raw.LastRows.{LastRows}
 use Rattle.brk_tables_scan.specs.declared.raw.LaterRows.{LaterRows}
 use Rattle.brk_tables_scan.specs.declared.raw.RawSheets.{RawSheets}
 
--- Nothing changed, and the database is open.
+-- The database was open, and its contents are unchanged.
 abbrev pub Stays : State → State → Type 0
 Stays old new = IsTrue old.is_open × (new.now ≡ old.now)
 
--- The reads show the rows of these four tables, whole, and change nothing.
+-- The lists are all rows of these four tables, sorted by key, and the reads changed nothing.
+-- Vacuous for a table that is not defined as a desk defines it.
 pub record ShowsFour (first second third fourth : Which) (a b c d : List Row) (old new : State) : Type 0 where
   pub stays : Stays old new
   pub one : ShowsAll first a old.now
@@ -25,38 +26,39 @@ pub record ShowsFour (first second third fourth : Which) (a b c d : List Row) (o
   pub three : ShowsAll third c old.now
   pub four : ShowsAll fourth d old.now
 
--- The reads show the rows of DESK, KEPT, BROKER and CUSTOMER, whole, and change nothing.
+-- The raw rows are all rows of DESK, KEPT, BROKER and CUSTOMER, sorted by key, and the reads
+-- changed nothing.
 abbrev pub ShowsFirst : FirstRows → State → State → Type 0
 ShowsFirst raw = ShowsFour TheDesk KeptRows Brokers Customers raw.desk.items raw.kept.items raw.brokers.items raw.customers.items
 
--- The reads show the rows of CUSTOMER_ACCOUNT, ACCOUNT_PERMISSION, SECURITY and LAST_TRADE, whole,
--- and change nothing.
+-- The raw rows are all rows of CUSTOMER_ACCOUNT, ACCOUNT_PERMISSION, SECURITY and LAST_TRADE,
+-- sorted by key, and the reads changed nothing.
 abbrev pub ShowsAccount : AccountRows → State → State → Type 0
 ShowsAccount raw = ShowsFour Accounts Permissions Securities LastTrades raw.accounts.items raw.permissions.items raw.securities.items raw.last_trades.items
 
--- The reads show the rows of CHARGE, COMMISSION_RATE, TAXRATE and CUSTOMER_TAXRATE, whole, and
--- change nothing.
+-- The raw rows are all rows of CHARGE, COMMISSION_RATE, TAXRATE and CUSTOMER_TAXRATE, sorted by
+-- key, and the reads changed nothing.
 abbrev pub ShowsRate : RateRows → State → State → Type 0
 ShowsRate raw = ShowsFour Charges Bands TaxRates CustomerTaxes raw.charges.items raw.bands.items raw.tax_rates.items raw.customer_taxes.items
 
--- The reads show the rows of TRADE, TRADE_HISTORY, TRADE_REQUEST and HOLDING, whole, and change
--- nothing.
+-- The raw rows are all rows of TRADE, TRADE_HISTORY, TRADE_REQUEST and HOLDING, sorted by key, and
+-- the reads changed nothing.
 abbrev pub ShowsTrade : TradeRows → State → State → Type 0
 ShowsTrade raw = ShowsFour Trades TradeHistory Requests Holdings raw.trades.items raw.history.items raw.requests.items raw.holdings.items
 
--- The reads show the rows of HOLDING_SUMMARY, HOLDING_HISTORY, SETTLEMENT and CASH_TRANSACTION,
--- whole, and change nothing.
+-- The raw rows are all rows of HOLDING_SUMMARY, HOLDING_HISTORY, SETTLEMENT and CASH_TRANSACTION,
+-- sorted by key, and the reads changed nothing.
 abbrev pub ShowsLast : LastRows → State → State → Type 0
 ShowsLast raw = ShowsFour Summaries HoldingHistory Settlements CashRows raw.summaries.items raw.holding_history.items raw.settlements.items raw.cash.items
 
--- The reads show the rows of CASH_MOVE and of SETTLE_RULE, whole, each if the schema `desk` has the
--- table. They change nothing.
+-- The raw rows are all rows of CASH_MOVE and of SETTLE_RULE, sorted by key, or none of a table that
+-- the schema `desk` does not have. The reads changed nothing.
 pub record ShowsLater (desk : Schema) (raw : LaterRows) (old new : State) : Type 0 where
   pub same : new.now ≡ old.now
   pub moves : ShowsIf desk CashMoves raw.moves.items old.now
   pub rule : ShowsIf desk SettleRules raw.rule.items old.now
 
--- The raw rows of a table.
+-- Those of the raw rows that are of one table.
 abbrev pub raw_rows : RawSheets → Which → List Row
 raw_rows raw TheDesk = raw.first.desk.items
 raw_rows raw KeptRows = raw.first.kept.items
@@ -81,6 +83,7 @@ raw_rows raw CashRows = raw.last.cash.items
 raw_rows raw CashMoves = raw.later.moves.items
 raw_rows raw SettleRules = raw.later.rule.items
 
--- The reads show each table of the schema `desk`, whole, and change nothing.
+-- The raw rows are all rows of each table of the schema `desk`, sorted by key, and none of other
+-- tables. The database was open, and the reads changed nothing.
 abbrev pub ShowsDesk : Schema → RawSheets → State → State → Type 0
 ShowsDesk desk raw old new = Stays old new × ((w : Which) → ShowsIf desk w (raw_rows raw w) old.now)

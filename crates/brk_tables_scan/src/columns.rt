@@ -15,7 +15,8 @@ use brk_tables_create::has_tables_of;
 use brk_tables_schema::calls::shows_columns;
 use sqlite::{Alter, Transaction};
 
-// Returns whether each statement's result has exactly its column names, in order.
+// Returns true if the result of each statement has exactly its column names, in order. Fails with
+// `Store` only.
 fn each_shows<S: Alter>(
     tx: &mut Transaction<'_, S>,
     headings: &[(&str, &[&str])],
@@ -32,7 +33,8 @@ fn each_shows<S: Alter>(
     Ok(true)
 }
 
-// Returns whether the tables of a schema have exactly their columns.
+// Returns true if each table of a schema has exactly its columns, in order. Fails with `Store`
+// only.
 fn shows_columns_of<S: Alter>(tx: &mut Transaction<'_, S>, schema: Schema) -> Result<bool, Fault>
     ensures same_reference { tx.new.conn.ghost_name ≡ tx.old.conn.ghost_name }
     ensures step { Steps S.Store tx.old tx.new result (λ has a b. (b.now ≡ a.now) × HeadsEach (map heading_of (tables_in (schema_of schema))) has a.now.schema) }
@@ -45,8 +47,8 @@ fn shows_columns_of<S: Alter>(tx: &mut Transaction<'_, S>, schema: Schema) -> Re
     }
 }
 
-/// Returns whether each table of `schema` exists with exactly its columns, in their order, and none
-/// that a later schema adds. It assumes nothing of the tables that exist.
+/// Returns true if each table of `schema` exists with exactly its columns, in order, and none that
+/// a later schema adds. Assumes nothing of the tables that exist. Fails with `Store` only.
 pub fn has_tables<S: Alter>(tx: &mut Transaction<'_, S>, schema: Schema) -> Result<bool, Fault>
     ensures same_reference { tx.new.conn.ghost_name ≡ tx.old.conn.ghost_name }
     ensures step { Steps S.Store tx.old tx.new result (λ has a b. IsTrue a.is_open × (b.now ≡ a.now) × (IsTrue has ↔ HasTablesOf (schema_of schema) a.now.schema × LacksLater (schema_of schema) a.now.schema)) }

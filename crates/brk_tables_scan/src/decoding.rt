@@ -29,6 +29,8 @@ pub struct FirstSheets {
     customers: Vec<Customer>,
 }
 
+// Decodes the rows of DESK, KEPT, BROKER and CUSTOMER. Fails with `Form` only if one is malformed,
+// or with `Memory`.
 #[tactic(auto, using(crate::proofs::Formless::first_fails, crate::proofs::Formless::last_fails))]
 fn decode_first(alloc: Global, schema: Schema, raw: &FirstRows) -> Result<FirstSheets, DecodeError>
     ensures value { IfOk result (λ sheets. IsFirst (schema_of schema) sheets raw.now) }
@@ -50,6 +52,8 @@ pub struct AccountSheets {
     last_trades: Vec<LastTrade>,
 }
 
+// Decodes the rows of CUSTOMER_ACCOUNT, ACCOUNT_PERMISSION, SECURITY and LAST_TRADE. Fails with
+// `Form` only if one is malformed, or with `Memory`.
 #[tactic(auto, using(crate::proofs::Formless::first_fails, crate::proofs::Formless::last_fails))]
 fn decode_accounts(alloc: Global, raw: &AccountRows) -> Result<AccountSheets, DecodeError>
     ensures value { IfOk result (λ sheets. IsAccount sheets raw.now) }
@@ -71,6 +75,8 @@ pub struct RateSheets {
     customer_taxes: Vec<CustomerTax>,
 }
 
+// Decodes the rows of CHARGE, COMMISSION_RATE, TAXRATE and CUSTOMER_TAXRATE. Fails with `Form` only
+// if one is malformed, or with `Memory`.
 #[tactic(auto, using(crate::proofs::Formless::first_fails, crate::proofs::Formless::last_fails))]
 fn decode_rates(alloc: Global, raw: &RateRows) -> Result<RateSheets, DecodeError>
     ensures value { IfOk result (λ sheets. IsRate sheets raw.now) }
@@ -92,6 +98,8 @@ pub struct TradeSheets {
     holdings: Vec<HoldingRow>,
 }
 
+// Decodes the rows of TRADE, TRADE_HISTORY, TRADE_REQUEST and HOLDING. Fails with `Form` only if
+// one is malformed, or with `Memory`.
 #[tactic(auto, using(crate::proofs::Formless::first_fails, crate::proofs::Formless::last_fails))]
 fn decode_trades(alloc: Global, raw: &TradeRows) -> Result<TradeSheets, DecodeError>
     ensures value { IfOk result (λ sheets. IsTrade sheets raw.now) }
@@ -113,6 +121,8 @@ pub struct LastSheets {
     cash: Vec<CashRow>,
 }
 
+// Decodes the rows of HOLDING_SUMMARY, HOLDING_HISTORY, SETTLEMENT and CASH_TRANSACTION. Fails with
+// `Form` only if one is malformed, or with `Memory`.
 #[tactic(auto, using(crate::proofs::Formless::first_fails, crate::proofs::Formless::last_fails))]
 fn decode_last(alloc: Global, raw: &LastRows) -> Result<LastSheets, DecodeError>
     ensures value { IfOk result (λ sheets. IsLast sheets raw.now) }
@@ -132,6 +142,8 @@ pub struct LaterSheets {
     rule: Option<Day>,
 }
 
+// Decodes the rows of CASH_MOVE and SETTLE_RULE. Fails with `Form` only if one is malformed, or
+// with `Memory`.
 #[tactic(auto, using(crate::proofs::Formless::first_fails, crate::proofs::Formless::last_fails))]
 fn decode_later(alloc: Global, raw: &LaterRows) -> Result<LaterSheets, DecodeError>
     ensures value { IfOk result (λ sheets. IsLater sheets raw.now) }
@@ -143,8 +155,7 @@ fn decode_later(alloc: Global, raw: &LaterRows) -> Result<LaterSheets, DecodeErr
     })
 }
 
-/// Returns the typed rows of all tables. Fails with `Form` if a column is malformed, or with
-/// `Memory`.
+/// Decodes the rows of all tables. Fails with `Form` only if a row is malformed, or with `Memory`.
 pub fn decode(alloc: Global, schema: Schema, raw: &RawSheets) -> Result<Sheets, DecodeError>
     ensures value { IfOk result (λ sheets. AreSheets (schema_of schema) sheets raw.now) }
     ensures form { result ≡ Err Formless → formed (schema_of schema) raw.now ≡ false }

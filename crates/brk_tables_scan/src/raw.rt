@@ -80,6 +80,7 @@ pub struct RawSheets {
     pub later: LaterRows,
 }
 
+// Reads all rows of DESK, KEPT, BROKER and CUSTOMER. Fails with `Store` only.
 fn read_first<S: Alter>(tx: &mut Transaction<'_, S>) -> Result<FirstRows, Fault>
     ensures same_reference { tx.new.conn.ghost_name ≡ tx.old.conn.ghost_name }
     ensures step { Steps S.Store tx.old tx.new result (λ raw. ShowsFirst raw) }
@@ -93,6 +94,8 @@ fn read_first<S: Alter>(tx: &mut Transaction<'_, S>) -> Result<FirstRows, Fault>
     })
 }
 
+// Reads all rows of CUSTOMER_ACCOUNT, ACCOUNT_PERMISSION, SECURITY and LAST_TRADE. Fails with
+// `Store` only.
 fn read_accounts<S: Alter>(tx: &mut Transaction<'_, S>) -> Result<AccountRows, Fault>
     ensures same_reference { tx.new.conn.ghost_name ≡ tx.old.conn.ghost_name }
     ensures step { Steps S.Store tx.old tx.new result (λ raw. ShowsAccount raw) }
@@ -106,6 +109,7 @@ fn read_accounts<S: Alter>(tx: &mut Transaction<'_, S>) -> Result<AccountRows, F
     })
 }
 
+// Reads all rows of CHARGE, COMMISSION_RATE, TAXRATE and CUSTOMER_TAXRATE. Fails with `Store` only.
 fn read_rates<S: Alter>(tx: &mut Transaction<'_, S>) -> Result<RateRows, Fault>
     ensures same_reference { tx.new.conn.ghost_name ≡ tx.old.conn.ghost_name }
     ensures step { Steps S.Store tx.old tx.new result (λ raw. ShowsRate raw) }
@@ -119,6 +123,7 @@ fn read_rates<S: Alter>(tx: &mut Transaction<'_, S>) -> Result<RateRows, Fault>
     })
 }
 
+// Reads all rows of TRADE, TRADE_HISTORY, TRADE_REQUEST and HOLDING. Fails with `Store` only.
 fn read_trades<S: Alter>(tx: &mut Transaction<'_, S>) -> Result<TradeRows, Fault>
     ensures same_reference { tx.new.conn.ghost_name ≡ tx.old.conn.ghost_name }
     ensures step { Steps S.Store tx.old tx.new result (λ raw. ShowsTrade raw) }
@@ -132,6 +137,8 @@ fn read_trades<S: Alter>(tx: &mut Transaction<'_, S>) -> Result<TradeRows, Fault
     })
 }
 
+// Reads all rows of HOLDING_SUMMARY, HOLDING_HISTORY, SETTLEMENT and CASH_TRANSACTION. Fails with
+// `Store` only.
 fn read_last<S: Alter>(tx: &mut Transaction<'_, S>) -> Result<LastRows, Fault>
     ensures same_reference { tx.new.conn.ghost_name ≡ tx.old.conn.ghost_name }
     ensures step { Steps S.Store tx.old tx.new result (λ raw. ShowsLast raw) }
@@ -145,6 +152,7 @@ fn read_last<S: Alter>(tx: &mut Transaction<'_, S>) -> Result<LastRows, Fault>
     })
 }
 
+// Reads all rows of CASH_MOVE and SETTLE_RULE. Fails with `Store` only.
 fn read_later<S: Alter>(
     tx: &mut Transaction<'_, S>,
     alloc: Global,
@@ -160,7 +168,8 @@ fn read_later<S: Alter>(
     })
 }
 
-/// Reads the rows of all tables of `schema`. A table that it lacks has no rows.
+/// Reads all rows of the tables of `schema`, each list sorted by key. A table that it lacks has no
+/// rows. Fails with `Store` only.
 pub fn read_raw<S: Alter>(
     tx: &mut Transaction<'_, S>,
     alloc: Global,

@@ -12,7 +12,7 @@ use brk_tables_schema::calls::select;
 use sqlite::{Alter, Row, Transaction};
 use std::alloc::Global;
 
-/// Returns all rows of DESK.
+/// Returns all rows of DESK, sorted by key, ascending. Fails with `Store` only.
 pub fn desk_rows<S: Alter>(tx: &mut Transaction<'_, S>) -> Result<Vec<Row>, Fault>
     ensures same_reference { tx.new.conn.ghost_name ≡ tx.old.conn.ghost_name }
     ensures step { ReadsWhole S.Store tx.old tx.new result TheDesk }
@@ -25,7 +25,7 @@ pub fn desk_rows<S: Alter>(tx: &mut Transaction<'_, S>) -> Result<Vec<Row>, Faul
     )
 }
 
-/// Returns all rows of KEPT.
+/// Returns all rows of KEPT, sorted by key, ascending. Fails with `Store` only.
 pub fn kept_rows<S: Alter>(tx: &mut Transaction<'_, S>) -> Result<Vec<Row>, Fault>
     ensures same_reference { tx.new.conn.ghost_name ≡ tx.old.conn.ghost_name }
     ensures step { ReadsWhole S.Store tx.old tx.new result KeptRows }
@@ -38,7 +38,7 @@ pub fn kept_rows<S: Alter>(tx: &mut Transaction<'_, S>) -> Result<Vec<Row>, Faul
     )
 }
 
-/// Returns all rows of BROKER.
+/// Returns all rows of BROKER, sorted by key, ascending. Fails with `Store` only.
 pub fn broker_rows<S: Alter>(tx: &mut Transaction<'_, S>) -> Result<Vec<Row>, Fault>
     ensures same_reference { tx.new.conn.ghost_name ≡ tx.old.conn.ghost_name }
     ensures step { ReadsWhole S.Store tx.old tx.new result Brokers }
@@ -51,7 +51,7 @@ pub fn broker_rows<S: Alter>(tx: &mut Transaction<'_, S>) -> Result<Vec<Row>, Fa
     )
 }
 
-/// Returns all rows of CUSTOMER.
+/// Returns all rows of CUSTOMER, sorted by key, ascending. Fails with `Store` only.
 pub fn customer_rows<S: Alter>(tx: &mut Transaction<'_, S>) -> Result<Vec<Row>, Fault>
     ensures same_reference { tx.new.conn.ghost_name ≡ tx.old.conn.ghost_name }
     ensures step { ReadsWhole S.Store tx.old tx.new result Customers }
@@ -64,7 +64,7 @@ pub fn customer_rows<S: Alter>(tx: &mut Transaction<'_, S>) -> Result<Vec<Row>, 
     )
 }
 
-/// Returns all rows of CUSTOMER_ACCOUNT.
+/// Returns all rows of CUSTOMER_ACCOUNT, sorted by key, ascending. Fails with `Store` only.
 pub fn account_rows<S: Alter>(tx: &mut Transaction<'_, S>) -> Result<Vec<Row>, Fault>
     ensures same_reference { tx.new.conn.ghost_name ≡ tx.old.conn.ghost_name }
     ensures step { ReadsWhole S.Store tx.old tx.new result Accounts }
@@ -77,7 +77,7 @@ pub fn account_rows<S: Alter>(tx: &mut Transaction<'_, S>) -> Result<Vec<Row>, F
     )
 }
 
-/// Returns all rows of ACCOUNT_PERMISSION.
+/// Returns all rows of ACCOUNT_PERMISSION, sorted by key, ascending. Fails with `Store` only.
 pub fn permission_rows<S: Alter>(tx: &mut Transaction<'_, S>) -> Result<Vec<Row>, Fault>
     ensures same_reference { tx.new.conn.ghost_name ≡ tx.old.conn.ghost_name }
     ensures step { ReadsWhole S.Store tx.old tx.new result Permissions }
@@ -90,7 +90,7 @@ pub fn permission_rows<S: Alter>(tx: &mut Transaction<'_, S>) -> Result<Vec<Row>
     )
 }
 
-/// Returns all rows of SECURITY.
+/// Returns all rows of SECURITY, sorted by key, ascending. Fails with `Store` only.
 pub fn security_rows<S: Alter>(tx: &mut Transaction<'_, S>) -> Result<Vec<Row>, Fault>
     ensures same_reference { tx.new.conn.ghost_name ≡ tx.old.conn.ghost_name }
     ensures step { ReadsWhole S.Store tx.old tx.new result Securities }
@@ -103,7 +103,7 @@ pub fn security_rows<S: Alter>(tx: &mut Transaction<'_, S>) -> Result<Vec<Row>, 
     )
 }
 
-/// Returns all rows of LAST_TRADE.
+/// Returns all rows of LAST_TRADE, sorted by key, ascending. Fails with `Store` only.
 pub fn last_trade_rows<S: Alter>(tx: &mut Transaction<'_, S>) -> Result<Vec<Row>, Fault>
     ensures same_reference { tx.new.conn.ghost_name ≡ tx.old.conn.ghost_name }
     ensures step { ReadsWhole S.Store tx.old tx.new result LastTrades }
@@ -116,7 +116,7 @@ pub fn last_trade_rows<S: Alter>(tx: &mut Transaction<'_, S>) -> Result<Vec<Row>
     )
 }
 
-/// Returns all rows of CHARGE.
+/// Returns all rows of CHARGE, sorted by key, ascending. Fails with `Store` only.
 pub fn charge_rows<S: Alter>(tx: &mut Transaction<'_, S>) -> Result<Vec<Row>, Fault>
     ensures same_reference { tx.new.conn.ghost_name ≡ tx.old.conn.ghost_name }
     ensures step { ReadsWhole S.Store tx.old tx.new result Charges }
@@ -129,7 +129,7 @@ pub fn charge_rows<S: Alter>(tx: &mut Transaction<'_, S>) -> Result<Vec<Row>, Fa
     )
 }
 
-/// Returns all rows of COMMISSION_RATE.
+/// Returns all rows of COMMISSION_RATE, sorted by key, ascending. Fails with `Store` only.
 pub fn band_rows<S: Alter>(tx: &mut Transaction<'_, S>) -> Result<Vec<Row>, Fault>
     ensures same_reference { tx.new.conn.ghost_name ≡ tx.old.conn.ghost_name }
     ensures step { ReadsWhole S.Store tx.old tx.new result Bands }
@@ -142,7 +142,7 @@ pub fn band_rows<S: Alter>(tx: &mut Transaction<'_, S>) -> Result<Vec<Row>, Faul
     )
 }
 
-/// Returns all rows of TAXRATE.
+/// Returns all rows of TAXRATE, sorted by key, ascending. Fails with `Store` only.
 pub fn tax_rate_rows<S: Alter>(tx: &mut Transaction<'_, S>) -> Result<Vec<Row>, Fault>
     ensures same_reference { tx.new.conn.ghost_name ≡ tx.old.conn.ghost_name }
     ensures step { ReadsWhole S.Store tx.old tx.new result TaxRates }
@@ -155,7 +155,7 @@ pub fn tax_rate_rows<S: Alter>(tx: &mut Transaction<'_, S>) -> Result<Vec<Row>, 
     )
 }
 
-/// Returns all rows of CUSTOMER_TAXRATE.
+/// Returns all rows of CUSTOMER_TAXRATE, sorted by key, ascending. Fails with `Store` only.
 pub fn customer_tax_rows<S: Alter>(tx: &mut Transaction<'_, S>) -> Result<Vec<Row>, Fault>
     ensures same_reference { tx.new.conn.ghost_name ≡ tx.old.conn.ghost_name }
     ensures step { ReadsWhole S.Store tx.old tx.new result CustomerTaxes }
@@ -168,7 +168,7 @@ pub fn customer_tax_rows<S: Alter>(tx: &mut Transaction<'_, S>) -> Result<Vec<Ro
     )
 }
 
-/// Returns all rows of TRADE.
+/// Returns all rows of TRADE, sorted by key, ascending. Fails with `Store` only.
 pub fn trade_rows<S: Alter>(tx: &mut Transaction<'_, S>) -> Result<Vec<Row>, Fault>
     ensures same_reference { tx.new.conn.ghost_name ≡ tx.old.conn.ghost_name }
     ensures step { ReadsWhole S.Store tx.old tx.new result Trades }
@@ -181,7 +181,7 @@ pub fn trade_rows<S: Alter>(tx: &mut Transaction<'_, S>) -> Result<Vec<Row>, Fau
     )
 }
 
-/// Returns all rows of TRADE_HISTORY.
+/// Returns all rows of TRADE_HISTORY, sorted by key, ascending. Fails with `Store` only.
 pub fn history_rows<S: Alter>(tx: &mut Transaction<'_, S>) -> Result<Vec<Row>, Fault>
     ensures same_reference { tx.new.conn.ghost_name ≡ tx.old.conn.ghost_name }
     ensures step { ReadsWhole S.Store tx.old tx.new result TradeHistory }
@@ -194,7 +194,7 @@ pub fn history_rows<S: Alter>(tx: &mut Transaction<'_, S>) -> Result<Vec<Row>, F
     )
 }
 
-/// Returns all rows of TRADE_REQUEST.
+/// Returns all rows of TRADE_REQUEST, sorted by key, ascending. Fails with `Store` only.
 pub fn request_rows<S: Alter>(tx: &mut Transaction<'_, S>) -> Result<Vec<Row>, Fault>
     ensures same_reference { tx.new.conn.ghost_name ≡ tx.old.conn.ghost_name }
     ensures step { ReadsWhole S.Store tx.old tx.new result Requests }
@@ -207,7 +207,7 @@ pub fn request_rows<S: Alter>(tx: &mut Transaction<'_, S>) -> Result<Vec<Row>, F
     )
 }
 
-/// Returns all rows of HOLDING.
+/// Returns all rows of HOLDING, sorted by key, ascending. Fails with `Store` only.
 pub fn holding_rows<S: Alter>(tx: &mut Transaction<'_, S>) -> Result<Vec<Row>, Fault>
     ensures same_reference { tx.new.conn.ghost_name ≡ tx.old.conn.ghost_name }
     ensures step { ReadsWhole S.Store tx.old tx.new result Holdings }
@@ -220,7 +220,7 @@ pub fn holding_rows<S: Alter>(tx: &mut Transaction<'_, S>) -> Result<Vec<Row>, F
     )
 }
 
-/// Returns all rows of HOLDING_SUMMARY.
+/// Returns all rows of HOLDING_SUMMARY, sorted by key, ascending. Fails with `Store` only.
 pub fn summary_rows<S: Alter>(tx: &mut Transaction<'_, S>) -> Result<Vec<Row>, Fault>
     ensures same_reference { tx.new.conn.ghost_name ≡ tx.old.conn.ghost_name }
     ensures step { ReadsWhole S.Store tx.old tx.new result Summaries }
@@ -233,7 +233,7 @@ pub fn summary_rows<S: Alter>(tx: &mut Transaction<'_, S>) -> Result<Vec<Row>, F
     )
 }
 
-/// Returns all rows of HOLDING_HISTORY.
+/// Returns all rows of HOLDING_HISTORY, sorted by key, ascending. Fails with `Store` only.
 pub fn holding_history_rows<S: Alter>(tx: &mut Transaction<'_, S>) -> Result<Vec<Row>, Fault>
     ensures same_reference { tx.new.conn.ghost_name ≡ tx.old.conn.ghost_name }
     ensures step { ReadsWhole S.Store tx.old tx.new result HoldingHistory }
@@ -246,7 +246,7 @@ pub fn holding_history_rows<S: Alter>(tx: &mut Transaction<'_, S>) -> Result<Vec
     )
 }
 
-/// Returns all rows of SETTLEMENT.
+/// Returns all rows of SETTLEMENT, sorted by key, ascending. Fails with `Store` only.
 pub fn settlement_rows<S: Alter>(tx: &mut Transaction<'_, S>) -> Result<Vec<Row>, Fault>
     ensures same_reference { tx.new.conn.ghost_name ≡ tx.old.conn.ghost_name }
     ensures step { ReadsWhole S.Store tx.old tx.new result Settlements }
@@ -259,7 +259,7 @@ pub fn settlement_rows<S: Alter>(tx: &mut Transaction<'_, S>) -> Result<Vec<Row>
     )
 }
 
-/// Returns all rows of CASH_TRANSACTION.
+/// Returns all rows of CASH_TRANSACTION, sorted by key, ascending. Fails with `Store` only.
 pub fn cash_rows<S: Alter>(tx: &mut Transaction<'_, S>) -> Result<Vec<Row>, Fault>
     ensures same_reference { tx.new.conn.ghost_name ≡ tx.old.conn.ghost_name }
     ensures step { ReadsWhole S.Store tx.old tx.new result CashRows }
@@ -272,6 +272,7 @@ pub fn cash_rows<S: Alter>(tx: &mut Transaction<'_, S>) -> Result<Vec<Row>, Faul
     )
 }
 
+// Returns all rows of CASH_MOVE, sorted by key, ascending. Fails with `Store` only.
 fn move_rows<S: Alter>(tx: &mut Transaction<'_, S>) -> Result<Vec<Row>, Fault>
     ensures same_reference { tx.new.conn.ghost_name ≡ tx.old.conn.ghost_name }
     ensures step { ReadsWhole S.Store tx.old tx.new result CashMoves }
@@ -284,6 +285,7 @@ fn move_rows<S: Alter>(tx: &mut Transaction<'_, S>) -> Result<Vec<Row>, Fault>
     )
 }
 
+// Returns all rows of SETTLE_RULE, sorted by key, ascending. Fails with `Store` only.
 fn rule_rows<S: Alter>(tx: &mut Transaction<'_, S>) -> Result<Vec<Row>, Fault>
     ensures same_reference { tx.new.conn.ghost_name ≡ tx.old.conn.ghost_name }
     ensures step { ReadsWhole S.Store tx.old tx.new result SettleRules }
@@ -296,7 +298,8 @@ fn rule_rows<S: Alter>(tx: &mut Transaction<'_, S>) -> Result<Vec<Row>, Fault>
     )
 }
 
-/// Returns all rows of CASH_MOVE, or no rows if `schema` lacks the table.
+/// Returns all rows of CASH_MOVE, sorted by key, or no rows if `schema` lacks the table. Fails
+/// with `Store` only.
 pub fn move_rows_in<S: Alter>(
     tx: &mut Transaction<'_, S>,
     alloc: Global,
@@ -312,7 +315,8 @@ pub fn move_rows_in<S: Alter>(
     move_rows(tx)
 }
 
-/// Returns all rows of SETTLE_RULE, or no rows if `schema` lacks the table.
+/// Returns all rows of SETTLE_RULE, sorted by key, or no rows if `schema` lacks the table. Fails
+/// with `Store` only.
 pub fn rule_rows_in<S: Alter>(
     tx: &mut Transaction<'_, S>,
     alloc: Global,

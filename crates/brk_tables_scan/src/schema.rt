@@ -24,7 +24,8 @@ fn number_of(schema: Schema) -> i64
     }
 }
 
-// Returns whether a column holds the integer `wanted`.
+// Returns true only if the column is the INTEGER `wanted`, and false only if it is not or does not
+// exist.
 fn is_number(row: &Row, at: usize, wanted: i64) -> bool
     ensures one { IsTrue result → column row.now at ≡ Int wanted }
     ensures other { result ≡ false → at < length row.now → column row.now at ≢ Int wanted }
@@ -35,7 +36,7 @@ fn is_number(row: &Row, at: usize, wanted: i64) -> bool
     }
 }
 
-// Returns whether a row of DESK has the number of a schema.
+// Returns true if the row is one of DESK with the id 1 and the number of the schema.
 #[tactic(auto, using(crate::proofs::Firsts::is_row, crate::proofs::Firsts::not_three, crate::proofs::Firsts::not_id, crate::proofs::Firsts::not_schema))]
 fn is_row_of(schema: Schema, row: &Row) -> bool
     ensures first { IsTrue result → IsRowOf (schema_of schema) row.now }
@@ -47,7 +48,7 @@ fn is_row_of(schema: Schema, row: &Row) -> bool
     is_number(row, 0, 1) && is_number(row, 1, number_of(schema))
 }
 
-// Returns whether DESK has exactly one row, with the number of a schema.
+// Returns true if the rows of DESK are exactly one, with the id 1 and the number of the schema.
 #[tactic(auto, using(crate::proofs::Firsts::says_one, crate::proofs::Firsts::first_of))]
 fn has_schema_row(schema: Schema, rows: &[Row]) -> bool
     ensures first { IsTrue result → Says (schema_of schema) rows.now }
@@ -61,6 +62,8 @@ fn has_schema_row(schema: Schema, rows: &[Row]) -> bool
 
 /// Returns whether the database has a desk of `schema`: each table of the schema with exactly its
 /// columns, none that a later schema adds, and in DESK one row with the schema's number.
+///
+/// Fails with `Store` only.
 ///
 /// This is proved only if the tables of these names and columns are defined as the desk defines
 /// them.

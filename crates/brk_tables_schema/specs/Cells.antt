@@ -19,102 +19,102 @@ pub record RuleRow : Type 0 where
   pub id : ℕ
   pub day : ℕ
 
--- The cell of a natural number.
+-- The SQL value of a natural number, an INTEGER.
 abbrev pub nat : ℕ → Value
 nat n = Int (pos n)
 
--- The cell of a natural number, or null.
+-- The SQL value of a natural number, or NULL for `None`.
 abbrev pub maybe : Option ℕ → Value
 maybe = or_null (λ n. Int (pos n))
 
--- The cell of a truth value: 1 for true, 0 for false.
+-- The SQL value of a Boolean: 1 for true, 0 for false.
 abbrev pub flag : Bool → Value
 flag b = Int (pos (if b then 1 else 0))
 
--- The cells of a row of DESK, in the order of its columns.
+-- The SQL values of a row of DESK, in the order of its columns.
 abbrev pub desk_row_cells : DeskRow → Row
 desk_row_cells r = nat r.id ∷ nat r.schema ∷ maybe r.last ∷ []
 
--- The cells of a row of KEPT, in the order of its columns.
+-- The SQL values of a row of KEPT, in the order of its columns.
 abbrev pub kept_cells : Kept → Row
 kept_cells r = Words r.key.batch ∷ nat r.key.row ∷ Words r.row_text ∷ Words r.line ∷ []
 
--- The cells of a row of BROKER, in the order of its columns.
+-- The SQL values of a row of BROKER, in the order of its columns.
 abbrev pub broker_cells : BrokerRow → Row
 broker_cells r = nat r.id ∷ Words r.name ∷ Int r.trades ∷ nat r.commissions ∷ []
 
--- The cells of a row of CUSTOMER, in the order of its columns.
+-- The SQL values of a row of CUSTOMER, in the order of its columns.
 abbrev pub customer_cells : Customer → Row
 customer_cells r = nat r.id ∷ nat r.tier ∷ Words r.tax_id ∷ Words r.last_name ∷ Words r.first_name ∷ []
 
--- The cells of a row of CUSTOMER_ACCOUNT, in the order of its columns.
+-- The SQL values of a row of CUSTOMER_ACCOUNT, in the order of its columns.
 abbrev pub account_cells : AccountRow → Row
 account_cells r = nat r.id ∷ nat r.customer ∷ nat r.broker ∷ Words r.name ∷ nat (tax_status_number r.tax_status) ∷ Int r.opening ∷ Int r.balance ∷ []
 
--- The cells of a row of ACCOUNT_PERMISSION, in the order of its columns.
+-- The SQL values of a row of ACCOUNT_PERMISSION, in the order of its columns.
 abbrev pub permission_cells : Permission → Row
 permission_cells r = nat r.account ∷ Words r.tax_id ∷ Words r.acl ∷ Words r.last_name ∷ Words r.first_name ∷ []
 
--- The cells of a row of SECURITY, in the order of its columns.
+-- The SQL values of a row of SECURITY, in the order of its columns.
 abbrev pub security_cells : SecurityRow → Row
 security_cells r = Words r.symbol ∷ Words r.name ∷ Words r.exchange ∷ Words r.sector ∷ []
 
--- The cells of a row of LAST_TRADE, in the order of its columns.
+-- The SQL values of a row of LAST_TRADE, in the order of its columns.
 abbrev pub last_trade_cells : LastTradeRow → Row
 last_trade_cells r = Words r.symbol ∷ nat r.stamp ∷ nat r.price ∷ nat r.volume ∷ []
 
--- The cells of a row of CHARGE, in the order of its columns.
+-- The SQL values of a row of CHARGE, in the order of its columns.
 abbrev pub charge_cells : Charge → Row
 charge_cells r = Words (type_code r.kind) ∷ nat r.tier ∷ nat r.amount ∷ []
 
--- The cells of a row of COMMISSION_RATE, in the order of its columns.
+-- The SQL values of a row of COMMISSION_RATE, in the order of its columns.
 abbrev pub band_cells : Band → Row
 band_cells r = nat r.tier ∷ Words (type_code r.kind) ∷ Words r.exchange ∷ nat r.from_qty ∷ nat r.to_qty ∷ nat r.rate ∷ []
 
--- The cells of a row of TAXRATE, in the order of its columns.
+-- The SQL values of a row of TAXRATE, in the order of its columns.
 abbrev pub tax_rate_cells : TaxRate → Row
 tax_rate_cells r = nat r.id ∷ Words r.name ∷ nat r.rate ∷ []
 
--- The cells of a row of CUSTOMER_TAXRATE, in the order of its columns.
+-- The SQL values of a row of CUSTOMER_TAXRATE, in the order of its columns.
 abbrev pub customer_tax_cells : CustomerTax → Row
 customer_tax_cells r = nat r.customer ∷ nat r.tax ∷ []
 
--- The cells of a row of TRADE, in the order of its columns.
+-- The SQL values of a row of TRADE, in the order of its columns.
 abbrev pub trade_cells : TradeRow → Row
 trade_cells r = nat r.id ∷ nat r.stamp ∷ Words (status_code r.status) ∷ Words (type_code r.kind) ∷ flag r.is_cash ∷ Words r.symbol ∷ nat r.qty ∷ nat r.bid ∷ nat r.account ∷ Words r.executor ∷ maybe r.price ∷ nat r.charge ∷ nat r.commission ∷ nat r.tax ∷ flag r.is_lifo ∷ []
 
--- The cells of a row of TRADE_HISTORY, in the order of its columns.
+-- The SQL values of a row of TRADE_HISTORY, in the order of its columns.
 abbrev pub history_cells : HistoryRow → Row
 history_cells r = nat r.trade ∷ Words (status_code r.status) ∷ nat r.stamp ∷ []
 
--- The cells of a row of TRADE_REQUEST, in the order of its columns.
+-- The SQL values of a row of TRADE_REQUEST, in the order of its columns.
 abbrev pub request_cells : RequestRow → Row
 request_cells r = nat r.trade ∷ Words (type_code r.kind) ∷ Words r.symbol ∷ nat r.qty ∷ nat r.bid ∷ nat r.broker ∷ []
 
--- The cells of a row of HOLDING, in the order of its columns.
+-- The SQL values of a row of HOLDING, in the order of its columns.
 abbrev pub holding_cells : HoldingRow → Row
 holding_cells r = nat r.trade ∷ nat r.account ∷ Words r.symbol ∷ nat r.stamp ∷ nat r.price ∷ Int r.qty ∷ []
 
--- The cells of a row of HOLDING_SUMMARY, in the order of its columns.
+-- The SQL values of a row of HOLDING_SUMMARY, in the order of its columns.
 abbrev pub summary_cells : SummaryRow → Row
 summary_cells r = nat r.account ∷ Words r.symbol ∷ Int r.qty ∷ []
 
--- The cells of a row of HOLDING_HISTORY, in the order of its columns.
+-- The SQL values of a row of HOLDING_HISTORY, in the order of its columns.
 abbrev pub holding_history_cells : HoldingHistoryRow → Row
 holding_history_cells r = nat r.lot ∷ nat r.trade ∷ Int r.before ∷ Int r.after ∷ []
 
--- The cells of a row of SETTLEMENT, in the order of its columns.
+-- The SQL values of a row of SETTLEMENT, in the order of its columns.
 abbrev pub settlement_cells : SettlementRow → Row
 settlement_cells r = nat r.trade ∷ Words r.cash_type ∷ nat r.due_day ∷ Int r.amount ∷ []
 
--- The cells of a row of CASH_TRANSACTION, in the order of its columns.
+-- The SQL values of a row of CASH_TRANSACTION, in the order of its columns.
 abbrev pub cash_cells : CashRow → Row
 cash_cells r = nat r.trade ∷ nat r.stamp ∷ Int r.amount ∷ Words r.name ∷ []
 
--- The cells of a row of CASH_MOVE, in the order of its columns.
+-- The SQL values of a row of CASH_MOVE, in the order of its columns.
 abbrev pub move_cells : MoveRow → Row
 move_cells r = nat r.id ∷ nat r.account ∷ maybe r.trade ∷ nat r.stamp ∷ Int r.amount ∷ Words r.name ∷ []
 
--- The cells of a row of SETTLE_RULE, in the order of its columns.
+-- The SQL values of a row of SETTLE_RULE, in the order of its columns.
 abbrev pub rule_cells : RuleRow → Row
 rule_cells r = nat r.id ∷ nat r.day ∷ []

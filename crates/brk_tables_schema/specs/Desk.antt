@@ -37,20 +37,20 @@ pub data Which : Type 0 where
   CashMoves : Which
   SettleRules : Which
 
--- The single row of DESK, in a schema.
+-- The single row of DESK in a schema, with the stamp `last` of the last command, or without one.
 abbrev pub desk_rows : Schema → Option ℕ → List DeskRow
 desk_rows schema last = record { id = 1; schema = schema.number; last = last } ∷ []
 
--- The key of DESK: D_ID.
+-- The primary key of the row of DESK: D_ID.
 abbrev pub desk_key : DeskRow → List KeyPart
 desk_key r = number r.id ∷ []
 
--- The single row of SETTLE_RULE, or none.
+-- The single row of SETTLE_RULE with the settlement day, or no row if none is set.
 abbrev pub rule_rows : Option ℕ → List RuleRow
 rule_rows None = []
 rule_rows (Some day) = record { id = 1; day = day } ∷ []
 
--- The key of SETTLE_RULE: SR_ID.
+-- The primary key of the row of SETTLE_RULE: SR_ID.
 abbrev pub rule_key : RuleRow → List KeyPart
 rule_key r = number r.id ∷ []
 
@@ -60,7 +60,7 @@ has_table schema CashMoves = schema.has_moves
 has_table schema SettleRules = schema.has_rule
 has_table schema w = true
 
--- The shape of a table, with its rows in the tree `n`.
+-- The definition of a table with its rows at a tree: its name, columns, keys and foreign keys.
 abbrev pub shape : Which → ℕ → Table
 shape TheDesk = desk_row
 shape KeptRows = kept
@@ -85,7 +85,7 @@ shape CashRows = cash
 shape CashMoves = move
 shape SettleRules = rule
 
--- The shape of a table in the tree `tree` has its rows there.
+-- The definition of a table with its rows at the tree `tree` has this tree.
 abbrev pub placed : (w : Which) (tree : ℕ) → (shape w tree).tree ≡ tree
 placed TheDesk tree = refl
 placed KeptRows tree = refl
@@ -110,7 +110,7 @@ placed CashRows tree = refl
 placed CashMoves tree = refl
 placed SettleRules tree = refl
 
--- The type of the rows of a table.
+-- The type of the records of a table.
 abbrev pub Item : Which → Type 0
 Item TheDesk = DeskRow
 Item KeptRows = Kept
@@ -135,7 +135,7 @@ Item CashRows = CashRow
 Item CashMoves = MoveRow
 Item SettleRules = RuleRow
 
--- The row of a table that encodes a record: its cells, column by column.
+-- The SQL row that encodes a record of a table: its values in the order of the columns.
 abbrev pub encode : (w : Which) → Item w → Row
 encode TheDesk = desk_row_cells
 encode KeptRows = kept_cells
@@ -160,7 +160,7 @@ encode CashRows = cash_cells
 encode CashMoves = move_cells
 encode SettleRules = rule_cells
 
--- The key of a row of a table.
+-- The primary key of a record of a table.
 abbrev pub key : (w : Which) → Item w → List KeyPart
 key TheDesk = desk_key
 key KeptRows = kept_key
@@ -185,11 +185,12 @@ key CashRows = cash_key
 key CashMoves = move_key
 key SettleRules = rule_key
 
--- The order of the rows of a table: by key, ascending.
+-- Compares two records of a table by their primary keys.
 abbrev pub order : (w : Which) → Item w → Item w → Ordering
 order w = by_key_values (key w)
 
--- The rows of a table of a desk with the tables `t`. Only the row of DESK depends on the schema.
+-- The records of the table `w` of a desk with the tables `t`. Only the one of DESK depends on the
+-- schema.
 abbrev pub list_in : Schema → (w : Which) → Tables → List (Item w)
 list_in schema TheDesk t = desk_rows schema t.last
 list_in schema KeptRows t = t.kept
@@ -214,30 +215,30 @@ list_in schema CashRows t = t.cash
 list_in schema CashMoves t = t.moves
 list_in schema SettleRules t = rule_rows t.rule
 
--- The rows of a table of a desk with the tables `t`, in the third schema, which an open desk has.
+-- The records of the table `w` of a desk in schema 3 with the tables `t`.
 abbrev pub list : (w : Which) → Tables → List (Item w)
 list = list_in third_schema
 
--- The tables of a desk in a schema, which may lack some of them.
+-- All tables of a desk, with the number of the given schema in the row of DESK.
 abbrev pub desk_in : Schema → Desk Which Tables
 desk_in schema = record { shape = shape; placed = placed; Item = Item; encode = encode; order = order; list = list_in schema }
 
--- The tables of a desk in the third schema.
+-- All tables of a desk in schema 3.
 abbrev pub desk : Desk Which Tables
 desk = desk_in third_schema
 
--- All tables of the third schema.
+-- The list of all tables, which are those of schema 3.
 abbrev pub all_tables : List Which
 all_tables = TheDesk ∷ KeptRows ∷ Brokers ∷ Customers ∷ Accounts ∷ Permissions ∷ Securities ∷ LastTrades ∷ Charges ∷ Bands ∷ TaxRates ∷ CustomerTaxes ∷ Trades ∷ TradeHistory ∷ Requests ∷ Holdings ∷ Summaries ∷ HoldingHistory ∷ Settlements ∷ CashRows ∷ CashMoves ∷ SettleRules ∷ []
 
--- The tables of a schema.
+-- The list of the tables that a schema has.
 abbrev pub tables_in : Schema → List Which
 tables_in schema = filter (has_table schema) all_tables
 
--- The name of a table.
+-- The SQL name of a table.
 abbrev pub name_of : Which → List ℕ
 name_of w = (shape w 0).name
 
--- The names of all tables.
+-- The SQL names of all tables.
 abbrev pub names : List (List ℕ)
 names = map name_of all_tables

@@ -19,37 +19,37 @@ use Rattle.brk_changes.specs.declared.cash_type.CashType.TheVariants.{CashAccoun
 
 -- ---- The check of one column
 
--- True if the value is an integer that is not below 0 and passes `form`.
+-- True if the value is an INTEGER of at least 0 that passes the check `form`.
 abbrev pub natural_cell : (ℕ → Bool) → Value → Bool
 natural_cell form (Int (pos n)) = form n
 natural_cell form _ = false
 
--- True if the value is null, or an integer that is not below 0 and passes `form`.
+-- True if the value is NULL, or an INTEGER of at least 0 that passes the check `form`.
 abbrev pub maybe_cell : (ℕ → Bool) → Value → Bool
 maybe_cell form Null = true
 maybe_cell form (Int (pos n)) = form n
 maybe_cell form _ = false
 
--- True if the value is an integer.
+-- True if the value is an INTEGER.
 abbrev pub number_cell : Value → Bool
 number_cell (Int n) = true
 number_cell _ = false
 
--- True if the value is an amount of cents within the limits, of either sign.
+-- True if the value is an INTEGER within the limits of an amount of cents, of either sign.
 abbrev pub cents_cell : Value → Bool
 cents_cell (Int n) = is_amount n
 cents_cell _ = false
 
--- True if the value is a text that passes `form`.
+-- True if the value is a TEXT that passes the check `form`.
 abbrev pub words_cell : (List ℕ → Bool) → Value → Bool
 words_cell form (Words s) = form s
 words_cell form _ = false
 
--- True if the value is 1 or 0.
+-- True if the value is the INTEGER 0 or 1.
 abbrev pub flag_cell : Value → Bool
 flag_cell = natural_cell (λ n. (n == 0) || (n == 1))
 
--- True if the value is a text of UTF-8.
+-- True if the value is a TEXT in UTF-8.
 abbrev pub text_cell : Value → Bool
 text_cell = words_cell is_utf8
 
@@ -57,7 +57,7 @@ text_cell = words_cell is_utf8
 abbrev pub is_type : List ℕ → Bool
 is_type s = is_some (type_of s)
 
--- All statuses of a trade.
+-- The list of all statuses of a trade.
 abbrev pub all_statuses : List Status
 all_statuses = Completed ∷ Active ∷ Submitted ∷ Pending ∷ Canceled ∷ []
 
@@ -65,7 +65,7 @@ all_statuses = Completed ∷ Active ∷ Submitted ∷ Pending ∷ Canceled ∷ [
 abbrev pub is_status : List ℕ → Bool
 is_status s = list_any (λ status. bytes_eq (status_code status) s) all_statuses
 
--- All cash types of a settlement.
+-- The list of all cash types of a settlement.
 abbrev pub all_cash_types : List CashType
 all_cash_types = CashAccount ∷ Cash ∷ Margin ∷ MarginAccount ∷ []
 
@@ -77,95 +77,96 @@ is_cash_word s = list_any (λ kind. bytes_eq (cash_type_word kind) s) all_cash_t
 abbrev pub is_tax_status : ℕ → Bool
 is_tax_status n = is_some (tax_status_of n)
 
--- True if the value is an id.
+-- True if the value is an INTEGER within the limits of an id.
 abbrev pub id_cell : Value → Bool
 id_cell = natural_cell is_id
 
--- True if the value is the id of a cash row.
+-- True if the value is an INTEGER within the limits of the number of a cash row.
 abbrev pub move_id_cell : Value → Bool
 move_id_cell = natural_cell is_move_id
 
--- True if the value is a name.
+-- True if the value is a TEXT in the format of a name.
 abbrev pub name_cell : Value → Bool
 name_cell = words_cell is_name
 
--- True if the value is a tax id.
+-- True if the value is a TEXT in the format of a tax id.
 abbrev pub tax_id_cell : Value → Bool
 tax_id_cell = words_cell is_tax_id
 
--- True if the value is a symbol.
+-- True if the value is a TEXT in the format of a symbol.
 abbrev pub symbol_cell : Value → Bool
 symbol_cell = words_cell is_symbol
 
--- True if the value is an exchange.
+-- True if the value is a TEXT in the format of an exchange.
 abbrev pub exchange_cell : Value → Bool
 exchange_cell = words_cell is_exchange
 
--- True if the value is the code of a trade type.
+-- True if the value is a TEXT that is the code of a trade type.
 abbrev pub type_cell : Value → Bool
 type_cell = words_cell is_type
 
--- True if the value is the code of a status.
+-- True if the value is a TEXT that is the code of a status.
 abbrev pub status_cell : Value → Bool
 status_cell = words_cell is_status
 
--- True if the value is a tier.
+-- True if the value is an INTEGER that is a tier.
 abbrev pub tier_cell : Value → Bool
 tier_cell = natural_cell is_tier
 
--- True if the value is a quantity of schema 3.
+-- True if the value is an INTEGER within the limits of a quantity in schema 3.
 abbrev pub qty_cell : Value → Bool
 qty_cell = natural_cell (is_qty third_schema)
 
--- True if the value is a price.
+-- True if the value is an INTEGER within the limits of a price.
 abbrev pub price_cell : Value → Bool
 price_cell = natural_cell is_price
 
--- True if the value is a stamp.
+-- True if the value is an INTEGER of at least 0 and at most the last stamp.
 abbrev pub stamp_cell : Value → Bool
 stamp_cell = natural_cell (λ n. nat_le n last_stamp)
 
--- True if the value is a sum of cents or a volume.
+-- True if the value is an INTEGER of at least 0 and at most the greatest amount: a sum of cents or
+-- a volume.
 abbrev pub sum_cell : Value → Bool
 sum_cell = natural_cell (λ n. nat_le n greatest_amount)
 
--- True if the value is a commission rate.
+-- True if the value is an INTEGER of at least 0 and at most the greatest commission rate.
 abbrev pub rate_cell : Value → Bool
 rate_cell = natural_cell (λ n. nat_le n greatest_rate)
 
--- True if the value is a tax rate.
+-- True if the value is an INTEGER of at least 0 and at most the greatest tax rate.
 abbrev pub tax_cell : Value → Bool
 tax_cell = natural_cell (λ n. nat_le n greatest_tax_rate)
 
--- True if the value is a day.
+-- True if the value is an INTEGER of at least 0 and at most the last day.
 abbrev pub day_cell : Value → Bool
 day_cell = natural_cell (λ n. nat_le n last_day)
 
--- True if the value is the number of a tax status.
+-- True if the value is an INTEGER that is the number of a tax status.
 abbrev pub tax_status_cell : Value → Bool
 tax_status_cell = natural_cell is_tax_status
 
--- True if the value is a charge.
+-- True if the value is an INTEGER of at least 0 and at most the greatest charge.
 abbrev pub charge_cell : Value → Bool
 charge_cell = natural_cell (λ n. nat_le n greatest_charge)
 
--- True if the value is a stamp or null.
+-- True if the value is NULL or a stamp.
 abbrev pub last_cell : Value → Bool
 last_cell = maybe_cell (λ n. nat_le n last_stamp)
 
 -- ---- The check of a row
 
--- True if each column passes its check, and the row has as many columns as there are checks.
+-- True if the row has as many columns as there are checks, and each column passes its own.
 abbrev pub all_formed : List (Value → Bool) → Row → Bool
 all_formed [] [] = true
 all_formed (has_form ∷ forms) (v ∷ row) = has_form v && all_formed forms row
 all_formed _ _ = false
 
--- The checks of the columns of DESK, in a schema.
+-- The checks of the columns of DESK, with the number of `schema`, in the order of the columns.
 abbrev pub desk_forms : Schema → List (Value → Bool)
 desk_forms schema = natural_cell (λ n. n == 1) ∷ natural_cell (λ n. n == schema.number) ∷ last_cell ∷ []
 
--- True if there is exactly one row of DESK and it passes the checks of the schema.
+-- True if there is exactly one row of DESK, and it passes the checks of the schema.
 abbrev pub is_desk_row : Schema → List Row → Bool
 is_desk_row schema (row ∷ []) = all_formed (desk_forms schema) row
 is_desk_row schema _ = false
@@ -256,7 +257,7 @@ move_forms = move_id_cell ∷ id_cell ∷ maybe_cell is_id ∷ stamp_cell ∷ ce
 abbrev pub rule_forms : List (Value → Bool)
 rule_forms = natural_cell (λ n. n == 1) ∷ day_cell ∷ []
 
--- True if there is no row of SETTLE_RULE, or one row that passes its checks.
+-- True if there is no row of SETTLE_RULE, or exactly one, which passes its checks.
 abbrev pub is_rule : List Row → Bool
 is_rule [] = true
 is_rule (row ∷ []) = all_formed rule_forms row

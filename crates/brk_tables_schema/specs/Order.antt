@@ -7,15 +7,15 @@ use Rattle.sqlite_value.specs.declared.value.Value.TheVariants.{Int, Text as Wor
 use Rattle.sqlite_value.specs.Order.{Row, value_cmp}
 use Rattle.brk_model.specs.Keys.{KeyPart, number, word}
 
--- The column value of a part of a key.
+-- The SQL value of a part of a key: an INTEGER for a number, a TEXT for a word.
 abbrev pub part_value : KeyPart → Value
 part_value (number n) = Int (pos n)
 part_value (word s) = Words s
 
--- The column values of a key.
+-- The SQL values of the parts of a key, in order.
 abbrev pub key_values : List KeyPart → Row
 key_values = map part_value
 
--- Compares two rows by their keys, column by column.
+-- Compares two records by their keys, part by part, in the order of SQL values.
 abbrev pub by_key_values : {X : Type 0} → (X → List KeyPart) → X → X → Ordering
 by_key_values key x y = slice_cmp value_cmp (key_values (key x)) (key_values (key y))

@@ -14,7 +14,7 @@ use brk_money::Fault;
 use sqlite::{Alter, Row, Transaction};
 use sqlite_value::value::ValueRef;
 
-/// Executes a statement that creates a table or changes rows.
+/// Executes a statement that creates a table or changes rows. Fails with `Store` only.
 pub fn run<S: Alter>(
     tx: &mut Transaction<'_, S>,
     text: &str,
@@ -30,7 +30,8 @@ pub fn run<S: Alter>(
     }
 }
 
-/// Returns the rows that a statement selects.
+/// Returns the rows that a statement selects, which has no RETURNING clause. Fails with `Store`
+/// only.
 pub fn select<S: Alter>(
     tx: &mut Transaction<'_, S>,
     text: &str,
@@ -47,7 +48,8 @@ pub fn select<S: Alter>(
     }
 }
 
-/// Returns true if the statement compiles, and false if it names a table that does not exist.
+/// Returns true if the statement compiles, and false if it names a table that does not exist. The
+/// database is unchanged. Fails with `Store` only.
 pub fn is_understood<S: Alter>(tx: &mut Transaction<'_, S>, text: &str) -> Result<bool, Fault>
     ensures same_reference { tx.new.conn.ghost_name ≡ tx.old.conn.ghost_name }
     ensures step { Steps S.Store tx.old tx.new result (λ has a b. IsTrue a.is_open × (b.now ≡ a.now) × Probes text.now has a.now.schema) }
@@ -59,7 +61,8 @@ pub fn is_understood<S: Alter>(tx: &mut Transaction<'_, S>, text: &str) -> Resul
     }
 }
 
-/// Returns true if the columns of the statement's result are exactly `names`, in order.
+/// Returns true if the columns of the statement's result are exactly `names`, in order. The
+/// database is unchanged. Fails with `Store` only.
 pub fn shows_columns<S: Alter>(
     tx: &mut Transaction<'_, S>,
     text: &str,

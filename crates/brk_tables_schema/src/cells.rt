@@ -20,7 +20,8 @@ use sqlite::Row;
 use sqlite::types::FromSql;
 use sqlite_value::value::ValueRef;
 
-/// Fails unless the row has exactly `count` columns.
+/// Returns `Ok` only if the row has exactly `count` columns. Fails with `Form` only if it has not,
+/// or with `Memory`.
 pub fn has_columns(row: &Row, count: usize) -> Result<(), DecodeError>
     ensures columns { OnOk result (length row.now ≡ count) }
     ensures form { result ≡ Err Formless → length row.now ≢ count }
@@ -32,7 +33,8 @@ pub fn has_columns(row: &Row, count: usize) -> Result<(), DecodeError>
     }
 }
 
-// Reads a column as the type `T`.
+// Reads a column as the type `T`. Fails with `Form` only if the column is missing or malformed, or
+// with `Memory`.
 fn value_in<T: FromSql>(row: &Row, at: usize) -> Result<T, DecodeError>
     ensures value { IfOk result (T.FromSql.reads_as (column row.now at)) }
     ensures form { result ≡ Err Formless → at < length row.now → ¬ T.FromSql.is_readable (column row.now at) }
@@ -43,7 +45,8 @@ fn value_in<T: FromSql>(row: &Row, at: usize) -> Result<T, DecodeError>
     }
 }
 
-// Reads the bytes of a text.
+// Reads the bytes of a text. Fails with `Form` only if the column is missing or malformed, or with
+// `Memory`.
 fn bytes_in(row: &Row, at: usize) -> Result<&[u8], DecodeError>
     ensures value { IfOk result (λ bytes. column row.now at ≡ Text bytes.now) }
     ensures form { result ≡ Err Formless → at < length row.now → words_cell (λ _. true) (column row.now at) ≡ false }
@@ -54,7 +57,8 @@ fn bytes_in(row: &Row, at: usize) -> Result<&[u8], DecodeError>
     }
 }
 
-/// Reads an integer.
+/// Reads an integer. Fails with `Form` only if the column is missing or malformed, or with
+/// `Memory`.
 pub fn number_in(row: &Row, at: usize) -> Result<i64, DecodeError>
     ensures value { IfOk result (λ number. column row.now at ≡ Int number) }
     ensures form { result ≡ Err Formless → at < length row.now → number_cell (column row.now at) ≡ false }
@@ -62,7 +66,8 @@ pub fn number_in(row: &Row, at: usize) -> Result<i64, DecodeError>
     value_in(row, at)
 }
 
-/// Reads an integer that is not below 0.
+/// Reads an integer that is not below 0. Fails with `Form` only if the column is missing or
+/// malformed, or with `Memory`.
 pub fn natural_in(row: &Row, at: usize) -> Result<u64, DecodeError>
     ensures value { IfOk result (λ number. column row.now at ≡ Int (pos number)) }
     ensures form { result ≡ Err Formless → at < length row.now → natural_cell (λ _. true) (column row.now at) ≡ false }
@@ -70,7 +75,8 @@ pub fn natural_in(row: &Row, at: usize) -> Result<u64, DecodeError>
     value_in(row, at)
 }
 
-/// Reads an integer that is not below 0 and fits 32 bits.
+/// Reads an integer that is not below 0 and fits 32 bits. Fails with `Form` only if the column is
+/// missing or malformed, or with `Memory`.
 pub fn small_in(row: &Row, at: usize) -> Result<u32, DecodeError>
     ensures value { IfOk result (λ number. column row.now at ≡ Int (pos number)) }
     ensures form { result ≡ Err Formless → at < length row.now → natural_cell (λ n. nat_lt n (2 ^ 32)) (column row.now at) ≡ false }
@@ -78,7 +84,8 @@ pub fn small_in(row: &Row, at: usize) -> Result<u32, DecodeError>
     value_in(row, at)
 }
 
-/// Reads a text of UTF-8.
+/// Reads a text of UTF-8. Fails with `Form` only if the column is missing or malformed, or with
+/// `Memory`.
 #[tactic(auto, using(crate::proofs::Unformed::no_text))]
 pub fn text_in(row: &Row, at: usize) -> Result<String, DecodeError>
     ensures value { IfOk result (λ text. column row.now at ≡ Text (string_bytes text)) }
@@ -87,7 +94,8 @@ pub fn text_in(row: &Row, at: usize) -> Result<String, DecodeError>
     value_in(row, at)
 }
 
-/// Reads a text of the format `F`.
+/// Reads a text of the format `F`. Fails with `Form` only if the column is missing or malformed, or
+/// with `Memory`.
 #[tactic(auto, using(crate::proofs::Unformed::no_formed_text))]
 pub fn text_of<F: Form>(row: &Row, at: usize) -> Result<FormedText<F>, DecodeError>
     ensures value { IfOk result (λ text. column row.now at ≡ Text text) }
@@ -96,7 +104,8 @@ pub fn text_of<F: Form>(row: &Row, at: usize) -> Result<FormedText<F>, DecodeErr
     FormedText::new(text_in(row, at)?).ok_or(DecodeError::Form)
 }
 
-/// Reads the number of a row of a batch.
+/// Reads the number of a row of a batch. Fails with `Form` only if the column is missing or
+/// malformed, or with `Memory`.
 pub fn row_number_in(row: &Row, at: usize) -> Result<RowNumber, DecodeError>
     ensures value { IfOk result (λ number. column row.now at ≡ Int (pos number)) }
     ensures form { result ≡ Err Formless → at < length row.now → id_cell (column row.now at) ≡ false }
@@ -104,7 +113,7 @@ pub fn row_number_in(row: &Row, at: usize) -> Result<RowNumber, DecodeError>
     RowNumber::new(natural_in(row, at)?).ok_or(DecodeError::Form)
 }
 
-/// Reads an id.
+/// Reads an id. Fails with `Form` only if the column is missing or malformed, or with `Memory`.
 pub fn id_in(row: &Row, at: usize) -> Result<Id, DecodeError>
     ensures value { IfOk result (λ id. column row.now at ≡ Int (pos id)) }
     ensures form { result ≡ Err Formless → at < length row.now → id_cell (column row.now at) ≡ false }
@@ -112,7 +121,8 @@ pub fn id_in(row: &Row, at: usize) -> Result<Id, DecodeError>
     Id::new(natural_in(row, at)?).ok_or(DecodeError::Form)
 }
 
-/// Reads the id of a cash row.
+/// Reads the id of a cash row. Fails with `Form` only if the column is missing or malformed, or
+/// with `Memory`.
 pub fn move_id_in(row: &Row, at: usize) -> Result<MoveId, DecodeError>
     ensures value { IfOk result (λ id. column row.now at ≡ Int (pos id)) }
     ensures form { result ≡ Err Formless → at < length row.now → move_id_cell (column row.now at) ≡ false }
@@ -120,7 +130,8 @@ pub fn move_id_in(row: &Row, at: usize) -> Result<MoveId, DecodeError>
     MoveId::new(natural_in(row, at)?).ok_or(DecodeError::Form)
 }
 
-/// Reads an id, or `None` if the column is null.
+/// Reads an id, or `None` if the column is null. Fails with `Form` only if the column is missing or
+/// malformed, or with `Memory`.
 pub fn maybe_id_in(row: &Row, at: usize) -> Result<Option<Id>, DecodeError>
     ensures value { IfOk result (λ id. column row.now at ≡ maybe id) }
     ensures form { result ≡ Err Formless → at < length row.now → maybe_cell is_id (column row.now at) ≡ false }
@@ -132,7 +143,7 @@ pub fn maybe_id_in(row: &Row, at: usize) -> Result<Option<Id>, DecodeError>
     Ok(Some(Id::new(number).ok_or(DecodeError::Form)?))
 }
 
-/// Reads a tier.
+/// Reads a tier. Fails with `Form` only if the column is missing or malformed, or with `Memory`.
 pub fn tier_in(row: &Row, at: usize) -> Result<Tier, DecodeError>
     ensures value { IfOk result (λ tier. column row.now at ≡ Int (pos tier)) }
     ensures form { result ≡ Err Formless → at < length row.now → tier_cell (column row.now at) ≡ false }
@@ -140,7 +151,8 @@ pub fn tier_in(row: &Row, at: usize) -> Result<Tier, DecodeError>
     Tier::new(natural_in(row, at)?).ok_or(DecodeError::Form)
 }
 
-/// Reads an amount of cents that is not below 0.
+/// Reads an amount of cents that is not below 0. Fails with `Form` only if the column is missing or
+/// malformed, or with `Memory`.
 pub fn amount_in(row: &Row, at: usize) -> Result<Amount, DecodeError>
     ensures value { IfOk result (λ amount. column row.now at ≡ Int (pos amount)) }
     ensures form { result ≡ Err Formless → at < length row.now → sum_cell (column row.now at) ≡ false }
@@ -148,7 +160,7 @@ pub fn amount_in(row: &Row, at: usize) -> Result<Amount, DecodeError>
     Amount::new(natural_in(row, at)?).ok_or(DecodeError::Form)
 }
 
-/// Reads a volume.
+/// Reads a volume. Fails with `Form` only if the column is missing or malformed, or with `Memory`.
 pub fn volume_in(row: &Row, at: usize) -> Result<Volume, DecodeError>
     ensures value { IfOk result (λ volume. column row.now at ≡ Int (pos volume)) }
     ensures form { result ≡ Err Formless → at < length row.now → sum_cell (column row.now at) ≡ false }
@@ -156,7 +168,8 @@ pub fn volume_in(row: &Row, at: usize) -> Result<Volume, DecodeError>
     Volume::new(natural_in(row, at)?).ok_or(DecodeError::Form)
 }
 
-/// Reads a quantity.
+/// Reads a quantity. Fails with `Form` only if the column is missing or malformed, or with
+/// `Memory`.
 pub fn qty_in(row: &Row, at: usize) -> Result<Qty, DecodeError>
     ensures value { IfOk result (λ qty. column row.now at ≡ Int (pos qty)) }
     ensures form { result ≡ Err Formless → at < length row.now → qty_cell (column row.now at) ≡ false }
@@ -164,7 +177,7 @@ pub fn qty_in(row: &Row, at: usize) -> Result<Qty, DecodeError>
     Qty::new(small_in(row, at)?).ok_or(DecodeError::Form)
 }
 
-/// Reads a price.
+/// Reads a price. Fails with `Form` only if the column is missing or malformed, or with `Memory`.
 pub fn price_in(row: &Row, at: usize) -> Result<Price, DecodeError>
     ensures value { IfOk result (λ price. column row.now at ≡ Int (pos price)) }
     ensures form { result ≡ Err Formless → at < length row.now → price_cell (column row.now at) ≡ false }
@@ -172,7 +185,8 @@ pub fn price_in(row: &Row, at: usize) -> Result<Price, DecodeError>
     Price::new(small_in(row, at)?).ok_or(DecodeError::Form)
 }
 
-/// Reads a commission rate.
+/// Reads a commission rate. Fails with `Form` only if the column is missing or malformed, or with
+/// `Memory`.
 pub fn rate_in(row: &Row, at: usize) -> Result<Rate, DecodeError>
     ensures value { IfOk result (λ rate. column row.now at ≡ Int (pos rate)) }
     ensures form { result ≡ Err Formless → at < length row.now → rate_cell (column row.now at) ≡ false }
@@ -180,7 +194,8 @@ pub fn rate_in(row: &Row, at: usize) -> Result<Rate, DecodeError>
     Rate::new(small_in(row, at)?).ok_or(DecodeError::Form)
 }
 
-/// Reads a tax rate.
+/// Reads a tax rate. Fails with `Form` only if the column is missing or malformed, or with
+/// `Memory`.
 pub fn tax_rate_in(row: &Row, at: usize) -> Result<TaxRate, DecodeError>
     ensures value { IfOk result (λ rate. column row.now at ≡ Int (pos rate)) }
     ensures form { result ≡ Err Formless → at < length row.now → tax_cell (column row.now at) ≡ false }
@@ -188,7 +203,7 @@ pub fn tax_rate_in(row: &Row, at: usize) -> Result<TaxRate, DecodeError>
     TaxRate::new(small_in(row, at)?).ok_or(DecodeError::Form)
 }
 
-/// Reads a charge.
+/// Reads a charge. Fails with `Form` only if the column is missing or malformed, or with `Memory`.
 pub fn charge_amount_in(row: &Row, at: usize) -> Result<ChargeAmount, DecodeError>
     ensures value { IfOk result (λ amount. column row.now at ≡ Int (pos amount)) }
     ensures form { result ≡ Err Formless → at < length row.now → charge_cell (column row.now at) ≡ false }
@@ -196,7 +211,8 @@ pub fn charge_amount_in(row: &Row, at: usize) -> Result<ChargeAmount, DecodeErro
     ChargeAmount::new(small_in(row, at)?).ok_or(DecodeError::Form)
 }
 
-/// Reads an amount of cents, of either sign.
+/// Reads an amount of cents, of either sign. Fails with `Form` only if the column is missing or
+/// malformed, or with `Memory`.
 pub fn cents_in(row: &Row, at: usize) -> Result<Cents, DecodeError>
     ensures value { IfOk result (λ cents. column row.now at ≡ Int cents) }
     ensures form { result ≡ Err Formless → at < length row.now → cents_cell (column row.now at) ≡ false }
@@ -204,7 +220,7 @@ pub fn cents_in(row: &Row, at: usize) -> Result<Cents, DecodeError>
     Cents::new(number_in(row, at)?).ok_or(DecodeError::Form)
 }
 
-/// Reads a stamp.
+/// Reads a stamp. Fails with `Form` only if the column is missing or malformed, or with `Memory`.
 pub fn stamp_in(row: &Row, at: usize) -> Result<Stamp, DecodeError>
     ensures value { IfOk result (λ stamp. column row.now at ≡ Int (pos stamp)) }
     ensures form { result ≡ Err Formless → at < length row.now → stamp_cell (column row.now at) ≡ false }
@@ -212,7 +228,7 @@ pub fn stamp_in(row: &Row, at: usize) -> Result<Stamp, DecodeError>
     Stamp::new(number_in(row, at)?).ok_or(DecodeError::Form)
 }
 
-/// Reads a day.
+/// Reads a day. Fails with `Form` only if the column is missing or malformed, or with `Memory`.
 pub fn day_in(row: &Row, at: usize) -> Result<Day, DecodeError>
     ensures value { IfOk result (λ day. column row.now at ≡ Int (pos day)) }
     ensures form { result ≡ Err Formless → at < length row.now → day_cell (column row.now at) ≡ false }
@@ -220,7 +236,8 @@ pub fn day_in(row: &Row, at: usize) -> Result<Day, DecodeError>
     Day::new(value_in(row, at)?).ok_or(DecodeError::Form)
 }
 
-/// Reads a stamp, or `None` if the column is null.
+/// Reads a stamp, or `None` if the column is null. Fails with `Form` only if the column is missing
+/// or malformed, or with `Memory`.
 pub fn maybe_stamp_in(row: &Row, at: usize) -> Result<Option<Stamp>, DecodeError>
     ensures value { IfOk result (λ stamp. column row.now at ≡ maybe stamp) }
     ensures form { result ≡ Err Formless → at < length row.now → last_cell (column row.now at) ≡ false }
@@ -232,7 +249,8 @@ pub fn maybe_stamp_in(row: &Row, at: usize) -> Result<Option<Stamp>, DecodeError
     Ok(Some(Stamp::new(millis).ok_or(DecodeError::Form)?))
 }
 
-/// Reads a price, or `None` if the column is null.
+/// Reads a price, or `None` if the column is null. Fails with `Form` only if the column is missing
+/// or malformed, or with `Memory`.
 pub fn maybe_price_in(row: &Row, at: usize) -> Result<Option<Price>, DecodeError>
     ensures value { IfOk result (λ price. column row.now at ≡ maybe price) }
     ensures form { result ≡ Err Formless → at < length row.now → maybe_cell is_price (column row.now at) ≡ false }
@@ -244,7 +262,8 @@ pub fn maybe_price_in(row: &Row, at: usize) -> Result<Option<Price>, DecodeError
     Ok(Some(Price::new(cents).ok_or(DecodeError::Form)?))
 }
 
-/// Reads a tax status by its number.
+/// Reads a tax status by its number. Fails with `Form` only if the column is missing or malformed,
+/// or with `Memory`.
 pub fn tax_status_in(row: &Row, at: usize) -> Result<TaxStatus, DecodeError>
     ensures value { IfOk result (λ tax_status. column row.now at ≡ Int (pos (tax_status_number tax_status))) }
     ensures form { result ≡ Err Formless → at < length row.now → tax_status_cell (column row.now at) ≡ false }
@@ -252,7 +271,8 @@ pub fn tax_status_in(row: &Row, at: usize) -> Result<TaxStatus, DecodeError>
     TaxStatus::from_number(natural_in(row, at)?).ok_or(DecodeError::Form)
 }
 
-/// Reads a flag: 1 as true and 0 as false.
+/// Reads a flag: 1 as true and 0 as false. Fails with `Form` only if the column is missing or
+/// malformed, or with `Memory`.
 pub fn flag_in(row: &Row, at: usize) -> Result<bool, DecodeError>
     ensures value { IfOk result (λ is. column row.now at ≡ flag is) }
     ensures form { result ≡ Err Formless → at < length row.now → flag_cell (column row.now at) ≡ false }
@@ -264,7 +284,8 @@ pub fn flag_in(row: &Row, at: usize) -> Result<bool, DecodeError>
     }
 }
 
-/// Reads a trade type by its code.
+/// Reads a trade type by its code. Fails with `Form` only if the column is missing or malformed, or
+/// with `Memory`.
 pub fn type_in(row: &Row, at: usize) -> Result<TradeType, DecodeError>
     ensures value { IfOk result (λ kind. column row.now at ≡ Text (type_code kind)) }
     ensures form { result ≡ Err Formless → at < length row.now → type_cell (column row.now at) ≡ false }
@@ -301,7 +322,8 @@ fn parse_status(bytes: &[u8]) -> Option<Status>
     None
 }
 
-/// Reads a status by its code.
+/// Reads a status by its code. Fails with `Form` only if the column is missing or malformed, or
+/// with `Memory`.
 pub fn status_in(row: &Row, at: usize) -> Result<Status, DecodeError>
     ensures value { IfOk result (λ status. column row.now at ≡ Text (status_code status)) }
     ensures form { result ≡ Err Formless → at < length row.now → status_cell (column row.now at) ≡ false }
@@ -335,7 +357,8 @@ fn parse_cash_type(bytes: &[u8]) -> Option<CashType>
     None
 }
 
-/// Reads a cash type by its text.
+/// Reads a cash type by its text. Fails with `Form` only if the column is missing or malformed, or
+/// with `Memory`.
 pub fn cash_type_in(row: &Row, at: usize) -> Result<CashType, DecodeError>
     ensures value { IfOk result (λ kind. column row.now at ≡ Text (cash_type_word kind)) }
     ensures form { result ≡ Err Formless → at < length row.now → words_cell is_cash_word (column row.now at) ≡ false }

@@ -18,7 +18,7 @@ use brk_changes::Schema;
 use brk_money::{Fault, Stamp};
 use sqlite::{Alter, Row, Transaction};
 
-/// Sets the stamp of the last accepted command (D_LAST).
+/// Sets the stamp of the last accepted command (D_LAST). Fails with `Store` only.
 pub fn set_last_stamp<S: Alter>(tx: &mut Transaction<'_, S>, stamp: Stamp) -> Result<(), Fault>
     ensures same_reference { tx.new.conn.ghost_name ≡ tx.old.conn.ghost_name }
     ensures step { Writes S.Store tx.old tx.new result (with_last stamp) }
@@ -31,7 +31,8 @@ pub fn set_last_stamp<S: Alter>(tx: &mut Transaction<'_, S>, stamp: Stamp) -> Re
     )
 }
 
-// Decodes the stamp in a row of DESK.
+// Decodes the stamp of the last accepted command from a row of DESK in a schema. Fails with `Form`
+// only if the row is malformed, or with `Memory`.
 fn stamp_of_row(schema: Schema, row: &Row) -> Result<Option<Stamp>, DecodeError>
     ensures value { IfOk result (λ last. map desk_row_cells (desk_rows (schema_of schema) last) ≡ row.now ∷ []) }
     ensures form { result ≡ Err Formless → all_formed (desk_forms (schema_of schema)) row.now ≡ false }
@@ -43,7 +44,8 @@ fn stamp_of_row(schema: Schema, row: &Row) -> Result<Option<Stamp>, DecodeError>
     maybe_stamp_in(row, 2)
 }
 
-/// Decodes the stamp of the last accepted command from the one row of DESK, in a schema.
+/// Decodes the stamp of the last accepted command from the rows of DESK in a schema. Fails with
+/// `Form` only if there is not exactly one well-formed row, or with `Memory`.
 pub fn stamp_in_rows(schema: Schema, rows: &[Row]) -> Result<Option<Stamp>, DecodeError>
     ensures value { IfOk result (λ last. map desk_row_cells (desk_rows (schema_of schema) last) ≡ rows.now) }
     ensures form { result ≡ Err Formless → is_desk_row (schema_of schema) rows.now ≡ false }
@@ -54,7 +56,8 @@ pub fn stamp_in_rows(schema: Schema, rows: &[Row]) -> Result<Option<Stamp>, Deco
     }
 }
 
-// Decodes the stamp from the one row of DESK in schema 3. Fails with `Store` only.
+// Decodes the stamp of the last accepted command from the one row of DESK in schema 3. Fails with
+// `Store` only.
 fn only_stamp(rows: &[Row]) -> Result<Option<Stamp>, Fault>
     ensures value { IfOk result (λ last. map desk_row_cells (desk_rows third_schema last) ≡ rows.now) }
     ensures fault { OnErr result (result ≡ Err Store) }
@@ -62,8 +65,8 @@ fn only_stamp(rows: &[Row]) -> Result<Option<Stamp>, Fault>
     Ok(stamp_in_rows(Schema::Third, rows)?)
 }
 
-/// Returns the stamp of the last accepted command (D_LAST), or `None` if none is stored. Fails with
-/// `Store` only.
+/// Returns the stamp of the last accepted command (D_LAST), or `None` if none is stored. Changes
+/// nothing. Fails with `Store` only.
 pub fn last_stamp<S: Alter>(tx: &mut Transaction<'_, S>) -> Result<Option<Stamp>, Fault>
     ensures same_reference { tx.new.conn.ghost_name ≡ tx.old.conn.ghost_name }
     ensures step { Reads S.Store tx.old tx.new result (λ last t. last ≡ t.last) }

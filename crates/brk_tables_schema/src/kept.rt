@@ -16,7 +16,8 @@ use brk_money::Fault;
 use brk_ref::{Kept, Key};
 use sqlite::{Alter, Row, Transaction};
 
-/// Inserts an accepted row, whose key is new. Fails with `Store` only.
+/// Inserts a row of KEPT: a stored request and its reply under a key. Fails with `Store` only, also
+/// if the key exists.
 pub fn add_kept<S: Alter>(tx: &mut Transaction<'_, S>, kept: &Kept) -> Result<(), Fault>
     ensures same_reference { tx.new.conn.ghost_name ≡ tx.old.conn.ghost_name }
     ensures step { Writes S.Store tx.old tx.new result (with_kept (kept_of kept.now)) }
@@ -53,7 +54,8 @@ impl Record for Kept {
     }
 }
 
-/// Returns the accepted row with this key, or `None` if there is none. Fails with `Store` only.
+/// Returns the row of KEPT under this key, or `None` if there is none. Changes nothing. Fails with
+/// `Store` only.
 pub fn kept_by_key<S: Alter>(tx: &mut Transaction<'_, S>, key: &Key) -> Result<Option<Kept>, Fault>
     ensures same_reference { tx.new.conn.ghost_name ≡ tx.old.conn.ghost_name }
     ensures step { Finds S.Store tx.old tx.new result KeptRows kept_of (λ k. bytes_eq k.key.batch key.now.batch && (k.key.row == key.now.row)) }

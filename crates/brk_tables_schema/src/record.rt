@@ -23,7 +23,7 @@ pub trait Record: Drop {
     ghost forms: { List (Value → Bool) };
 
     /// Decodes a row. Fails with `Form` only if a column is malformed or the number of columns is
-    /// wrong.
+    /// wrong, or with `Memory`.
     fn from_row(row: &Row) -> Result<Self, DecodeError>
         ensures value { IfOk result (λ r. cells r ≡ row.now) }
         ensures form { result ≡ Err Formless → all_formed forms row.now ≡ false };
@@ -40,7 +40,7 @@ pub fn first_row<T: Record>(rows: &[Row]) -> Result<Option<T>, Fault>
     }
 }
 
-/// Decodes all rows.
+/// Decodes all rows, in order. Fails with `Memory` or `Store` only.
 pub fn all_rows<T: Record>(alloc: Global, rows: &[Row]) -> Result<Vec<T>, Fault>
     ensures value { IfOk result (λ all. map T.cells all.items ≡ rows.now) }
     ensures fault { IfErr result MayFail }
@@ -52,7 +52,8 @@ pub fn all_rows<T: Record>(alloc: Global, rows: &[Row]) -> Result<Vec<T>, Fault>
     }
 }
 
-/// Decodes all rows. Fails with `Form` only if one of them is malformed.
+/// Decodes all rows, in order. Fails with `Form` only if one of them is malformed, or with
+/// `Memory`.
 #[tactic(auto, using(crate::proofs::Unformed::not_all))]
 pub fn all_records<T: Record>(alloc: Global, rows: &[Row]) -> Result<Vec<T>, DecodeError>
     ensures value { IfOk result (λ all. map T.cells all.items ≡ rows.now) }

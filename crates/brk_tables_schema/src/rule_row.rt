@@ -11,7 +11,8 @@ use crate::decode_error::DecodeError;
 use brk_money::Day;
 use sqlite::Row;
 
-// Decodes the day in a row of SETTLE_RULE.
+// Decodes the settlement day from a row of SETTLE_RULE. Fails with `Form` only if the row is
+// malformed, or with `Memory`.
 fn day_of_row(row: &Row) -> Result<Day, DecodeError>
     ensures value { IfOk result (λ day. map rule_cells (rule_rows (Some day)) ≡ row.now ∷ []) }
     ensures form { result ≡ Err Formless → all_formed rule_forms row.now ≡ false }
@@ -23,7 +24,8 @@ fn day_of_row(row: &Row) -> Result<Day, DecodeError>
     day_in(row, 1)
 }
 
-/// Decodes the day in the one row of SETTLE_RULE, or returns `None` if there is no row.
+/// Decodes the settlement day from the rows of SETTLE_RULE, or returns `None` if there is no row.
+/// Fails with `Form` only if there are two rows or a malformed one, or with `Memory`.
 pub fn day_in_rows(rows: &[Row]) -> Result<Option<Day>, DecodeError>
     ensures value { IfOk result (λ day. map rule_cells (rule_rows day) ≡ rows.now) }
     ensures form { result ≡ Err Formless → is_rule rows.now ≡ false }

@@ -4,14 +4,14 @@ use Rattle.brk_money.specs.Spelling.{Text}
 use Rattle.brk_model.specs.Tables.{Tables, HoldingRow}
 use Rattle.brk_changes.specs.Rows.{oldest_lots_first}
 
--- The number of rows of a page. The last page may have fewer.
+-- The number of rows of a page: 16. The last page may have fewer.
 abbrev pub page_size : ℕ
 page_size = 16
 
--- The page of a list after the first `skipped` elements.
+-- The elements of a list after the first `skipped`, at most `page_size` of them.
 abbrev pub on_page : {X : Type 0} → ℕ → List X → List X
 on_page skipped xs = take page_size (drop skipped xs)
 
--- The lots of an account in a security, the oldest first.
+-- The rows of the lots of `account` in the security `symbol`, sorted by age, the oldest first.
 abbrev pub lots_held : ℕ → Text → Tables → List HoldingRow
 lots_held account symbol t = oldest_lots_first (filter (λ r. (r.account == account) && bytes_eq r.symbol symbol) t.holdings)

@@ -8,7 +8,7 @@ use brk_tables_schema::calls::run;
 use brk_tables_schema::values::{cents_value, id_value};
 use sqlite::{Alter, Transaction};
 
-/// Sets the balance of an account.
+/// Sets the balance of an account. Fails with `Store` only.
 pub fn set_balance<S: Alter>(
     tx: &mut Transaction<'_, S>,
     account: Id,

@@ -10,6 +10,7 @@ use brk_tables_schema::values::{amount_value, id_value, number_value};
 use sqlite::{Alter, Transaction};
 
 /// Sets a broker's totals: the number of its completed trades and the sum of their commissions.
+/// Fails with `Store` only.
 pub fn set_broker_numbers<S: Alter>(
     tx: &mut Transaction<'_, S>,
     broker: Id,

@@ -10,7 +10,8 @@ use brk_tables_schema::calls::run;
 use brk_tables_schema::values::{id_value, stamp_value, status_value};
 use sqlite::{Alter, Transaction};
 
-/// Inserts a status that a trade reached, which it did not have before.
+/// Inserts a row of TRADE_HISTORY: a status that a trade reached, and its stamp. Fails with `Store`
+/// only, also if the trade has the status.
 pub fn add_trade_history<S: Alter>(
     tx: &mut Transaction<'_, S>,
     mark: &HistoryRow,

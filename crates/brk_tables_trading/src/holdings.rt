@@ -20,7 +20,7 @@ use sqlite::{Alter, Transaction};
 use sqlite_value::value::ValueRef;
 use std::alloc::Global;
 
-// Converts the number of rows to skip to a parameter.
+// Converts the number of rows to skip to a statement parameter, an INTEGER.
 fn skip_value<'a>(skipped: u32) -> ValueRef<'a>
     ensures { owned result ≡ Int (pos skipped) }
 {
@@ -28,8 +28,8 @@ fn skip_value<'a>(skipped: u32) -> ValueRef<'a>
 }
 
 /// Returns a page of the lots of an account in a security: at most 16 lots after the first
-/// `skipped`, sorted by stamp of opening and then by trade, the oldest first. Fails with `Memory`
-/// or `Store`.
+/// `skipped`, sorted by stamp of opening and then by trade, the oldest first. Changes nothing.
+/// Fails with `Memory` or `Store`.
 pub fn oldest_lots<S: Alter>(
     tx: &mut Transaction<'_, S>,
     alloc: Global,
@@ -54,8 +54,8 @@ pub fn oldest_lots<S: Alter>(
 }
 
 /// Returns a page of the lots of an account in a security: at most 16 lots after the first
-/// `skipped`, sorted by stamp of opening and then by trade, the newest first. Fails with `Memory`
-/// or `Store`.
+/// `skipped`, sorted by stamp of opening and then by trade, the newest first. Changes nothing.
+/// Fails with `Memory` or `Store`.
 pub fn newest_lots<S: Alter>(
     tx: &mut Transaction<'_, S>,
     alloc: Global,
@@ -79,8 +79,8 @@ pub fn newest_lots<S: Alter>(
     all_rows(alloc, &rows)
 }
 
-/// Returns the number of shares that an account holds of each security, sorted by symbol,
-/// ascending. Fails with `Memory` or `Store`.
+/// Returns the holding summaries of an account, sorted by symbol, ascending. Changes nothing. Fails
+/// with `Memory` or `Store` only.
 pub fn summaries_of<S: Alter>(
     tx: &mut Transaction<'_, S>,
     alloc: Global,
@@ -98,7 +98,8 @@ pub fn summaries_of<S: Alter>(
     all_rows(alloc, &rows)
 }
 
-/// Returns the number of shares that an account holds of a security, or `None` if there is no row.
+/// Returns the holding summary of an account in a security, or `None` if there is none. Changes
+/// nothing. Fails with `Store` only.
 pub fn summary_of<S: Alter>(
     tx: &mut Transaction<'_, S>,
     account: Id,

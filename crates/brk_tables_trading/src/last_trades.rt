@@ -12,7 +12,7 @@ use brk_tables_schema::record::first_row;
 use brk_tables_schema::values::{price_value, stamp_value, text_value, volume_value};
 use sqlite::{Alter, Transaction};
 
-/// Sets the last trade of a security that has one.
+/// Sets the last trade of a security that has one. Fails with `Store` only.
 pub fn set_last_trade<S: Alter>(
     tx: &mut Transaction<'_, S>,
     last_trade: &LastTrade,
@@ -33,7 +33,8 @@ pub fn set_last_trade<S: Alter>(
     )
 }
 
-/// Returns the last trade of the security with this symbol, or `None` if there is none.
+/// Returns the last trade of the security with this symbol, or `None` if there is none. Changes
+/// nothing. Fails with `Store` only.
 pub fn last_trade_by_symbol<S: Alter>(
     tx: &mut Transaction<'_, S>,
     symbol: &Symbol,

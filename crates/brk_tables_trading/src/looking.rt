@@ -16,8 +16,8 @@ use brk_tables_schema::values::id_value;
 use sqlite::{Alter, Transaction};
 use std::alloc::Global;
 
-/// Returns the last ten trades of an account, the most recent first. Fails with `Memory` or
-/// `Store`.
+/// Returns the last ten trades of an account, the most recent first. Changes nothing. Fails with
+/// `Memory` or `Store`.
 pub fn last_ten_of_account<S: Alter>(
     tx: &mut Transaction<'_, S>,
     alloc: Global,
@@ -35,8 +35,8 @@ pub fn last_ten_of_account<S: Alter>(
     all_rows(alloc, &rows)
 }
 
-/// Returns the last fifty trades of an account, the most recent first. Fails with `Memory` or
-/// `Store`.
+/// Returns the last fifty trades of an account, the most recent first. Changes nothing. Fails with
+/// `Memory` or `Store`.
 pub fn last_fifty_of_account<S: Alter>(
     tx: &mut Transaction<'_, S>,
     alloc: Global,
@@ -54,8 +54,8 @@ pub fn last_fifty_of_account<S: Alter>(
     all_rows(alloc, &rows)
 }
 
-/// Returns the statuses that a trade reached, sorted by code, ascending. Fails with `Memory` or
-/// `Store`.
+/// Returns the statuses that a trade reached, sorted by code, ascending. Changes nothing. Fails
+/// with `Memory` or `Store`.
 pub fn history_of<S: Alter>(
     tx: &mut Transaction<'_, S>,
     alloc: Global,

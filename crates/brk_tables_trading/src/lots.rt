@@ -12,7 +12,7 @@ use brk_tables_schema::calls::run;
 use brk_tables_schema::values::{id_value, number_value, price_value, stamp_value, text_value};
 use sqlite::{Alter, Transaction};
 
-/// Inserts the lot that a trade opened, which has none yet.
+/// Inserts the lot that a trade opened. Fails with `Store` only, also if the trade has one.
 pub fn add_lot<S: Alter>(tx: &mut Transaction<'_, S>, lot: &HoldingRow) -> Result<(), Fault>
     ensures same_reference { tx.new.conn.ghost_name ≡ tx.old.conn.ghost_name }
     ensures step { Writes S.Store tx.old tx.new result (with_lot (holding_row_of lot.now)) }
@@ -32,7 +32,7 @@ pub fn add_lot<S: Alter>(tx: &mut Transaction<'_, S>, lot: &HoldingRow) -> Resul
     )
 }
 
-/// Sets the quantity of the lot that a trade opened.
+/// Sets the quantity of the lot that a trade opened. Fails with `Store` only.
 pub fn set_lot<S: Alter>(tx: &mut Transaction<'_, S>, trade: Id, qty: i64) -> Result<(), Fault>
     ensures same_reference { tx.new.conn.ghost_name ≡ tx.old.conn.ghost_name }
     ensures step { Writes S.Store tx.old tx.new result (with_lot_set trade qty) }
@@ -45,7 +45,7 @@ pub fn set_lot<S: Alter>(tx: &mut Transaction<'_, S>, trade: Id, qty: i64) -> Re
     )
 }
 
-/// Deletes the lot that a trade opened.
+/// Deletes the lot that a trade opened. Fails with `Store` only.
 pub fn remove_lot<S: Alter>(tx: &mut Transaction<'_, S>, trade: Id) -> Result<(), Fault>
     ensures same_reference { tx.new.conn.ghost_name ≡ tx.old.conn.ghost_name }
     ensures step { Writes S.Store tx.old tx.new result (without_lot trade) }
@@ -58,7 +58,8 @@ pub fn remove_lot<S: Alter>(tx: &mut Transaction<'_, S>, trade: Id) -> Result<()
     )
 }
 
-/// Inserts the change of a lot by a trade, which has not changed the lot yet.
+/// Inserts the change that a trade made to a lot. Fails with `Store` only, also if the trade has
+/// one of this lot.
 pub fn add_lot_change<S: Alter>(
     tx: &mut Transaction<'_, S>,
     change: &LotChange,

@@ -16,7 +16,7 @@ use brk_tables_schema::values::{id_value, price_value, qty_value, text_value, ty
 use sqlite::{Alter, Transaction};
 use std::alloc::Global;
 
-/// Inserts the request of a trade, which has none yet.
+/// Inserts the request of a trade. Fails with `Store` only, also if the trade has one.
 pub fn add_request<S: Alter>(tx: &mut Transaction<'_, S>, request: &RequestRow) -> Result<(), Fault>
     ensures same_reference { tx.new.conn.ghost_name ≡ tx.old.conn.ghost_name }
     ensures step { Writes S.Store tx.old tx.new result (with_request (request_row_of request.now)) }
@@ -36,7 +36,7 @@ pub fn add_request<S: Alter>(tx: &mut Transaction<'_, S>, request: &RequestRow) 
     )
 }
 
-/// Deletes the request of a trade.
+/// Deletes the request of a trade. Fails with `Store` only.
 pub fn remove_request<S: Alter>(tx: &mut Transaction<'_, S>, trade: Id) -> Result<(), Fault>
     ensures same_reference { tx.new.conn.ghost_name ≡ tx.old.conn.ghost_name }
     ensures step { Writes S.Store tx.old tx.new result (without_request trade) }
@@ -50,7 +50,7 @@ pub fn remove_request<S: Alter>(tx: &mut Transaction<'_, S>, trade: Id) -> Resul
 }
 
 /// Returns the requests of a symbol and a type whose bid is at least `price`, sorted by trade,
-/// ascending. Fails with `Memory` or `Store`.
+/// ascending. Changes nothing. Fails with `Memory` or `Store`.
 pub fn requests_at_or_above<S: Alter>(
     tx: &mut Transaction<'_, S>,
     alloc: Global,
@@ -75,7 +75,7 @@ pub fn requests_at_or_above<S: Alter>(
 }
 
 /// Returns the requests of a symbol and a type whose bid is at most `price`, sorted by trade,
-/// ascending. Fails with `Memory` or `Store`.
+/// ascending. Changes nothing. Fails with `Memory` or `Store`.
 pub fn requests_at_or_below<S: Alter>(
     tx: &mut Transaction<'_, S>,
     alloc: Global,

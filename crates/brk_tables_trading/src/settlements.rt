@@ -12,7 +12,7 @@ use brk_tables_schema::calls::run;
 use brk_tables_schema::values::{cash_type_value, cents_value, day_value, id_value};
 use sqlite::{Alter, Transaction};
 
-/// Inserts the settlement of a trade, which has none yet.
+/// Inserts the settlement of a trade. Fails with `Store` only, also if the trade has one.
 pub fn add_settlement<S: Alter>(
     tx: &mut Transaction<'_, S>,
     settlement: &SettlementRow,

@@ -13,7 +13,8 @@ use brk_tables_schema::calls::run;
 use brk_tables_schema::values::{id_value, number_value, text_value};
 use sqlite::{Alter, Transaction};
 
-/// Inserts the number of shares of a security that an account holds, which has no such row yet.
+/// Inserts the holding summary of an account in a security. Fails with `Store` only, also if there
+/// is one.
 pub fn add_summary<S: Alter>(tx: &mut Transaction<'_, S>, summary: &SummaryRow) -> Result<(), Fault>
     ensures same_reference { tx.new.conn.ghost_name ≡ tx.old.conn.ghost_name }
     ensures step { Writes S.Store tx.old tx.new result (with_summary (summary_row_of summary.now)) }
@@ -30,7 +31,8 @@ pub fn add_summary<S: Alter>(tx: &mut Transaction<'_, S>, summary: &SummaryRow) 
     )
 }
 
-/// Sets the number of shares of a security that an account holds.
+/// Sets the number of shares in the holding summary of an account in a security. Fails with `Store`
+/// only.
 pub fn set_summary<S: Alter>(tx: &mut Transaction<'_, S>, summary: &SummaryRow) -> Result<(), Fault>
     ensures same_reference { tx.new.conn.ghost_name ≡ tx.old.conn.ghost_name }
     ensures step { Writes S.Store tx.old tx.new result (with_summary_set (summary_row_of summary.now)) }
@@ -47,7 +49,7 @@ pub fn set_summary<S: Alter>(tx: &mut Transaction<'_, S>, summary: &SummaryRow) 
     )
 }
 
-/// Deletes the row of an account's shares of a security.
+/// Deletes the holding summary of an account in a security. Fails with `Store` only.
 pub fn remove_summary<S: Alter>(
     tx: &mut Transaction<'_, S>,
     account: Id,

@@ -19,7 +19,7 @@ use brk_tables_schema::values::{
 use sqlite::{Alter, Transaction};
 use std::alloc::Global;
 
-/// Inserts a trade, whose id is new.
+/// Inserts the row of a trade. Fails with `Store` only, also if the id exists.
 pub fn add_trade<S: Alter>(tx: &mut Transaction<'_, S>, trade: &TradeRow) -> Result<(), Fault>
     ensures same_reference { tx.new.conn.ghost_name ≡ tx.old.conn.ghost_name }
     ensures step { Writes S.Store tx.old tx.new result (with_trade (trade_row_of trade.now)) }
@@ -48,7 +48,7 @@ pub fn add_trade<S: Alter>(tx: &mut Transaction<'_, S>, trade: &TradeRow) -> Res
     )
 }
 
-/// Sets the status of a trade and the stamp at which the trade reached it.
+/// Sets the status of a trade and the stamp at which the trade reached it. Fails with `Store` only.
 pub fn set_status<S: Alter>(
     tx: &mut Transaction<'_, S>,
     id: Id,
@@ -66,7 +66,8 @@ pub fn set_status<S: Alter>(
     )
 }
 
-/// Sets a trade to completed at a stamp, with the price of a share, its commission and its tax.
+/// Sets the status of a trade to completed and its stamp, its price per share, its commission and
+/// its tax. Fails with `Store` only.
 pub fn complete_trade<S: Alter>(
     tx: &mut Transaction<'_, S>,
     trade: Id,
@@ -93,7 +94,8 @@ pub fn complete_trade<S: Alter>(
     )
 }
 
-/// Returns the trade with this id, or `None` if there is none.
+/// Returns the trade with this id, or `None` if there is none. Changes nothing. Fails with `Store`
+/// only.
 pub fn trade_by_id<S: Alter>(tx: &mut Transaction<'_, S>, id: Id) -> Result<Option<TradeRow>, Fault>
     ensures same_reference { tx.new.conn.ghost_name ≡ tx.old.conn.ghost_name }
     ensures step { Finds S.Store tx.old tx.new result Trades trade_row_of (λ r. r.id == id) }
@@ -107,7 +109,8 @@ pub fn trade_by_id<S: Alter>(tx: &mut Transaction<'_, S>, id: Id) -> Result<Opti
     first_row(&rows)
 }
 
-/// Returns the greatest id of a trade, or `None` if there is no trade.
+/// Returns the greatest id of a trade, or `None` if there is no trade. Changes nothing. Fails with
+/// `Store` only.
 pub fn last_trade_id<S: Alter>(tx: &mut Transaction<'_, S>) -> Result<Option<Id>, Fault>
     ensures same_reference { tx.new.conn.ghost_name ≡ tx.old.conn.ghost_name }
     ensures step { Reads S.Store tx.old tx.new result (λ o t. o ≡ option_map (λ r. r.id) (slice_get (reverse t.trades) 0)) }
@@ -117,7 +120,8 @@ pub fn last_trade_id<S: Alter>(tx: &mut Transaction<'_, S>) -> Result<Option<Id>
     first_row(&rows)
 }
 
-/// Returns the submitted trades, sorted by id, ascending. Fails with `Memory` or `Store`.
+/// Returns the submitted trades, sorted by id, ascending. Changes nothing. Fails with `Memory` or
+/// `Store`.
 pub fn submitted_trades<S: Alter>(
     tx: &mut Transaction<'_, S>,
     alloc: Global,

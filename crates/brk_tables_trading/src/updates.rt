@@ -21,7 +21,7 @@ use sqlite::{Alter, Transaction};
 use std::alloc::Global;
 
 /// Returns the first twenty trades of an account that were completed between two stamps, both
-/// included, the oldest first. Fails with `Memory` or `Store`.
+/// included, the oldest first. Changes nothing. Fails with `Memory` or `Store`.
 pub fn completed_of_account<S: Alter>(
     tx: &mut Transaction<'_, S>,
     alloc: Global,
@@ -47,7 +47,7 @@ pub fn completed_of_account<S: Alter>(
 }
 
 /// Returns the first twenty cash trades of a symbol that were completed between two stamps, both
-/// included, the oldest first. Fails with `Memory` or `Store`.
+/// included, the oldest first. Changes nothing. Fails with `Memory` or `Store`.
 pub fn completed_cash_of_symbol<S: Alter>(
     tx: &mut Transaction<'_, S>,
     alloc: Global,
@@ -73,7 +73,8 @@ pub fn completed_cash_of_symbol<S: Alter>(
     all_rows(alloc, &rows)
 }
 
-/// Returns the settlement of a trade, or `None` if it has none.
+/// Returns the settlement of a trade, or `None` if it has none. Changes nothing. Fails with `Store`
+/// only.
 pub fn settlement_by_trade<S: Alter>(
     tx: &mut Transaction<'_, S>,
     trade: Id,
@@ -90,7 +91,7 @@ pub fn settlement_by_trade<S: Alter>(
     first_row(&rows)
 }
 
-/// Sets the name of a trade's executor.
+/// Sets the name of a trade's executor (T_EXEC_NAME). Fails with `Store` only.
 pub fn set_executor<S: Alter>(
     tx: &mut Transaction<'_, S>,
     trade: Id,
@@ -107,7 +108,7 @@ pub fn set_executor<S: Alter>(
     )
 }
 
-/// Sets the text for how a trade is settled.
+/// Sets the cash type in the settlement of a trade (SE_CASH_TYPE). Fails with `Store` only.
 pub fn set_cash_type<S: Alter>(
     tx: &mut Transaction<'_, S>,
     trade: Id,

@@ -7,13 +7,13 @@ ghost use Rattle.brk_changes.specs.declared.schema.Schema.{Schema};
 ghost use Rattle.brk_changes.specs.Schemas.{schema_of};
 ghost use Rattle.brk_tables_schema.specs.Made.{HasRows, HasRowsIn};
 
-/// States that the rows of a database encode at most one set of tables. Proof-only.
+/// Proves that the rows of a database encode at most one set of tables of a desk.
 pub fn a_database_has_one_tables()
     ensures { (t u : Tables) → (db : Database) → HasRows t db → HasRows u db → t ≡ u }
 {}
 
-/// States that the rows of a database encode the tables of at most one schema, and at most one set
-/// of them. Proof-only.
+/// Proves that the rows of a database encode the tables of a desk in at most one schema, and at
+/// most one set of them.
 pub fn a_database_has_one_schema()
     ensures { (a b : Schema) → (t u : Tables) → (db : Database) → HasRowsIn (schema_of a) t db → HasRowsIn (schema_of b) u db → (a ≡ b) × (t ≡ u) }
 {}

@@ -14,27 +14,30 @@ use Rattle.brk_tables_schema.specs.Desk.{Which, desk, desk_in}
 use Rattle.brk_tables_schema.specs.Made.{IsOf, Lacks}
 use Rattle.brk_tables_cash.specs.Upgrade.{without_cash}
 
--- The rows of CASH_TRANSACTION, sorted by stamp, ascending. Rows of one stamp keep the order of the
--- table, which is that of their trades.
+-- The rows of CASH_TRANSACTION, sorted by stamp, ascending. Rows of one stamp are in the order of
+-- the table, which is that of their trades.
 abbrev pub cash_by_stamp : Tables → List CashRow
 cash_by_stamp t = sort_by_key (λ r. r.stamp) t.cash
 
--- The tables with the cash row `c` of a trade inserted into CASH_MOVE under the number `id`.
+-- The tables `t` with the row `c` of CASH_TRANSACTION inserted into CASH_MOVE under the number
+-- `id`.
 abbrev pub with_numbered : ℕ → CashRow → Tables → Tables
 with_numbered id c t = with_move (move_row id (posting_of_cash t c)) t
 
--- The tables with the cash rows inserted into CASH_MOVE in order, numbered from `n`.
+-- The tables `t` with the given rows of CASH_TRANSACTION inserted into CASH_MOVE, in order,
+-- numbered from `n`.
 abbrev pub with_cash_from : ℕ → List CashRow → Tables → Tables
 with_cash_from n [] t = t
 with_cash_from n (c ∷ cs) t = with_cash_from (n + 1) cs (with_numbered n c t)
 
--- The tables with all rows of CASH_TRANSACTION moved to CASH_MOVE, numbered from 1 by ascending
--- stamp.
+-- The tables `t` with all rows of CASH_TRANSACTION inserted into CASH_MOVE, numbered from 1 by
+-- ascending stamp, and with no rows in CASH_TRANSACTION.
 abbrev pub with_numbered_cash : Tables → Tables
 with_numbered_cash t = without_cash (with_cash_from 1 (cash_by_stamp t) t)
 
--- The tables of `old` are in `new`. Each of them at none of the trees of the tables that are `In`
--- keeps its rows, unless a foreign key of that table writes them.
+-- Each table of `old` is in `new` at the same position. Its rows are unchanged if it is at none of
+-- the trees of the tables that are `In`, and none of its own foreign keys changes or deletes its
+-- rows.
 pub record KeepsOtherTables (In : Which → Type 0) (tree : Which → ℕ) (old new : Database) : Type 0 where
   pub more : List Table
   pub tables : new.schema.tables ≡ old.schema.tables ++ more
@@ -51,12 +54,14 @@ pub record HasUpgradedTables (desk_before : Schema) (before : Which → ℕ) (t 
   -- A tree whose tables have no foreign keys that write rows remains so.
   pub calm : (tree : ℕ) → IsCalm old.schema tree → IsCalm new.schema tree
 
--- If `old` contains the tables of the schema and none of a later one, `new` contains those of
--- schema 3 with the same rows.
+-- If the database `old` contains the tables of `schema` with the rows `t`, and no table that a
+-- later schema adds, `new` contains the tables of schema 3 with the rows `t`, and other tables are
+-- unchanged (`HasUpgradedTables`). Vacuous otherwise.
 abbrev pub AddsLaterTables : Schema → Database → Database → Type 0
 AddsLaterTables schema old new = (t : Tables) (tree : Which → ℕ) → HasSome (desk_in schema) (IsOf schema) t tree old → Lacks schema t old → HasUpgradedTables schema tree t old new
 
--- If `old` contains the tables of the schema and none of a later one, `new` contains those of
--- schema 3 with the upgraded rows.
+-- If the database `old` contains the tables of `schema` with the rows `t`, and no table that a
+-- later schema adds, `new` contains the tables of schema 3 with the upgraded rows
+-- (`upgraded_from`), and other tables are unchanged (`HasUpgradedTables`). Vacuous otherwise.
 abbrev pub Upgrades : Schema → Database → Database → Type 0
 Upgrades schema old new = (t : Tables) (tree : Which → ℕ) → HasSome (desk_in schema) (IsOf schema) t tree old → Lacks schema t old → HasUpgradedTables schema tree (upgraded_from schema t) old new

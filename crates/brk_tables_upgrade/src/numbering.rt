@@ -12,8 +12,8 @@ use brk_money::{Fault, MoveId};
 use brk_tables_cash::add_move;
 use sqlite::{Alter, Transaction};
 
-// Inserts the cash row of a trade under a number, which has to be new. Fails with `Store` if the
-// trade does not exist.
+// Inserts the cash row of a trade into CASH_MOVE under a number. Fails with `Memory` or `Store`
+// only; with `Store` also if the number exists or the trade does not.
 fn add_numbered<S: Alter>(
     tx: &mut Transaction<'_, S>,
     id: MoveId,
@@ -37,7 +37,8 @@ fn add_numbered<S: Alter>(
     add_move(tx, &numbered)
 }
 
-/// Inserts the cash rows of trades, numbered from 1 in their order. Fails with `Memory` or `Store`.
+/// Inserts the cash rows of trades into CASH_MOVE, in order, numbered from 1. Fails with `Memory`
+/// or `Store` only.
 pub fn add_all<S: Alter>(tx: &mut Transaction<'_, S>, rows: &[CashRow]) -> Result<(), Fault>
     ensures same_reference { tx.new.conn.ghost_name ≡ tx.old.conn.ghost_name }
     ensures step { Writes S.Store tx.old tx.new result (with_cash_from 1 (map cash_row_of rows.now)) }

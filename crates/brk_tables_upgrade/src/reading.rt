@@ -15,7 +15,8 @@ use brk_tables_schema::values::id_value;
 use sqlite::{Alter, Transaction};
 use std::alloc::Global;
 
-/// Returns all rows of CASH_TRANSACTION, sorted by trade, ascending. Fails with `Memory` or `Store`.
+/// Returns all rows of CASH_TRANSACTION, sorted by trade, ascending. Changes nothing. Fails with
+/// `Memory` or `Store`.
 pub fn cash_rows<S: Alter>(
     tx: &mut Transaction<'_, S>,
     alloc: Global,
@@ -32,7 +33,8 @@ pub fn cash_rows<S: Alter>(
     all_rows(alloc, &rows)
 }
 
-/// Returns the account of a trade, or `None` if the trade does not exist.
+/// Returns the account of a trade, or `None` if the trade does not exist. Changes nothing. Fails
+/// with `Store` only.
 pub fn account_of_trade<S: Alter>(
     tx: &mut Transaction<'_, S>,
     trade: Id,

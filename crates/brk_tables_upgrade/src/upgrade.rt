@@ -17,7 +17,8 @@ use brk_tables_create::make_later_tables;
 use sqlite::{Alter, Transaction};
 use std::alloc::Global;
 
-// Creates the tables that a schema lacks, and sets the number of the schema to 3.
+// Creates the tables that a schema does not have, and sets the number of the schema to 3. Fails
+// with `Memory` or `Store` only.
 fn add_later_tables<S: Alter>(tx: &mut Transaction<'_, S>, schema: Schema) -> Result<(), Fault>
     ensures same_reference { tx.new.conn.ghost_name ≡ tx.old.conn.ghost_name }
     ensures step { Steps S.Store tx.old tx.new result (λ _ a b. AddsLaterTables (schema_of schema) a.now b.now) }
@@ -27,8 +28,8 @@ fn add_later_tables<S: Alter>(tx: &mut Transaction<'_, S>, schema: Schema) -> Re
     set_schema(tx)
 }
 
-// Inserts the rows of CASH_TRANSACTION into CASH_MOVE, numbered by ascending stamp, and deletes
-// them from CASH_TRANSACTION.
+// Inserts the rows of CASH_TRANSACTION into CASH_MOVE, numbered from 1 by ascending stamp, and
+// deletes them from CASH_TRANSACTION. Fails with `Memory` or `Store` only.
 fn number_cash_rows<S: Alter>(tx: &mut Transaction<'_, S>, alloc: Global) -> Result<(), Fault>
     ensures same_reference { tx.new.conn.ghost_name ≡ tx.old.conn.ghost_name }
     ensures step { Writes S.Store tx.old tx.new result with_numbered_cash }

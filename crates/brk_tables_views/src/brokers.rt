@@ -16,7 +16,8 @@ use brk_tables_schema::values::{id_value, text_value};
 use sqlite::{Alter, Transaction};
 use std::alloc::Global;
 
-/// Returns the brokers with this name, sorted by id, ascending. Fails with `Memory` or `Store`.
+/// Returns the brokers with this name, sorted by id, ascending. Changes nothing. Fails with
+/// `Memory` or `Store`.
 pub fn brokers_named<S: Alter>(
     tx: &mut Transaction<'_, S>,
     alloc: Global,
@@ -34,7 +35,8 @@ pub fn brokers_named<S: Alter>(
     all_rows(alloc, &rows)
 }
 
-/// Returns the requests of a broker, sorted by trade, ascending. Fails with `Memory` or `Store`.
+/// Returns the requests of a broker, sorted by trade, ascending. Changes nothing. Fails with
+/// `Memory` or `Store`.
 pub fn requests_of_broker<S: Alter>(
     tx: &mut Transaction<'_, S>,
     alloc: Global,

@@ -14,8 +14,8 @@ use brk_tables_schema::values::id_value;
 use sqlite::{Alter, Transaction};
 use std::alloc::Global;
 
-/// Returns the changes of lots by a trade, sorted by lot, ascending. Fails with `Memory` or
-/// `Store`.
+/// Returns the changes of lots by a trade, sorted by lot, ascending. Changes nothing. Fails with
+/// `Memory` or `Store`.
 pub fn changes_by<S: Alter>(
     tx: &mut Transaction<'_, S>,
     alloc: Global,
@@ -33,8 +33,8 @@ pub fn changes_by<S: Alter>(
     all_rows(alloc, &rows)
 }
 
-/// Returns the changes of the lot that a trade opened, sorted by trade, ascending. Fails with
-/// `Memory` or `Store`.
+/// Returns the changes of the lot that a trade opened, sorted by trade, ascending. Changes nothing.
+/// Fails with `Memory` or `Store`.
 pub fn changes_of<S: Alter>(
     tx: &mut Transaction<'_, S>,
     alloc: Global,

@@ -18,7 +18,7 @@ use sqlite::{Alter, Transaction};
 use std::alloc::Global;
 
 /// Returns the first twenty trades of an account between two stamps, both included, the oldest
-/// first. Fails with `Memory` or `Store`.
+/// first. Changes nothing. Fails with `Memory` or `Store`.
 pub fn twenty_of_account<S: Alter>(
     tx: &mut Transaction<'_, S>,
     alloc: Global,
@@ -39,7 +39,7 @@ pub fn twenty_of_account<S: Alter>(
 }
 
 /// Returns the first twenty trades in a security between two stamps, both included, the oldest
-/// first. Fails with `Memory` or `Store`.
+/// first. Changes nothing. Fails with `Memory` or `Store`.
 pub fn twenty_of_symbol<S: Alter>(
     tx: &mut Transaction<'_, S>,
     alloc: Global,
@@ -64,7 +64,7 @@ pub fn twenty_of_symbol<S: Alter>(
 }
 
 /// Returns the oldest trade of an account at or after the stamp `first`, or `None` if there is
-/// none.
+/// none. Changes nothing. Fails with `Store` only.
 pub fn first_since<S: Alter>(
     tx: &mut Transaction<'_, S>,
     account: Id,

@@ -3,11 +3,12 @@ use Rattle.std.specs.Prelude.{ℕ, Bool, ◌==◌, ◌&&◌, nat_le, List, [], �
 use Rattle.brk_model.specs.Keys.{KeyPart, number, word, by_key}
 use Rattle.brk_model.specs.Tables.{Tables, HoldingRow, MoveRow}
 
--- The sort key of a lot: its symbol, the stamp at which it was opened, and its trade.
+-- The sort key of a lot: its symbol, then the stamp at which it was opened, then the trade that
+-- opened it.
 abbrev pub symbol_key : HoldingRow → List KeyPart
 symbol_key r = word r.symbol ∷ number r.stamp ∷ number r.trade ∷ []
 
--- The lots of an account, sorted by symbol and then by age, the oldest first.
+-- The lots of an account, sorted by symbol, then by opening stamp, then by trade, ascending.
 abbrev pub lots_by_symbol : ℕ → Tables → List HoldingRow
 lots_by_symbol account t = by_key symbol_key (filter (λ row. row.account == account) t.holdings)
 
@@ -15,11 +16,11 @@ lots_by_symbol account t = by_key symbol_key (filter (λ row. row.account == acc
 abbrev pub stamp_key : MoveRow → List KeyPart
 stamp_key r = number r.stamp ∷ number r.id ∷ []
 
--- True if the row is of the account and its stamp is between `from` and `to`, both included.
+-- True if the cash row is of `account` and its stamp is from `from` to `to`, both included.
 abbrev pub is_cash_between : ℕ → ℕ → ℕ → MoveRow → Bool
 is_cash_between account from to row = (row.account == account) && (nat_le from row.stamp && nat_le row.stamp to)
 
--- The cash rows of an account between two stamps, both included, sorted by stamp and then by
--- number.
+-- The cash rows of `account` with stamps from `from` to `to`, both included, sorted by stamp and
+-- then by number, ascending.
 abbrev pub cash_between : ℕ → ℕ → ℕ → Tables → List MoveRow
 cash_between account from to t = by_key stamp_key (filter (is_cash_between account from to) t.moves)

@@ -10,31 +10,32 @@ use Rattle.brk_model.specs.Run.{MayFail}
 use Rattle.brk_tables_walks.specs.declared.walking.WalkError.{WalkError}
 use Rattle.brk_tables_walks.specs.declared.walking.WalkError.TheVariants.{Failed, Cause}
 
--- If the statement compiles, in whatever schema, it selects rows and writes none.
+-- In whatever schema the statement `sql` compiles, it has no RETURNING clause.
 abbrev pub IsQuery : List ℕ → Type 0
 IsQuery sql = (schema : Schema) (c : Compiled) → understood schema sql ≡ Ok c → c.returning ≡ None
 
--- The walk failed with `Memory` or `Store`, or the visitor stopped at some record with this error.
+-- The error is `Failed` with the fault `Memory` or `Store`, or it is the error with which the
+-- visitor stopped at some record and became `after`.
 abbrev pub EndsBy : {V X E : Type 0} → (V → X → E → V → Type 0) → V → WalkError E → Type 0
 EndsBy stops after (Failed fault) = MayFail fault
 EndsBy {V} {X} stops after (Cause e) = (at : V) × (next : X) × stops at next e after
 
 module _ {V X : Type 0} (cells : X → Row) (takes : V → X → V → Type 0) where
-  -- The visitor took all records of the query's result, in order.
+  -- The database was open, and the visitor took all records of the query's result, in order.
   pub record TakesAll (sql : List ℕ) (params : Row) (db : State) (old new : V) : Type 0 where
     pub records : List X
     pub is_open : IsTrue db.is_open
     pub shown : Shown sql params db db (map cells records)
     pub taken : FoldsTo takes old records new
 
-  -- The visitor took the first records of the query's result, possibly none.
+  -- The visitor took a prefix of the records of the query's result, in order, possibly none.
   pub record TakesFirst (sql : List ℕ) (params : Row) (db : State) (old new : V) : Type 0 where
     pub records : List X
     pub begins : (records ≡ []) ⊎ (IsTrue db.is_open × Begins sql params db (map cells records))
     pub taken : FoldsTo takes old records new
 
-  -- The visitor took the first records of the query's result, in order, and stopped at the next
-  -- with the error `e`.
+  -- The database was open, and the visitor took a prefix of the records of the query's result, in
+  -- order, and stopped at the next one with the error `e`.
   pub record StopsAt {E : Type 0} (stops : V → X → E → V → Type 0) (sql : List ℕ) (params : Row) (db : State) (old : V) (e : E) (new : V) : Type 0 where
     pub records : List X
     pub next : X
@@ -44,8 +45,8 @@ module _ {V X : Type 0} (cells : X → Row) (takes : V → X → V → Type 0) w
     pub taken : FoldsTo takes old records at
     pub stopped : stops at next e new
 
-  -- The walk ended before the last record: with the fault `Memory` or `Store`, or with the
-  -- visitor's error.
+  -- The walk failed. At a fault, which is `Memory` or `Store`, the visitor had taken a prefix of
+  -- the records; at the visitor's error it had stopped at a record (`StopsAt`).
   abbrev pub EndsEarly : {E : Type 0} → (V → X → E → V → Type 0) → List ℕ → Row → State → V → V → WalkError E → Type 0
   EndsEarly stops sql params db old new (Failed fault) = MayFail fault × TakesFirst sql params db old new
   EndsEarly stops sql params db old new (Cause e) = StopsAt stops sql params db old e new

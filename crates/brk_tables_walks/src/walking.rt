@@ -21,7 +21,7 @@ pub enum WalkError<E> {
     Cause(E),
 }
 
-// Decodes the record in a row.
+// Decodes the record in a row. Fails with `Memory` or `Store` only.
 fn record_in<R: Record>(row: &Row) -> Result<R, Fault>
     ensures value { IfOk result (λ r. R.cells r ≡ row.now) }
     ensures fault { IfErr result MayFail }
@@ -33,8 +33,9 @@ fn record_in<R: Record>(row: &Row) -> Result<R, Fault>
     }
 }
 
-/// Passes the records in the rows of a query to the visitor, in order, and stops at the first
-/// error, which it returns.
+/// Passes the records in the rows of a query to the visitor, in order, until all are passed or an
+/// error occurs. Fails with `Failed` and the fault `Memory` or `Store`, or with `Cause` and the
+/// visitor's error.
 pub fn walk<S: Alter, R: Record, E, V: Visitor<R, E>>(
     conn: &mut Connection<S>,
     sql: &str,

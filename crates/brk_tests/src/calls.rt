@@ -1,4 +1,4 @@
-//! Runs of calls at a desk.
+//! Tests of runs of calls on a desk.
 
 use crate::desks::{new_desk, set_desk};
 use crate::fields::fields_of;
@@ -12,7 +12,8 @@ use std::alloc::{AllocError, Global};
 use std::process::Abort;
 use std::test::Fail;
 
-// What is told of an outcome that these tests have.
+// Returns the text of an outcome: of a command its answer, of a query its refusal or the number of
+// its trades.
 fn told(alloc: Global, outcome: &Outcome) -> Result<String, AllocError> {
     match outcome {
         Outcome::Did(Answer::Done(Reply::Booked(stamp))) => {
@@ -26,7 +27,7 @@ fn told(alloc: Global, outcome: &Outcome) -> Result<String, AllocError> {
     }
 }
 
-// Compares what a run of calls comes to.
+// Runs calls on a desk, and checks the texts of their outcomes.
 fn expect_run(
     rt: &impl Abort,
     alloc: Global,
@@ -44,6 +45,7 @@ fn expect_run(
     Ok(())
 }
 
+// Checks that a run executes the calls after a refused one.
 #[test]
 fn a_run_goes_on_after_a_refusal(rt: HostRuntime) -> Result<(), Fail> {
     let alloc = rt.alloc();
@@ -55,6 +57,8 @@ fn a_run_goes_on_after_a_refusal(rt: HostRuntime) -> Result<(), Fail> {
     expect_run(&rt, alloc, &mut new_desk(alloc)?, &calls, &wanted)
 }
 
+// Checks that a run returns the stored reply for a repeated row, and refuses another row under its
+// key with 19.
 #[test]
 fn a_run_answers_a_kept_key_again(rt: HostRuntime) -> Result<(), Fail> {
     let alloc = rt.alloc();
@@ -71,6 +75,7 @@ fn a_run_answers_a_kept_key_again(rt: HostRuntime) -> Result<(), Fail> {
     expect_run(&rt, alloc, &mut new_desk(alloc)?, &calls, &wanted)
 }
 
+// Checks that a run executes queries and returns their views and refusals.
 #[test]
 fn a_run_tells_what_it_is_asked(rt: HostRuntime) -> Result<(), Fail> {
     let alloc = rt.alloc();

@@ -1,4 +1,4 @@
-//! One batch whose reader or writer fails at each byte. Sent again it is completed.
+//! Tests of one batch whose reader or writer fails at each byte. A retry completes it.
 
 pub mod batch;
 mod readers;

@@ -1,4 +1,4 @@
-//! Desks in memory, and batches that are sent to them.
+//! Desks in memory, and batches that run on them.
 
 use crate::worked::{FIRST_MOMENT, SET, SET_LINES};
 use brk_import::brk_desk::Desk;
@@ -9,14 +9,14 @@ use sqlite::{Connection, MemStore};
 use std::alloc::Global;
 use std::test::Fail;
 
-/// A clock that stands still at 2024-03-01 00:00 UTC.
+/// A clock that always returns 2024-03-01 00:00 UTC.
 #[derive(Drop)]
 pub struct Still {
     at: Stamp,
 }
 
 impl Still {
-    /// The clock.
+    /// Returns the clock that always returns 2024-03-01 00:00 UTC.
     pub fn first() -> Still {
         Still {
             at: Stamp::nearest(FIRST_MOMENT),
@@ -30,14 +30,14 @@ impl Clock for Still {
     }
 }
 
-/// A batch, and the lines that a desk writes of it at 2024-03-01 00:00 UTC.
+/// A batch, and the lines that a desk writes for it at 2024-03-01 00:00 UTC.
 #[derive(Clone, Copy)]
 pub struct Step<'a> {
     pub batch: &'a [u8],
     pub lines: &'a str,
 }
 
-/// A desk in memory at which nothing was booked.
+/// Returns a new desk in memory, with empty tables.
 pub fn new_desk(alloc: Global) -> Result<Desk<MemStore>, Fail> {
     let Ok(store) = Store::create(Connection::open_in_memory(alloc)?) else {
         return Err("no store")?;
@@ -45,7 +45,7 @@ pub fn new_desk(alloc: Global) -> Result<Desk<MemStore>, Fail> {
     Ok(Desk::new(store))
 }
 
-/// A desk in memory that was set up.
+/// Returns a desk in memory after the batch `SET`.
 pub fn set_desk(alloc: Global) -> Result<Desk<MemStore>, Fail> {
     let mut desk = new_desk(alloc)?;
     let set = Step {
@@ -56,7 +56,7 @@ pub fn set_desk(alloc: Global) -> Result<Desk<MemStore>, Fail> {
     Ok(desk)
 }
 
-/// Answers a batch: its lines and how it ends.
+/// Runs a batch on a desk. Returns its lines and its result.
 pub fn answer(
     alloc: Global,
     desk: &mut Desk<MemStore>,
@@ -67,7 +67,7 @@ pub fn answer(
     (lines, ended)
 }
 
-// Compares the lines of a batch one by one.
+// Checks the lines of a batch, one by one.
 fn expect_lines(name: &str, told: &[u8], wanted: &str) -> Result<(), Fail> {
     let told = str::from_utf8(told).map_err(|_| "no text")?;
     let mut row = 0u64;
@@ -83,7 +83,7 @@ fn expect_lines(name: &str, told: &[u8], wanted: &str) -> Result<(), Fail> {
     Ok(())
 }
 
-// Compares how a batch ends: without a fault, and the last of its lines has the counts.
+// Checks that a batch completed, and that its end line has its counts.
 fn expect_ending(
     alloc: Global,
     name: &str,
@@ -101,7 +101,7 @@ fn expect_ending(
     }
 }
 
-/// Answers a batch, and compares its lines and how it ends.
+/// Runs a batch on a desk, and checks its lines and its counts.
 pub fn expect(
     alloc: Global,
     desk: &mut Desk<MemStore>,

@@ -4,7 +4,8 @@ use std::alloc::Global;
 use std::io;
 use std::io::{Error, ErrorKind, Read, Write};
 
-/// Gives the bytes before a fault, fails once, and would give the rest after it.
+/// A reader that returns the first bytes, then fails once, and would return the remaining bytes
+/// after that.
 #[derive(Drop)]
 pub struct Failing<'a> {
     before: &'a [u8],
@@ -13,7 +14,8 @@ pub struct Failing<'a> {
 }
 
 impl<'a> Failing<'a> {
-    /// Fails after the first bytes, as many as that, or after all of them.
+    /// Returns a reader of `bytes` that fails once after the given number of first bytes, or after
+    /// all of them.
     pub fn after(bytes: &'a [u8], count: usize, fault: ErrorKind) -> Failing<'a> {
         let (before, after) = bytes.split_at(count.min(bytes.len()));
         Failing {
@@ -41,8 +43,8 @@ impl Read for Failing<'_> {
     }
 }
 
-/// Takes so many bytes, seven at most at a call. The next call fails, or takes none where there is no error; all calls after
-/// it are good.
+/// A writer that takes seven bytes at most at a call, `room` in total. The next call fails, or
+/// takes no byte if there is no error; all later calls succeed.
 #[derive(Drop)]
 pub struct Narrow {
     pub taken: Vec<u8>,
@@ -51,7 +53,7 @@ pub struct Narrow {
 }
 
 impl Narrow {
-    /// A writer with room for so many bytes.
+    /// Returns a writer with room for `room` bytes.
     pub fn new(alloc: Global, room: usize, error: Option<ErrorKind>) -> Narrow {
         Narrow {
             taken: Vec::new(alloc),

@@ -1,6 +1,6 @@
 use std::alloc::{AllocError, Global};
 
-/// The fields of a row without quotes.
+/// Returns the fields of a row without quotes, split at its commas.
 pub fn fields_of<'a>(alloc: Global, row: &'a str) -> Result<Vec<&'a [u8]>, AllocError> {
     let mut fields = Vec::new(alloc);
     for field in row.split(',') {

@@ -1,4 +1,4 @@
-//! Desks in files: closed, opened again and audited; a store that is stopped, and a disk that fails within a statement.
+//! Tests of desks in files: reopening and audit, crashes, and a disk that fails within a statement.
 
 mod kept;
 pub mod machine;

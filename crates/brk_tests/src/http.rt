@@ -1,4 +1,5 @@
-//! Streams of HTTP requests: over a desk in memory, byte for byte, and one over a socket of this machine.
+//! Tests of streams of HTTP requests: on a desk in memory, byte for byte, and over sockets of this
+//! machine.
 
 mod cuts;
 mod faults;

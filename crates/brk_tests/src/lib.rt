@@ -1,5 +1,6 @@
-//! Tests of a desk that no transcript of `cases/` can show: readers, writers and disks that fail, crashes, files, sockets, streams
-//! in pieces, runs of calls, walks, and how many rows a sale reads.
+//! Tests of a desk that no transcript of `cases/` can show: readers, writers and disks that fail,
+//! crashes, files, sockets, streams in pieces, runs of calls, walks, and the number of rows that a
+//! sale reads.
 #![tactic(auto)]
 
 #[cfg(test)]

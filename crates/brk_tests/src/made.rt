@@ -3,10 +3,13 @@ use brk_money::{Condition, Fault};
 use sqlite::{Connection, MemStore};
 use std::test::Fail;
 
+// Creates a store over a connection.
 fn made(conn: Connection<MemStore>) -> Result<Store<MemStore>, Fail> {
     Ok(Store::create(conn).map_err(|_| "no store")?)
 }
 
+// Checks that creating a store over the tables of another one fails with `NotEmpty` and leaves no
+// transaction open.
 #[test]
 fn a_desk_is_made_once(rt: HostRuntime) -> Result<(), Fail> {
     let conn = made(Connection::open_in_memory(rt.alloc())?)?.into_conn();
@@ -20,6 +23,7 @@ fn a_desk_is_made_once(rt: HostRuntime) -> Result<(), Fail> {
     Ok(())
 }
 
+// Checks that creating a store changes no other table.
 #[test]
 fn a_desk_stands_among_strangers(rt: HostRuntime) -> Result<(), Fail> {
     let mut conn = Connection::open_in_memory(rt.alloc())?;
@@ -34,6 +38,8 @@ fn a_desk_stands_among_strangers(rt: HostRuntime) -> Result<(), Fail> {
     Ok(())
 }
 
+// Checks that creating a store beside a table with the name of a desk's table fails with
+// `NotEmpty`.
 #[test]
 fn one_table_is_too_many(rt: HostRuntime) -> Result<(), Fail> {
     let mut conn = Connection::open_in_memory(rt.alloc())?;

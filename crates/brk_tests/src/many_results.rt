@@ -1,4 +1,4 @@
-//! A batch of five hundred orders and their results, and the same calls in one run.
+//! A batch of five hundred orders and their results, compared with one run of the same calls.
 
 use crate::desks::{answer, set_desk};
 use crate::row_calls::keyed;
@@ -13,18 +13,20 @@ use std::test::Fail;
 
 const TRADES: u64 = 500;
 
-// An order of `n` shares: each third is a sale, each second takes the last lots first.
+// Returns the row of an order of `n` shares: every third is a sale, every second closes the last
+// lots first.
 fn order(alloc: Global, n: u64) -> Result<String, Fail> {
     let kind = if n % 3 == 0 { "TMS" } else { "TMB" };
     let end = if n % 2 == 0 { "lifo" } else { "fifo" };
     Ok(format!(in alloc; "order,100,{kind},ABC,{n},,cash,{end},Ann,Lee,T10")?)
 }
 
+// Returns the row of the result of trade `n`, at 10.00.
 fn result(alloc: Global, n: u64) -> Result<String, Fail> {
     Ok(format!(in alloc; "result,{n},10.00")?)
 }
 
-// The rows of all trades, each with its result after it.
+// Returns the rows of all trades, each order followed by its result.
 fn rows(alloc: Global) -> Result<Vec<String>, Fail> {
     let mut rows = Vec::new(alloc);
     for n in 1..=TRADES {
@@ -34,6 +36,7 @@ fn rows(alloc: Global) -> Result<Vec<String>, Fail> {
     Ok(rows)
 }
 
+// Returns the text of a batch L with these rows.
 fn batch_of(alloc: Global, rows: &[String]) -> Result<String, Fail> {
     let mut batch = String::from_str(alloc, "batch,L\n")?;
     for row in rows {
@@ -43,7 +46,8 @@ fn batch_of(alloc: Global, rows: &[String]) -> Result<String, Fail> {
     Ok(batch)
 }
 
-// Compares the sums after all trades: 83,667 shares were bought and 41,583 were sold. Nothing is found wrong with the tables.
+// Checks the holding and the broker totals after all trades, of which 83,667 shares were bought and
+// 41,583 sold, and that the audit passes.
 fn expect_sums(rt: &impl Abort, alloc: Global, store: &mut Store<MemStore>) -> Result<(), Fail> {
     let account = Id::new(100).ok_or("account")?;
     let broker = Id::new(1).ok_or("broker")?;
@@ -61,7 +65,8 @@ fn expect_sums(rt: &impl Abort, alloc: Global, store: &mut Store<MemStore>) -> R
     Ok(())
 }
 
-// The rows as one batch, and compares that each is accepted and where the last leaves the account.
+// Runs the rows as one batch. Checks that every row is accepted, the last line and the totals, and
+// returns the lines.
 fn expect_batch(rt: &impl Abort, alloc: Global, rows: &[String]) -> Result<Vec<u8>, Fail> {
     let batch = batch_of(alloc, rows)?;
     let mut desk = set_desk(alloc)?;
@@ -81,7 +86,7 @@ fn expect_batch(rt: &impl Abort, alloc: Global, rows: &[String]) -> Result<Vec<u
     Ok(lines)
 }
 
-// The calls of all rows.
+// Returns the calls of all rows, each under its key.
 fn calls(alloc: Global, rows: &[String]) -> Result<Vec<(Stamp, Call)>, Fail> {
     let mut calls = Vec::new(alloc);
     for (row, n) in rows.iter().zip(1..=2 * TRADES) {
@@ -90,7 +95,7 @@ fn calls(alloc: Global, rows: &[String]) -> Result<Vec<(Stamp, Call)>, Fail> {
     Ok(calls)
 }
 
-// What comes of the same rows in one run.
+// Executes the calls of all rows in one run of the desk, and returns their outcomes.
 fn outcomes(
     alloc: Global,
     desk: &mut Desk<MemStore>,
@@ -102,7 +107,7 @@ fn outcomes(
     Ok(out)
 }
 
-// Adds the line of an answer, as a batch tells it.
+// Appends the line of an accepted row, as a batch writes it. Fails if the row was not accepted.
 fn add_line(alloc: Global, lines: &mut String, n: u64, outcome: &Outcome) -> Result<(), Fail> {
     let Outcome::Did(Answer::Done(reply)) = outcome else {
         return Err("not accepted")?;
@@ -112,7 +117,7 @@ fn add_line(alloc: Global, lines: &mut String, n: u64, outcome: &Outcome) -> Res
     Ok(())
 }
 
-// The lines of these outcomes.
+// Returns the lines of the rows with these outcomes.
 fn lines_of(alloc: Global, outcomes: &[Outcome]) -> Result<String, Fail> {
     let mut lines = String::new(alloc);
     for (outcome, n) in outcomes.iter().zip(1..=2 * TRADES) {
@@ -121,7 +126,7 @@ fn lines_of(alloc: Global, outcomes: &[Outcome]) -> Result<String, Fail> {
     Ok(lines)
 }
 
-// The lines of the same rows in one run.
+// Executes the calls of all rows in one run, checks the totals, and returns the lines of the rows.
 fn lines_of_run(rt: &impl Abort, alloc: Global, rows: &[String]) -> Result<String, Fail> {
     let mut desk = set_desk(alloc)?;
     let lines = lines_of(alloc, &outcomes(alloc, &mut desk, rows)?)?;
@@ -129,6 +134,7 @@ fn lines_of_run(rt: &impl Abort, alloc: Global, rows: &[String]) -> Result<Strin
     Ok(lines)
 }
 
+// Checks that a batch of five hundred trades and one run of its calls have equal lines.
 #[test]
 fn five_hundred_trades(rt: HostRuntime) -> Result<(), Fail> {
     let alloc = rt.alloc();

@@ -1,4 +1,5 @@
-//! How many calls of its file a desk makes to sell a share of a position of many lots: no more than for one of a single lot.
+//! Tests of the number of file calls that a desk needs to sell a share: for a position of many lots
+//! no more than for one of a single lot.
 
 use crate::desks::Still;
 use crate::files::machine::{Held, Sent, Stop, desk_in, files_of, run, set_files};
@@ -9,7 +10,7 @@ use std::test::Fail;
 
 const LOTS: u64 = 100;
 
-// Purchases of lots of two shares each: one for account 101, and LOTS for account 100.
+// Returns a batch of purchases of two shares each: `LOTS` for account 100, and one for account 101.
 fn purchases(alloc: Global) -> Result<String, Fail> {
     let mut batch = String::from_str(alloc, "batch,P\naccount,101,10,1,Side,1,10000.00\n")?;
     for n in 1..=LOTS {
@@ -22,7 +23,7 @@ fn purchases(alloc: Global) -> Result<String, Fail> {
     Ok(batch)
 }
 
-// The files of a desk with these lots.
+// Returns the files of a desk with `LOTS` lots of account 100 and one of account 101.
 fn files_of_lots(alloc: Global) -> Result<Held, Fail> {
     let set = set_files(alloc)?;
     let batch = purchases(alloc)?;
@@ -33,7 +34,7 @@ fn files_of_lots(alloc: Global) -> Result<Held, Fail> {
     Ok(held)
 }
 
-// The order and the result of a sale.
+// Returns a batch with the order and the result of a sale.
 fn sale(alloc: Global, account: u64, shares: u64) -> Result<String, Fail> {
     let trade = LOTS + 2;
     Ok(format!(in alloc;
@@ -41,8 +42,8 @@ fn sale(alloc: Global, account: u64, shares: u64) -> Result<String, Fail> {
     )?)
 }
 
-// Whether a desk completes a sale if the file of its database takes this many calls. The desk has
-// one page of the file in memory, so it reads each page anew.
+// Returns true if a desk completes a sale when its database file accepts this number of calls. The
+// desk caches one page of the file, so it reads each page anew.
 fn is_booked(
     alloc: Global,
     held: &Held,
@@ -67,7 +68,7 @@ fn is_booked(
     Ok(lines.ends_with(b"end,2,0,0\n"))
 }
 
-// The least number of calls that suffice for the sale of a share.
+// Returns the least number of calls of the database file that suffice for the sale of one share.
 fn calls_of_sale(alloc: Global, held: &Held, account: u64) -> Result<u64, Fail> {
     let mut most = 0u64;
     for bit in [4_096, 2_048, 1_024, 512, 256, 128, 64, 32, 16, 8, 4, 2, 1] {
@@ -79,6 +80,8 @@ fn calls_of_sale(alloc: Global, held: &Held, account: u64) -> Result<u64, Fail> 
     Ok(most.saturating_add(1))
 }
 
+// Checks that the sale of a share needs no more calls with 100 lots than with one, and that a sale
+// of 33 shares needs more.
 #[test]
 fn sells_a_share_of_many_lots_as_one_of_a_single_lot(rt: HostRuntime) -> Result<(), Fail> {
     let alloc = rt.alloc();

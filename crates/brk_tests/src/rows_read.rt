@@ -1,4 +1,4 @@
-//! How many rows a sale reads of a position of forty lots of one share each.
+//! Tests of the number of rows that a sale reads, on a position of forty lots of one share each.
 
 use crate::desks::{answer, set_desk};
 use crate::worked::FIRST_MOMENT;
@@ -12,7 +12,7 @@ use std::test::Fail;
 
 const LOTS: u64 = 40;
 
-// The orders and results of purchases of one share each.
+// Returns a batch of the orders and results of forty purchases of one share each.
 fn purchases(alloc: Global) -> Result<String, Fail> {
     let mut batch = String::from_str(alloc, "batch,P\n")?;
     for n in 1..=LOTS {
@@ -23,7 +23,7 @@ fn purchases(alloc: Global) -> Result<String, Fail> {
     Ok(batch)
 }
 
-// A store whose account 100 has these lots.
+// Returns a store whose account 100 has forty lots of one share each.
 fn store_of_lots(alloc: Global) -> Result<Store<MemStore>, Fail> {
     let batch = purchases(alloc)?;
     let mut desk = set_desk(alloc)?;
@@ -34,7 +34,8 @@ fn store_of_lots(alloc: Global) -> Result<Store<MemStore>, Fail> {
     }
 }
 
-// How many lots a sale of so many shares touches, and how many rows it reads.
+// Closes lots of account 100 with a sale of this quantity. Returns the number of touched lots and
+// of rows read.
 fn sale(
     alloc: Global,
     store: &mut Store<MemStore>,
@@ -59,7 +60,8 @@ fn sale(
     Ok((closing.touched.len(), lots.rows_read()))
 }
 
-// Shares that are sold, the lots that this touches, and the rows that it reads.
+// The shares that are sold, the number of lots that the sale touches, and the number of rows that
+// it reads.
 const SALES: [(u32, usize, u64); 5] = [
     (1, 1, 16),
     (16, 16, 16),
@@ -68,6 +70,7 @@ const SALES: [(u32, usize, u64); 5] = [
     (41, 40, 40),
 ];
 
+// Checks that a sale reads only the pages of 16 rows that its lots are on, from both ends.
 #[test]
 fn reads_as_many_pages_as_it_needs(rt: HostRuntime) -> Result<(), Fail> {
     let alloc = rt.alloc();

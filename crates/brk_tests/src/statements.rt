@@ -1,4 +1,5 @@
-//! Statements whose writer stops, the walks that they are made of, and amounts wider than their column.
+//! Tests of statements whose writer fails, of the walks that they use, and of amounts wider than
+//! their column.
 
 mod asking;
 mod lines;

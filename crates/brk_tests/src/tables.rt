@@ -1,4 +1,4 @@
-//! What the tables of a desk hold, row by row.
+//! The rows of the tables of a desk as text.
 
 use brk_import::brk_desk::brk_store::Store;
 use sqlite::types::ValueRef;
@@ -6,7 +6,7 @@ use sqlite::{Alter, Connection, MemStore, Row};
 use std::alloc::Global;
 use std::test::Fail;
 
-// The tables that no trade changes, and the rows that set a desk up.
+// The tables that no trade changes, and the stored requests of the batch `SET`.
 const REFERENCE: [&str; 8] = [
     "CUSTOMER",
     "ACCOUNT_PERMISSION",
@@ -18,7 +18,7 @@ const REFERENCE: [&str; 8] = [
     "KEPT WHERE K_BATCH = 'SET'",
 ];
 
-// The other tables, and the other rows that are kept.
+// The other tables, and the other stored requests.
 const TRADING: [&str; 15] = [
     "DESK",
     "BROKER",
@@ -37,7 +37,7 @@ const TRADING: [&str; 15] = [
     "KEPT WHERE K_BATCH <> 'SET'",
 ];
 
-// What the tables of reference data hold at a desk that was set up.
+// The rows of the reference tables after the batch `SET`.
 const SET_TABLES: &str =
     "CUSTOMER\n10,1,T10,Lee,Ann\nACCOUNT_PERMISSION\nSECURITY\nABC,Acme,NYSE,Tech\nCHARGE\n\
     TLB,1,500\nTLS,1,500\nTMB,1,500\nTMS,1,500\nTSL,1,500\nCOMMISSION_RATE\n\
@@ -57,11 +57,12 @@ const SET_TABLES: &str =
     SET,14,band\x1f1\x1fTLB\x1fNYSE\x1f1\x1f999999\x1f100,1709251200013\n\
     SET,15,taxrate\x1f1\x1fState\x1f20000,1709251200014\nSET,16,custtax\x1f10\x1f1,1709251200015\n";
 
-/// Tables that could not be read, or not be told.
+/// The error of tables that could not be read or printed.
 #[derive(Clone, Copy, Debug, PartialEq, Eq)]
 pub struct Unread;
 
-// Adds a value; a null is no text.
+// Appends the value of a cell; a null is an empty text. Fails for any value that is neither a whole
+// number nor UTF-8 text.
 fn add_value(lines: &mut String, value: ValueRef<'_>) -> Result<(), Unread> {
     match value {
         ValueRef::Null => Ok(()),
@@ -74,7 +75,7 @@ fn add_value(lines: &mut String, value: ValueRef<'_>) -> Result<(), Unread> {
     }
 }
 
-// Adds a row, its values joined by commas.
+// Appends the line of a row: its values, separated by commas.
 fn add_row(lines: &mut String, row: &Row) -> Result<(), Unread> {
     for at in 0..row.column_count() {
         if at > 0 {
@@ -86,7 +87,7 @@ fn add_row(lines: &mut String, row: &Row) -> Result<(), Unread> {
     lines.push_str("\n").map_err(|_| Unread)
 }
 
-// Adds the name of a table and its rows by rising key.
+// Appends the name of a table and its rows, sorted by their first two columns.
 fn add_table<S: Alter>(
     alloc: Global,
     lines: &mut String,
@@ -102,7 +103,7 @@ fn add_table<S: Alter>(
     Ok(())
 }
 
-// Adds the names and the rows of these tables.
+// Appends the names and the rows of these tables.
 fn add_tables<S: Alter>(
     alloc: Global,
     lines: &mut String,
@@ -115,7 +116,7 @@ fn add_tables<S: Alter>(
     Ok(())
 }
 
-/// The names and the rows of all tables.
+/// Returns the names and the rows of all tables.
 pub fn all_tables<S: Alter>(alloc: Global, conn: &mut Connection<S>) -> Result<String, Unread> {
     let mut lines = String::new(alloc);
     add_tables(alloc, &mut lines, conn, &REFERENCE)?;
@@ -123,7 +124,7 @@ pub fn all_tables<S: Alter>(alloc: Global, conn: &mut Connection<S>) -> Result<S
     Ok(lines)
 }
 
-// Compares these tables with the rows that are wanted.
+// Checks the names and the rows of these tables.
 fn expect_rows(
     alloc: Global,
     conn: &mut Connection<MemStore>,
@@ -146,8 +147,8 @@ fn expect_rows(
     Ok(())
 }
 
-/// Compares all tables of a store that was set up: those that no trade changes with what was set up, the others with the
-/// rows that are wanted.
+/// Checks all tables of a store: the reference tables as after the batch `SET`, and the other
+/// tables as wanted.
 pub fn expect_tables(
     alloc: Global,
     store: Store<MemStore>,

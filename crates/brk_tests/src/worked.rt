@@ -1,4 +1,4 @@
-//! A desk that is set up, and trades of one account with the lines that they are told.
+//! The batch that sets a desk up, and trades of one account with the lines of their replies.
 
 use std::alloc::Global;
 use std::test::Fail;
@@ -6,7 +6,8 @@ use std::test::Fail;
 /// 2024-03-01 00:00 UTC.
 pub const FIRST_MOMENT: i64 = 1_709_251_200_000;
 
-/// A batch that sets a desk up: a broker, a customer, an account, a security, charges, bands and a tax.
+/// A batch that sets a desk up: a broker, a customer, an account, a security, charges, bands and a
+/// tax.
 pub const SET: &[u8] = b"batch,SET\n\
     broker,1,Bo\n\
     customer,10,1,T10,Lee,Ann\n\
@@ -26,7 +27,7 @@ pub const SET: &[u8] = b"batch,SET\n\
     custtax,10,1\n\
     end,16\n";
 
-/// Its lines at a new desk.
+/// The lines of the batch `SET` on a new desk.
 pub const SET_LINES: &str =
     "1,ok,1709251200000\n2,ok,1709251200001\n3,ok,1709251200002\n4,ok,1709251200003\n\
     5,ok,1709251200004\n6,ok,1709251200005\n7,ok,1709251200006\n8,ok,1709251200007\n\
@@ -34,7 +35,8 @@ pub const SET_LINES: &str =
     13,ok,1709251200012\n14,ok,1709251200013\n15,ok,1709251200014\n16,ok,1709251200015\n\
     end,16,0,0\n";
 
-/// Two purchases, a sale of a part, a sale of more than is held, a cover of more than is owed, and a sale of all.
+/// The rows of two purchases, a sale of a part, a sale of more than is held, a purchase of more
+/// than is sold short, and a sale of all.
 pub const ROWS: [&str; 12] = [
     "order,100,TMB,ABC,100,,cash,fifo,Ann,Lee,T10",
     "result,1,10.10",
@@ -50,7 +52,7 @@ pub const ROWS: [&str; 12] = [
     "result,6,11.00",
 ];
 
-/// What they are told after their numbers and words.
+/// The replies to `ROWS`, without number and word.
 pub const LINES: [&str; 12] = [
     "1709251200016,1,SBMT,10.00,0.00,0.00,0.00,10.00,5.00,10000.00",
     "1709251200017,10.10,0.00,-1025.10,2024-03-03,0.00,0.00,8974.90",
@@ -66,7 +68,7 @@ pub const LINES: [&str; 12] = [
     "1709251200027,5.50,0.00,539.50,2024-03-03,550.00,550.00,10617.90",
 ];
 
-/// The first three of these trades, where the sale takes the last lot first.
+/// The rows of the first three trades of `ROWS`, of which the sale closes the last lot first.
 pub const LAST_FIRST_ROWS: [&str; 6] = [
     "order,100,TMB,ABC,100,,cash,fifo,Ann,Lee,T10",
     "result,1,10.10",
@@ -76,7 +78,7 @@ pub const LAST_FIRST_ROWS: [&str; 6] = [
     "result,3,13.00",
 ];
 
-/// What these are told.
+/// The replies to `LAST_FIRST_ROWS`, without number and word.
 pub const LAST_FIRST_LINES: [&str; 6] = [
     "1709251200016,1,SBMT,10.00,0.00,0.00,0.00,10.00,5.00,10000.00",
     "1709251200017,10.10,0.00,-1025.10,2024-03-03,0.00,0.00,8974.90",
@@ -86,7 +88,7 @@ pub const LAST_FIRST_LINES: [&str; 6] = [
     "1709251200021,19.50,30.00,1895.50,2024-03-03,1800.00,1950.00,8441.40",
 ];
 
-/// A batch T of these rows.
+/// Returns the text of a batch T with these rows.
 pub fn batch_of(alloc: Global, rows: &[&str]) -> Result<String, Fail> {
     let mut batch = String::from_str(alloc, "batch,T\n")?;
     for row in rows {
@@ -96,7 +98,8 @@ pub fn batch_of(alloc: Global, rows: &[&str]) -> Result<String, Fail> {
     Ok(batch)
 }
 
-/// Adds these lines, each with its number, from a first one on, and a word.
+/// Appends a line for each reply: its number, counted from the given first one, the word, and the
+/// reply.
 pub fn add_lines(told: &mut String, first: u64, word: &str, lines: &[&str]) -> Result<(), Fail> {
     let mut number = first;
     for line in lines {
@@ -106,7 +109,7 @@ pub fn add_lines(told: &mut String, first: u64, word: &str, lines: &[&str]) -> R
     Ok(())
 }
 
-/// The lines of a batch whose rows are all accepted.
+/// Returns the lines of a batch with these replies if all its rows are accepted.
 pub fn accepted(alloc: Global, lines: &[&str]) -> Result<String, Fail> {
     let mut told = String::new(alloc);
     add_lines(&mut told, 1, "ok", lines)?;
@@ -114,7 +117,7 @@ pub fn accepted(alloc: Global, lines: &[&str]) -> Result<String, Fail> {
     Ok(told)
 }
 
-/// The lines of that batch where all its rows were accepted before.
+/// Returns the lines of a batch with these replies if all its rows were accepted before.
 pub fn repeated(alloc: Global, lines: &[&str]) -> Result<String, Fail> {
     let mut told = String::new(alloc);
     add_lines(&mut told, 1, "again", lines)?;

@@ -1,4 +1,4 @@
-//! The commands of transcripts.
+//! The commands of transcripts over files, each of which appends its output lines.
 
 use crate::failed::Failed;
 use crate::folder;
@@ -6,7 +6,7 @@ use brk_exit::end_with;
 use brk_jobs::run;
 use std::alloc::{AllocError, Global};
 
-// Returns the command-line arguments of a command, the program's own name first.
+// Returns the command-line arguments of a command, split at spaces, the program's own name first.
 fn words_of(alloc: Global, text: &str) -> Result<Vec<String>, AllocError> {
     let mut words = Vec::new(alloc);
     words.push(String::from_str(alloc, "brk")?)?;
@@ -16,7 +16,7 @@ fn words_of(alloc: Global, text: &str) -> Result<Vec<String>, AllocError> {
     Ok(words)
 }
 
-// Adds the lines that were written to a stream, each after the mark of the stream. A last line
+// Appends the lines that were written to a stream, each after the mark of the stream. A last line
 // without a line feed ends in a backslash.
 fn add_lines(out: &mut String, mark: char, bytes: &[u8]) -> Result<(), Failed> {
     let text = str::from_utf8(bytes).unwrap_or("not UTF-8");
@@ -29,7 +29,8 @@ fn add_lines(out: &mut String, mark: char, bytes: &[u8]) -> Result<(), Failed> {
     Ok(())
 }
 
-// Runs the program, and adds what it prints and its exit status.
+// Runs the program with these arguments and this input, and appends its output, its errors and its
+// exit status.
 fn run_program(
     rt: &HostRuntime,
     out: &mut String,
@@ -47,7 +48,7 @@ fn run_program(
     Ok(())
 }
 
-// Changes a file past the program, and adds whether that was done.
+// Changes a file without the program, and appends whether that succeeded.
 fn change(
     rt: &HostRuntime,
     out: &mut String,
@@ -66,7 +67,7 @@ fn change(
     Ok(())
 }
 
-/// Executes a command with its input, and adds its output lines.
+/// Executes a command with its input, and appends its output lines.
 pub fn execute(
     rt: &HostRuntime,
     out: &mut String,

@@ -1,14 +1,14 @@
-//! Changes of files past the program. Each function returns whether it changed the file.
+//! Changes of files by another program. Each function returns true if it changed the file.
 
 use sqlite::Connection;
 use std::fs;
 
-/// Writes a file.
+/// Writes these bytes as the file at a path. Returns true if that succeeds.
 pub fn write(rt: &HostRuntime, path: &str, bytes: &[u8]) -> bool {
     fs::write(rt, path, bytes).is_ok()
 }
 
-/// Copies a file to a path, both in `paths` with a space between them.
+/// Copies a file: `paths` has the two paths, separated by a space. Returns true if that succeeds.
 pub fn copy(rt: &HostRuntime, paths: &str) -> bool {
     match paths.split_once(' ') {
         Some((from, to)) => fs::copy(rt, from, to).is_ok(),
@@ -16,7 +16,7 @@ pub fn copy(rt: &HostRuntime, paths: &str) -> bool {
     }
 }
 
-/// Cuts the second half off a file.
+/// Removes the second half of a file. Returns true if that succeeds.
 pub fn cut(rt: &HostRuntime, path: &str) -> bool {
     match fs::read(rt, path) {
         Ok(whole) => write(rt, path, &whole[..whole.len() / 2]),
@@ -24,7 +24,7 @@ pub fn cut(rt: &HostRuntime, path: &str) -> bool {
     }
 }
 
-/// Executes an SQL statement on the database in a file.
+/// Executes an SQL statement on the database in a file. Returns true if that and closing succeed.
 pub fn execute(rt: &HostRuntime, path: &str, sql: &[u8]) -> bool {
     let Ok(sql) = str::from_utf8(sql) else {
         return false;

@@ -12,7 +12,7 @@ use failed::Failed;
 use std::io;
 use std::process::ExitCode;
 
-// Replays standard input onto standard output.
+// Reads a transcript from standard input and writes its replay to standard output.
 fn run(rt: &HostRuntime) -> Result<(), Failed> {
     let Ok(text) = io::read_to_string(rt.alloc(), rt.reader()) else {
         return Err(Failed::Input);
@@ -24,6 +24,8 @@ fn run(rt: &HostRuntime) -> Result<(), Failed> {
     }
 }
 
+// Replays the transcript. Writes the reason of a failure to standard error and returns the exit
+// status.
 fn main(rt: HostRuntime) -> ExitCode {
     match run(&rt) {
         Ok(()) => ExitCode::SUCCESS,

@@ -1,17 +1,17 @@
-//! A transcript, line by line.
+//! The replay of a transcript over files, line by line.
 
 use crate::commands::execute;
 use crate::failed::Failed;
 use std::alloc::{AllocError, Global};
 
-// A command and its input so far, of which the output lines are due.
+// A command and its input so far, which is executed at its next other line.
 #[derive(Drop)]
 struct Due<'a> {
     command: &'a str,
     input: Vec<u8>,
 }
 
-// Executes the command that is due, if there is one.
+// Executes the pending command, if there is one, and appends its output lines.
 fn settle(rt: &HostRuntime, out: &mut String, due: Option<Due<'_>>) -> Result<(), Failed> {
     match due {
         Some(due) => execute(rt, out, due.command, &due.input),
@@ -19,12 +19,12 @@ fn settle(rt: &HostRuntime, out: &mut String, due: Option<Due<'_>>) -> Result<()
     }
 }
 
-// Returns whether a line is an output line.
+// Returns true if a line is an output line.
 fn is_output(line: &str) -> bool {
     line.starts_with("> ") || line.starts_with("! ") || line.starts_with("= ")
 }
 
-// Returns what a line begins: a command, unless it is a comment or empty.
+// Returns the command that a line begins, or `None` if it is a comment or empty.
 fn begun(alloc: Global, line: &str) -> Option<Due<'_>> {
     if line.is_empty() || line.starts_with('#') {
         return None;
@@ -35,7 +35,7 @@ fn begun(alloc: Global, line: &str) -> Option<Due<'_>> {
     })
 }
 
-// Adds an input line to the command that is due.
+// Adds an input line to the pending command, if there is one.
 fn with_input<'a>(due: Option<Due<'a>>, text: &str) -> Result<Option<Due<'a>>, AllocError> {
     let Some(mut due) = due else {
         return Ok(None);
@@ -45,7 +45,7 @@ fn with_input<'a>(due: Option<Due<'a>>, text: &str) -> Result<Option<Due<'a>>, A
     Ok(Some(due))
 }
 
-// Takes the next line that is no output line, and returns what is due then.
+// Processes a line that is no output line, and returns the command that is pending after it.
 fn take<'a>(
     rt: &HostRuntime,
     out: &mut String,
@@ -65,7 +65,8 @@ fn take<'a>(
     }
 }
 
-/// Returns the transcript with the output lines of its commands as they are now.
+/// Returns the transcript with the output lines that its commands have now in place of the old
+/// ones.
 pub fn replayed(rt: &HostRuntime, text: &str) -> Result<String, Failed> {
     let mut out = String::new(rt.alloc());
     let mut due = None;

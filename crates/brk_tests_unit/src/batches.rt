@@ -13,7 +13,7 @@ use std::io;
 use std::io::{Read, Write};
 use std::test::Fail;
 
-// A clock that stands still.
+// A clock that always returns one timestamp.
 #[derive(Drop)]
 struct Fixed {
     at: Stamp,
@@ -27,7 +27,7 @@ impl Clock for Fixed {
     }
 }
 
-// What a row asks of the desk below.
+// The command of a row of the test desk below.
 #[derive(Clone, Copy, Debug, PartialEq, Eq)]
 enum Asked {
     Put,
@@ -36,7 +36,8 @@ enum Asked {
     Break,
 }
 
-// A desk that keeps the last moment. It goes by the number of a row's fields.
+// A desk that stores the timestamp of its last command. The number of a row's fields determines its
+// command.
 #[derive(Drop)]
 struct Last {
     moment: u64,
@@ -119,7 +120,7 @@ impl Rows for Last {
     }
 }
 
-// Gives its text a byte at a time, and fails once, in place of the byte at `cut`.
+// A reader that returns its text byte by byte, and fails once, in place of the byte at `cut`.
 #[derive(Drop)]
 struct Flaky<'a> {
     text: &'a [u8],
@@ -145,8 +146,8 @@ impl<'a> Read for Flaky<'a> {
     }
 }
 
-// A header, then empty lines up to the last bytes that are read of an input, which are the tail. Where more are asked
-// for, it fails.
+// A reader of a header, then of empty lines up to the limit of an input, which ends with `tail`. A
+// read beyond the limit fails.
 #[derive(Drop)]
 struct Long {
     at: u64,
@@ -154,6 +155,7 @@ struct Long {
 }
 
 impl Long {
+    // Returns the byte at position `at`.
     fn byte(&self, at: u64) -> u8 {
         let header = b"batch,A\n";
         if at < 8 {
@@ -186,7 +188,7 @@ impl Read for Long {
     }
 }
 
-// Takes three bytes at a time, up to `most`, and then none, or fails.
+// A writer that takes three bytes at a time, at most `most` in total, and then fails or takes none.
 #[derive(Drop)]
 struct Choppy {
     got: Vec<u8>,
@@ -213,7 +215,7 @@ impl Write for Choppy {
     }
 }
 
-// Runs a batch over a new desk at moment 7, and tells how it ended and what was written.
+// Runs a batch on a new test desk at timestamp 7. Returns the result and the output.
 fn ran<R: Read + Drop>(
     alloc: Global,
     reader: R,
@@ -227,6 +229,7 @@ fn ran<R: Read + Drop>(
     Ok((done, out))
 }
 
+// Returns the result of a batch that failed with this fault after `rows` decided rows.
 fn fault(rows: u64, kind: FaultKind) -> Result<Counts, BatchFault> {
     Err(BatchFault { rows, kind })
 }
@@ -236,6 +239,7 @@ const WHOLE: &[u8] =
 
 const LINES: &[u8] = b"1,ok,7\n2,again,5,CNCL\n3,no,14,accounts\n4,no,18\n5,no,8\nend,1,1,3\n";
 
+// Checks the lines of a batch with every kind of answer, read at once and byte by byte.
 #[test]
 fn a_batch_is_answered_line_by_line(rt: HostRuntime) -> Result<(), Fail> {
     let (done, out) = ran(rt.alloc(), WHOLE)?;
@@ -259,6 +263,7 @@ fn a_batch_is_answered_line_by_line(rt: HostRuntime) -> Result<(), Fail> {
     Ok(())
 }
 
+// Checks that a batch without rows gets the end line alone.
 #[test]
 fn a_batch_of_no_rows_has_its_last_line(rt: HostRuntime) -> Result<(), Fail> {
     let (done, out) = ran(rt.alloc(), b"batch,Z\nend,0".as_slice())?;
@@ -273,6 +278,7 @@ fn a_batch_of_no_rows_has_its_last_line(rt: HostRuntime) -> Result<(), Fail> {
     Ok(())
 }
 
+// Checks that a row without a record after it is refused and not executed.
 #[test]
 fn the_last_row_of_a_cut_input_does_not_act(rt: HostRuntime) -> Result<(), Fail> {
     let cut = b"batch,C\nbroker,2,Cy\nbroker,3\nbroker,4,D".as_slice();
@@ -285,6 +291,7 @@ fn the_last_row_of_a_cut_input_does_not_act(rt: HostRuntime) -> Result<(), Fail>
     Ok(())
 }
 
+// Checks that a batch without a correct header fails with `BadHeader` and writes nothing.
 #[test]
 fn what_is_no_header_is_refused(rt: HostRuntime) -> Result<(), Fail> {
     let bad: [&[u8]; 13] = [
@@ -318,6 +325,7 @@ fn what_is_no_header_is_refused(rt: HostRuntime) -> Result<(), Fail> {
     Ok(())
 }
 
+// Checks that a wrong end record fails with `BadEnd`, after the lines of the rows.
 #[test]
 fn a_wrong_end_is_told_after_the_lines(rt: HostRuntime) -> Result<(), Fail> {
     let bad: [&[u8]; 5] = [
@@ -335,6 +343,7 @@ fn a_wrong_end_is_told_after_the_lines(rt: HostRuntime) -> Result<(), Fail> {
     Ok(())
 }
 
+// Checks the decided rows and the lines if the reader fails at several positions.
 #[test]
 fn a_read_that_fails_ends_it(rt: HostRuntime) -> Result<(), Fail> {
     let text = b"batch,A\nput,1,2\nput,3,4\nend,2\n".as_slice();
@@ -359,6 +368,7 @@ fn a_read_that_fails_ends_it(rt: HostRuntime) -> Result<(), Fail> {
     Ok(())
 }
 
+// Checks the decided rows and the lines if the writer fails at several positions.
 #[test]
 fn a_write_that_fails_ends_it(rt: HostRuntime) -> Result<(), Fail> {
     let cuts: [(usize, u64, Option<io::ErrorKind>); 6] = [
@@ -392,6 +402,8 @@ fn a_write_that_fails_ends_it(rt: HostRuntime) -> Result<(), Fail> {
     Ok(())
 }
 
+// Checks that a fault of the desk, in a call or in parsing, ends the batch after the lines of the
+// rows before.
 #[test]
 fn a_fault_of_the_desk_ends_it(rt: HostRuntime) -> Result<(), Fail> {
     let called = b"batch,A\nput,1,2\nbreak,,,,,\nput,3,4\nend,3\n".as_slice();
@@ -405,6 +417,7 @@ fn a_fault_of_the_desk_ends_it(rt: HostRuntime) -> Result<(), Fail> {
     Ok(())
 }
 
+// Checks that no byte beyond the limit of an input is read.
 #[test]
 fn only_the_first_bytes_are_read(rt: HostRuntime) -> Result<(), Fail> {
     let whole = Long {

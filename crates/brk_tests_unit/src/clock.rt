@@ -1,4 +1,4 @@
-//! The program's clock.
+//! Tests of the program's clock.
 
 use brk_clock::Moments;
 use brk_exit::brk_io::Clock;
@@ -7,7 +7,7 @@ use std::io::{self, ErrorKind};
 use std::rt;
 use std::time::Duration;
 
-// A machine's clock that has one time, or that cannot be read.
+// A machine's clock that always returns one time, or that cannot be read.
 #[derive(Drop)]
 struct Stopped(Option<Duration>);
 
@@ -21,9 +21,10 @@ impl rt::Clock for Stopped {
     }
 }
 
-// 2024-03-01 00:00 UTC in milliseconds.
+// The milliseconds of 2024-03-01 00:00 UTC.
 const PAST: i64 = 1_709_251_200_000;
 
+// Checks that a clock with a fixed timestamp returns it at every reading.
 #[test]
 fn a_given_timestamp_is_every_reading(rt: HostRuntime) {
     let mut clock = Moments::new(&rt, Some(Stamp::nearest(PAST)));
@@ -31,6 +32,7 @@ fn a_given_timestamp_is_every_reading(rt: HostRuntime) {
     assert_eq!(rt; clock.now().get(), PAST);
 }
 
+// Checks that a reading of the machine's clock drops the part below a millisecond.
 #[test]
 fn a_reading_is_the_time_in_whole_milliseconds(rt: HostRuntime) {
     let machine = Stopped(Some(Duration::new(1_709_251_200, 123_999_999)));
@@ -39,7 +41,8 @@ fn a_reading_is_the_time_in_whole_milliseconds(rt: HostRuntime) {
     assert_eq!(rt; clock.now().get(), PAST + 123);
 }
 
-// 10000-01-01 00:00 UTC is in second 253_402_300_800.
+// Checks that a time after the last stamp is read as the last stamp. 10000-01-01 00:00 UTC is in
+// second 253_402_300_800.
 #[test]
 fn a_late_reading_is_the_last_stamp(rt: HostRuntime) {
     let last = Stopped(Some(Duration::new(253_402_300_799, 999_000_000)));
@@ -48,6 +51,7 @@ fn a_late_reading_is_the_last_stamp(rt: HostRuntime) {
     assert_eq!(rt; Moments::new(&late, None).now().get(), Stamp::GREATEST);
 }
 
+// Checks that the reading is 0 if the machine's clock cannot be read.
 #[test]
 fn a_clock_that_cannot_be_read_gives_zero(rt: HostRuntime) {
     let machine = Stopped(None);

@@ -10,11 +10,12 @@ use std::io::Write;
 use std::process::Abort;
 use std::test::Fail;
 
+// Returns the ending of a batch that failed with this fault.
 fn batch(kind: FaultKind) -> Ending {
     Ending::Batch(BatchFault { rows: 3, kind })
 }
 
-// Compares the status of an ending, and what is said of it.
+// Checks the exit status of an ending and the text that it writes.
 fn expect_ending(rt: &impl Abort, alloc: Global, ending: &Ending, status: u8, text: &str) {
     let mut errors = Vec::new(alloc);
     assert!(rt; end_with(ending, &mut errors) == status, "{text}");
@@ -31,6 +32,7 @@ const BATCHES: [(FaultKind, u8, &str); 7] = [
     (FaultKind::Desk(Fault::Memory), 3, "brk: fault: memory\n"),
 ];
 
+// Checks the exit status and the line of each fault of a batch.
 #[test]
 fn tells_how_a_batch_ended(rt: HostRuntime) {
     for (kind, status, text) in BATCHES {
@@ -38,6 +40,7 @@ fn tells_how_a_batch_ended(rt: HostRuntime) {
     }
 }
 
+// Checks the exit status and the line of refusals and faults of a statement.
 #[test]
 fn tells_how_a_statement_ended(rt: HostRuntime) {
     let alloc = rt.alloc();
@@ -61,6 +64,7 @@ const OPENS: [(Fault, u8, &str); 3] = [
     ),
 ];
 
+// Checks the exit status and the line of each fault of opening a desk.
 #[test]
 fn tells_why_a_desk_is_not_opened(rt: HostRuntime) {
     for (fault, status, text) in OPENS {
@@ -68,6 +72,7 @@ fn tells_why_a_desk_is_not_opened(rt: HostRuntime) {
     }
 }
 
+// Checks the exit status and the text of each usage fault.
 #[test]
 fn tells_what_words_ask_for_no_job(rt: HostRuntime) -> Result<(), Fail> {
     let alloc = rt.alloc();
@@ -82,6 +87,7 @@ fn tells_what_words_ask_for_no_job(rt: HostRuntime) -> Result<(), Fail> {
     Ok(())
 }
 
+// Checks the exit status and the line of the remaining endings.
 #[test]
 fn tells_the_other_endings(rt: HostRuntime) {
     let unserved = ServeFault {
@@ -100,7 +106,7 @@ fn tells_the_other_endings(rt: HostRuntime) {
     );
 }
 
-// A stream that takes nothing.
+// A writer that takes no byte.
 #[derive(Drop)]
 struct Closed;
 
@@ -114,6 +120,7 @@ impl Write for Closed {
     }
 }
 
+// Checks that the exit status does not depend on a failed write of the line.
 #[test]
 fn answers_its_status_to_a_closed_stream(rt: HostRuntime) {
     assert_eq!(rt; end_with(&batch(FaultKind::NoEnd), &mut Closed), 1);

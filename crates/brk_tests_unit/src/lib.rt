@@ -1,5 +1,5 @@
-//! Tests of what needs no database: amounts, moments and numbers, lots, plans at their limits, batches over a desk of the tests' own, the words of the
-//! command line, and what is said of each ending.
+//! Tests that need no database: amounts, days and stamps, lots, plans at their limits, batches over
+//! a desk of the tests, command-line arguments, and exit statuses with their lines.
 #![tactic(auto)]
 
 #[cfg(test)]

@@ -7,7 +7,7 @@ use std::alloc::Global;
 use std::process::Abort;
 use std::test::Fail;
 
-// A movement of the account 100, and what was there before it.
+// A movement of account 100, and the balance and the number of movements before it.
 #[derive(Clone, Copy)]
 struct Case {
     direction: Direction,
@@ -17,6 +17,7 @@ struct Case {
     next: u64,
 }
 
+// Returns the facts that the tables hold for the movement of a case.
 fn found(case: Case) -> Result<MoveFound, Fail> {
     let balance = match case.balance {
         Some(balance) => Some(Cents::new(balance).ok_or("balance")?),
@@ -29,7 +30,7 @@ fn found(case: Case) -> Result<MoveFound, Fail> {
     })
 }
 
-// Compares what is told of such a movement at a stamp after @21.
+// Checks the reply to the movement of a case, at the stamp after @21.
 fn expect_move(rt: &impl Abort, alloc: Global, case: Case, wanted: &str) -> Result<(), Fail> {
     let movement = Movement {
         direction: case.direction,
@@ -45,6 +46,7 @@ fn expect_move(rt: &impl Abort, alloc: Global, case: Case, wanted: &str) -> Resu
     Ok(())
 }
 
+// Checks the replies to movements, with number and balance, and their refusals.
 #[test]
 fn movements_with_their_numbers_and_balances(rt: HostRuntime) -> Result<(), Fail> {
     let alloc = rt.alloc();
@@ -86,7 +88,8 @@ fn movements_with_their_numbers_and_balances(rt: HostRuntime) -> Result<(), Fail
     Ok(())
 }
 
-// Compares what is replied to a settlement day at the first midnight of 2024-03-01, at a desk that has one or none.
+// Checks the reply to a settlement day at the first midnight of 2024-03-01, on a desk that has the
+// settlement day `rule` or none.
 fn expect_day(
     rt: &impl Abort,
     alloc: Global,
@@ -107,6 +110,7 @@ fn expect_day(
     Ok(())
 }
 
+// Checks that a settlement day is accepted only after the day of its stamp, and only once.
 #[test]
 fn a_settlement_day_after_that_of_its_stamp(rt: HostRuntime) -> Result<(), Fail> {
     let alloc = rt.alloc();

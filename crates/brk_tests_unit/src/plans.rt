@@ -1,4 +1,5 @@
-//! Plans at limits that no desk of the tests comes to: the last volume and the last number of a trade. And which price triggers what.
+//! Plans at limits that no desk of the tests reaches: the greatest volume and the last number of a
+//! trade. Also which price triggers which type of order.
 
 use crate::told::told_plan;
 use brk_lots::Position;
@@ -10,7 +11,7 @@ use std::alloc::Global;
 use std::process::Abort;
 use std::test::Fail;
 
-// What the tables hold of ABC, of which all shares but 100 were traded that may be.
+// Returns the quote of ABC, of which 100 more shares may be traded until the volume limit.
 fn quotes(alloc: Global) -> Result<Vec<Quote>, Fail> {
     let price = Price::new(1_000).ok_or("price")?;
     let volume = Volume::new(99_999_999_999_999_900).ok_or("volume")?;
@@ -24,7 +25,7 @@ fn quotes(alloc: Global) -> Result<Vec<Quote>, Fail> {
     Ok(vec![in alloc; Quote { last, requests }]?)
 }
 
-// What is told of a feed of these ticks.
+// Returns the reply to a feed of these ticks, or its refusal.
 fn feed_told(alloc: Global, ticks: &[&[u8]]) -> Result<String, Fail> {
     let now = Stamp::nearest(1_709_251_200_019);
     let quotes = quotes(alloc)?;
@@ -35,7 +36,7 @@ fn feed_told(alloc: Global, ticks: &[&[u8]]) -> Result<String, Fail> {
     Ok(told_plan(alloc, planned?)?)
 }
 
-// The fields of a feed, and what is told of it.
+// The fields of a feed, and the reply to it.
 const FEEDS: [(&[&[u8]], &str); 4] = [
     (&[b"ABC", b"9.50", b"100"], "1709251200019"),
     (&[b"ABC", b"9.50", b"101"], "no,14,volume"),
@@ -46,6 +47,7 @@ const FEEDS: [(&[&[u8]], &str); 4] = [
     (&[b"ABC", b"9.50", b"101", b"QQQ", b"1.00", b"1"], "no,4"),
 ];
 
+// Checks that a feed whose ticks exceed the volume limit is refused with `volume`.
 #[test]
 fn a_volume_ends_at_its_limit(rt: HostRuntime) -> Result<(), Fail> {
     for (ticks, wanted) in FEEDS {
@@ -55,7 +57,8 @@ fn a_volume_ends_at_its_limit(rt: HostRuntime) -> Result<(), Fail> {
     Ok(())
 }
 
-// What is found for a purchase while ABC is at 10.00, after so many trades: a commission of a hundredth and a charge of 5.00.
+// Returns the facts for a purchase while ABC is at 10.00, after `trades` trades: a commission rate
+// of one percent and a charge of 5.00.
 fn found(trades: u64) -> Result<OrderFound, Fail> {
     let broker = Id::new(1).ok_or("broker")?;
     let rates = TaxRate::new(20_000).ok_or("rates")?;
@@ -80,7 +83,7 @@ const PURCHASE: [&[u8]; 10] = [
     b"100", b"TMB", b"ABC", b"100", b"", b"cash", b"fifo", b"Ann", b"Lee", b"T10",
 ];
 
-// What is told of a purchase by what was found for it.
+// Returns the reply to a purchase with these facts, or its refusal.
 fn purchase_told(alloc: Global, found: &OrderFound) -> Result<String, Fail> {
     let order = match check_order(alloc, &PURCHASE)? {
         Ok(order) => order,
@@ -93,7 +96,7 @@ fn purchase_told(alloc: Global, found: &OrderFound) -> Result<String, Fail> {
     Ok(told_plan(alloc, planned)?)
 }
 
-// Compares what is told of a purchase after so many trades.
+// Checks the reply to a purchase after `trades` trades.
 fn expect_purchase(rt: &impl Abort, alloc: Global, trades: u64, wanted: &str) -> Result<(), Fail> {
     let found = found(trades)?;
     let told = purchase_told(alloc, &found)?;
@@ -101,6 +104,7 @@ fn expect_purchase(rt: &impl Abort, alloc: Global, trades: u64, wanted: &str) ->
     Ok(())
 }
 
+// Checks that no order is accepted after the last number of a trade.
 #[test]
 fn trades_end_at_their_limit(rt: HostRuntime) -> Result<(), Fail> {
     let alloc = rt.alloc();
@@ -109,6 +113,7 @@ fn trades_end_at_their_limit(rt: HostRuntime) -> Result<(), Fail> {
     expect_purchase(&rt, alloc, 1_000_000_000_000, "no,14,trades")
 }
 
+// Checks, for each type of order, whether a price below, at and above its bid triggers it.
 #[test]
 fn a_price_triggers_what_waits_for_it(rt: HostRuntime) -> Result<(), Fail> {
     let below = Price::new(999).ok_or("price")?;

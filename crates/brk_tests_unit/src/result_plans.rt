@@ -11,7 +11,7 @@ use std::alloc::Global;
 use std::process::Abort;
 use std::test::Fail;
 
-// A trade of ABC at the market, and what was there before its result.
+// A submitted trade of ABC, and the values of the tables before its result.
 #[derive(Clone, Copy)]
 struct Case {
     kind: TradeType,
@@ -25,7 +25,8 @@ struct Case {
     last: i64,
 }
 
-// A purchase of 100 in cash for 10000.00, with a commission of a hundredth.
+// Returns the case of a cash purchase of 100 shares at a balance of 10000.00, with a commission
+// rate of one percent.
 fn purchase() -> Case {
     Case {
         kind: TradeType::MarketBuy,
@@ -40,6 +41,7 @@ fn purchase() -> Case {
     }
 }
 
+// Returns the trade row of a case.
 fn trade(alloc: Global, case: Case) -> Result<TradeRow, Fail> {
     let id = Id::new(1).ok_or("trade")?;
     let qty = Qty::new(case.qty).ok_or("quantity")?;
@@ -69,6 +71,7 @@ fn trade(alloc: Global, case: Case) -> Result<TradeRow, Fail> {
     })
 }
 
+// Returns the account of a case.
 fn account(case: Case) -> Result<ResultAccount, Fail> {
     Ok(ResultAccount {
         broker: Id::new(1).ok_or("broker")?,
@@ -77,6 +80,7 @@ fn account(case: Case) -> Result<ResultAccount, Fail> {
     })
 }
 
+// Returns the broker totals of a case.
 fn broker(case: Case) -> Result<BrokerNumbers, Fail> {
     Ok(BrokerNumbers {
         trades: TradeCount::new(0).ok_or("trades")?,
@@ -84,7 +88,7 @@ fn broker(case: Case) -> Result<BrokerNumbers, Fail> {
     })
 }
 
-// What is found for the result of a trade.
+// Returns the facts that the tables hold for the result of a case.
 fn found(alloc: Global, case: Case) -> Result<ResultFound, Fail> {
     let account = account(case)?;
     let broker = broker(case)?;
@@ -105,7 +109,8 @@ fn found(alloc: Global, case: Case) -> Result<ResultFound, Fail> {
     })
 }
 
-// What is told of a result at 10.10 that meets no lots, by what was found for it.
+// Returns the reply to a result at 10.10 with these facts, on a position without lots, or its
+// refusal.
 fn told_of(
     alloc: Global,
     found: Option<&ResultFound>,
@@ -124,7 +129,7 @@ fn told_of(
     Ok(told_plan(alloc, planned)?)
 }
 
-// Compares what is told of a result of such a trade.
+// Checks the reply to the result of a case.
 fn expect_result(rt: &impl Abort, alloc: Global, case: Case, wanted: &str) -> Result<(), Fail> {
     let last = Stamp::new(case.last);
     let found = found(alloc, case)?;
@@ -133,6 +138,7 @@ fn expect_result(rt: &impl Abort, alloc: Global, case: Case, wanted: &str) -> Re
     Ok(())
 }
 
+// Checks that a result for a trade that does not exist is refused with 5.
 #[test]
 fn a_result_of_no_trade(rt: HostRuntime) -> Result<(), Fail> {
     let told = told_of(rt.alloc(), None, None)?;
@@ -140,7 +146,8 @@ fn a_result_of_no_trade(rt: HostRuntime) -> Result<(), Fail> {
     Ok(())
 }
 
-// Each of these has one cause more to be refused than the one before it: no later stamp is left,
+// Returns the purchase with no later stamp left. Each of the next cases has one more cause to be
+// refused.
 fn late() -> Case {
     Case {
         last: Stamp::GREATEST,
@@ -148,7 +155,7 @@ fn late() -> Case {
     }
 }
 
-// the broker's commissions are at their limit,
+// Returns the last case, with the broker's commissions at their limit as well.
 fn beyond_broker() -> Case {
     Case {
         commissions: 100_000_000_000_000_000,
@@ -156,7 +163,7 @@ fn beyond_broker() -> Case {
     }
 }
 
-// the balance is at its lower limit,
+// Returns the last case, with the balance at its lower limit as well.
 fn beyond_balance() -> Case {
     Case {
         held: Some(9_999_999_899),
@@ -165,7 +172,7 @@ fn beyond_balance() -> Case {
     }
 }
 
-// as many shares are held as may be, less 99,
+// Returns the last case, with a holding of 99 shares below its limit as well.
 fn beyond_summary() -> Case {
     Case {
         held: Some(9_999_999_900),
@@ -173,7 +180,7 @@ fn beyond_summary() -> Case {
     }
 }
 
-// and there is no band.
+// Returns the last case, with no commission band as well.
 fn without_band() -> Case {
     Case {
         rate: None,
@@ -181,7 +188,7 @@ fn without_band() -> Case {
     }
 }
 
-// A trade of another status, whatever else is wrong.
+// Returns the last case, with a trade of another status as well.
 fn unfit(status: Status) -> Case {
     Case {
         status,
@@ -191,6 +198,7 @@ fn unfit(status: Status) -> Case {
 
 const TOLD: &str = "1709251200017,10.10,0.00,-1025.10,2024-03-03,0.00,0.00,8974.90";
 
+// Checks that a result is refused by the first cause that applies.
 #[test]
 fn the_first_cause_refuses_a_result(rt: HostRuntime) -> Result<(), Fail> {
     for (case, wanted) in [
@@ -210,6 +218,8 @@ fn the_first_cause_refuses_a_result(rt: HostRuntime) -> Result<(), Fail> {
     Ok(())
 }
 
+// Checks that a result is accepted up to the limit of the broker's commissions and refused beyond
+// it. A margin trade does not change the balance, so its limit does not apply.
 #[test]
 fn sums_at_their_limits(rt: HostRuntime) -> Result<(), Fail> {
     let last_cent = Case {
@@ -220,7 +230,7 @@ fn sums_at_their_limits(rt: HostRuntime) -> Result<(), Fail> {
         commissions: 99_999_999_999_998_991,
         ..purchase()
     };
-    // On margin the balance is not looked at.
+    // A margin trade does not change the balance.
     let on_margin = Case {
         is_cash: false,
         balance: -100_000_000_000_000_000,
@@ -237,6 +247,8 @@ fn sums_at_their_limits(rt: HostRuntime) -> Result<(), Fail> {
     Ok(())
 }
 
+// Checks that a result is accepted up to the limits of a holding, long and short, and refused
+// beyond them.
 #[test]
 fn summaries_at_their_limits(rt: HostRuntime) -> Result<(), Fail> {
     let alloc = rt.alloc();

@@ -3,7 +3,7 @@ use brk_money::{Fault, Refusal};
 use brk_trade::Plan;
 use std::alloc::Global;
 
-/// The line that a plan is answered with, or its refusal after `no`.
+/// Returns the line of the reply of a plan, or `no,` with its refusal.
 pub fn told_plan(alloc: Global, planned: Result<Plan, Refusal>) -> Result<String, Fault> {
     match planned {
         Ok(plan) => line_text(alloc, &plan.reply),

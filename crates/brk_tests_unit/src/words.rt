@@ -4,6 +4,7 @@ use std::alloc::{AllocError, Global};
 use std::process::Abort;
 use std::test::Fail;
 
+// Returns the path, or `-` if there is none.
 fn file(db: &Option<String>) -> &str {
     match db {
         Some(path) => path.as_str(),
@@ -11,6 +12,7 @@ fn file(db: &Option<String>) -> &str {
     }
 }
 
+// Returns the milliseconds of a timestamp, or -1 if there is none.
 fn millis(at: Option<Stamp>) -> i64 {
     match at {
         Some(stamp) => stamp.get(),
@@ -18,6 +20,7 @@ fn millis(at: Option<Stamp>) -> i64 {
     }
 }
 
+// Appends each word to the text, after a space.
 fn with_words(mut text: String, words: &[String]) -> Result<String, AllocError> {
     for word in words {
         text.push_str(" ")?;
@@ -26,6 +29,7 @@ fn with_words(mut text: String, words: &[String]) -> Result<String, AllocError> 
     Ok(text)
 }
 
+// Returns the text of a job: its name and its values, separated by spaces.
 fn told_job(alloc: Global, job: &Job) -> Result<String, AllocError> {
     match job {
         Job::Batch { db, at } => format!(in alloc; "batch {} {}", file(db), millis(*at)),
@@ -59,7 +63,8 @@ fn told_job(alloc: Global, job: &Job) -> Result<String, AllocError> {
     }
 }
 
-// What is read of these words after the program's name: a job, or the text of help or of what is wrong with them.
+// Returns the text of the job that these arguments, after the program's name, give, or the text of
+// their usage fault.
 fn told(alloc: Global, words: &[&str]) -> Result<String, Fail> {
     let mut all = Vec::new(alloc);
     all.push(String::from_str(alloc, "brk")?)?;
@@ -75,7 +80,7 @@ fn told(alloc: Global, words: &[&str]) -> Result<String, Fail> {
     }
 }
 
-// Words, and the job that they ask for: a file or `-`, milliseconds or -1, days since 1970-01-01.
+// Arguments, and the text of their job: a file or `-`, milliseconds or -1, days since 1970-01-01.
 const JOBS: [(&[&str], &str); 16] = [
     (&["batch"], "batch - -1"),
     (&["batch", "--db", "a b.db"], "batch a b.db -1"),
@@ -185,6 +190,7 @@ const JOBS: [(&[&str], &str); 16] = [
     ),
 ];
 
+// Checks the job of the arguments of each subcommand.
 #[test]
 fn reads_each_job(rt: HostRuntime) -> Result<(), Fail> {
     for (words, job) in JOBS {
@@ -203,7 +209,7 @@ const AUDIT: &str = "Usage: brk audit --db <FILE>\n\n";
 
 const SERVE: &str = "Usage: brk serve --port <P>\n\n";
 
-// Wrong arguments of `batch`, the cause that clap gives for them, and the usage that it adds.
+// Wrong arguments of a batch, the cause that clap reports for them, and the usage that it adds.
 const WRONG_BATCHES: [(&[&str], &str, &str); 10] = [
     (
         &["batch", "first.csv"],
@@ -383,7 +389,7 @@ const WRONG_SERVES: [(&[&str], &str, &str); 6] = [
     ),
 ];
 
-// Compares the whole text of each usage fault.
+// Checks the whole text of each usage fault.
 fn expect_faults(
     rt: &impl Abort,
     alloc: Global,
@@ -399,6 +405,7 @@ fn expect_faults(
     Ok(())
 }
 
+// Checks the error text of wrong arguments of each subcommand.
 #[test]
 fn refuses_wrong_words(rt: HostRuntime) -> Result<(), Fail> {
     expect_faults(&rt, rt.alloc(), &WRONG_BATCHES)?;
@@ -423,7 +430,7 @@ const BATCH_HELP: &str = "Reads a batch from standard input and writes a line fo
     \x20     --at <MS>    The time of every command, in milliseconds since 1970-01-01 UTC; without it the clock is read\n\
     \x20 -h, --help       Print help\n\nExample:\n\x20 brk batch --db desk.db < examples/setting.csv\n";
 
-// Words, and what a reader of the shell is told.
+// Arguments, and the text that is printed for them.
 const TEXTS: [(&[&str], &str); 3] = [
     (&["--version"], "help: brk 0.1.0 (schema 3, kit 13f)\n"),
     (
@@ -439,6 +446,8 @@ const TEXTS: [(&[&str], &str); 3] = [
     ),
 ];
 
+// Checks the texts that are printed for the version, for an unknown subcommand and for the help of
+// `audit`.
 #[test]
 fn tells_what_there_is(rt: HostRuntime) -> Result<(), Fail> {
     for (words, text) in TEXTS {
@@ -455,6 +464,7 @@ const HELPS: [(&[&str], &str); 4] = [
     (&["--help"], HELP),
 ];
 
+// Checks the help of the program and of the subcommand for a batch.
 #[test]
 fn shows_help(rt: HostRuntime) -> Result<(), Fail> {
     for (words, text) in HELPS {

@@ -15,15 +15,18 @@ use Rattle.brk_lots.specs.Sources.{AreGiven}
 use Rattle.brk_lots.specs.declared.lot.Lot.{Lot}
 use Rattle.brk_lots.specs.declared.values.Values.{Values}
 
--- The tax on the realised gain, or 0 if gains are not taxed at the tax status.
+-- The tax on the realised gain of `values` at the sum of rates `rates`, in cents; 0 if gains are
+-- not taxable at the tax status `status`.
 abbrev pub tax_at : TaxStatus → ℕ → Values → ℕ
 tax_at status rates values = if bears_tax status then tax (pos values.sell_value -ℤ pos values.buy_value) rates else 0
 
--- The commission of an order from its terms.
+-- The commission of an order with the terms `terms`, in cents.
 abbrev pub commission_by : Terms → ℕ
 commission_by terms = commission terms.rate terms.qty terms.price
 
--- The terms are those of the order in the base. They say nothing of `held`.
+-- `terms` are those of the order `o` in `base`: its side, quantity and price, the tax status and
+-- the assets of its account, and the tax rates, the commission rate and the charge that apply.
+-- Nothing is said of `held`.
 pub record AreTerms (base : Base) (o : Order) (terms : Terms) : Type 0 where
   pub side : terms.side ≡ side_of (kind_of o.order_type)
   pub qty : terms.qty ≡ o.qty
@@ -36,12 +39,14 @@ pub record AreTerms (base : Base) (o : Order) (terms : Terms) : Type 0 where
   pub charge : option_map (λ c. c.amount) (charge_with base (kind_of o.order_type) (tier_of base o.account)) ≡ Some terms.charge
   pub assets : terms.assets ≡ assets_of base o.account
 
--- The deal of an order with these terms.
+-- The deal of an order with the terms `terms`, as the trade `trade` at `stamp`, which closes the
+-- newest lots first if `lifo`.
 abbrev pub deal_by : Terms → (trade stamp : ℕ) → Bool → Deal
 deal_by terms trade stamp lifo = record { trade = trade; side = terms.side; qty = terms.qty; price = terms.price; stamp = stamp; is_lifo = lifo }
 
--- The source is asked for at most one lot more than the order would touch as a trade that opened
--- none of the given lots.
+-- From `before` to `after`, the number of reads of the source grew by at most one more than the
+-- number of lots that an order with the terms `terms` touches, for any lots that the source may
+-- have (`given`), none of them opened by its trade. Vacuous if there are no such lots.
 abbrev pub OrderAsksFew : Terms → (List Lot → Type 0) → (before after : ℕ) → Type 0
 OrderAsksFew terms given before after =
     (ls : List Lot) (trade stamp : ℕ) (lifo : Bool) → AreGiven given lifo ls → IsNew trade ls

@@ -36,18 +36,19 @@ use Rattle.brk_plans.specs.declared.reply.Reply.TheVariants.{Ordered}
 use Rattle.brk_changes.specs.declared.request_row.RequestRow.{RequestRow}
 use Rattle.brk_changes.specs.declared.trade_row.TradeRow.{TradeRow}
 
--- The checks of an order against the facts in the tables.
+-- The checks of an order against the facts `found`: its account and its security exist, its
+-- executor is permitted, and a charge and a commission rate apply.
 abbrev pub order_fact_tests : OrderFound → List Test
 order_fact_tests found =
     (is_none found.account, NoAccount) ∷ (is_none found.last_price, NoSecurity) ∷ (not found.is_permitted, NotPermitted)
     ∷ (is_none found.charge, NoCharge) ∷ (is_none found.rate, NoRate) ∷ []
 
--- The price that the order asks for, or the last price if it asks for none.
+-- The price that `order` asks for, or `last` if it asks for none, both in cents.
 abbrev pub price_requested : Order → ℕ → ℕ
 price_requested order last = unwrap_or (price_asked order.order_type) last
 
--- The terms of an order. A fact that does not exist counts 0, as an account without tax, or as no
--- shares held.
+-- The terms of `order` from the facts `found`. A number that is missing counts as 0, and a missing
+-- account as untaxed.
 abbrev pub terms_of : Order → OrderFound → Terms
 terms_of order found = record {
   side = side_of (kind_of order.order_type);
@@ -61,33 +62,38 @@ terms_of order found = record {
   held = unwrap_or found.summary (pos 0);
 }
 
--- The order passes its checks, and `placement` has its terms and the broker of its account.
+-- `order` passes its checks against the facts `found`, and `placement` has its terms and the broker
+-- of its account.
 pub record IsPlacement (order : Order) (found : OrderFound) (placement : Placement) : Type 0 where
   pub tested : first_refusal (order_fact_tests found) ≡ None
   pub terms : placement.terms ≡ terms_of order found
   pub broker : placement.broker ≡ option_map_or (λ a. a.broker) found.account 0
 
--- The estimate from the terms and the given lots equals the model's estimate, in every base that
--- has these terms and exactly the shares of these lots.
+-- `estimate` equals the model's estimate of every order in every base that has the terms `terms`
+-- and exactly the shares of lots `ls` that the source may have (`given`). Vacuous if the quantities
+-- of these lots do not add up to the shares held.
 abbrev pub IsEstimate : Terms → (List Lot → Type 0) → Estimate → Type 0
 IsEstimate terms given estimate =
     (base : Base) (o : model.Order) (ls : List Lot) → AreTerms base o terms → shares_in (completed base) o.account o.symbol ≡ shares_of ls
     → AreGiven given o.is_lifo ls → terms.held ≡ lots_total ls → estimate ≡ estimate_with (model_orders.estimate base o)
 
--- The order passes its checks, and the estimate is that of its terms (`IsEstimate`).
+-- `order` passes its checks against the facts `found`, and `estimate` is one from its terms and the
+-- lots of the source (`IsEstimate`).
 pub record IsEstimated (order : Order) (found : OrderFound) (given : List Lot → Type 0) (estimate : Estimate) : Type 0 where
   pub accepted : first_refusal (order_fact_tests found) ≡ None
   pub estimated : IsEstimate (terms_of order found) given estimate
 
--- The check that an id is left for the trade. Trades are numbered from 1 without a gap.
+-- The check that an id is left for a new trade, where `last` is the greatest id in use. Trades are
+-- numbered from 1 without a gap.
 abbrev pub trades_test : Option ℕ → Test
 trades_test last = (nat_le greatest_id (unwrap_or last 0), Range limit.Trades)
 
--- The number of the next trade.
+-- The id of the next trade: `last` plus 1, or 1 if there are no trades.
 abbrev pub next_trade : Option ℕ → ℕ
 next_trade last = unwrap_or last 0 + 1
 
--- The trade row of an order with these terms and texts: no price and no tax yet.
+-- The TRADE row of `order` with the terms `terms`, its id, stamp and texts. It has its first
+-- status, no price, and tax 0.
 abbrev pub row_named : Order → Terms → (trade stamp : ℕ) → (symbol executor : Text) → tables.TradeRow
 row_named order terms trade stamp symbol executor = record {
   id = trade;
@@ -107,33 +113,34 @@ row_named order terms trade stamp symbol executor = record {
   is_lifo = order.is_lifo;
 }
 
--- The trade row of an order with these terms.
+-- The TRADE row of `order` with the terms `terms`, its id and stamp, its symbol, and the name of
+-- its executor.
 abbrev pub ordered_row : Order → Terms → (trade stamp : ℕ) → tables.TradeRow
 ordered_row order terms trade stamp = row_named order terms trade stamp order.symbol (model_orders.executor_name (executor_of order.executor))
 
--- The request of the order's trade with the account's broker, or `None` if the order is a market
--- order.
+-- The TRADE_REQUEST row of `trade`, which `order` placed, or none if it is a market order.
 abbrev pub ordered_request : Order → Terms → (broker trade : ℕ) → Option RequestRow
 ordered_request order terms broker trade =
     if is_market (kind_of order.order_type) then None
     else Some (record { trade = trade; kind = kind_of order.order_type; symbol = order.symbol; qty = order.qty; bid = terms.price; broker = broker })
 
--- The row changes that add a trade: its row, its first status, its request if it has one, and the
--- last stamp.
+-- The row changes that add a trade: its TRADE row `row`, its first TRADE_HISTORY row, its
+-- `request`, if any, and the last stamp.
 abbrev pub changes_of_order : TradeRow → Option RequestRow → List Change
 changes_of_order row request =
     change.AddTrade row ∷ change.AddHistory (record { trade = row.id; status = row.status; stamp = row.stamp })
     ∷ map change.AddRequest (option_to_list request) ++ change.SetLast row.stamp ∷ []
 
--- The row changes are those of an order with these terms.
+-- `changes` are the row changes that add `trade`, which `order` placed with the terms `terms` at
+-- `stamp`.
 pub record AreOrderChanges (order : Order) (terms : Terms) (broker trade stamp : ℕ) (changes : List Change) : Type 0 where
   pub row : TradeRow
   pub added : trade_row_of row ≡ ordered_row order terms trade stamp
   pub changed : changes ≡ changes_of_order row (ordered_request order terms broker trade)
 
--- The plan adds the trade with its first status, and its request if it is pending, and sets the
--- last stamp. Its reply has the stamp, the number, the status and the estimate. The order passes
--- its checks.
+-- `plan` adds the trade of `order` at the stamp of the command, with the next id. The order passes
+-- its checks against the facts `found`, an id and a later stamp are left, and the reply has the
+-- stamp, the id, the first status and the estimate from the lots of the source (`IsEstimate`).
 pub record IsOrdered (order : Order) (found : OrderFound) (given : List Lot → Type 0) (last : Option ℕ) (now : ℕ) (plan : Plan) : Type 0 where
   pub stamp : ℕ
   pub estimate : Estimate

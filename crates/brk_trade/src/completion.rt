@@ -17,7 +17,8 @@ use brk_money::{Fault, Id, Price, Qty, Status};
 use brk_ref::Name;
 use std::alloc::{AllocError, Global};
 
-// Appends the row changes of the trade's own row and history.
+// Appends the row changes of the completed trade itself: the values of its completion, and its
+// history row. Fails with `Memory` only.
 fn complete_trade(
     trade: Id,
     price: Price,
@@ -42,7 +43,8 @@ fn complete_trade(
     Ok(())
 }
 
-// Returns the row change of a touched lot: it is reduced, or deleted if no share is left of it.
+// Returns the row change of a touched lot: it is deleted if no share is left of it, and otherwise
+// its quantity is set.
 fn lot_left(touch: &Touch) -> Change
     ensures { result ≡ spec.lot_left touch.now }
 {
@@ -56,7 +58,7 @@ fn lot_left(touch: &Touch) -> Change
     }
 }
 
-// Returns the row change that adds the history row of a touched lot.
+// Returns the row change that adds the history row of a lot that `trade` touched.
 fn lot_change(trade: Id, touch: &Touch) -> Change
     ensures { result ≡ spec.lot_change trade touch.now }
 {
@@ -68,7 +70,8 @@ fn lot_change(trade: Id, touch: &Touch) -> Change
     })
 }
 
-// Appends the row changes of a touched lot, with its history.
+// Appends the row changes of a lot that `trade` touched, and of its history. Fails with `Memory`
+// only.
 fn touch_lot(trade: Id, touch: &Touch, changes: &mut Vec<Change>) -> Result<(), Fault>
     ensures changes { OnOk result (changes.new.items ≡ changes.old.items ++ spec.touched_changes trade touch.now) }
     ensures fault { OnErr result (result ≡ Err Memory) }
@@ -78,7 +81,8 @@ fn touch_lot(trade: Id, touch: &Touch, changes: &mut Vec<Change>) -> Result<(), 
     Ok(())
 }
 
-// Appends the row changes of the touched lots.
+// Appends the row changes of all lots that `trade` touched, and of their histories. Fails with
+// `Memory` only.
 fn close_lots(trade: Id, touched: &[Touch], changes: &mut Vec<Change>) -> Result<(), Fault>
     ensures changes { OnOk result (changes.new.items ≡ changes.old.items ++ flat_map (spec.touched_changes trade) touched.now) }
     ensures fault { OnErr result (result ≡ Err Memory) }
@@ -89,7 +93,8 @@ fn close_lots(trade: Id, touched: &[Touch], changes: &mut Vec<Change>) -> Result
     Ok(())
 }
 
-// Appends the row changes of the lot that the trade opens, if it opens one, with its history.
+// Appends the row changes that add the lot that the trade opens and its history row, or nothing if
+// it opens none. Fails with `Memory` only.
 fn open_lot(trade: &TradeRow, opened: Option<Lot>, changes: &mut Vec<Change>) -> Result<(), Fault>
     ensures changes { OnOk result (changes.new.items ≡ changes.old.items ++ flat_map (spec.opened_changes trade.now) (option_to_list opened)) }
     ensures fault { OnErr result (result ≡ Err Memory) }
@@ -114,8 +119,8 @@ fn open_lot(trade: &TradeRow, opened: Option<Lot>, changes: &mut Vec<Change>) ->
     Ok(())
 }
 
-// Returns the row change of the account's summary: it is added if there was none, deleted if it is
-// 0, and set otherwise.
+// Returns the row change of the summary of the trade's account and symbol: it is added if there was
+// none, deleted if its quantity is 0 now, and otherwise set. Fails with `Memory` only.
 fn summary_change(found: &ResultFound, outcome: &ResultNumbers) -> Result<Change, Fault>
     ensures change { IfOk result (λ change. change ≡ spec.summary_change found.now.summary found.now.trade outcome.now.summary) }
     ensures fault { OnErr result (result ≡ Err Memory) }
@@ -140,7 +145,7 @@ fn summary_change(found: &ResultFound, outcome: &ResultNumbers) -> Result<Change
     }))
 }
 
-// Returns the first settlement text of a cash trade (`is_cash`) or of a margin trade.
+// Returns the settlement text of a newly completed cash trade (`is_cash`) or margin trade.
 fn first_cash_type(is_cash: bool) -> CashType
     ensures { result ≡ spec.settlement_type is_cash }
 {
@@ -151,7 +156,8 @@ fn first_cash_type(is_cash: bool) -> CashType
     }
 }
 
-// Returns the row change of the totals of the broker, with one more completed trade.
+// Returns the row change of the totals of the account's broker: one more completed trade, and its
+// new commissions.
 fn broker_change(found: &ResultFound, commissions: Amount) -> Change
     ensures { result ≡ spec.broker_change found.now commissions }
 {
@@ -174,7 +180,8 @@ fn settlement_change(trade: &TradeRow, outcome: &ResultNumbers) -> Change
     })
 }
 
-// Appends the row changes of the account's summary, the broker totals and the settlement.
+// Appends the row changes of the account's summary, of the broker's totals and of the settlement.
+// Fails with `Memory` only.
 fn settle(
     found: &ResultFound,
     outcome: &ResultNumbers,
@@ -190,14 +197,16 @@ fn settle(
     Ok(())
 }
 
-// Appends the quantity to the cash text of a trade.
+// Appends the quantity, and the words after it, to the cash text of a trade. Fails if memory runs
+// out.
 fn add_shares(name: &mut String, qty: Qty) -> Result<(), AllocError>
     ensures { OnOk result (string_bytes name.new ≡ string_bytes name.old ++ spec.shares_text qty) }
 {
     write!(name, " {} shares of ", qty.get())
 }
 
-// Returns the cash text of a trade, with the name of its security.
+// Returns the cash text of a trade: the name of its type, its quantity, " shares of " and the name
+// of its security. Fails if memory runs out.
 fn cash_name(alloc: Global, trade: &TradeRow, security: &Name) -> Result<String, AllocError>
     ensures { IfOk result (λ name. string_bytes name ≡ spec.cash_name trade.now security.now) }
 {
@@ -207,7 +216,8 @@ fn cash_name(alloc: Global, trade: &TradeRow, security: &Name) -> Result<String,
     Ok(name)
 }
 
-// Returns the cash row of a cash trade, or `None` for a margin trade.
+// Returns the cash row of the completed trade, or `None` if it is a margin trade. Fails if memory
+// runs out.
 fn cash_row(
     alloc: Global,
     found: &ResultFound,
@@ -228,7 +238,8 @@ fn cash_row(
     }))
 }
 
-// Appends the row changes of the cash row, if there is one.
+// Appends the row changes of the cash row, if any: it is added, and the balance of the account is
+// set. Fails with `Memory` only.
 fn move_cash(
     account: Id,
     outcome: &ResultNumbers,
@@ -249,7 +260,8 @@ fn move_cash(
     Ok(())
 }
 
-// Returns the row changes of a completion, with the cash row of a cash trade.
+// Returns all row changes of a completion, in sequence, with those of the cash row, if any. Fails
+// with `Memory` only.
 fn changes_of(
     alloc: Global,
     found: &ResultFound,
@@ -272,7 +284,8 @@ fn changes_of(
     Ok(changes)
 }
 
-// Returns the row changes that complete the trade with these closed lots and figures.
+// Returns the row changes that complete the trade with these closed and opened lots and these
+// figures. Fails with `Memory` only.
 pub(crate) fn completion_changes(
     alloc: Global,
     found: &ResultFound,

@@ -40,7 +40,7 @@ pub struct Terms {
     pub held: i64,
 }
 
-// Returns true if gains are taxed at the tax status.
+// Returns true if gains are taxable at the tax status.
 fn bears_tax(status: TaxStatus) -> bool
     ensures { result ≡ spec.bears_tax status }
 {
@@ -50,15 +50,16 @@ fn bears_tax(status: TaxStatus) -> bool
     }
 }
 
-// Returns the realised gain of the shares in cents, negative for a loss.
+// Returns the realised gain of shares in cents, below 0 for a loss: their sell value minus their
+// buy value.
 fn gain(values: Values) -> Cents
     ensures { result ≡ pos values.sell_value -ℤ pos values.buy_value }
 {
     Cents::new(values.sell_value.get() as i64 - values.buy_value.get() as i64).unwrap()
 }
 
-/// Returns the tax on the realised gain of shares, from the account's tax status and the sum of the
-/// rates that its customer pays.
+/// Returns the tax on the realised gain of shares, at the sum of the rates that the account's
+/// customer pays; 0 if gains are not taxable at the tax status.
 pub fn tax_on(values: Values, status: TaxStatus, rates: TaxRate) -> Amount
     ensures { result ≡ tax_at status rates values }
 {
@@ -69,8 +70,8 @@ pub fn tax_on(values: Values, status: TaxStatus, rates: TaxRate) -> Amount
     }
 }
 
-// Returns the buy value and the sell value of the shares that the order would close. Reads no lot
-// if the account holds no shares that it would close.
+// Returns the buy value and the sell value of the shares that an order would close. Fails only with
+// a fault of the source. Reads no lot if the account holds no shares that the order would close.
 fn values_upon<L: LotSource>(source: &mut L, terms: &Terms) -> Result<Values, Fault>
     ensures leads { L.leads source.old source.new }
     ensures values { IfOk result (λ values. (ls : List Lot) (trade stamp : ℕ) (lifo : Bool) →
@@ -89,8 +90,8 @@ fn values_upon<L: LotSource>(source: &mut L, terms: &Terms) -> Result<Values, Fa
     }
 }
 
-/// Estimates an order from its terms and the lots of its account and symbol from the order's end
-/// (Trade-Order).
+/// Estimates an order from its terms and the lots of its account and symbol, which `source` returns
+/// in the sequence in which the order closes them (Trade-Order).
 ///
 /// Fails only with a fault of the source. Reads no lot if the account holds no shares that the
 /// order would close.

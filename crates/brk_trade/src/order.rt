@@ -60,22 +60,22 @@ pub struct OrderFound {
     pub last_trade: Option<Id>,
 }
 
-// The terms of an order that passes its checks, and the account's broker.
+// The terms of an order that passes its checks, and the broker of its account.
 #[derive(Clone, Copy)]
 struct Placement {
     terms: Terms,
     broker: Id,
 }
 
-// Returns the price at which the order is estimated: its own, or the last price if it asks for
-// none.
+// Returns the price that the order asks for, or `last` if it asks for none.
 fn requested_price(order: &Order, last: Price) -> Price
     ensures { result ≡ spec.price_requested order.now last }
 {
     order.order_type.price().unwrap_or(last)
 }
 
-// Returns the placement of the order, or the first refusal that applies.
+// Returns the terms of an order and the broker of its account, or the first refusal that applies of
+// `NoAccount`, `NoSecurity`, `NotPermitted`, `NoCharge` and `NoRate`.
 fn placement_of(order: &Order, found: &OrderFound) -> Result<Placement, Refusal>
     ensures { MatchResult result
         (IsPlacement order.now found.now)
@@ -113,7 +113,7 @@ fn placement_of(order: &Order, found: &OrderFound) -> Result<Placement, Refusal>
 }
 
 /// Plans the estimate of an order from the facts in the tables and the lots of its account and
-/// symbol from the order's end (Trade-Order).
+/// symbol, which `source` returns in the sequence in which the order closes them (Trade-Order).
 ///
 /// Refuses with the first that applies of `NoAccount`, `NoSecurity`, `NotPermitted`, `NoCharge` and
 /// `NoRate`. Fails only with a fault of the source. Reads no lot if it refuses, or if the account
@@ -145,7 +145,8 @@ pub fn plan_estimate<L: LotSource>(
     Ok(Ok(estimate))
 }
 
-// Returns the id of the next trade, or `None` if no id is left.
+// Returns the id of the next trade: `last` plus 1, or 1 if there are no trades. Returns `None` if
+// no id is left.
 fn next_trade(last: Option<Id>) -> Option<Id>
     ensures { MatchOption result
         (first_refusal (trades_test last ∷ []) ≡ Some (Range limit.Trades))
@@ -168,7 +169,8 @@ fn first_status(kind: TradeType) -> Status
     }
 }
 
-// Returns the executor's name as the trade stores it: first name, a space, last name.
+// Returns the executor's name as a trade stores it: the first name, a space, the last name. Fails
+// if memory runs out.
 fn executor_name(alloc: Global, executor: &Executor) -> Result<String, AllocError>
     ensures { IfOk result (λ name. string_bytes name ≡ model.executor_name (executor_of executor.now)) }
 {
@@ -178,7 +180,8 @@ fn executor_name(alloc: Global, executor: &Executor) -> Result<String, AllocErro
     Ok(name)
 }
 
-// Returns the row of the trade with these texts.
+// Returns the TRADE row of a new order with this commission, id, stamp and these texts: in its
+// first status, without a price, with tax 0.
 fn row_named(
     order: &Order,
     terms: &Terms,
@@ -210,7 +213,8 @@ fn row_named(
     }
 }
 
-// Returns the row of the order's trade.
+// Returns the TRADE row of a new order with this commission, id and stamp. Fails if memory runs
+// out.
 fn trade_row(
     alloc: Global,
     order: &Order,
@@ -227,7 +231,8 @@ fn trade_row(
     Ok(row_named(order, terms, commission, trade, stamp, symbol, executor))
 }
 
-// Returns the request of the trade, or `None` for a market order.
+// Returns the TRADE_REQUEST row of a new trade, or `None` if it is of a market order. Fails if
+// memory runs out.
 fn request_row(
     order: &Order,
     placement: &Placement,
@@ -248,8 +253,8 @@ fn request_row(
     }))
 }
 
-// Returns the row changes that add the trade: its row, its first status, its request if it has one,
-// and the last stamp.
+// Returns the row changes that add a trade: its row, its first history row and its request, if any;
+// and that set the last stamp. Fails if memory runs out.
 fn changes_of(
     alloc: Global,
     row: TradeRow,
@@ -273,7 +278,8 @@ fn changes_of(
     Ok(changes)
 }
 
-// Returns the row changes of an accepted order.
+// Returns the row changes of an accepted order with this commission, id and stamp. Fails if memory
+// runs out.
 fn order_changes(
     alloc: Global,
     order: &Order,
@@ -292,8 +298,9 @@ fn order_changes(
     Ok(changes)
 }
 
-/// Plans an order from the facts in the tables, the lots of its account and symbol from the order's
-/// end, and the stamp of the last accepted command (Trade-Order).
+/// Plans an order from the facts in the tables, the lots of its account and symbol, which `source`
+/// returns in the sequence in which the order closes them, and the stamp of the last accepted
+/// command (Trade-Order).
 ///
 /// The plan adds the trade with its first status, and its request if it is pending, and sets the
 /// last stamp. Its reply has the stamp, the number, the status and the estimate.

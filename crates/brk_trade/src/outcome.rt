@@ -42,15 +42,15 @@ pub struct ResultNumbers {
     pub sell_value: Amount,
 }
 
-// The facts of a result that are known before its lots are read: the rate of its commission, and
-// the shares held after it.
+// The facts of a result that are known before lots are read: the commission rate, and the number of
+// shares held after it.
 #[derive(Clone, Copy)]
 pub(crate) struct RateAndSummary {
     pub rate: Rate,
     pub summary: i64,
 }
 
-// Returns the quantity, negative for a sale.
+// Returns the quantity, negated for a sale.
 fn signed(side: Side, qty: u32) -> i128
     ensures { result ≡ shares.signed side qty }
 {
@@ -60,8 +60,8 @@ fn signed(side: Side, qty: u32) -> i128
     }
 }
 
-// Returns the number of shares that the account holds after the trade, or `None` if it exceeds the
-// limit.
+// Returns the number of shares of the trade's security that its account holds after it, below 0 if
+// sold short, or `None` if it exceeds the limit.
 fn summary_after(found: &ResultFound) -> Option<i64>
     ensures { MatchOption result
         (nat_lt greatest_summary (nat_abs (spec.summary_after found.now)) ≡ true)
@@ -75,8 +75,8 @@ fn summary_after(found: &ResultFound) -> Option<i64>
     Some(after as i64)
 }
 
-// Returns the facts that are known before the lots are read, or the first refusal that applies
-// without them.
+// Returns the commission rate and the shares held after the trade, or the first refusal that
+// applies before lots are read: `WrongStatus`, `NoRate` or `Range(Summary)`.
 pub(crate) fn rate_and_summary(found: &ResultFound) -> Result<RateAndSummary, Refusal>
     ensures { MatchResult result
         (λ known. (first_refusal (first_tests found.now) ≡ None) × (found.now.rate ≡ Some known.rate) × (known.summary ≡ spec.summary_after found.now))
@@ -95,7 +95,7 @@ pub(crate) fn rate_and_summary(found: &ResultFound) -> Result<RateAndSummary, Re
 }
 
 // Returns the figures of the completion, or the first refusal that applies with the values of the
-// closed shares.
+// closed shares: `Range(Balance)`, `Range(Broker)` or `ClockEnd`.
 pub(crate) fn complete(
     found: &ResultFound,
     price: Price,

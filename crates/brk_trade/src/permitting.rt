@@ -15,7 +15,7 @@ fn is_person(executor: &Executor, first_name: &Name, last_name: &Name, tax_id: &
         && executor.tax_id.as_str() == tax_id.as_str()
 }
 
-// Returns true if the permission has the executor's first name, last name and tax id.
+// Returns true if the permission has the first name, the last name and the tax id of the executor.
 fn names(permission: &Permission, executor: &Executor) -> bool
     ensures { result ≡ orders.is_person (executor_of executor.now) permission.now.first_name permission.now.last_name permission.now.tax_id }
 {

@@ -18,7 +18,7 @@ use brk_money::{Fault, Planned, Price, Refusal, Stamp, stamp_after};
 use brk_plans::{Completed, Plan, Reply};
 use std::alloc::Global;
 
-// Returns the figures of a completion in its reply.
+// Returns the figures of a completed trade that its reply has.
 fn told(outcome: &ResultNumbers) -> Completed
     ensures { result ≡ told_of outcome.now }
 {
@@ -34,8 +34,8 @@ fn told(outcome: &ResultNumbers) -> Completed
     }
 }
 
-// Returns the lots that the trade closes, and the one that it opens. Reads no lot if the account
-// holds no shares that the trade would close.
+// Returns the lots that the trade closes, and the one that it opens, if any. Fails with `Memory` or
+// a fault of the source. Reads no lot if the account holds no shares that the trade would close.
 fn close_met<L: LotSource>(
     alloc: Global,
     source: &mut L,
@@ -65,17 +65,18 @@ fn close_met<L: LotSource>(
 }
 
 /// Plans the result of a trade at `price` (Trade-Result). `found` has the facts in the tables, and
-/// is `None` if there is no such trade. `source` has the lots of the trade's account and symbol
-/// from the trade's end, and `last` is the stamp of the last accepted command.
+/// is `None` if there is no such trade. `source` returns the lots of the trade's account and symbol
+/// in the sequence in which the trade closes them, and `last` is the stamp of the last accepted
+/// command.
 ///
 /// The plan completes the trade: it closes lots, opens one with the rest of the quantity, if any,
-/// moves the summary, adds to the broker totals and settles the trade. A cash trade adds a cash row
-/// and moves the balance of its account. The plan then sets the last stamp. Its reply has the
+/// changes the summary, adds to the broker totals and settles the trade. A cash trade adds a cash
+/// row and changes the balance of its account. The plan then sets the last stamp. Its reply has the
 /// figures of the completion.
 ///
 /// Refuses with the first that applies of `NoTrade`; `WrongStatus`, if the trade is not submitted;
 /// `NoRate`; `Range(Summary)`; `Range(Balance)`, of a cash trade; `Range(Broker)`; and `ClockEnd`,
-/// if no later stamp is left or the settlement day is after the last day.
+/// if no later stamp is left or the due day is after the last day.
 ///
 /// Fails with `Memory` or a fault of the source. Reads no lot if the account holds no shares that
 /// the trade would close.

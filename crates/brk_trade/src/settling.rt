@@ -19,7 +19,8 @@ use brk_lots::{Closing, Values};
 use brk_money::{Cents, Day, Price, Qty, Rate, Side, Stamp, TaxStatus, Wide, commission};
 use brk_plans::added;
 
-// Returns the value of closed shares as an amount.
+// Returns the value of closed shares, which is within 0 and the greatest value of a trade, as an
+// amount.
 fn amount(value: Wide) -> Amount
     requires low { pos 0 ≤ℤ value }
     requires high { value ≤ℤ pos greatest_value }
@@ -28,8 +29,8 @@ fn amount(value: Wide) -> Amount
     Amount::new(value.get() as u64).unwrap()
 }
 
-// Returns the buy value and the sell value of the closed shares of a quantity. It reads the limit
-// of the quantity for the proof.
+// Returns the buy value and the sell value of the closed shares as amounts. They are at most the
+// value of a trade of `qty` at the greatest price.
 pub(crate) fn values_of(qty: Qty, closing: &Closing) -> Values
     requires bought { (pos 0 ≤ℤ closing.now.buy_value) × (closing.now.buy_value ≤ℤ pos (qty * greatest_price)) }
     requires sold { (pos 0 ≤ℤ closing.now.sell_value) × (closing.now.sell_value ≤ℤ pos (qty * greatest_price)) }
@@ -43,8 +44,8 @@ pub(crate) fn values_of(qty: Qty, closing: &Closing) -> Values
     }
 }
 
-// Returns the commission of a trade, at most the greatest value of a trade. It reads the limits for
-// the proof.
+// Returns the commission of a trade at a price and a rate, in cents, which is at most the greatest
+// value of a trade.
 #[tactic(auto, using(crate::proofs::Bounds::commission_high))]
 pub(crate) fn commission_at(trade: &TradeRow, price: Price, rate: Rate) -> Amount
     ensures value { result ≡ amounts.commission rate trade.now.qty price }
@@ -54,7 +55,8 @@ pub(crate) fn commission_at(trade: &TradeRow, price: Price, rate: Rate) -> Amoun
     commission(rate, trade.qty, price).unsigned_abs()
 }
 
-// Returns the tax on the realised gain of the closed shares, at most the greatest value of a trade.
+// Returns the tax on the realised gain of the closed shares, in cents, which is at most the
+// greatest value of a trade.
 #[tactic(auto, using(crate::proofs::Bounds::tax_at_high))]
 pub(crate) fn tax_upon(found: &ResultFound, values: Values) -> Amount
     requires { values.sell_value ≤ greatest_value }
@@ -65,7 +67,8 @@ pub(crate) fn tax_upon(found: &ResultFound, values: Values) -> Amount
     tax_on(values, found.account.tax_status, found.rates)
 }
 
-// Returns the part of the tax that is withheld from the settlement, in cents.
+// Returns the part of the tax that is withheld from the settlement, in cents: all of it if the tax
+// status withholds it, otherwise 0.
 fn withheld(status: TaxStatus, tax: Amount) -> u64
     ensures { result ≡ (if takes_tax_off status then tax else 0) }
 {
@@ -75,8 +78,7 @@ fn withheld(status: TaxStatus, tax: Amount) -> u64
     }
 }
 
-// Returns the proceeds of shares of this value less what is taken off, in cents. A purchase costs
-// the value.
+// Returns the value, in cents, negated for a purchase, minus `taken_off`.
 fn settled(side: Side, value: u64, taken_off: u64) -> Cents
     requires value { value ≤ greatest_value }
     requires taken_off { taken_off ≤ 3 * greatest_value }
@@ -89,7 +91,8 @@ fn settled(side: Side, value: u64, taken_off: u64) -> Cents
     Cents::new(brought - taken_off as i64).unwrap()
 }
 
-// Returns the settlement amount of the trade, negative if the account pays.
+// Returns the settlement amount of the trade, in cents, below 0 if the account pays: its signed
+// value minus the charge, the commission and the withheld tax.
 pub(crate) fn amount_of(found: &ResultFound, price: Price, commission: Amount, tax: Amount) -> Cents
     requires commission { commission ≤ greatest_value }
     requires tax { tax ≤ greatest_value }
@@ -102,8 +105,8 @@ pub(crate) fn amount_of(found: &ResultFound, price: Price, commission: Amount, t
     settled(trade.kind.side(), value, taken_off)
 }
 
-// Returns the balance of the account after the trade, or `None` if it exceeds the limit. A margin
-// trade leaves it unchanged.
+// Returns the balance of the account plus `amount` after a cash trade, or `None` if it exceeds the
+// limit. A margin trade leaves it unchanged.
 pub(crate) fn balance_after(found: &ResultFound, amount: Cents) -> Option<Cents>
     ensures { MatchOption result
         (found.now.trade.is_cash && nat_lt greatest_amount (nat_abs (spec.balance_with found.now amount)) ≡ true)
@@ -115,7 +118,7 @@ pub(crate) fn balance_after(found: &ResultFound, amount: Cents) -> Option<Cents>
     added(found.account.balance, amount)
 }
 
-// Returns the commission total of the broker after the trade, or `None` if it exceeds the limit.
+// Returns the commissions of the broker plus `commission`, or `None` if they exceed the limit.
 pub(crate) fn commissions_after(broker: BrokerNumbers, commission: Amount) -> Option<Amount>
     ensures { MatchOption result
         (nat_lt greatest_amount (broker.commissions + commission) ≡ true)
@@ -124,8 +127,8 @@ pub(crate) fn commissions_after(broker: BrokerNumbers, commission: Amount) -> Op
     Amount::new(broker.commissions.get() + commission.get())
 }
 
-// Returns the settlement day of a trade that is completed at the stamp, or `None` if it is after
-// the last day.
+// Returns the due day of a trade that is completed at `stamp`, or `None` if it is after the last
+// day of the calendar.
 pub(crate) fn due_day(rule: Option<Day>, stamp: Stamp) -> Option<Day>
     ensures { MatchOption result
         (nat_lt last_day (derived.due_after rule stamp) ≡ true)

@@ -8,14 +8,16 @@ use Rattle.brk_plans.specs.declared.reference.Reference.{Reference}
 use Rattle.brk_plans.specs.declared.reference.Reference.TheVariants as reference
 use Rattle.brk_book_theorems.specs.Reads.{finds_broker, finds_customer, finds_tax_id, finds_account, accounts_of, finds_permission, finds_security, finds_charge, has_overlap, finds_tax_rate, rate_of, pays_tax, rates_of_customer}
 
--- The facts of an account are those in the tables.
+-- The facts `found` about the account `id`, its customer and its broker are true of the tables:
+-- which of the three exist, and how many accounts the customer has.
 pub record IsFoundForAccount (t : Tables) (id customer broker : ℕ) (found : ReferenceFacts) : Type 0 where
   pub same_id : found.same_id ≡ finds_account t id
   pub customer_there : found.customer ≡ finds_customer t customer
   pub broker_there : found.broker ≡ finds_broker t broker
   pub count : found.accounts ≡ accounts_of t customer
 
--- The facts of a customer's tax are those in the tables. The sum of the rates is `None` if it
+-- The facts `found` about a customer's tax are true of the tables: whether the customer exists and
+-- already pays the tax, the tax rate, and the sum of the customer's rates. The sum is `None` if it
 -- exceeds the greatest rate.
 pub record IsFoundForTax (t : Tables) (customer tax : ℕ) (found : ReferenceFacts) : Type 0 where
   pub customer_there : found.customer ≡ finds_customer t customer
@@ -23,8 +25,8 @@ pub record IsFoundForTax (t : Tables) (customer tax : ℕ) (found : ReferenceFac
   pub same_id : found.same_id ≡ pays_tax t customer tax
   pub sum : SomeIff found.rates (rates_of_customer t customer ≤ greatest_tax_rate) (rates_of_customer t customer)
 
--- The facts of a record are those in the tables. It says nothing of facts that the kind of record
--- does not need.
+-- The facts `found` about a record of reference data are true of the tables. Facts that records of
+-- its kind do not need may have any value.
 abbrev pub IsFound : Tables → Reference → ReferenceFacts → Type 0
 IsFound t (reference.Broker broker) found = found.same_id ≡ finds_broker t broker.id
 IsFound t (reference.Customer customer) found = (found.same_id ≡ finds_customer t customer.id) × (found.same_tax_id ≡ finds_tax_id t customer.tax_id)

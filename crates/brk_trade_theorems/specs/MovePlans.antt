@@ -1,5 +1,5 @@
 -- The preconditions of planning a movement or a settlement day: the facts that are read from the
--- tables of a consistent base.
+-- tables of a base.
 use Rattle.std.specs.Prelude.{◌≡◌, ◌≤◌, ◌+◌, ℕ, is_none, nat_le, length, filter, Option, option_map}
 use Rattle.brk_money.specs.Moments.{last_stamp}
 use Rattle.brk_model.specs.Base.{Base}
@@ -14,7 +14,8 @@ use Rattle.brk_book_theorems.specs.TradeReads.{last_move}
 
 -- ---- a movement
 
--- The facts of a movement are those in the tables.
+-- The facts `found` about the movement `m` are true of the tables: the balance of its account,
+-- whether there is room for one movement more, and the next number of a cash row.
 pub record IsFoundForMove (t : Tables) (m : Movement) (found : MoveFound) : Type 0 where
   pub balance : found.balance ≡ option_map (λ r. r.balance) (account_in t m.account)
   -- True if and only if the number of movements reaches the greatest id; movements are the cash rows
@@ -23,8 +24,9 @@ pub record IsFoundForMove (t : Tables) (m : Movement) (found : MoveFound) : Type
   -- The next number follows that of the last cash row.
   pub next : found.next ≡ last_move t + 1
 
--- The base is consistent, the facts of the movement are read from its tables, and the clock reading
--- is within the range of stamps.
+-- The precondition of planning the movement `m`: the base satisfies the books invariant, the facts
+-- `found` and the last stamp are read from its tables, and the clock reading `now` is within the
+-- range of stamps.
 pub record IsReadForMove (base : Base) (m : Movement) (found : MoveFound) (last : Option ℕ) (now : ℕ) : Type 0 where
   pub books : BooksInvariant base
   pub looked_up : IsFoundForMove (sheets base) m found
@@ -33,8 +35,9 @@ pub record IsReadForMove (base : Base) (m : Movement) (found : MoveFound) (last 
 
 -- ---- a settlement day
 
--- The base is consistent, the settlement day is read from its tables (`None` if it is not set), and
--- the clock reading is within the range of stamps.
+-- The precondition of planning a settlement day: the base satisfies the books invariant, the
+-- current settlement day `rule` (`None` if it is not set) and the last stamp are read from its
+-- tables, and the clock reading `now` is within the range of stamps.
 pub record IsReadForOneDay (base : Base) (rule : Option ℕ) (last : Option ℕ) (now : ℕ) : Type 0 where
   pub books : BooksInvariant base
   pub rule_read : rule ≡ (sheets base).rule

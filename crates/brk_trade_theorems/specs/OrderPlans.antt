@@ -22,19 +22,20 @@ use Rattle.brk_book_theorems.specs.OrderReads.{GivesLots, IfCustomer, charge_in,
 
 -- ---- lookups
 
--- The facts of an order's account in its row.
+-- The broker and the tax status of the account in its row.
 abbrev pub order_account : AccountRow → OrderAccount
 order_account r = record { broker = r.broker; tax_status = r.tax_status }
 
 -- ---- facts
 
--- The first `n` checks of the order pass, so more facts are read. The checks are, in order:
--- account, security, executor, charge and band.
+-- The first `n` checks of the order pass. The checks are, in this order: account, security,
+-- executor, charge and band.
 abbrev pub Passes : ℕ → OrderFound → Type 0
 Passes n found = first_refusal (take n (order_fact_tests found)) ≡ None
 
--- The facts of an estimate are those in the tables. A clause is vacuous if an earlier check fails,
--- since its fact is not needed then.
+-- The facts `found` about the order are true of the tables. A clause is vacuous if one of the
+-- checks that it names fails, since the fact is not read then. A clause about the customer, the
+-- account or the security is also vacuous if this does not exist.
 pub record IsFoundForEstimate (t : Tables) (order : Order) (found : OrderFound) : Type 0 where
   pub account : found.account ≡ option_map order_account (account_in t order.account)
   pub last_price : Passes 1 found → found.last_price ≡ last_price_in t order.symbol
@@ -54,21 +55,24 @@ pub record IsFoundForEstimate (t : Tables) (order : Order) (found : OrderFound) 
   -- The summary is that of the account in the symbol.
   pub summary : Passes 5 found → found.summary ≡ option_map (λ r. r.qty) (summary_in t order.account order.symbol)
 
--- The facts of an order are those of its estimate, and the number of the last trade.
+-- The facts `found` about the order are true of the tables, as for an estimate, and so is the
+-- number of the last trade. That number is arbitrary if one of the five checks fails.
 pub record IsFoundForOrder (t : Tables) (order : Order) (found : OrderFound) : Type 0 where
   pub estimate : IsFoundForEstimate t order found
   pub last_trade : Passes 5 found → found.last_trade ≡ last_trade_id_in t
 
 -- ---- lots
 
--- The lots that are given for the order are those of its account and symbol from the order's end.
+-- The lots of the order's account and symbol satisfy `given`. They are listed from the oldest on,
+-- or from the newest on if the order closes last in, first out.
 abbrev pub AreLots : Tables → Order → (List Lot → Type 0) → Type 0
 AreLots t order given = GivesLots t order.account order.symbol order.is_lifo given
 
 -- ---- an order
 
--- The base is consistent, the facts of the order are read from its tables, and the clock reading is
--- within the range of stamps.
+-- The precondition of planning the order: the base satisfies the books invariant, the facts `found`
+-- and the last stamp are read from its tables, and the clock reading `now` is within the range of
+-- stamps.
 pub record IsReadForPlan (base : Base) (order : Order) (found : OrderFound) (last : Option ℕ) (now : ℕ) : Type 0 where
   pub books : BooksInvariant base
   pub looked_up : IsFoundForOrder (sheets base) order found

@@ -15,16 +15,18 @@ use Rattle.brk_plans.specs.Replies.{reply_of}
 use Rattle.brk_trade_theorems.specs.Found.{IsFound}
 use Rattle.brk_book_theorems.specs.Steps.{base_then}
 
--- The base is consistent, the facts of the record are read from its tables, and the clock reading
--- is within the range of stamps.
+-- The precondition of planning a record of reference data: the base satisfies the books invariant,
+-- the facts `found` and the last stamp are read from its tables, and the clock reading `now` is
+-- within the range of stamps.
 pub record IsRead (base : Base) (reference : Reference) (found : ReferenceFacts) (last : Option ℕ) (now : ℕ) : Type 0 where
   pub books : BooksInvariant base
   pub looked_up : IsFound (sheets base) reference found
   pub last_read : last ≡ (sheets base).last
   pub moment : now ≤ last_stamp
 
--- The plan implements the command: the command is accepted with the plan's reply, the plan's
--- changes lead to the tables after it, and the base after it is consistent.
+-- The plan implements the command: the command is accepted with the reply of the plan, the row
+-- changes of the plan lead from the tables before it to the tables after it, and the base after it
+-- satisfies the books invariant.
 pub record DoesCommand (base : Base) (now : ℕ) (command : Command) (plan : Plan) : Type 0 where
   pub steps : step base now command ≡ Ok (reply_of plan.reply, base_then base now command)
   pub rows : sheets (base_then base now command) ≡ after_changes plan.changes.items (sheets base)

@@ -19,17 +19,17 @@ use Rattle.brk_book_theorems.specs.TradeReads.{band_in, last_move, summary_in}
 
 -- ---- facts
 
--- The first `n` checks of the result pass, so more facts are read. The checks are, in order:
--- status, band and summary.
+-- The first `n` checks of the result pass. The checks are, in this order: status, band and summary.
 abbrev pub PassesFirst : ℕ → ResultFound → Type 0
 PassesFirst n found = first_refusal (take n (first_tests found)) ≡ None
 
--- The facts of a result's account in its row.
+-- The broker, the tax status and the balance of the account in its row.
 abbrev pub result_account : AccountRow → ResultAccount
 result_account r = record { broker = r.broker; tax_status = r.tax_status; balance = r.balance }
 
--- The facts of a result are those in the tables. A clause is vacuous if an earlier check fails,
--- since its fact is not needed then.
+-- The facts `found` about the result are true of the tables. A clause is vacuous if one of the
+-- checks that it names fails, since the fact is not read then. A clause about the customer, the
+-- account, the broker or the security is also vacuous if this does not exist.
 pub record IsFoundForResult (t : Tables) (found : ResultFound) : Type 0 where
   -- The rate is that of the band of the quantity, by the customer's tier and the security's
   -- exchange.
@@ -53,16 +53,17 @@ pub record IsFoundForResult (t : Tables) (found : ResultFound) : Type 0 where
 
 -- ---- lots
 
--- The lots that are given for the result are those of the account and the symbol of its trade from
--- the trade's end.
+-- The lots of the trade's account and symbol satisfy `given`. They are listed from the oldest on,
+-- or from the newest on if the trade closes last in, first out.
 abbrev pub AreLotsOfTrade : Tables → TradeRow → (List Lot → Type 0) → Type 0
 AreLotsOfTrade t trade given = GivesLots t trade.account trade.symbol trade.is_lifo given
 
 -- ---- a result
 
--- The base is consistent, the trade and its facts are read from its tables, and the clock reading
--- is within the range of stamps. The given lots are those of the trade if it is submitted, and its
--- quantity is above 0.
+-- The precondition of planning the result of the trade `id`: the base satisfies the books
+-- invariant, the trade, its facts and the last stamp are read from its tables, and the clock
+-- reading `now` is within the range of stamps. If the trade is submitted, `given` holds of its
+-- lots. The quantity of the trade is above 0.
 pub record IsReadForResult (base : Base) (id : ℕ) (found : Option ResultFound) (given : List Lot → Type 0) (last : Option ℕ) (now : ℕ) : Type 0 where
   pub books : BooksInvariant base
   pub trade_read : trade_in (sheets base) id ≡ option_map (λ f. trade_row_of f.trade) found

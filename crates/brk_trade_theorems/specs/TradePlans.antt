@@ -1,5 +1,5 @@
 -- The preconditions of planning a cancel or a feed: the facts that are read from the tables of a
--- consistent base.
+-- base.
 use Rattle.std.specs.Prelude.{◌≡◌, ◌≤◌, ⊤, ℕ, Bool, true, false, is_some, nat_le, List, [], ◌∷◌, filter, map, Option, Some, option_map}
 use Rattle.std.specs.List.{AllByRecursion, Contains, list_any}
 use Rattle.std.specs.List.Sorted.{IsNonDecreasingBy, IsPermutation}
@@ -22,8 +22,9 @@ use Rattle.brk_book_theorems.specs.TradeReads.{last_trade_in, requests_of}
 
 -- ---- a cancel
 
--- The base is consistent, the status of the trade is read from its tables (`None` if the trade does
--- not exist), and the clock reading is within the range of stamps.
+-- The precondition of planning a cancel of the trade `id`: the base satisfies the books invariant,
+-- the status of the trade (`None` if it does not exist) and the last stamp are read from its
+-- tables, and the clock reading `now` is within the range of stamps.
 pub record IsReadForCancel (base : Base) (id : ℕ) (found : Option Status) (last : Option ℕ) (now : ℕ) : Type 0 where
   pub books : BooksInvariant base
   pub status_read : found ≡ option_map (λ r. r.status) (trade_in (sheets base) id)
@@ -32,8 +33,8 @@ pub record IsReadForCancel (base : Base) (id : ℕ) (found : Option Status) (las
 
 -- ---- a feed
 
--- True if some price within the span can trigger a bid: the lowest price for a stop loss or a limit
--- buy, the highest for a limit sell.
+-- True if a price of the span can trigger the bid. A stop loss and a limit buy are triggered by the
+-- lowest price if by any, a limit sell by the highest. Market types are never triggered.
 abbrev pub may_trigger : Span → TradeType → ℕ → Bool
 may_trigger span StopLoss bid = nat_le span.lowest bid
 may_trigger span LimitSell bid = nat_le bid span.highest
@@ -41,38 +42,40 @@ may_trigger span LimitBuy bid = nat_le span.lowest bid
 may_trigger span MarketBuy bid = false
 may_trigger span MarketSell bid = false
 
--- The quote of the tick has the last trade of its symbol in the tables. Its requests are exactly
--- those that the lowest or the highest price of the symbol's ticks can trigger, sorted by trade.
+-- The quote has the row of LAST_TRADE of the tick's symbol in the tables. Its requests are exactly
+-- the symbol's requests that a price of the symbol's ticks can trigger, sorted by trade.
 pub record IsQuote (t : Tables) (tick : Tick) (ticks : List Tick) (quote : SymbolState) : Type 0 where
   pub symbol : quote.last.symbol ≡ tick.symbol
   pub last_trade : last_trade_in t tick.symbol ≡ Some (last_trade_of quote.last)
   pub requests : IsPermutation (filter (λ r. may_trigger (span_of tick ticks) r.kind r.bid) (requests_of t tick.symbol)) (map request_row_of quote.requests)
   pub order : IsNonDecreasingBy (λ (r : request.RequestRow). r.trade) quote.requests
 
--- The quote is that of one of the ticks.
+-- The quote satisfies `IsQuote` for one of the ticks.
 pub record IsQuoteOfOne (t : Tables) (ticks : List Tick) (quote : SymbolState) : Type 0 where
   pub tick : Tick
   pub among : Contains ticks tick
   pub is : IsQuote t tick ticks quote
 
--- No two quotes are of one symbol.
+-- No two quotes of the list have the same symbol.
 abbrev pub DistinctQuotes : List SymbolState → Type 0
 DistinctQuotes [] = ⊤
 DistinctQuotes (quote ∷ quotes) = AllByRecursion (λ other. is_of quote.last.symbol other ≡ false) quotes × DistinctQuotes quotes
 
--- If the symbol of the tick has a last trade, one of the quotes is of it.
+-- If the symbol of the tick has a row of LAST_TRADE, one of the quotes has this symbol. Vacuous
+-- otherwise.
 abbrev pub IsQuoted : Tables → List SymbolState → Tick → Type 0
 IsQuoted t quotes tick = is_some (last_trade_in t tick.symbol) ≡ true → list_any (is_of tick.symbol) quotes ≡ true
 
--- The quotes are those of ticks of the feed `all`, read from the tables, one for each symbol of
--- `ticks` that has a last trade. No two are of one symbol.
+-- Each quote satisfies `IsQuote` for a tick of the feed `all`, no two quotes have the same symbol,
+-- and each symbol of `ticks` with a row of LAST_TRADE has a quote.
 pub record AreQuotes (t : Tables) (all ticks : List Tick) (quotes : List SymbolState) : Type 0 where
   pub read : AllByRecursion (IsQuoteOfOne t all) quotes
   pub apart : DistinctQuotes quotes
   pub quoted : AllByRecursion (IsQuoted t quotes) ticks
 
--- The base is consistent, the quotes of the ticks are read from its tables, and the clock reading
--- is within the range of stamps.
+-- The precondition of planning a feed: the base satisfies the books invariant, the quotes of the
+-- ticks and the last stamp are read from its tables, and the clock reading `now` is within the
+-- range of stamps.
 pub record IsReadForFeed (base : Base) (ticks : List Tick) (quotes : List SymbolState) (last : Option ℕ) (now : ℕ) : Type 0 where
   pub books : BooksInvariant base
   pub quotes_read : AreQuotes (sheets base) ticks ticks quotes

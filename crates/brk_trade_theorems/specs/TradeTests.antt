@@ -13,15 +13,16 @@ use Rattle.brk_book_theorems.specs.Ticks.{exceeds_volume, is_unknown}
 
 -- ---- a cancel
 
--- The checks of a cancel against the row of its trade, the last stamp and the clock reading.
+-- The checks of a cancel, in order: the trade exists, it is pending, and a stamp after the last
+-- stamp is within the range.
 abbrev pub cancel_row_tests : Option TradeRow → Option ℕ → ℕ → List Test
 cancel_row_tests None last now = (true, NoTrade) ∷ clock_test last now ∷ []
 cancel_row_tests (Some r) last now = (not (same_status r.status Pending), WrongStatus r.status) ∷ clock_test last now ∷ []
 
 -- ---- a feed
 
--- The checks of a feed against the last trades of its symbols, the last stamp and the clock
--- reading.
+-- The checks of a feed, in order: each symbol has a row of LAST_TRADE, no volume exceeds the limit,
+-- and a stamp after the last stamp is within the range.
 abbrev pub feed_row_tests : Tables → List Tick → Option ℕ → ℕ → List Test
 feed_row_tests t ticks last now =
     (list_any (is_unknown t) ticks, NoSecurity) ∷ (list_any (exceeds_volume t ticks) ticks, Range limit.Volume) ∷ clock_test last now ∷ []

@@ -16,8 +16,8 @@ ghost use Rattle.brk_plans.specs.declared.plan.Plan.{Plan};
 ghost use Rattle.brk_trade_theorems.specs.MovePlans.{IsReadForMove, IsReadForOneDay};
 ghost use Rattle.brk_trade_theorems.specs.Plans.{DoesCommand};
 
-/// Proves that the checks of a movement against its facts refuse it as the base does, and that its
-/// plan implements the command.
+/// Proves that the checks of a movement against facts that were read refuse it exactly as the model
+/// does, and that its plan implements the command.
 pub fn move_plans_do_commands()
     ensures first { (base : Base) (m : Movement) (found : MoveFound) (last : Option ℕ) (now : ℕ) → IsReadForMove base m found last now
         → first_refusal (move_tests m found ++ clock_test last now ∷ []) ≡ refusal_of base now (movement_of m) }
@@ -27,8 +27,8 @@ pub fn move_plans_do_commands()
         → IsMove m found last now plan → DoesCommand base now (movement_of m) plan }
 {}
 
-/// Proves that the checks of a settlement day against its facts refuse it as the base does, and
-/// that its plan implements the command.
+/// Proves that the checks of a settlement day against facts that were read refuse it exactly as the
+/// model does, and that its plan implements the command.
 pub fn one_day_plans_do_commands()
     ensures first { (base : Base) (day : ℕ) (rule last : Option ℕ) (now : ℕ) → IsReadForOneDay base rule last now
         → first_refusal (one_day_tests day rule last now) ≡ refusal_of base now (SetOneDay day) }

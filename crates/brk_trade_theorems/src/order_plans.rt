@@ -27,15 +27,16 @@ ghost use Rattle.brk_book_theorems.specs.Books.{BooksInvariant};
 ghost use Rattle.brk_trade_theorems.specs.OrderPlans.{AreLots, IsFoundForEstimate, IsReadForPlan};
 ghost use Rattle.brk_trade_theorems.specs.Plans.{DoesCommand};
 
-/// Proves that the facts of an order that passes its checks give the terms that the base has for
-/// it.
+/// Proves that the terms of an order that are computed from facts of the tables are the terms that
+/// the base has for the order, if the order passes its checks and the base satisfies the books
+/// invariant.
 pub fn terms_follow_from_the_tables()
     ensures { (base : Base) (order : Order) (found : OrderFound) → BooksInvariant base → IsFoundForEstimate (sheets base) order found
         → first_refusal (order_fact_tests found) ≡ None → AreTerms base (order_of order) (terms_of order found) }
 {}
 
-/// Proves that the checks of an order against its facts refuse it as the base does, and that its
-/// plan implements the command.
+/// Proves that the checks of an order against facts that were read refuse it exactly as the model
+/// does, and that its plan implements the command.
 pub fn order_plans_do_commands()
     ensures first { (base : Base) (order : Order) (found : OrderFound) (last : Option ℕ) (now : ℕ) → IsReadForPlan base order found last now
         → first_refusal (order_fact_tests found ++ trades_test found.last_trade ∷ clock_test last now ∷ []) ≡ refusal_of base now (PlaceOrder (order_of order)) }
@@ -46,8 +47,9 @@ pub fn order_plans_do_commands()
         → AreLots (sheets base) order (Exactly lots) → IsOrdered order found (Exactly lots) last now plan → DoesCommand base now (PlaceOrder (order_of order)) plan }
 {}
 
-/// Proves that an estimate is refused only as the base refuses its query. Otherwise it equals the
-/// model's estimate, and its fields are the view of the query.
+/// Proves that a refusal of an estimate is the refusal of its query in the model, and that an
+/// estimate equals the model's, so that its fields are the view of the query. The base satisfies
+/// the books invariant.
 pub fn estimate_plans_answer_queries()
     ensures refused { (base : Base) (order : Order) (found : OrderFound) (refusal : Refusal) → BooksInvariant base → IsFoundForEstimate (sheets base) order found
         → first_refusal (order_fact_tests found) ≡ Some refusal → ask base (EstimateOf (order_of order)) ≡ Err refusal }

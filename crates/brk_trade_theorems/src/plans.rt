@@ -12,7 +12,8 @@ ghost use Rattle.brk_plans.specs.declared.reference.Reference.{Reference};
 ghost use Rattle.brk_plans.specs.Commands.{adding_command};
 ghost use Rattle.brk_trade_theorems.specs.Plans.{DoesCommand, IsRead};
 
-/// Proves that the checks of a record against its facts refuse it as the base does.
+/// Proves that the checks of a record of reference data against facts that were read refuse it
+/// exactly as the model does.
 pub fn refusals_follow_from_the_tables()
     ensures first { (base : Base) (reference : Reference) (found : ReferenceFacts) (last : Option ℕ) (now : ℕ) → IsRead base reference found last now
         → first_refusal (tests_of reference found ++ clock_test last now ∷ []) ≡ refusal_of base now (adding_command reference) }
@@ -20,7 +21,7 @@ pub fn refusals_follow_from_the_tables()
         → first_refusal (tests_of reference found ++ clock_test last now ∷ []) ≡ Some refusal → step base now (adding_command reference) ≡ Err refusal }
 {}
 
-/// Proves that the plan of a record implements its command.
+/// Proves that the plan of a record of reference data implements its command.
 pub fn plans_do_commands()
     ensures { (base : Base) (reference : Reference) (found : ReferenceFacts) (last : Option ℕ) (now : ℕ) (plan : Plan) → IsRead base reference found last now
         → IsPlanned reference found last now plan → DoesCommand base now (adding_command reference) plan }

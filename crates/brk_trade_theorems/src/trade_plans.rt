@@ -25,8 +25,8 @@ ghost use Rattle.brk_trade_theorems.specs.ResultPlans.{IsReadForResult};
 ghost use Rattle.brk_trade_theorems.specs.TradePlans.{AreQuotes, IsQuote, IsReadForCancel, IsReadForFeed};
 ghost use Rattle.brk_book_theorems.specs.TradeReads.{last_trade_in};
 
-/// Proves that the checks of a cancel against the status of its trade refuse it as the base does,
-/// and that its plan implements the command.
+/// Proves that the checks of a cancel against the status of its trade refuse it exactly as the
+/// model does, and that its plan implements the command.
 pub fn cancel_plans_do_commands()
     ensures first { (base : Base) (id : ℕ) (found : Option Status) (last : Option ℕ) (now : ℕ) → IsReadForCancel base id found last now
         → first_refusal (cancel_tests found ++ clock_test last now ∷ []) ≡ refusal_of base now (CancelTrade id) }
@@ -36,8 +36,8 @@ pub fn cancel_plans_do_commands()
         → IsCancel id found last now plan → DoesCommand base now (CancelTrade id) plan }
 {}
 
-/// Proves that the checks of a feed against its quotes, at any stamp, refuse it as the base does,
-/// and that its plan implements the command.
+/// Proves that the checks of a feed against its quotes, at any stamp, refuse it exactly as the
+/// model does, and that its plan implements the command.
 pub fn feed_plans_do_commands()
     ensures first { (base : Base) (stamp : ℕ) (ticks : List Tick) (quotes : List SymbolState) (last : Option ℕ) (now : ℕ) → IsReadForFeed base ticks quotes last now
         → first_refusal (feed_tests stamp ticks quotes ++ clock_test last now ∷ []) ≡ refusal_of base now (FeedTicks (ticks_of ticks)) }
@@ -48,7 +48,8 @@ pub fn feed_plans_do_commands()
 {}
 
 /// Proves that the quotes of a feed can be read tick by tick. A tick whose symbol has a quote needs
-/// no read, one whose symbol has no last trade adds no quote, and any other adds one.
+/// no read, a tick whose symbol has no row of LAST_TRADE adds no quote, and any other tick adds
+/// one.
 pub fn quotes_are_read_tick_by_tick()
     ensures none { (t : Tables) (all : List Tick) → AreQuotes t all [] [] }
     ensures again { (t : Tables) (all ticks : List Tick) (tick : Tick) (quotes : List Quote) → AreQuotes t all ticks (held quotes)
@@ -60,7 +61,7 @@ pub fn quotes_are_read_tick_by_tick()
         → AreQuotes t all (ticks ++ tick ∷ []) (held (quotes ++ quote ∷ [])) }
 {}
 
-/// Proves that a result is refused only as the base refuses it, and that its plan implements the
+/// Proves that a refusal of a result is the refusal of the model, and that its plan implements the
 /// command.
 pub fn result_plans_do_commands()
     ensures refused { (base : Base) (id price : ℕ) (found : Option ResultFound) (lots : List Lot) (last : Option ℕ) (now : ℕ) (refusal : Refusal)

@@ -19,13 +19,14 @@ ghost use Rattle.brk_trade_theorems.specs.TradeTests.{cancel_row_tests, feed_row
 ghost use Rattle.brk_book_theorems.specs.Ticks.{qty_fed};
 ghost use Rattle.brk_book_theorems.specs.Trading.{cancel_rows, fed_trades, feed_rows};
 
-/// Proves that the step of a refused command returns its refusal.
+/// Proves that the model's step of a refused command returns the refusal of its first failed check.
 pub fn refused_commands_step_to_refusals()
     ensures { (base : Base) (now : ℕ) (command : Command) (refusal : Refusal) → refusal_of base now command ≡ Some refusal → step base now command ≡ Err refusal }
 {}
 
-/// Proves that the checks of a cancel against the row of its trade refuse it as the base does. If
-/// they pass, its row changes implement the command.
+/// Proves that the checks of a cancel against the row of its trade refuse it exactly as the model
+/// does, and that its row changes implement the command if they pass. The base satisfies the books
+/// invariant.
 pub fn cancels_follow_from_the_tables()
     ensures first { (base : Base) (now id : ℕ) → BooksInvariant base → now ≤ last_stamp
         → first_refusal (cancel_row_tests (trade_in (sheets base) id) (sheets base).last now) ≡ refusal_of base now (CancelTrade id) }
@@ -34,9 +35,9 @@ pub fn cancels_follow_from_the_tables()
         → IsStepDone base now (CancelTrade id) stamp (CanceledTrade stamp) (cancel_rows stamp id) }
 {}
 
-/// Proves that the checks of a feed against the last trades of its symbols refuse it as the base
-/// does. If they pass, its row changes implement the command, with the trades that it triggers in
-/// the reply.
+/// Proves that the checks of a feed against the last trades of its symbols refuse it exactly as the
+/// model does. If they pass, its row changes implement the command, and the reply lists the trades
+/// that it triggers. The base satisfies the books invariant.
 pub fn feeds_follow_from_the_tables()
     ensures first { (base : Base) (now : ℕ) (ticks : List Tick) → BooksInvariant base → now ≤ last_stamp
         → first_refusal (feed_row_tests (sheets base) ticks (sheets base).last now) ≡ refusal_of base now (FeedTicks ticks) }
@@ -45,8 +46,8 @@ pub fn feeds_follow_from_the_tables()
         → IsStepDone base now (FeedTicks ticks) stamp (Ticked stamp (fed_trades stamp ticks (sheets base))) (feed_rows stamp ticks) }
 {}
 
-/// Proves that a feed of known symbols adds to the volume of a symbol the total quantity of its
-/// ticks.
+/// Proves that a feed of existing symbols adds the quantities of a symbol's ticks to the volume of
+/// that symbol, if the base satisfies the books invariant.
 pub fn feeds_let_volumes_grow()
     ensures { (base : Base) (stamp : ℕ) (ticks : List Tick) (symbol : Text) → BooksInvariant base
         → AllByRecursion (λ tick. is_some (security_with base tick.symbol) ≡ true) ticks → is_some (security_with base symbol) ≡ true

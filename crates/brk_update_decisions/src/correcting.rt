@@ -16,7 +16,7 @@ use sqlite::Alter;
 use std::alloc::Global;
 
 // Returns the trades that an update changes, or `None` if a trade, account or security that it
-// names does not exist.
+// names does not exist. Changes nothing. Fails with `Memory` or `Store` only.
 fn find<S: Alter>(
     alloc: Global,
     store: &mut Store<S>,

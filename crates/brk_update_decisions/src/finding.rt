@@ -18,7 +18,8 @@ use brk_trade::{CashText, SettlementText, TextUpdate};
 use sqlite::Alter;
 use std::alloc::Global;
 
-// Returns the selected trades of an account, each with the cash type of its settlement.
+// Returns the selected trades of an account, each with the cash type of its settlement. Changes
+// nothing. Fails with `Memory` or `Store` only.
 fn find_settled<S: Alter>(
     alloc: Global,
     store: &mut Store<S>,
@@ -41,7 +42,8 @@ fn find_settled<S: Alter>(
     Ok(settled)
 }
 
-// Returns the selected cash trades of a symbol, each with the name of its cash row.
+// Returns the selected cash trades of a symbol, each with the name of its cash row. Changes
+// nothing. Fails with `Memory` or `Store` only.
 fn find_paid<S: Alter>(
     alloc: Global,
     store: &mut Store<S>,
@@ -65,7 +67,8 @@ fn find_paid<S: Alter>(
     Ok(paid)
 }
 
-// Returns the trades of an update of executors, or `None` if one of them does not exist.
+// Returns the trades of an update of executors, or `None` if one of them does not exist. Changes
+// nothing. Fails with `Memory` or `Store` only.
 pub(crate) fn find_executors<S: Alter>(
     alloc: Global,
     store: &mut Store<S>,
@@ -80,7 +83,7 @@ pub(crate) fn find_executors<S: Alter>(
     }
 }
 
-// Returns true if the account exists.
+// Returns true if the account exists. Changes nothing. Fails with `Memory` or `Store` only.
 fn is_account_there<S: Alter>(store: &mut Store<S>, account: Id) -> Result<bool, Fault>
     ensures read { ReadPost S.Store store.old store.new result (λ there t. there ≡ is_some (account_in t account)) }
     ensures fault { IfErr result MayFail }
@@ -88,7 +91,8 @@ fn is_account_there<S: Alter>(store: &mut Store<S>, account: Id) -> Result<bool,
     Ok(store.account(account)?.is_some())
 }
 
-// Returns the trades of an update of cash types, or `None` if the account does not exist.
+// Returns the trades of an update of cash types, or `None` if the account does not exist. Changes
+// nothing. Fails with `Memory` or `Store` only.
 pub(crate) fn find_cash_types<S: Alter>(
     alloc: Global,
     store: &mut Store<S>,
@@ -105,7 +109,8 @@ pub(crate) fn find_cash_types<S: Alter>(
     Ok(Some(TextUpdate::CashTypes(settled)))
 }
 
-// Returns the name of the security with a symbol, or `None` if the security does not exist.
+// Returns the name of the security with a symbol, or `None` if the security does not exist. Changes
+// nothing. Fails with `Memory` or `Store` only.
 fn name_of<S: Alter>(store: &mut Store<S>, symbol: &Symbol) -> Result<Option<Name>, Fault>
     ensures read { ReadPost S.Store store.old store.new result (λ name t. MatchOption name (is_none (security_in t symbol.now) ≡ true) (IsNamed t symbol.now)) }
     ensures fault { IfErr result MayFail }
@@ -116,7 +121,8 @@ fn name_of<S: Alter>(store: &mut Store<S>, symbol: &Symbol) -> Result<Option<Nam
     }
 }
 
-// Returns the trades of an update of cash names, or `None` if the security does not exist.
+// Returns the trades of an update of cash names, or `None` if the security does not exist. Changes
+// nothing. Fails with `Memory` or `Store` only.
 pub(crate) fn find_cash_names<S: Alter>(
     alloc: Global,
     store: &mut Store<S>,

@@ -11,7 +11,8 @@ use brk_store::Store;
 use brk_trade::CashType;
 use sqlite::Alter;
 
-// Returns the cash type of a trade's settlement. Fails with `Store` if the trade has none.
+// Returns the cash type of a trade's settlement. Changes nothing. Fails with `Memory` or `Store`
+// only; with `Store` also if the trade has none.
 pub(crate) fn known_cash_type<S: Alter>(store: &mut Store<S>, trade: Id) -> Result<CashType, Fault>
     ensures read { ReadPost S.Store store.old store.new result (λ cash_type t. Some (cash_type_word cash_type) ≡ option_map (λ s. s.cash_type) (settlement_in t trade)) }
     ensures fault { IfErr result MayFail }
@@ -22,7 +23,8 @@ pub(crate) fn known_cash_type<S: Alter>(store: &mut Store<S>, trade: Id) -> Resu
     }
 }
 
-// Returns the name of a trade's cash row (CM_NAME). Fails with `Store` if the trade has none.
+// Returns the name of a trade's cash row (CM_NAME). Changes nothing. Fails with `Memory` or `Store`
+// only; with `Store` also if the trade has none.
 pub(crate) fn known_cash_name<S: Alter>(store: &mut Store<S>, trade: Id) -> Result<String, Fault>
     ensures read { ReadPost S.Store store.old store.new result (λ name t. Some (string_bytes name) ≡ option_map (λ c. c.name) (cash_row_of_trade t trade)) }
     ensures fault { IfErr result MayFail }

@@ -16,8 +16,8 @@ ghost use Rattle.brk_plans.specs.declared.plan.Plan.{Plan};
 ghost use Rattle.brk_trade_theorems.specs.Plans.{DoesCommand};
 ghost use Rattle.brk_update_theorems.specs.Corrections.{ChangesNamesAlone, ChangesTextsAlone, ChangesWordsAlone, IsReadForUpdate};
 
-/// Proves that the checks of an update against its facts refuse it as the base does, and that its
-/// plan implements the command.
+/// Proves that the checks of a text update against facts that were read refuse it exactly as the
+/// model does, and that its plan implements the command.
 pub fn corrections_do_commands()
     ensures first { (base : Base) (update : Update) (found : Option TextUpdate) (last : Option ℕ) (now : ℕ) → IsReadForUpdate base update found last now
         → first_refusal (update_tests update found ++ clock_test last now ∷ []) ≡ refusal_of base now (update_of update) }
@@ -27,8 +27,8 @@ pub fn corrections_do_commands()
         → IsUpdate found last now plan → DoesCommand base now (update_of update) plan }
 {}
 
-/// Proves that an update changes one text column of one table, and the last stamp: executors'
-/// names, settlement texts or cash texts. All other rows and columns are unchanged.
+/// Proves that a text update changes only one text column of one table and the last stamp. The
+/// column is the executor name of TRADE, the text of SETTLEMENT or the text of CASH_MOVE.
 pub fn corrections_change_words_alone()
     ensures executors { (base : Base) (now : ℕ) (ids : List ℕ) → ChangesNamesAlone base now (ChangeExecutors ids) }
     ensures cash_types { (base : Base) (now account first last : ℕ) → ChangesWordsAlone base now (ChangeCashTypes account first last) }

@@ -6,28 +6,29 @@ use Rattle.brk_money.specs.Spelling.{Text}
 use Rattle.brk_model.specs.Forms.{Read}
 use Rattle.brk_model.specs.Lists.{distinct_texts}
 
--- True if the name is one of `names`.
+-- True if `name` is one of `names`.
 abbrev pub is_named : List Text → Text → Bool
 is_named names name = list_any (bytes_eq name) names
 
--- The names, with `name` added at the end if it is not one of them.
+-- The list `names`, with `name` added at its end if it is not one of them.
 abbrev pub with_name : List Text → Text → List Text
 with_name names name = if is_named names name then names else names ++ name ∷ []
 
--- The names of `more` without duplicates, except those in `names`.
+-- The names in `more`, without duplicates, that are not in `names`.
 abbrev pub other_names : List Text → List Text → List Text
 other_names names more = filter (λ name. not (is_named names name)) (distinct_texts more)
 
--- The names taken so far, then the other names that are read after them, or the refusal.
+-- The list `names` followed by those parsed names that are not in it, without duplicates, or the
+-- refusal of parsing.
 abbrev pub names_then : List Text → Read (List Text) → Read (List Text)
 names_then names (Ok more) = Ok (names ++ other_names names more)
 names_then names (Err refusal) = Err refusal
 
--- The names that are read, without duplicates, or the refusal.
+-- The parsed names, each at its first position only, or the refusal of parsing.
 abbrev pub each_once : Read (List Text) → Read (List Text)
 each_once (Ok names) = Ok (distinct_texts names)
 each_once (Err refusal) = Err refusal
 
--- The names taken so far.
+-- The names in the vector `names`.
 abbrev pub names_in : Vec Text → List Text
 names_in names = names.items

@@ -14,17 +14,19 @@ use Rattle.brk_view.specs.Status.{status_rows, status_rows_in}
 use Rattle.brk_view.specs.declared.view.View.{View}
 use Rattle.brk_view.specs.declared.view.View.TheVariants as view
 
--- The rows of the first 20 trades that pass `test`, the oldest first.
+-- The first twenty trades that pass `test`, the oldest first, each with its settlement, cash row
+-- and statuses in the tables `t`.
 abbrev pub first_lookups : Tables → (TradeRow → Bool) → List LookedUpRows
 first_lookups t test = map (lookup_rows t) (take 20 (oldest_first_rows (filter test t.trades)))
 
--- The rows of the last 50 trades of an account, with their securities, the most recent first.
+-- The last fifty trades of `account`, the most recent first, each with its security in the tables
+-- `t`.
 abbrev pub last_statuses : Tables → ℕ → List (TradeRow × Option SecurityRow)
 last_statuses t account = map (status_rows_in t) (take 50 (recent_first (trades_in t account)))
 
--- The view has the variant of the query. Its trades, with the rows beside them, and its changes of
--- lots are those that the query selects from the tables `t`, in all columns. Says no more of a view
--- each of whose fields is shown by a text.
+-- The view has the variant of the query, and its rows of trades and of lot changes are, in all
+-- columns, those that the query selects from the tables `t`. Nothing more is said of a view of
+-- accounts, submitted trades, an estimate or volumes, whose records show every value.
 abbrev pub CarriesRows : Query → View → Tables → Type 0
 CarriesRows (PositionOf customer) (view.Position accounts) t = Unit {0}
 CarriesRows (PositionOfTaxId tax_id) (view.Position accounts) t = Unit {0}

@@ -18,43 +18,43 @@ use Rattle.brk_money.specs.Spelling.{Text}
 use Rattle.brk_view.specs.declared.lookups.LookedUp.{LookedUp}
 use Rattle.brk_view.specs.declared.lookups.StatusMoment.{StatusMoment}
 
--- True if status `a` has the smaller stamp.
+-- True if the status `a` has a smaller stamp than the status `b`.
 abbrev pub older_moment : StatusMoment → StatusMoment → Bool
 older_moment a b = nat_lt a.stamp b.stamp
 
--- True if trade `a` is before trade `b`: sorted by the stamp of the last status, then by id,
--- ascending.
+-- True if the trade `a` has a smaller stamp than the trade `b`, or the same stamp and a smaller id.
 abbrev pub older : TradeRow → TradeRow → Bool
 older a b = rising a.stamp b.stamp a.id b.id
 
--- The status and the stamp of a history row, without its trade.
+-- The stamp and the status of the typed TRADE_HISTORY row `r`.
 abbrev pub status_moment : HistoryRow → StatusMoment
 status_moment r = record { stamp = r.stamp; status = r.status }
 
--- The record of a status of a trade: the word `history`, its stamp and its code.
+-- The record of the status `m` of a trade: the word `history`, its stamp and its code.
 abbrev pub moment_record : StatusMoment → List Text
 moment_record m = codes "history" ∷ decimal m.stamp ∷ status_code m.status ∷ []
 
--- The fields of a trade from the word `trade` to its type, the first five of fifteen.
+-- The first five of the fifteen fields of the trade `t`: the word `trade`, its id, stamp, status
+-- and type.
 abbrev pub state_fields : tables.TradeRow → List Text
 state_fields t = codes "trade" ∷ decimal t.id ∷ decimal t.stamp ∷ status_code t.status ∷ type_code t.kind ∷ []
 
--- The fields of a trade from its symbol to its executor, the next four.
+-- The fields 6 to 9 of the trade `t`: its symbol, quantity, bid price and executor.
 abbrev pub order_fields_of : tables.TradeRow → List Text
 order_fields_of t = t.symbol ∷ decimal t.qty ∷ price_text t.bid ∷ t.executor ∷ []
 
--- The fields of a trade from its price to its tax, the next four. The field of the price is empty
--- if the trade was not completed.
+-- The fields 10 to 13 of the trade `t`: its price, which is empty if it is not completed, charge,
+-- commission and tax.
 abbrev pub cost_fields : tables.TradeRow → List Text
 cost_fields t = option_map_or price_text t.price [] ∷ price_text t.charge ∷ price_text t.commission ∷ price_text t.tax ∷ []
 
--- The last two fields of a trade: whether it is in cash, and whether it closes the newest lots
--- first.
+-- The last two of the fifteen fields of the trade `t`: cash or margin, and the end from which it
+-- closes lots.
 abbrev pub condition_fields : tables.TradeRow → List Text
 condition_fields t = cash_word t.is_cash ∷ end_word t.is_lifo ∷ []
 
--- The records of a trade: the trade, its settlement and its cash row if they exist, and its
--- statuses.
+-- The records of the looked-up trade `l`: of the trade, of its settlement and its cash row, if any,
+-- and of each of its statuses.
 abbrev pub looked_up_records : LookedUp → View
 looked_up_records l =
     model.trade_record (trade_row_of l.trade)
@@ -62,14 +62,14 @@ looked_up_records l =
     ++ map model.cash_record (option_to_list (option_map move_row_of l.cash))
     ++ map moment_record l.history.items
 
--- A trade with its settlement, its cash row and its statuses, as rows of the tables.
+-- A trade with its settlements, its cash rows and its statuses, as rows of the tables.
 pub record LookedUpRows : Type 0 where
   pub trade : tables.TradeRow
   pub settlements : List tables.SettlementRow
   pub moves : List tables.MoveRow
   pub history : List StatusMoment
 
--- The rows of a trade that was looked up.
+-- The rows of the looked-up trade `l`, as rows of the tables.
 abbrev pub looked_up_rows : LookedUp → LookedUpRows
 looked_up_rows l = record {
   trade = trade_row_of l.trade;
@@ -78,11 +78,12 @@ looked_up_rows l = record {
   history = l.history.items;
 }
 
--- The status and the stamp of a row of TRADE_HISTORY, without its trade.
+-- The stamp and the status of the TRADE_HISTORY row `r`.
 abbrev pub status_in : tables.HistoryRow → StatusMoment
 status_in r = record { stamp = r.stamp; status = r.status }
 
--- The rows that the tables have of a trade, with its statuses, the oldest first.
+-- The trade `row` with its settlements, its cash rows and its statuses in the tables `t`, the
+-- oldest first.
 abbrev pub lookup_rows : Tables → tables.TradeRow → LookedUpRows
 lookup_rows t row = record {
   trade = row;
@@ -91,7 +92,8 @@ lookup_rows t row = record {
   history = map status_in (sort_by (λ a b. nat_lt a.stamp b.stamp) (history_in t row.id));
 }
 
--- The settlement, the cash row and the history are the rows that the tables `t` have of the trade.
+-- `settlement` and `cash` are all rows of SETTLEMENT and of CASH_MOVE that the tables `t` have of
+-- `trade`, and `history` are its rows of TRADE_HISTORY.
 pub record IsOfTrade (t : Tables) (trade : TradeRow) (settlement : Option SettlementRow) (cash : Option MoveRow) (history : List HistoryRow) : Type 0 where
   pub settles : option_to_list (option_map settlement_row_of settlement) ≡ filter (λ s. s.trade == trade.id) t.settlements
   pub moves : option_to_list (option_map move_row_of cash) ≡ filter (model.is_cash_of trade.id) t.moves

@@ -10,34 +10,38 @@ use Rattle.brk_money.specs.Spelling.{Text}
 use Rattle.brk_view.specs.declared.lots.LotTouch.{LotTouch}
 use Rattle.brk_view.specs.declared.lots.TouchedLots.{TouchedLots}
 
--- True if change `a` is before change `b`: sorted by stamp, then by lot, ascending.
+-- True if the lot change `a` is before `b` when they are sorted by stamp, then by lot, ascending.
 abbrev pub touch_before : LotTouch → LotTouch → Bool
 touch_before a b = rising a.stamp b.stamp a.change.lot b.change.lot
 
--- The record of a change: its lot, its trade, and the shares of the lot before and after it.
+-- The record of the lot change `touch`: its lot, its trade, and the quantity of the lot before and
+-- after it.
 abbrev pub touch_record : LotTouch → List Text
 touch_record touch = decimal touch.change.lot ∷ decimal touch.change.trade ∷ signed_decimal touch.change.before ∷ signed_decimal touch.change.after ∷ []
 
--- The records of the trade that was found and of the changes of its touched lots, or none if no
--- trade was found.
+-- The records of a trade's touched lots: its id, then a record for each change, or no record if
+-- there is no trade.
 abbrev pub touched_records : Option TouchedLots → model.View
 touched_records None = []
 touched_records (Some lots) = (decimal lots.trade ∷ []) ∷ map touch_record lots.changes.items
 
--- The change of a lot that a row of HOLDING_HISTORY records, with the stamp of its trade.
+-- The lot change that the HOLDING_HISTORY row `row` records, with the stamp of the trade that made
+-- it.
 abbrev pub touch_in : Tables → HoldingHistoryRow → LotTouch
 touch_in t row = record { change = record { lot = row.lot; trade = row.trade; before = row.before; after = row.after }; stamp = touch_stamp t row }
 
--- All changes of the lots that the trade touched.
+-- All changes of the lots that `trade` touched, in the order of the table HOLDING_HISTORY.
 abbrev pub touches_of : Tables → ℕ → List LotTouch
 touches_of t trade = map (touch_in t) (filter (λ row. is_touched_by t trade row.lot) t.holding_history)
 
--- The oldest trade of the account with a stamp of at least `first`, if there is one.
+-- The oldest trade of `account` with a stamp of at least `first`, as a list of one, or an empty
+-- list if there is none.
 abbrev pub first_since : Tables → ℕ → ℕ → List TradeRow
 first_since t account first = take 1 (oldest_first_rows (filter (λ row. nat_le first row.stamp) (trades_in t account)))
 
--- The lots are those that the account's oldest trade with a stamp of at least `first` touched, with
--- their first 20 changes. They are `None` if there is no such trade.
+-- `lots` has the oldest trade of `account` with a stamp of at least `first`, and the first twenty
+-- changes of the lots that it touched, sorted by stamp, then by lot. It is none exactly if there is
+-- no such trade.
 pub record IsTouched (t : Tables) (account first : ℕ) (lots : Option TouchedLots) : Type 0 where
   pub found : map (λ row. row.id) (first_since t account first) ≡ option_to_list (option_map (λ l. l.trade) lots)
   pub changes : IfSome lots (λ l. l.changes.items ≡ take 20 (sort_by touch_before (touches_of t l.trade)))

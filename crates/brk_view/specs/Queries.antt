@@ -4,7 +4,7 @@ use Rattle.brk_orders.specs.Records.{order_of}
 use Rattle.brk_view.specs.declared.query.Query.{Query}
 use Rattle.brk_view.specs.declared.query.Query.TheVariants.{Position, PositionOfTaxId, Recent, Status, Submitted, Estimate, Trades, AccountTrades, SymbolTrades, Lots, Volume}
 
--- The query of the model that a `Query` represents.
+-- The model's query with the values of a typed query.
 abbrev pub query_of : Query → model.Query
 query_of (Position customer) = model.PositionOf customer
 query_of (PositionOfTaxId tax_id) = model.PositionOfTaxId tax_id

@@ -18,25 +18,26 @@ use Rattle.brk_view.specs.declared.view.SubmittedTrade.{SubmittedTrade}
 use Rattle.brk_view.specs.declared.view.View.{View}
 use Rattle.brk_view.specs.declared.view.View.TheVariants as view
 
--- True if the trade of the row is submitted.
+-- True if the status of the trade `row` is `Submitted`.
 abbrev pub is_submitted : TradeRow → Bool
 is_submitted row = same_status row.status Submitted
 
--- The record of a row of TRADE that is submitted: id, type, symbol, quantity and bid price.
+-- The record of the TRADE row `row`: its id, type, symbol, quantity and bid price.
 abbrev pub submitted_record : TradeRow → List Text
 submitted_record row = decimal row.id ∷ type_code row.kind ∷ row.symbol ∷ decimal row.qty ∷ price_text row.bid ∷ []
 
--- The record of a submitted trade: id, type, symbol, quantity and bid price.
+-- The record of the submitted trade `trade`: its id, type, symbol, quantity and bid price.
 abbrev pub record_of_submitted : SubmittedTrade → List Text
 record_of_submitted trade = decimal trade.id ∷ type_code trade.kind ∷ trade.symbol ∷ decimal trade.qty ∷ price_text trade.bid ∷ []
 
--- The record of an estimate, with seven fields.
+-- The record of the estimate `e`, in seven fields: its price, buy value, sell value, tax,
+-- commission, charge and assets.
 abbrev pub estimate_record : estimate.Estimate → List Text
 estimate_record e =
     price_text e.price ∷ cents_text (pos e.buy_value) ∷ cents_text (pos e.sell_value) ∷ cents_text (pos e.tax) ∷ cents_text (pos e.commission) ∷ cents_text (pos e.charge)
     ∷ cents_text e.assets ∷ []
 
--- The records of a view.
+-- The records of a view, each a list of texts, by its variant.
 abbrev pub fields_of : View → model.View
 fields_of (view.Position accounts) = map worth_record accounts.items
 fields_of (view.Recent recent) = recent_records recent
@@ -47,10 +48,10 @@ fields_of (view.Volume brokers) = map volume_record brokers.items
 fields_of (view.Submitted trades) = map record_of_submitted trades.items
 fields_of (view.Estimate estimate) = estimate_record estimate ∷ []
 
--- The texts of a record.
+-- The bytes of each of `texts`, the texts of one record.
 abbrev pub record_of : Vec (String Global) → List Text
 record_of texts = map string_bytes texts.items
 
--- The texts of a list of records.
+-- The bytes of the texts of each of `records`.
 abbrev pub records_of : Vec (Vec (String Global)) → model.View
 records_of records = map record_of records.items

@@ -5,14 +5,16 @@ use Rattle.brk_model.specs.PositionView.{asset_total}
 use Rattle.brk_model.specs.Tables.{Tables, AccountRow}
 use Rattle.brk_view.specs.declared.worths.AccountWorth.{AccountWorth}
 
--- The balance of an account, and the market value of its summaries.
+-- The id and the balance of the account `a`, and the market value of its holdings in the tables
+-- `t`.
 abbrev pub worth_in : Tables → AccountRow → AccountWorth
 worth_in t a = record { account = a.id; balance = a.balance; assets = asset_total t a }
 
--- True if account `a` is before account `b`: sorted by market value, then by id, ascending.
+-- True if the account `a` is before `b` when they are sorted by market value, then by id,
+-- ascending.
 abbrev pub worth_before : AccountWorth → AccountWorth → Bool
 worth_before a b = int_lt a.assets b.assets || (not (int_lt b.assets a.assets) && nat_lt a.account b.account)
 
--- The record of an account: id, balance and market value.
+-- The record of the account `a`: its id, its balance and the market value of its holdings.
 abbrev pub worth_record : AccountWorth → List Text
 worth_record a = decimal a.account ∷ cents_text a.balance ∷ cents_text a.assets ∷ []

@@ -11,7 +11,7 @@ use brk_ref::Name;
 use std::alloc::Global;
 use std::marker::Model;
 
-/// Different broker names, 1 to 20, in the order in which they were read.
+/// The 1 to 20 different broker names that a query names, in sequence.
 #[derive(Drop)]
 pub struct BrokerNames {
     names: Vec<Name>,
@@ -32,7 +32,8 @@ impl BrokerNames {
     /// The greatest number of names.
     pub const MOST: usize = 20;
 
-    // Returns the names, which are different. Refuses none (18) and more than 20 (20).
+    // Returns these names, which are different. Refuses with `BadText` (18) if there are none, and
+    // with `TooMany` (20) if there are more than 20. Never allocates.
     fn of(names: Vec<Name>) -> Result<BrokerNames, Refusal>
         requires { distinct_texts names.items ≡ names.items }
         ensures { ParsesAs (λ told. told) result (some_of names.items) }
@@ -46,7 +47,7 @@ impl BrokerNames {
         Ok(BrokerNames { names })
     }
 
-    /// Returns the names in their order.
+    /// Returns the names, in sequence.
     pub fn names(&self) -> &[Name]
         ensures names { result.now ≡ self.now }
         ensures distinct { distinct_texts result.now ≡ result.now }
@@ -55,14 +56,14 @@ impl BrokerNames {
     }
 }
 
-// Returns true if a name is one of `names`.
+// Returns true if `name` is one of `names`.
 fn is_among(name: &Name, names: &[Name]) -> bool
     ensures { result ≡ is_named names.now name.now }
 {
     names.iter().any(|other| name.as_str() == other.as_str())
 }
 
-// Adds a name if it is not one of `names`. Fails with `Memory` only.
+// Appends `name` if it is not one of `names`. Fails with `Memory` only.
 #[tactic(auto, using(crate::proofs::Distinct::still_distinct))]
 fn add_once(names: &mut Vec<Name>, name: Name) -> Result<(), Fault>
     ensures names { OnOk result (names.new.items ≡ with_name names.old.items name) }
@@ -74,7 +75,8 @@ fn add_once(names: &mut Vec<Name>, name: Name) -> Result<(), Fault>
     Ok(())
 }
 
-// Parses names and returns each once, at its first position. Fails with `Memory` only.
+// Parses names, and returns each at its first position only. Refuses with `BadText` if a field is
+// malformed. Fails with `Memory` only.
 fn names_from(alloc: Global, fields: &[&[u8]]) -> Planned<Vec<Name>>
     ensures read { IfOk result (λ read. ParsesAs names_in read (each_once (read_each read_name (texts fields.now)))) }
     ensures distinct { IfOk result (λ read. IfOk read (λ names. distinct_texts names.items ≡ names.items)) }
@@ -90,8 +92,10 @@ fn names_from(alloc: Global, fields: &[&[u8]]) -> Planned<Vec<Name>>
     Ok(Ok(names))
 }
 
-/// Parses broker names, each counted once, or returns the refusal of their form: 1 to 20 names are
-/// allowed. All fields are checked before the number of names. Fails with `Memory` only.
+/// Parses 1 to 20 broker names, each counted once. Fails with `Memory` only.
+///
+/// Refuses with `BadText` (18) if a field is malformed or there are none, and otherwise with
+/// `TooMany` (20) if there are more than 20. All fields are checked before the number of names.
 pub fn check_names(alloc: Global, fields: &[&[u8]]) -> Planned<BrokerNames>
     ensures read { IfOk result (λ read. ParsesAs (λ names. names) read (read_names (texts fields.now))) }
     ensures fault { OnErr result (result ≡ Err Memory) }

@@ -13,7 +13,8 @@ ghost use Rattle.brk_model.specs.Tables.{Tables};
 ghost use Rattle.brk_view.specs.Views.{fields_of, is_submitted, submitted_record};
 ghost use Rattle.brk_view.specs.declared.view.View.TheVariants as views;
 
-/// Proves that the submitted rows of TRADE are the view of the submitted trades.
+/// Proves that the records of the submitted rows of TRADE are the view of the submitted trades, if
+/// the rows are sorted by id.
 pub fn submitted_rows_are_the_view()
     // If the rows are sorted by id, ascending.
     ensures rising { (t : Tables) → rises trade_key t.trades ≡ true → map submitted_record (filter is_submitted t.trades) ≡ submitted_view t }
@@ -21,7 +22,7 @@ pub fn submitted_rows_are_the_view()
     ensures read { (t : Tables) → map submitted_record (filter is_submitted (sheets_of t).trades) ≡ submitted_view t }
 {}
 
-/// Proves that an estimate of the model is shown as one record, with its seven numbers.
+/// Proves that the view of a model's estimate is one record of its seven fields.
 pub fn an_estimate_is_its_numbers()
     ensures { (e : Estimate) → fields_of (views.Estimate (estimate_with e)) ≡ estimate_fields e ∷ [] }
 {}

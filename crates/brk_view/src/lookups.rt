@@ -27,6 +27,7 @@ pub struct StatusMoment {
 impl Ranked for StatusMoment {
     ghost before = { older_moment };
 
+    /// Returns true if the status has a smaller stamp than another.
     fn goes_before(&self, other: &StatusMoment) -> bool {
         self.stamp.get() < other.stamp.get()
     }
@@ -35,6 +36,8 @@ impl Ranked for StatusMoment {
 impl Ranked for TradeRow {
     ghost before = { older };
 
+    /// Returns true if the trade has a smaller stamp than another, or the same stamp and a smaller
+    /// id.
     fn goes_before(&self, other: &TradeRow) -> bool {
         if self.stamp.get() == other.stamp.get() {
             return self.id.get() < other.id.get();
@@ -55,7 +58,7 @@ pub struct LookedUp {
     pub history: Vec<StatusMoment>,
 }
 
-// Returns the statuses of a trade, the oldest first. Fails with `Memory` only.
+// Returns the statuses of a trade with their stamps, the oldest first. Fails with `Memory` only.
 fn moments_of(alloc: Global, history: &[HistoryRow]) -> Result<Vec<StatusMoment>, Fault>
     ensures order { IfOk result (λ moments. moments.items ≡ sort_by older_moment (map status_moment history.now)) }
     ensures fault { OnErr result (result ≡ Err Memory) }
@@ -70,7 +73,7 @@ fn moments_of(alloc: Global, history: &[HistoryRow]) -> Result<Vec<StatusMoment>
     in_order(alloc, moments)
 }
 
-/// Returns a trade with its settlement, its cash row and its history, which it sorts, the oldest
+/// Returns a trade with its settlement, its cash row and its statuses, which are sorted, the oldest
 /// first. Fails with `Memory` only.
 #[tactic(auto, using(crate::proofs::Shown::one_shown, crate::proofs::Shown::one_carried))]
 pub fn looked_up(
@@ -94,7 +97,7 @@ pub fn looked_up(
     })
 }
 
-/// Sorts trades by the stamp of their last status, then by id: the oldest first. Fails with
+/// Returns the trades sorted by the stamp of their last status, then by id, ascending. Fails with
 /// `Memory` only.
 #[tactic(auto, using(crate::proofs::Shown::older_shown))]
 pub fn oldest_first(alloc: Global, trades: Vec<TradeRow>) -> Result<Vec<TradeRow>, Fault>

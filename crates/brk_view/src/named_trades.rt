@@ -8,7 +8,7 @@ use brk_money::{Id, Planned, Refusal};
 use brk_orders::{TradeIds, check_ids};
 use std::alloc::Global;
 
-/// Different trade ids, 1 to 20.
+/// The 1 to 20 different ids of trades that a query names.
 #[derive(Drop)]
 pub struct NamedTrades {
     pub trades: TradeIds,
@@ -17,8 +17,8 @@ pub struct NamedTrades {
 }
 
 impl NamedTrades {
-    /// Returns the trades. Refuses an id that is repeated and no id at all (18), and more than 20
-    /// (20). Does not allocate.
+    /// Returns these trades. Refuses with `BadText` (18) if an id is repeated or there are none,
+    /// and otherwise with `TooMany` (20) if there are more than 20. Never allocates.
     pub fn new(ids: Vec<Id>) -> Result<NamedTrades, Refusal>
         ensures { ParsesAs (λ named. named.trades) result (distinct_ids ids.items) }
     {
@@ -29,7 +29,8 @@ impl NamedTrades {
     }
 }
 
-/// Parses the trades, or returns the refusal of their form. Fails with `Memory` only.
+/// Parses 1 to 20 different ids of trades, or returns the refusal of malformed fields. Fails with
+/// `Memory` only.
 pub fn check_named(alloc: Global, fields: &[&[u8]]) -> Planned<NamedTrades>
     ensures read { IfOk result (λ read. ParsesAs (λ named. named.trades) read (read_ids (texts fields.now))) }
     ensures fault { OnErr result (result ≡ Err Memory) }

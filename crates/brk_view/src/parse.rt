@@ -16,7 +16,8 @@ use brk_money::{Planned, Refusal};
 use brk_orders::check_order;
 use std::alloc::Global;
 
-// Parses the query of the submitted trades, which has no argument.
+// Parses the query of the submitted trades, which has no argument. Refuses any argument with
+// `BadText`.
 fn parse_submitted(arguments: &[&[u8]]) -> Result<Query, Refusal>
     ensures { ParsesAs query_of result (read_none SubmittedTrades (texts arguments.now)) }
 {
@@ -26,7 +27,8 @@ fn parse_submitted(arguments: &[&[u8]]) -> Result<Query, Refusal>
     Ok(Query::Submitted)
 }
 
-// Parses the query of an order's estimate. Its arguments are the fields of the order.
+// Parses the query of an order's estimate, whose arguments are the fields of the order, or returns
+// the refusal of these. Fails with `Memory` only.
 fn parse_estimate(alloc: Global, arguments: &[&[u8]]) -> Planned<Query>
     ensures read { IfOk result (λ read. ParsesAs query_of read (read_as EstimateOf read_order (texts arguments.now))) }
     ensures fault { OnErr result (result ≡ Err Memory) }
@@ -37,7 +39,8 @@ fn parse_estimate(alloc: Global, arguments: &[&[u8]]) -> Planned<Query>
     }
 }
 
-// Parses a query of a lookup view or of the volume view.
+// Parses a query of the view `trades`, `accounttrades`, `symboltrades`, `lots` or `volume`. Refuses
+// any other view with `BadText`. Fails with `Memory` only.
 fn parse_lookup_view(alloc: Global, view: &str, arguments: &[&[u8]]) -> Planned<Query>
     ensures read { IfOk result (λ read. ParsesAs query_of read (parse_by (lookup_views ++ volume_views) (view.now ∷ texts arguments.now))) }
     ensures fault { OnErr result (result ≡ Err Memory) }
@@ -52,7 +55,8 @@ fn parse_lookup_view(alloc: Global, view: &str, arguments: &[&[u8]]) -> Planned<
     }
 }
 
-// Parses a query of an account view, of a lookup view or of the volume view.
+// Parses a query of the view `customer`, `taxid`, `recent` or `status`, or of a view of
+// `parse_lookup_view`. Refuses any other view with `BadText`. Fails with `Memory` only.
 fn parse_account_view(alloc: Global, view: &str, arguments: &[&[u8]]) -> Planned<Query>
     ensures read { IfOk result (λ read. ParsesAs query_of read (parse_by (account_views ++ lookup_views ++ volume_views) (view.now ∷ texts arguments.now))) }
     ensures fault { OnErr result (result ≡ Err Memory) }

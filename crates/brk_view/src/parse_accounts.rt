@@ -12,7 +12,7 @@ use brk_money::{Planned, Refusal};
 use brk_ref::{TaxId, parse_id};
 use std::alloc::Global;
 
-// Parses the query of the accounts of a customer.
+// Parses the query of the accounts of a customer. Refuses malformed arguments with `BadText`.
 pub(crate) fn parse_position(arguments: &[&[u8]]) -> Result<Query, Refusal>
     ensures { ParsesAs query_of result (read_one (read_as PositionOf read_id) (texts arguments.now)) }
 {
@@ -25,7 +25,8 @@ pub(crate) fn parse_position(arguments: &[&[u8]]) -> Result<Query, Refusal>
     Ok(Query::Position(customer))
 }
 
-// Parses the query of the accounts of the customer with a tax id.
+// Parses the query of the accounts of the customer with a tax id. Refuses malformed arguments with
+// `BadText`. Fails with `Memory` only.
 pub(crate) fn parse_position_of_tax_id(alloc: Global, arguments: &[&[u8]]) -> Planned<Query>
     ensures read { IfOk result (λ read. ParsesAs query_of read (read_one (read_as PositionOfTaxId read_tax_id) (texts arguments.now))) }
     ensures fault { OnErr result (result ≡ Err Memory) }
@@ -39,7 +40,8 @@ pub(crate) fn parse_position_of_tax_id(alloc: Global, arguments: &[&[u8]]) -> Pl
     Ok(Ok(Query::PositionOfTaxId(tax_id)))
 }
 
-// Parses the query of an account's last trades and statuses.
+// Parses the query of an account's last trades and their statuses. Refuses malformed arguments with
+// `BadText`.
 pub(crate) fn parse_recent(arguments: &[&[u8]]) -> Result<Query, Refusal>
     ensures { ParsesAs query_of result (read_one (read_as RecentOf read_id) (texts arguments.now)) }
 {
@@ -52,7 +54,8 @@ pub(crate) fn parse_recent(arguments: &[&[u8]]) -> Result<Query, Refusal>
     Ok(Query::Recent(account))
 }
 
-// Parses the query of an account's parties and its last trades.
+// Parses the query of an account's parties and its last trades. Refuses malformed arguments with
+// `BadText`.
 pub(crate) fn parse_status(arguments: &[&[u8]]) -> Result<Query, Refusal>
     ensures { ParsesAs query_of result (read_one (read_as StatusOf read_id) (texts arguments.now)) }
 {

@@ -15,7 +15,8 @@ use brk_orders::{Span, parse_stamp};
 use brk_ref::{Name, Symbol, parse_id};
 use std::alloc::Global;
 
-// Parses the query of trades by their ids.
+// Parses the query of trades by their ids, or returns the refusal of malformed ids. Fails with
+// `Memory` only.
 pub(crate) fn parse_trades(alloc: Global, arguments: &[&[u8]]) -> Planned<Query>
     ensures read { IfOk result (λ read. ParsesAs query_of read (read_as TradesWith read_ids (texts arguments.now))) }
     ensures fault { OnErr result (result ≡ Err Memory) }
@@ -26,7 +27,8 @@ pub(crate) fn parse_trades(alloc: Global, arguments: &[&[u8]]) -> Planned<Query>
     }
 }
 
-// Parses the query of an account's trades between two stamps.
+// Parses the query of an account's trades between two stamps. Refuses malformed arguments with
+// `BadText`.
 pub(crate) fn parse_account_trades(arguments: &[&[u8]]) -> Result<Query, Refusal>
     ensures { ParsesAs query_of result (read_span read_id (λ account first last. TradesOfAccount account first last) (texts arguments.now)) }
 {
@@ -46,7 +48,8 @@ pub(crate) fn parse_account_trades(arguments: &[&[u8]]) -> Result<Query, Refusal
     Ok(Query::AccountTrades { account, span })
 }
 
-// Parses the query of a symbol's trades between two stamps.
+// Parses the query of a symbol's trades between two stamps. Refuses malformed arguments with
+// `BadText`. Fails with `Memory` only.
 pub(crate) fn parse_symbol_trades(alloc: Global, arguments: &[&[u8]]) -> Planned<Query>
     ensures read { IfOk result (λ read. ParsesAs query_of read (read_span read_symbol (λ symbol first last. TradesOfSymbol symbol first last) (texts arguments.now))) }
     ensures fault { OnErr result (result ≡ Err Memory) }
@@ -67,7 +70,8 @@ pub(crate) fn parse_symbol_trades(alloc: Global, arguments: &[&[u8]]) -> Planned
     Ok(Ok(Query::SymbolTrades { symbol, span }))
 }
 
-// Parses the query of the lots that an account's first trade at or after a stamp touched.
+// Parses the query of the lots that an account's first trade at or after a stamp touched. Refuses
+// malformed arguments with `BadText`.
 pub(crate) fn parse_lots(arguments: &[&[u8]]) -> Result<Query, Refusal>
     ensures { ParsesAs query_of result (read_lots (texts arguments.now)) }
 {
@@ -83,8 +87,8 @@ pub(crate) fn parse_lots(arguments: &[&[u8]]) -> Result<Query, Refusal>
     Ok(Query::Lots { account, first })
 }
 
-// Parses the query of the brokers' volumes in a sector. All fields are checked before the number of
-// names.
+// Parses the query of the brokers' volumes in a sector, or returns the refusal of malformed
+// arguments. All fields are checked before the number of names. Fails with `Memory` only.
 #[tactic(auto, using(brk_ref::proofs::Applied::text_left, brk_ref::proofs::Applied::text_right))]
 pub(crate) fn parse_volume(alloc: Global, arguments: &[&[u8]]) -> Planned<Query>
     ensures read { IfOk result (λ read. ParsesAs query_of read (read_volume (texts arguments.now))) }

@@ -31,6 +31,8 @@ pub struct Activity {
 impl Ranked for HistoryRow {
     ghost before = { newer };
 
+    /// Returns true if the status has a greater stamp than another, or the same stamp and a greater
+    /// trade.
     fn goes_before(&self, other: &HistoryRow) -> bool {
         if self.stamp.get() == other.stamp.get() {
             return self.trade.get() > other.trade.get();

@@ -16,7 +16,7 @@ use brk_changes::TradeRow;
 use brk_money::Fault;
 use std::alloc::Global;
 
-// Returns the fields of a submitted trade that a view shows. Fails with `Memory` only.
+// Returns the values of a submitted trade that a view shows. Fails with `Memory` only.
 fn submitted_trade(row: &TradeRow) -> Result<SubmittedTrade, Fault>
     ensures shown { IfOk result (λ trade. record_of_submitted trade ≡ submitted_record (trade_row_of row.now)) }
     ensures fault { OnErr result (result ≡ Err Memory) }

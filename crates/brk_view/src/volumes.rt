@@ -31,7 +31,8 @@ pub struct BrokerVolume {
     pub volume: Wide,
 }
 
-// Returns true if a broker is before another: sorted by name, then by id, ascending.
+// Returns true if the broker `one` is before `other` when they are sorted by name, then by id,
+// ascending.
 #[tactic(auto, using(crate::proofs::Names::names_compared))]
 fn is_named_before(one: &BrokerVolume, other: &BrokerVolume) -> bool
     ensures { result ≡ name_before one.now other.now }
@@ -46,6 +47,8 @@ fn is_named_before(one: &BrokerVolume, other: &BrokerVolume) -> bool
 impl Ranked for BrokerVolume {
     ghost before = { volume_before };
 
+    /// Returns true if the broker has a greater volume than another, or the same volume and is
+    /// before it when they are sorted by name, then by id.
     fn goes_before(&self, other: &BrokerVolume) -> bool {
         if self.volume.get() == other.volume.get() {
             return is_named_before(self, other);
@@ -54,7 +57,7 @@ impl Ranked for BrokerVolume {
     }
 }
 
-// Returns the value of a request at its bid price, in cents.
+// Returns the quantity of a request times its bid price, in cents.
 fn worth_of(request: &RequestRow) -> u128
     ensures worth { result ≡ request_worth (request_row_of request.now) }
     ensures limit { result ≤ 99999980000001 }
@@ -62,7 +65,7 @@ fn worth_of(request: &RequestRow) -> u128
     u128::from(request.qty.get()) * u128::from(request.bid.get())
 }
 
-/// Returns the value of requests at their bid prices, in cents.
+/// Returns the sum of the values of requests at their bid prices, in cents.
 pub fn request_volume(requests: &[RequestRow]) -> Wide
     ensures { result ≡ pos (sum_by request_worth (map request_row_of requests.now)) }
 {

@@ -31,6 +31,8 @@ pub struct AccountWorth {
 impl Ranked for AccountWorth {
     ghost before = { worth_before };
 
+    /// Returns true if the account has a smaller market value than another, or the same value and a
+    /// smaller id.
     fn goes_before(&self, other: &AccountWorth) -> bool {
         if self.assets.get() == other.assets.get() {
             return self.account.get() < other.account.get();

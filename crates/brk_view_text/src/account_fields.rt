@@ -16,7 +16,8 @@ use brk_view::statuses::{AccountStatus, TradeStatus};
 use brk_view::worths::AccountWorth;
 use std::alloc::Global;
 
-// Returns the record of an account.
+// Returns the record of an account: its id, its balance and the market value of its holdings. Fails
+// with `Memory` only.
 fn worth_texts(alloc: Global, account: &AccountWorth) -> Result<Vec<String>, Fault>
     ensures texts { IfOk result (λ texts. record_of texts ≡ worth_record account.now) }
     ensures fault { OnErr result (result ≡ Err Memory) }
@@ -44,7 +45,7 @@ pub(crate) fn worth_records(
     Ok(records)
 }
 
-// Returns the record of one of the last trades.
+// Returns the record of one of an account's last trades. Fails with `Memory` only.
 fn trade_texts(alloc: Global, trade: &TradeRow) -> Result<Vec<String>, Fault>
     ensures texts { IfOk result (λ texts. record_of texts ≡ recents.recent_trade (trade_row_of trade.now)) }
     ensures fault { OnErr result (result ≡ Err Memory) }
@@ -57,7 +58,7 @@ fn trade_texts(alloc: Global, trade: &TradeRow) -> Result<Vec<String>, Fault>
     Ok(texts)
 }
 
-// Returns the record of a status of a trade.
+// Returns the record of a status of one of an account's last trades. Fails with `Memory` only.
 fn history_texts(alloc: Global, row: &HistoryRow) -> Result<Vec<String>, Fault>
     ensures texts { IfOk result (λ texts. record_of texts ≡ recents.recent_status row.now) }
     ensures fault { OnErr result (result ≡ Err Memory) }
@@ -70,7 +71,7 @@ fn history_texts(alloc: Global, row: &HistoryRow) -> Result<Vec<String>, Fault>
     Ok(texts)
 }
 
-// Returns a record for each of the last trades.
+// Returns a record for each of an account's last trades. Fails with `Memory` only.
 fn trade_records(alloc: Global, trades: &[TradeRow]) -> Result<Vec<Vec<String>>, Fault>
     ensures records { IfOk result (λ records. records_of records ≡ map recents.recent_trade (map trade_row_of trades.now)) }
     ensures fault { OnErr result (result ≡ Err Memory) }
@@ -83,7 +84,7 @@ fn trade_records(alloc: Global, trades: &[TradeRow]) -> Result<Vec<Vec<String>>,
     Ok(records)
 }
 
-// Appends a record for each status.
+// Appends a record for each status of an account's last trades. Fails with `Memory` only.
 fn add_history(
     alloc: Global,
     records: &mut Vec<Vec<String>>,
@@ -110,7 +111,7 @@ pub(crate) fn recent_records(alloc: Global, recent: &Activity) -> Result<Vec<Vec
     Ok(records)
 }
 
-// Returns the record of the names of an account's customer and broker.
+// Returns the record of the names of an account's customer and broker. Fails with `Memory` only.
 fn name_texts(alloc: Global, account: &AccountStatus) -> Result<Vec<String>, Fault>
     ensures texts { IfOk result (λ texts. record_of texts ≡ statuses.status_names account.now) }
     ensures fault { OnErr result (result ≡ Err Memory) }
@@ -122,7 +123,7 @@ fn name_texts(alloc: Global, account: &AccountStatus) -> Result<Vec<String>, Fau
     Ok(texts)
 }
 
-// Returns the first five fields of a trade.
+// Returns the first five of the ten fields of a trade. Fails with `Memory` only.
 fn status_texts(alloc: Global, trade: &TradeRow) -> Result<Vec<String>, Fault>
     ensures texts { IfOk result (λ texts. record_of texts ≡ statuses.status_fields trade.now) }
     ensures fault { OnErr result (result ≡ Err Memory) }
@@ -136,7 +137,8 @@ fn status_texts(alloc: Global, trade: &TradeRow) -> Result<Vec<String>, Fault>
     Ok(texts)
 }
 
-// Appends the other five fields, of which the last two are those of its security.
+// Appends the last five of the ten fields of a trade, of which the last two are those of its
+// security. Fails with `Memory` only.
 fn add_terms(alloc: Global, texts: &mut Vec<String>, status: &TradeStatus) -> Result<(), Fault>
     ensures texts { OnOk result (record_of texts.new ≡ record_of texts.old ++ statuses.detail_fields status.now) }
     ensures fault { OnErr result (result ≡ Err Memory) }
@@ -150,7 +152,7 @@ fn add_terms(alloc: Global, texts: &mut Vec<String>, status: &TradeStatus) -> Re
     Ok(())
 }
 
-// Returns the record of a trade with its security.
+// Returns the record of a trade with its security, in ten fields. Fails with `Memory` only.
 fn shown_texts(alloc: Global, status: &TradeStatus) -> Result<Vec<String>, Fault>
     ensures texts { IfOk result (λ texts. record_of texts ≡ statuses.shown_trade status.now) }
     ensures fault { OnErr result (result ≡ Err Memory) }
@@ -160,7 +162,7 @@ fn shown_texts(alloc: Global, status: &TradeStatus) -> Result<Vec<String>, Fault
     Ok(texts)
 }
 
-// Appends a record for each trade.
+// Appends a record for each trade with its security. Fails with `Memory` only.
 fn add_trades(
     alloc: Global,
     records: &mut Vec<Vec<String>>,
@@ -176,7 +178,8 @@ fn add_trades(
     Ok(())
 }
 
-// Returns the record of an account's names, then those of its trades. Fails with `Memory` only.
+// Returns the record of the names of an account's parties, followed by those of its trades. Fails
+// with `Memory` only.
 pub(crate) fn status_records(
     alloc: Global,
     account: &AccountStatus,

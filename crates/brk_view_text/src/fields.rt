@@ -19,7 +19,7 @@ use brk_plans::Estimate;
 use brk_view::view::{SubmittedTrade, View};
 use std::alloc::Global;
 
-// Returns the texts of amounts, in their order.
+// Returns the texts of amounts, in sequence. Fails with `Memory` only.
 fn amount_texts(alloc: Global, amounts: &[Wide]) -> Result<Vec<String>, Fault>
     ensures texts { IfOk result (λ texts. record_of texts ≡ map cents_text amounts.now) }
     ensures fault { OnErr result (result ≡ Err Memory) }
@@ -32,7 +32,7 @@ fn amount_texts(alloc: Global, amounts: &[Wide]) -> Result<Vec<String>, Fault>
     Ok(texts)
 }
 
-// Returns the record of a submitted trade.
+// Returns the record of a submitted trade. Fails with `Memory` only.
 fn trade_texts(alloc: Global, trade: &SubmittedTrade) -> Result<Vec<String>, Fault>
     ensures texts { IfOk result (λ texts. record_of texts ≡ record_of_submitted trade.now) }
     ensures fault { OnErr result (result ≡ Err Memory) }
@@ -46,7 +46,7 @@ fn trade_texts(alloc: Global, trade: &SubmittedTrade) -> Result<Vec<String>, Fau
     Ok(texts)
 }
 
-// Returns a record for each trade.
+// Returns a record for each submitted trade. Fails with `Memory` only.
 fn submitted_records(alloc: Global, trades: &[SubmittedTrade]) -> Result<Vec<Vec<String>>, Fault>
     ensures records { IfOk result (λ records. records_of records ≡ map record_of_submitted trades.now) }
     ensures fault { OnErr result (result ≡ Err Memory) }
@@ -59,7 +59,7 @@ fn submitted_records(alloc: Global, trades: &[SubmittedTrade]) -> Result<Vec<Vec
     Ok(records)
 }
 
-// Returns the one record of an estimate.
+// Returns a list of one record, that of the estimate. Fails with `Memory` only.
 fn estimate_records(alloc: Global, estimate: &Estimate) -> Result<Vec<Vec<String>>, Fault>
     ensures records { IfOk result (λ records. records_of records ≡ estimate_record estimate.now ∷ []) }
     ensures fault { OnErr result (result ≡ Err Memory) }

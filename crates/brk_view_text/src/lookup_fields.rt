@@ -14,7 +14,8 @@ use brk_money::{Fault, Wide};
 use brk_view::lookups::{LookedUp, StatusMoment};
 use std::alloc::Global;
 
-// Returns the first five fields of a trade: the word `trade`, its id, stamp, status and type.
+// Returns the first five of the fifteen fields of a trade: the word `trade`, its id, stamp, status
+// and type. Fails with `Memory` only.
 fn state_texts(alloc: Global, trade: &TradeRow) -> Result<Vec<String>, Fault>
     ensures texts { IfOk result (λ texts. record_of texts ≡ state_fields (trade_row_of trade.now)) }
     ensures fault { OnErr result (result ≡ Err Memory) }
@@ -28,7 +29,8 @@ fn state_texts(alloc: Global, trade: &TradeRow) -> Result<Vec<String>, Fault>
     Ok(texts)
 }
 
-// Appends the next four fields: its symbol, quantity, bid price and executor.
+// Appends the fields 6 to 9 of a trade: its symbol, quantity, bid price and executor. Fails with
+// `Memory` only.
 fn add_terms(alloc: Global, texts: &mut Vec<String>, trade: &TradeRow) -> Result<(), Fault>
     ensures texts { OnOk result (record_of texts.new ≡ record_of texts.old ++ order_fields_of (trade_row_of trade.now)) }
     ensures fault { OnErr result (result ≡ Err Memory) }
@@ -40,8 +42,8 @@ fn add_terms(alloc: Global, texts: &mut Vec<String>, trade: &TradeRow) -> Result
     Ok(())
 }
 
-// Appends the next four fields: its price, which is empty before completion, its charge, commission
-// and tax.
+// Appends the fields 10 to 13 of a trade: its price, which is empty if it is not completed, charge,
+// commission and tax. Fails with `Memory` only.
 fn add_costs(alloc: Global, texts: &mut Vec<String>, trade: &TradeRow) -> Result<(), Fault>
     ensures texts { OnOk result (record_of texts.new ≡ record_of texts.old ++ cost_fields (trade_row_of trade.now)) }
     ensures fault { OnErr result (result ≡ Err Memory) }
@@ -54,7 +56,8 @@ fn add_costs(alloc: Global, texts: &mut Vec<String>, trade: &TradeRow) -> Result
     Ok(())
 }
 
-// Appends the last two fields: its account type, and the end from which it closes lots.
+// Appends the last two of the fifteen fields of a trade: cash or margin, and the end from which it
+// closes lots. Fails with `Memory` only.
 fn add_conditions(alloc: Global, texts: &mut Vec<String>, trade: &TradeRow) -> Result<(), Fault>
     ensures texts { OnOk result (record_of texts.new ≡ record_of texts.old ++ condition_fields (trade_row_of trade.now)) }
     ensures fault { OnErr result (result ≡ Err Memory) }
@@ -64,7 +67,7 @@ fn add_conditions(alloc: Global, texts: &mut Vec<String>, trade: &TradeRow) -> R
     Ok(())
 }
 
-// Returns the record of a trade.
+// Returns the record of a looked-up trade, in fifteen fields. Fails with `Memory` only.
 fn trade_texts(alloc: Global, trade: &TradeRow) -> Result<Vec<String>, Fault>
     ensures texts { IfOk result (λ texts. record_of texts ≡ model.trade_record (trade_row_of trade.now)) }
     ensures fault { OnErr result (result ≡ Err Memory) }
@@ -76,7 +79,7 @@ fn trade_texts(alloc: Global, trade: &TradeRow) -> Result<Vec<String>, Fault>
     Ok(texts)
 }
 
-// Returns the record of a settlement.
+// Returns the record of a settlement. Fails with `Memory` only.
 fn settlement_texts(alloc: Global, row: SettlementRow) -> Result<Vec<String>, Fault>
     ensures texts { IfOk result (λ texts. record_of texts ≡ model.settlement_record (settlement_row_of row)) }
     ensures fault { OnErr result (result ≡ Err Memory) }
@@ -89,7 +92,7 @@ fn settlement_texts(alloc: Global, row: SettlementRow) -> Result<Vec<String>, Fa
     Ok(texts)
 }
 
-// Returns the record of a cash row.
+// Returns the record of a cash row. Fails with `Memory` only.
 fn cash_texts(alloc: Global, row: &MoveRow) -> Result<Vec<String>, Fault>
     ensures texts { IfOk result (λ texts. record_of texts ≡ model.cash_record (move_row_of row.now)) }
     ensures fault { OnErr result (result ≡ Err Memory) }
@@ -102,7 +105,7 @@ fn cash_texts(alloc: Global, row: &MoveRow) -> Result<Vec<String>, Fault>
     Ok(texts)
 }
 
-// Returns the record of a status of a trade.
+// Returns the record of a status of a trade. Fails with `Memory` only.
 fn moment_texts(alloc: Global, moment: StatusMoment) -> Result<Vec<String>, Fault>
     ensures texts { IfOk result (λ texts. record_of texts ≡ moment_record moment) }
     ensures fault { OnErr result (result ≡ Err Memory) }
@@ -114,7 +117,7 @@ fn moment_texts(alloc: Global, moment: StatusMoment) -> Result<Vec<String>, Faul
     Ok(texts)
 }
 
-// Appends the record of a settlement, if there is one.
+// Appends the record of a settlement, or nothing if there is none. Fails with `Memory` only.
 fn add_settlement(
     alloc: Global,
     records: &mut Vec<Vec<String>>,
@@ -130,7 +133,7 @@ fn add_settlement(
     Ok(())
 }
 
-// Appends the record of a cash row, if there is one.
+// Appends the record of a cash row, or nothing if there is none. Fails with `Memory` only.
 fn add_cash(
     alloc: Global,
     records: &mut Vec<Vec<String>>,
@@ -146,7 +149,7 @@ fn add_cash(
     Ok(())
 }
 
-// Appends a record for each status.
+// Appends a record for each status of a trade. Fails with `Memory` only.
 fn add_moments(
     alloc: Global,
     records: &mut Vec<Vec<String>>,
@@ -162,7 +165,7 @@ fn add_moments(
     Ok(())
 }
 
-// Appends the record of a trade.
+// Appends the record of a looked-up trade. Fails with `Memory` only.
 fn add_trade(alloc: Global, records: &mut Vec<Vec<String>>, trade: &TradeRow) -> Result<(), Fault>
     ensures records { OnOk result (records_of records.new ≡ records_of records.old ++ model.trade_record (trade_row_of trade.now) ∷ []) }
     ensures fault { OnErr result (result ≡ Err Memory) }
@@ -172,7 +175,8 @@ fn add_trade(alloc: Global, records: &mut Vec<Vec<String>>, trade: &TradeRow) ->
     Ok(())
 }
 
-// Appends the records of a trade, its settlement, its cash row and its history.
+// Appends the records of a looked-up trade: of the trade, its settlement, its cash row and its
+// statuses. Fails with `Memory` only.
 fn add_found(alloc: Global, records: &mut Vec<Vec<String>>, found: &LookedUp) -> Result<(), Fault>
     ensures records { OnOk result (records_of records.new ≡ records_of records.old ++ looked_up_records found.now) }
     ensures fault { OnErr result (result ≡ Err Memory) }

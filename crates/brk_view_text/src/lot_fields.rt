@@ -11,7 +11,8 @@ use brk_money::Fault;
 use brk_view::lots::{LotTouch, TouchedLots};
 use std::alloc::Global;
 
-// Returns the text of a number of shares, with a minus sign if they were sold short.
+// Returns the text of a number of shares, with a minus sign if they were sold short. Fails with
+// `Memory` only.
 fn shares_text(alloc: Global, shares: i64) -> Result<String, Fault>
     ensures text { IfOk result (λ text. string_bytes text ≡ signed_decimal shares) }
     ensures fault { OnErr result (result ≡ Err Memory) }
@@ -19,7 +20,7 @@ fn shares_text(alloc: Global, shares: i64) -> Result<String, Fault>
     Ok(format!(in alloc; "{}", shares)?)
 }
 
-// Returns the record of a change of a lot.
+// Returns the record of a lot change. Fails with `Memory` only.
 fn touch_texts(alloc: Global, touch: LotTouch) -> Result<Vec<String>, Fault>
     ensures texts { IfOk result (λ texts. record_of texts ≡ touch_record touch) }
     ensures fault { OnErr result (result ≡ Err Memory) }
@@ -33,7 +34,7 @@ fn touch_texts(alloc: Global, touch: LotTouch) -> Result<Vec<String>, Fault>
     Ok(texts)
 }
 
-// Appends a record for each change.
+// Appends a record for each lot change. Fails with `Memory` only.
 fn add_touches(
     alloc: Global,
     records: &mut Vec<Vec<String>>,
@@ -49,7 +50,8 @@ fn add_touches(
     Ok(())
 }
 
-// Returns the record of the trade that was found, which has its id only.
+// Returns the record of the trade that touched the lots, which has its id only. Fails with `Memory`
+// only.
 fn found_texts(alloc: Global, lots: &TouchedLots) -> Result<Vec<String>, Fault>
     ensures texts { IfOk result (λ texts. record_of texts ≡ decimal lots.now.trade ∷ []) }
     ensures fault { OnErr result (result ≡ Err Memory) }
@@ -59,8 +61,8 @@ fn found_texts(alloc: Global, lots: &TouchedLots) -> Result<Vec<String>, Fault>
     Ok(texts)
 }
 
-// Returns the record of the trade that was found, then those of the changes of its lots, or no
-// record if there is no trade. Fails with `Memory` only.
+// Returns the record of the trade that touched the lots, followed by those of the lot changes, or
+// no record if there is no trade. Fails with `Memory` only.
 pub(crate) fn lot_records(
     alloc: Global,
     lots: &Option<TouchedLots>,

@@ -10,7 +10,7 @@ use brk_money::Fault;
 use brk_view::volumes::BrokerVolume;
 use std::alloc::Global;
 
-// Returns the record of a broker.
+// Returns the record of a broker: its name, its id and its volume. Fails with `Memory` only.
 fn volume_texts(alloc: Global, broker: &BrokerVolume) -> Result<Vec<String>, Fault>
     ensures texts { IfOk result (λ texts. record_of texts ≡ volume_record broker.now) }
     ensures fault { OnErr result (result ≡ Err Memory) }

@@ -10,22 +10,24 @@ ghost use Rattle.brk_model.specs.Tables.{TradeRow, tables_of};
 ghost use Rattle.brk_invariant_theorems.specs.Sound.{AuditInvariant};
 ghost use Rattle.brk_book_theorems.specs.Books.{BooksInvariant};
 
-/// Proves that the view of the trades that pass a test, over the sorted tables of a consistent base
-/// with the audit invariant, equals the specified view.
+/// Proves that the view of the trades that pass a test, over the sorted tables, equals the
+/// specified view, if the base satisfies the books invariant and the audit invariant.
 #[tactic(auto, using(crate::proofs::LookupRows::same_lookup))]
 pub fn lookups_are_as_read()
     ensures { (base : Base) (test : TradeRow → Bool) → BooksInvariant base → AuditInvariant base → lookup_view (sheets base) test ≡ lookup_view (tables_of base) test }
 {}
 
-/// Proves that the view of the lots that a trade of an account touched, over the sorted tables,
-/// equals the specified view.
+/// Proves that the view of the lots that the oldest trade of an account from a stamp on touched,
+/// over the sorted tables, equals the specified view, if the base satisfies the books invariant and
+/// the audit invariant.
 #[tactic(auto, using(crate::proofs::TouchRows::same_lots))]
 pub fn lots_are_as_read()
     ensures { (base : Base) (account first : ℕ) → BooksInvariant base → AuditInvariant base → lots_view (sheets base) account first ≡ lots_view (tables_of base) account first }
 {}
 
-/// Proves that at most one row has the key of a settlement, of a cash row by its trade, of an
-/// account or of a customer: the row that is found is the only one.
+/// Proves that at most one row has a given key, for settlements by trade, cash rows by trade,
+/// accounts by id and customers by id, if the base satisfies the books invariant and the audit
+/// invariant.
 #[tactic(auto, using(crate::proofs::FoundRows::settlement_alone, crate::proofs::FoundRows::cash_alone, crate::proofs::FoundRows::account_alone, crate::proofs::FoundRows::customer_alone))]
 pub fn rows_are_found_alone()
     ensures settlements { (base : Base) (trade : ℕ) → BooksInvariant base → AuditInvariant base
@@ -38,8 +40,9 @@ pub fn rows_are_found_alone()
         → option_to_list (find (λ c. c.id == id) (sheets base).customers) ≡ filter (λ c. c.id == id) (sheets base).customers }
 {}
 
-/// Proves that the trades that are found by distinct ids, sorted oldest first, are all trades with
-/// these ids.
+/// Proves that the trades that are read by distinct ids, one by one, and sorted with the oldest
+/// first are all trades with these ids, if the base satisfies the books invariant and the audit
+/// invariant.
 #[tactic(auto, using(crate::proofs::FoundRows::trades_by_id))]
 pub fn trades_are_found_by_ids()
     ensures { (base : Base) (ids : List ℕ) → BooksInvariant base → AuditInvariant base → all_distinct ids ≡ true
@@ -47,8 +50,9 @@ pub fn trades_are_found_by_ids()
         ≡ oldest_first_rows (filter (λ t. contains_number t.id ids) (sheets base).trades) }
 {}
 
-/// Proves that the changes of the lots that a trade touched, read lot by lot, are the changes of
-/// all these lots in the order of the table.
+/// Proves that the rows of HOLDING_HISTORY of the lots that a trade touched, read lot by lot, are
+/// all rows of these lots in the order of the table, if the base satisfies the books invariant and
+/// the audit invariant.
 #[tactic(auto, using(crate::proofs::TouchRows::touched_by_lot))]
 pub fn changes_are_read_by_lot()
     ensures { (base : Base) (trade : ℕ) → BooksInvariant base → AuditInvariant base

@@ -12,14 +12,15 @@ ghost use Rattle.brk_invariant_theorems.specs.Sound.{AuditInvariant};
 ghost use Rattle.brk_book_theorems.specs.Books.{BooksInvariant};
 
 /// Proves that the view of brokers' pending requests over the sorted tables equals the specified
-/// view.
+/// view, if the base satisfies the books invariant and the audit invariant.
 #[tactic(auto, using(crate::proofs::VolumeRows::same_volumes))]
 pub fn volumes_are_as_read()
     ensures { (base : Base) (sector : Text) (names : List Text) → BooksInvariant base → AuditInvariant base → volume_view (sheets base) sector names ≡ volume_view (tables_of base) sector names }
 {}
 
-/// Proves that the brokers with pending requests, read by distinct names and sorted by the order of
-/// the view, are all such brokers with these names in this order.
+/// Proves that the brokers with pending requests in a sector, read by distinct names and sorted by
+/// the order of the view, are all such brokers with these names, if the base satisfies the books
+/// invariant and the audit invariant.
 #[tactic(auto, using(crate::proofs::VolumeRows::brokers_by_name))]
 pub fn brokers_are_read_by_name()
     ensures { (base : Base) (sector : Text) (names : List Text) → BooksInvariant base → AuditInvariant base → distinct_texts names ≡ names

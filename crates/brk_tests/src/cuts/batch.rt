@@ -1,4 +1,4 @@
-//! The batch of the sweeps: its rows, its lines, the tables after it, and how it is completed.
+//! The batch of these tests: its rows, its lines, the tables after it, and its retry.
 
 use crate::desks::{Step, expect};
 use crate::tables::expect_tables;
@@ -9,8 +9,8 @@ use sqlite::MemStore;
 use std::alloc::Global;
 use std::test::Fail;
 
-/// A purchase and its result, an order that waits, a tick that triggers it, its result, and a correction that would turn
-/// back what it did if it acted twice.
+/// A purchase and its result, a pending order, a tick that triggers it, its result, and a text
+/// update that would restore the old text if it were executed twice.
 pub const ROWS: [&str; 6] = [
     "order,100,TMB,ABC,100,,cash,fifo,Ann,Lee,T10",
     "result,1,10.10",
@@ -20,7 +20,7 @@ pub const ROWS: [&str; 6] = [
     "upname,1",
 ];
 
-// What they are told after their numbers and words.
+// The replies to `ROWS`, without number and word.
 const LINES: [&str; 6] = [
     "1709251200016,1,SBMT,10.00,0.00,0.00,0.00,10.00,5.00,10000.00",
     "1709251200017,10.10,0.00,-1025.10,2024-03-03,0.00,0.00,8974.90",
@@ -30,7 +30,7 @@ const LINES: [&str; 6] = [
     "1709251200021,1",
 ];
 
-// The tables after them, but for those that no trade changes.
+// The rows of the tables after the batch, without the reference tables.
 const TABLES: &str = "DESK\n1,3,1709251200021\n\
     BROKER\n1,Bo,2,1615\n\
     CUSTOMER_ACCOUNT\n100,10,1,Main,1,1000000,954885\n\
@@ -59,7 +59,8 @@ const TABLES: &str = "DESK\n1,3,1709251200021\n\
     T,5,result\x1f2\x1f12.10,1709251200020,6.05,20.00,573.95,2024-03-03,505.00,605.00,9548.85\n\
     T,6,upname\x1f1,1709251200021,1\n";
 
-/// The lines of the first rows of the batch at a desk that was set up.
+/// Returns the lines of the given number of first rows of the batch, on a desk after the batch
+/// `SET`.
 pub fn first_lines(alloc: Global, rows: usize) -> Result<String, Fail> {
     let (first, _) = LINES.split_at(rows.min(6));
     let mut told = String::new(alloc);
@@ -67,7 +68,7 @@ pub fn first_lines(alloc: Global, rows: usize) -> Result<String, Fail> {
     Ok(told)
 }
 
-/// All lines of the batch at a desk that booked the first of its rows before.
+/// Returns all lines of the batch on a desk that has accepted its first `booked` rows before.
 pub fn all_lines(alloc: Global, booked: usize) -> Result<String, Fail> {
     let booked = booked.min(6);
     let (again, rest) = LINES.split_at(booked);
@@ -78,7 +79,7 @@ pub fn all_lines(alloc: Global, booked: usize) -> Result<String, Fail> {
     Ok(told)
 }
 
-/// Compares the fault that ends a batch, and what was written.
+/// Checks the fault that ended a batch, and the written lines.
 pub fn expect_fault(
     name: &str,
     ended: Result<Counts, BatchFault>,
@@ -93,7 +94,8 @@ pub fn expect_fault(
     }
 }
 
-/// Sends the whole batch to a desk that booked the first of its rows before, and compares its lines and all tables after it.
+/// Runs the whole batch on a desk that has accepted its first rows before. Checks its lines and all
+/// tables after it.
 pub fn complete(
     alloc: Global,
     mut desk: Desk<MemStore>,

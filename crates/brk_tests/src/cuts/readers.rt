@@ -1,4 +1,4 @@
-//! A batch whose reader fails once at each of its bytes, or is interrupted there.
+//! Tests of a batch whose reader fails once at each of its bytes, or is interrupted there.
 
 use crate::cuts::batch::{ROWS, complete, expect_fault, first_lines};
 use crate::desks::{Still, set_desk};
@@ -9,8 +9,9 @@ use std::alloc::Global;
 use std::io::ErrorKind;
 use std::test::Fail;
 
-// Sends a batch whose reader fails after so many bytes to a desk of its own, and then sends it whole. A row is settled once
-// the record after it was read.
+// Runs a batch with a reader that fails after `len` bytes, on a new desk, and then retries it.
+// Checks the fault and the lines, and that the retry completes: a row is decided once the record
+// after it was read.
 fn expect_read(alloc: Global, batch: &str, len: usize, kind: ErrorKind) -> Result<(), Fail> {
     let name = format!(in alloc; "the reader fails after {len}")?;
     let before = batch.get(..len).ok_or("no such place")?;
@@ -28,6 +29,7 @@ fn expect_read(alloc: Global, batch: &str, len: usize, kind: ErrorKind) -> Resul
     expect_fault(name.as_str(), ended, wanted, &told, lines.as_str())
 }
 
+// Checks a batch whose reader fails, or is interrupted, at each byte.
 #[test]
 fn a_reader_may_fail_at_each_byte(rt: HostRuntime) -> Result<(), Fail> {
     let batch = batch_of(rt.alloc(), &ROWS)?;

@@ -1,4 +1,4 @@
-//! A batch whose writer takes so many bytes, and then none, fails, or is interrupted.
+//! Tests of a batch whose writer takes some bytes, and then none, fails, or is interrupted.
 
 use crate::cuts::batch::{ROWS, all_lines, complete, expect_fault};
 use crate::desks::{Still, set_desk};
@@ -9,8 +9,9 @@ use std::alloc::Global;
 use std::io::ErrorKind;
 use std::test::Fail;
 
-// Sends a batch whose writer fails after so many bytes to a desk of its own, and then sends it whole. A row whose line was
-// not written stands.
+// Runs a batch with a writer that fails after `room` bytes, on a new desk, and then retries it.
+// Checks the fault and the written bytes, and that the retry completes: a row whose line was not
+// written remains committed.
 fn expect_written(
     alloc: Global,
     batch: &str,
@@ -38,6 +39,7 @@ fn expect_written(
     expect_fault(name.as_str(), ended, fault, &writer.taken, wanted)
 }
 
+// Checks a batch whose writer takes no byte, fails or is interrupted at each byte.
 #[test]
 fn a_writer_may_fail_at_each_byte(rt: HostRuntime) -> Result<(), Fail> {
     let batch = batch_of(rt.alloc(), &ROWS)?;

@@ -1,11 +1,12 @@
-//! Desks in files, which are closed, opened again and audited.
+//! Tests of desks in files, which are closed, opened again and audited.
 
 use crate::files::machine::{Held, Sent, Stop, run, set_files};
 use crate::worked::{LAST_FIRST_LINES, LAST_FIRST_ROWS, LINES, ROWS, accepted, batch_of, repeated};
 use std::alloc::Global;
 use std::test::Fail;
 
-// Sends a batch to the desk in these files, which has to answer with these lines and to pass its audit.
+// Runs a batch on the desk in these files. Checks its lines and that the audit passes, and returns
+// the files after it.
 fn expect_sent(
     alloc: Global,
     held: &Held,
@@ -21,7 +22,8 @@ fn expect_sent(
     }
 }
 
-// Keeps these trades in files, and sends them again to the desk that is found there.
+// Runs these trades on a desk in files, and then again on the desk that is opened from these files.
+// Checks the lines of both runs.
 fn expect_kept(alloc: Global, name: &str, rows: &[&str], lines: &[&str]) -> Result<(), Fail> {
     let batch = batch_of(alloc, rows)?;
     let (told, again) = (accepted(alloc, lines)?, repeated(alloc, lines)?);
@@ -31,6 +33,7 @@ fn expect_kept(alloc: Global, name: &str, rows: &[&str], lines: &[&str]) -> Resu
     Ok(())
 }
 
+// Checks that a desk that is opened from its files repeats the replies of its trades.
 #[test]
 fn desks_last_in_files(rt: HostRuntime) -> Result<(), Fail> {
     for (name, count) in [

@@ -1,5 +1,5 @@
-//! A machine with the two files of a desk in memory: it stops at a call of one of them, loses what was not synced or keeps
-//! it, and comes back.
+//! A machine with the two files of a desk in memory: it crashes at a call of one of them, loses or
+//! stores the bytes that were not synced, and restarts.
 
 use crate::desks::Still;
 use crate::tables::all_tables;
@@ -20,7 +20,8 @@ pub enum File {
     Database,
 }
 
-/// A machine that stops: a file takes so many calls and fails at each one after. What was not synced is lost or kept.
+/// A crash: one file accepts the given number of calls and fails at each one after. Bytes that were
+/// not synced are lost if `loses` is true, and otherwise stored.
 #[derive(Clone, Copy)]
 pub struct Stop {
     pub name: &'static str,
@@ -30,7 +31,7 @@ pub struct Stop {
 }
 
 impl Stop {
-    /// A machine that does not stop.
+    /// A machine that does not crash.
     pub const NEVER: Stop = Stop {
         name: "no stop",
         file: File::Log,
@@ -47,7 +48,7 @@ pub struct Held {
 }
 
 impl Held {
-    /// Files without a byte.
+    /// Returns empty files.
     pub fn nothing(alloc: Global) -> Held {
         Held {
             log: Vec::new(alloc),
@@ -56,8 +57,8 @@ impl Held {
     }
 }
 
-/// What was seen of a batch at a desk: all tables before and after it, or nothing where they could not be read, its lines, and whether an
-/// audit passed after it.
+/// The observation of a batch on a desk: all tables before and after it, or an empty text if they
+/// could not be read, its lines, and whether an audit passed after it.
 #[derive(Drop)]
 pub struct Seen {
     pub before: String,
@@ -67,7 +68,7 @@ pub struct Seen {
 }
 
 impl Seen {
-    /// What is seen before a batch.
+    /// Returns the observation before a batch.
     pub fn nothing(alloc: Global) -> Seen {
         Seen {
             before: String::new(alloc),
@@ -78,7 +79,8 @@ impl Seen {
     }
 }
 
-// The desk of a database, which is made where there is none, and has to pass its audit.
+// Creates a desk in the database of a connection, or opens the desk that it has if it passes its
+// audit. Returns the connection if both fail.
 fn desk_of<S: Alter + Drop>(alloc: Global, conn: Connection<S>) -> Result<Desk<S>, Connection<S>> {
     match Store::create(conn) {
         Ok(store) => Ok(Desk::new(store)),
@@ -90,7 +92,8 @@ fn desk_of<S: Alter + Drop>(alloc: Global, conn: Connection<S>) -> Result<Desk<S
     }
 }
 
-/// The desk in files, where they can be opened and it can be made or passes its audit.
+/// Creates or opens the desk in files. Returns `None` if the files cannot be opened, or the desk
+/// can be neither created nor adopted.
 pub fn desk_in(
     alloc: Global,
     files: Files<Fuse<Memory>>,
@@ -105,7 +108,8 @@ pub fn desk_in(
     desk_of(alloc, conn).ok()
 }
 
-/// Sends a batch to the desk of a database, as far as it comes.
+/// Runs a batch on the desk of a connection, as far as possible, and records its observation in
+/// `seen`.
 pub fn book<S: Alter + Drop>(
     alloc: Global,
     mut conn: Connection<S>,
@@ -135,7 +139,8 @@ pub fn book<S: Alter + Drop>(
     }
 }
 
-// Opens these files, sends a batch to the desk in them, and closes them, as far as it comes.
+// Opens these files, runs a batch on the desk in them, and closes them, as far as possible. Records
+// the observation in `seen`.
 fn book_in(
     alloc: Global,
     files: Files<Fuse<Memory>>,
@@ -154,7 +159,8 @@ fn book_in(
     }
 }
 
-// A file with these bytes, which takes so many calls and fails at each one after.
+// Returns a file with these bytes, which accepts the given number of calls and fails at each one
+// after.
 fn file_of(alloc: Global, bytes: &[u8], calls: u64) -> Result<Fuse<Memory>, Fail> {
     let mut file = Memory::new(alloc);
     if file.write_at(0, bytes).is_err() || file.sync().is_err() {
@@ -163,7 +169,8 @@ fn file_of(alloc: Global, bytes: &[u8], calls: u64) -> Result<Fuse<Memory>, Fail
     Ok(Fuse::new(file, calls))
 }
 
-/// The two files with these bytes, each of which takes so many calls and fails at each one after.
+/// Returns the two files with these bytes. Each accepts its number of calls and fails at each one
+/// after.
 pub fn files_of(
     alloc: Global,
     held: &Held,
@@ -175,7 +182,8 @@ pub fn files_of(
     Ok(Files { log, db })
 }
 
-// Takes the bytes that a file holds once the machine comes back. Tells whether it was stopped, or takes no call more.
+// Appends the bytes that a file has after the restart. Returns true if the file had failed, or
+// would fail at its next call.
 fn come_back(
     file: &mut Fuse<Memory>,
     loses: bool,
@@ -189,7 +197,7 @@ fn come_back(
     Ok(was_stopped)
 }
 
-// What the files hold once the machine comes back, and whether it was stopped.
+// Returns the bytes of the files after the restart, and true if one of them had failed.
 fn left_in(
     alloc: Global,
     files: Files<Fuse<Memory>>,
@@ -202,7 +210,8 @@ fn left_in(
     Ok((left, is_log || is_db))
 }
 
-/// A batch that was sent to the desk in files: what was seen of it, what the files hold after it, and whether the machine stopped.
+/// A batch that was run on the desk in files: its observation, the files after it, and whether the
+/// machine crashed.
 #[derive(Drop)]
 pub struct Sent {
     pub seen: Seen,
@@ -210,7 +219,7 @@ pub struct Sent {
     pub was_stopped: bool,
 }
 
-/// Sends a batch to the desk in these files until the machine stops.
+/// Runs a batch on the desk in these files until the machine crashes.
 pub fn run(alloc: Global, held: &Held, stop: Stop, batch: &[u8]) -> Result<Sent, Fail> {
     let (log_calls, db_calls) = match stop.file {
         File::Log => (stop.calls, u64::MAX),
@@ -227,13 +236,13 @@ pub fn run(alloc: Global, held: &Held, stop: Stop, batch: &[u8]) -> Result<Sent,
     })
 }
 
-/// The bytes of the files of a desk that was set up.
+/// Returns the files of a desk after the batch `SET`.
 pub fn set_files(alloc: Global) -> Result<Held, Fail> {
     let Sent { held, .. } = run(alloc, &Held::nothing(alloc), Stop::NEVER, SET)?;
     Ok(held)
 }
 
-// Changes the tables of a database, and stores whether that succeeds.
+// Executes SQL statements on a database, and stores whether they succeed.
 fn change<S: Alter + Drop>(
     mut conn: Connection<S>,
     text: &str,
@@ -243,7 +252,8 @@ fn change<S: Alter + Drop>(
     conn
 }
 
-// Opens these files, changes the tables in them, and closes them.
+// Opens these files, executes SQL statements on the database in them, and closes them. Stores
+// whether the statements succeed.
 fn change_in(
     alloc: Global,
     files: Files<Fuse<Memory>>,
@@ -262,7 +272,7 @@ fn change_in(
     }
 }
 
-/// The bytes of these files after another program changes the desk in them.
+/// Returns these files after another program executed SQL statements on them.
 pub fn changed(alloc: Global, held: &Held, text: &str) -> Result<Held, Fail> {
     let mut is_done = false;
     let files = files_of(alloc, held, u64::MAX, u64::MAX)?;

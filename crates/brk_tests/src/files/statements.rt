@@ -1,4 +1,5 @@
-//! A disk that fails within a statement, at each of its calls in turn: whole first lines are written, and never the last.
+//! Test of a disk that fails within a statement, at each of its calls: whole first lines are
+//! written, and never the last one.
 
 use crate::files::machine::{Held, Sent, Stop, desk_in, files_of, run};
 use brk_money::{Fault, Id, parse_day};
@@ -7,7 +8,7 @@ use sqlite::Options;
 use std::alloc::Global;
 use std::test::Fail;
 
-// A desk is set up, an account buys twice and sells a part.
+// The batch that sets a desk up, and two purchases and a sale of an account.
 const BATCH: &[u8] = b"batch,S\n\
     broker,1,Bo\n\
     customer,10,1,T10,Lee,Ann\n\
@@ -25,7 +26,7 @@ const BATCH: &[u8] = b"batch,S\n\
     result,3,13.00\n\
     end,14\n";
 
-// The statement of their month.
+// The statement of the month.
 const WANTED: &[u8] = b"Statement of account 100\n\
     Main\n\
     From 2024-03-01 to 2024-03-31\n\
@@ -38,7 +39,8 @@ const WANTED: &[u8] = b"Statement of account 100\n\
     Holdings                  1500.00\n\
     Cash rows 3, lots 1\n";
 
-// Writes the statement of the month over a disk that takes so many calls, where the desk can be opened.
+// Writes the statement of the month over a disk that accepts the given number of calls, and returns
+// its result, or `None` if the desk cannot be opened.
 fn written(
     alloc: Global,
     held: &Held,
@@ -49,7 +51,7 @@ fn written(
     let from = parse_day(b"2024-03-01").ok_or("a first day")?;
     let to = parse_day(b"2024-03-31").ok_or("a last day")?;
     let files = files_of(alloc, held, u64::MAX, calls)?;
-    // The desk keeps one page in memory, so that rows are read from the disk.
+    // The desk caches one page, so that rows are read from the disk.
     let mut options = Options::new(1);
     options.cache_pages = 1;
     let Some(mut desk) = desk_in(alloc, files, options) else {
@@ -58,12 +60,13 @@ fn written(
     Ok(Some(statement(alloc, &mut desk, account, from, to, text)))
 }
 
-// Whether a text is of whole first lines of the statement, without the last.
+// Returns true if a text consists of whole first lines of the statement, without the last one.
 fn is_of_first_lines(text: &[u8]) -> bool {
     let is_whole = text.is_empty() || text.ends_with(b"\n");
     is_whole && text.len() < WANTED.len() && WANTED.starts_with(text)
 }
 
+// Checks, for a disk that fails at each of its calls, that only whole first lines are written.
 #[test]
 fn a_disk_may_fail_within_a_statement(rt: HostRuntime) -> Result<(), Fail> {
     let alloc = rt.alloc();

@@ -1,5 +1,5 @@
-//! A store that is stopped at each of its calls, of the log and then of the database file, while its tables are made, while
-//! it books a batch, and while a desk of the first or of the second schema is moved to the third.
+//! Tests of crashes at each call of the log and of the database file: while a store is created,
+//! while it executes a batch, and while a desk of schema 1 or 2 is upgraded.
 
 use crate::cuts::batch::{ROWS, all_lines};
 use crate::desks::set_desk;
@@ -9,22 +9,22 @@ use crate::worked::{SET, SET_LINES, batch_of};
 use std::alloc::Global;
 use std::test::Fail;
 
-// More calls than a file takes in any run.
+// A number of calls that no file receives in any run.
 const MOST_CALLS: u64 = 10_000;
 
 // A batch without rows.
 const NO_ROWS: &[u8] = b"batch,Z\nend,0\n";
 
-// Makes a desk of the first schema from one that bought 100 and 200 shares and sold 150.
+// Converts a desk that bought 100 and 200 shares and sold 150 to schema 1.
 const FIRST: &str = "UPDATE DESK SET D_SCHEMA = 1; DROP TABLE SETTLE_RULE; DROP TABLE CASH_MOVE; \
     INSERT INTO CASH_TRANSACTION VALUES (1, 1709251200017, -102510, 'Market-Buy 100 shares of Acme'); \
     INSERT INTO CASH_TRANSACTION VALUES (2, 1709251200019, -242900, 'Market-Buy 200 shares of Acme'); \
     INSERT INTO CASH_TRANSACTION VALUES (3, 1709251200021, 185750, 'Market-Sell 150 shares of Acme')";
 
-// Makes a desk of the second schema.
+// Converts a desk to schema 2.
 const SECOND: &str = "UPDATE DESK SET D_SCHEMA = 2; DROP TABLE SETTLE_RULE";
 
-// Each file, and what becomes of what was not synced.
+// Crashes at a call of each file, with the bytes that were not synced lost or stored.
 const STOPS: [Stop; 4] = [
     Stop {
         name: "the log, losing",
@@ -52,7 +52,7 @@ const STOPS: [Stop; 4] = [
     },
 ];
 
-// Fails where something does not hold after a stop.
+// Fails with the crash and `what` if `is_so` is false.
 fn holds(is_so: bool, stop: Stop, what: &str) -> Result<(), Fail> {
     if is_so {
         Ok(())
@@ -62,7 +62,8 @@ fn holds(is_so: bool, stop: Stop, what: &str) -> Result<(), Fail> {
     }
 }
 
-// All tables of a desk in memory that was set up and was sent the first rows of the batch.
+// Returns all tables of a desk in memory after the batch `SET` and the given number of first rows
+// of the batch, at most six.
 fn tables_after(alloc: Global, rows: usize) -> Result<String, Fail> {
     let batch = batch_of(alloc, &ROWS[..rows.min(6)])?;
     let conn = set_desk(alloc)?.into_store().into_conn();
@@ -75,26 +76,29 @@ fn tables_after(alloc: Global, rows: usize) -> Result<String, Fail> {
     Ok(after)
 }
 
-// Whether a batch that was sent after a stop had these lines, passed its audit, and left these tables.
+// Returns true if a batch had these lines, its desk passed the audit, and the tables after it are
+// these.
 fn is_done(seen: &Seen, lines: &str, tables: &str) -> bool {
     seen.is_sound && seen.lines.as_slice() == lines.as_bytes() && seen.after.as_str() == tables
 }
 
-// Makes a desk until a stop, and then sets up the desk that is found, or made where none is found. Tells whether it is then as
-// these tables, and whether there was a stop.
+// Creates a desk until a crash, and then runs the batch `SET` on the desk that is opened or
+// created. Returns whether its tables are these, and whether there was a crash.
 fn made(alloc: Global, stop: Stop, tables: &str) -> Result<(bool, bool), Fail> {
     let first = run(alloc, &Held::nothing(alloc), stop, NO_ROWS)?;
     let again = run(alloc, &first.held, Stop::NEVER, SET)?;
     Ok((is_done(&again.seen, SET_LINES, tables), first.was_stopped))
 }
 
-// Makes a desk until a stop, and then sets it up. Tells whether there was a stop.
+// Creates a desk until a crash, and checks that it can then be set up. Returns true if there was a
+// crash.
 fn stops_making(alloc: Global, stop: Stop, tables: &str) -> Result<bool, Fail> {
     let (is_set, was_stopped) = made(alloc, stop, tables)?;
     holds(is_set, stop, "it is not set up")?;
     Ok(was_stopped)
 }
 
+// Checks that a desk can be created after a crash at each call of its creation.
 #[test]
 fn a_store_may_be_stopped_while_it_is_made(rt: HostRuntime) -> Result<(), Fail> {
     let tables = tables_after(rt.alloc(), 0)?;
@@ -111,7 +115,8 @@ fn a_store_may_be_stopped_while_it_is_made(rt: HostRuntime) -> Result<(), Fail> 
     Ok(())
 }
 
-// How many rows of the batch stand after a stop: those that were told, or one more, which was under way.
+// Returns the number of rows of the batch that are committed after a crash: those with a written
+// line, or one more; `None` if the tables are neither.
 fn rows_after(told: &[u8], found: &str, tables: &[String]) -> Option<usize> {
     let settled = told
         .split(|byte| *byte == b'\n')
@@ -126,7 +131,7 @@ fn rows_after(told: &[u8], found: &str, tables: &[String]) -> Option<usize> {
     None
 }
 
-/// What was seen of the batch until a stop, and of the same sent again to the desk that was found.
+/// A batch until a crash, and its retry on the desk that is opened after the crash.
 #[derive(Drop)]
 struct Twice {
     first: Seen,
@@ -134,6 +139,7 @@ struct Twice {
     again: Seen,
 }
 
+// Runs the batch until a crash, and retries it on the desk that is opened after the crash.
 fn sent_twice(alloc: Global, stop: Stop, start: &Held, batch: &str) -> Result<Twice, Fail> {
     let first = run(alloc, start, stop, batch.as_bytes())?;
     let again = run(alloc, &first.held, Stop::NEVER, batch.as_bytes())?;
@@ -149,7 +155,8 @@ fn sent_twice(alloc: Global, stop: Stop, start: &Held, batch: &str) -> Result<Tw
     })
 }
 
-// Compares both with the lines of the whole batch, those after the rows that stood, and the last tables.
+// Checks that the lines until the crash begin those of the whole batch, and that the retry has the
+// lines `rest` and the last tables.
 fn expect_twice(
     stop: Stop,
     twice: &Twice,
@@ -172,7 +179,8 @@ fn expect_twice(
     )
 }
 
-// Compares both with the tables after each row of the batch.
+// Checks that the tables after the crash are those of the rows with a written line, or of one more,
+// and that the retry completes the batch.
 fn expect_booked(alloc: Global, stop: Stop, twice: &Twice, tables: &[String]) -> Result<(), Fail> {
     let last = tables.last().map(String::as_str).unwrap_or("");
     let rows = rows_after(&twice.first.lines, twice.again.before.as_str(), tables);
@@ -182,7 +190,7 @@ fn expect_booked(alloc: Global, stop: Stop, twice: &Twice, tables: &[String]) ->
     expect_twice(stop, twice, whole.as_str(), rest.as_str(), last)
 }
 
-// Sends the batch until a stop, and then again to the desk that is found. Tells whether there was a stop.
+// Runs the batch until a crash, retries it, and checks both. Returns true if there was a crash.
 fn stops_booking(
     alloc: Global,
     stop: Stop,
@@ -195,6 +203,7 @@ fn stops_booking(
     Ok(twice.was_stopped)
 }
 
+// Checks that a batch can be retried and completed after a crash at each of its calls.
 #[test]
 fn a_store_may_be_stopped_while_it_books(rt: HostRuntime) -> Result<(), Fail> {
     let batch = batch_of(rt.alloc(), &ROWS)?;
@@ -218,14 +227,15 @@ fn a_store_may_be_stopped_while_it_books(rt: HostRuntime) -> Result<(), Fail> {
     Ok(())
 }
 
-// A desk in files that traded.
+// Runs three trades on a desk in files, and returns it.
 fn traded(alloc: Global) -> Result<Sent, Fail> {
     let batch = batch_of(alloc, &worked::ROWS[..6])?;
     let set = set_files(alloc)?;
     run(alloc, &set, Stop::NEVER, batch.as_bytes())
 }
 
-// The files of an older desk that traded, and its tables once they are moved.
+// Returns the files of a desk of an older schema after three trades, and its tables after an
+// upgrade.
 fn older(alloc: Global, change: &str) -> Result<(Held, String), Fail> {
     let Sent { seen, held, .. } = traded(alloc)?;
     let Seen { after, .. } = seen;
@@ -236,8 +246,8 @@ fn older(alloc: Global, change: &str) -> Result<(Held, String), Fail> {
     Ok((held, after))
 }
 
-// What was seen of the move of an older desk until a stop, and then again: whether it was not begun or complete, whether it is
-// complete after it, and whether there was a stop.
+// The result of an upgrade until a crash and of its retry: whether it was not begun or complete
+// after the crash, whether it is complete after the retry, and whether there was a crash.
 #[derive(Clone, Copy)]
 struct MoveSeen {
     is_whole: bool,
@@ -245,7 +255,7 @@ struct MoveSeen {
     was_stopped: bool,
 }
 
-// Opens an older desk until a stop, and then again.
+// Upgrades an older desk until a crash, and then again, and returns the result.
 fn moved(alloc: Global, stop: Stop, start: &Held, tables: &str) -> Result<MoveSeen, Fail> {
     let first = run(alloc, start, stop, NO_ROWS)?;
     let again = run(alloc, &first.held, Stop::NEVER, NO_ROWS)?;
@@ -257,7 +267,9 @@ fn moved(alloc: Global, stop: Stop, start: &Held, tables: &str) -> Result<MoveSe
     })
 }
 
-// Opens an older desk until a stop, and then again. The move is atomic, and no batch is answered before its commit. Returns whether there was a stop.
+// Upgrades an older desk until a crash, and then again. Checks that the upgrade is atomic, that no
+// batch is answered before its commit, and that the retry completes it. Returns true if there was a
+// crash.
 fn stops_moving(alloc: Global, stop: Stop, start: &Held, tables: &str) -> Result<bool, Fail> {
     let moved = moved(alloc, stop, start, tables)?;
     holds(moved.is_whole, stop, "it is moved in part")?;
@@ -265,7 +277,8 @@ fn stops_moving(alloc: Global, stop: Stop, start: &Held, tables: &str) -> Result
     Ok(moved.was_stopped)
 }
 
-// Stops the move of an older desk at each call of each file. Returns whether a run without a stop came for each.
+// Upgrades an older desk with a crash at each call of each file. Returns true if for each file a
+// run without a crash was reached.
 fn stops_each_move(alloc: Global, change: &str) -> Result<bool, Fail> {
     let (start, tables) = older(alloc, change)?;
     let mut is_always = false;
@@ -283,6 +296,7 @@ fn stops_each_move(alloc: Global, change: &str) -> Result<bool, Fail> {
     Ok(!is_always)
 }
 
+// Checks crashes at each call of the upgrade from schema 1.
 #[test]
 fn a_store_may_be_stopped_while_its_first_schema_is_moved(rt: HostRuntime) -> Result<(), Fail> {
     let is_ended = stops_each_move(rt.alloc(), FIRST)?;
@@ -290,6 +304,7 @@ fn a_store_may_be_stopped_while_its_first_schema_is_moved(rt: HostRuntime) -> Re
     Ok(())
 }
 
+// Checks crashes at each call of the upgrade from schema 2.
 #[test]
 fn a_store_may_be_stopped_while_its_second_schema_is_moved(rt: HostRuntime) -> Result<(), Fail> {
     let is_ended = stops_each_move(rt.alloc(), SECOND)?;

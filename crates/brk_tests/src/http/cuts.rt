@@ -1,5 +1,5 @@
-//! A stream that is cut at each of its bytes, and a stream whose reader or writer fails at each byte. After a fault it is sent again,
-//! whole, and completed.
+//! Tests of a stream that is cut at each of its bytes, and of a stream whose reader or writer fails
+//! at each byte. After a fault the whole stream is retried and completes.
 
 use crate::desks::{Still, set_desk};
 use crate::faulty::{Failing, Narrow};
@@ -12,7 +12,7 @@ use std::alloc::{AllocError, Global};
 use std::io::ErrorKind;
 use std::test::Fail;
 
-// The tables after the requests, without those of reference data.
+// The rows of the tables after the requests, without the reference tables.
 const TABLES: &str = "DESK\n1,3,1709251200016\n\
     BROKER\n1,Bo,0,0\n2,Cy,0,0\n\
     CUSTOMER_ACCOUNT\n100,10,1,Main,1,1000000,1000000\n\
@@ -22,7 +22,7 @@ const TABLES: &str = "DESK\n1,3,1709251200016\n\
     SETTLEMENT\nCASH_TRANSACTION\nCASH_MOVE\nSETTLE_RULE\n\
     KEPT WHERE K_BATCH <> 'SET'\nC,1,broker\x1f2\x1fCy,1709251200016\n";
 
-// Three requests, where each ends, and what they are answered with.
+// Three requests, the position at which each ends, and their replies.
 #[derive(Drop)]
 struct Three {
     input: String,
@@ -30,7 +30,7 @@ struct Three {
     replies: [String; 3],
 }
 
-// The requests, and where each ends.
+// Returns the text of three requests, and the position at which each ends.
 fn requests(alloc: Global) -> Result<(String, [usize; 3]), AllocError> {
     let mut input = post(alloc, "/rows/C/1", "[\"broker\",\"2\",\"Cy\"]")?;
     let one = input.len();
@@ -41,7 +41,7 @@ fn requests(alloc: Global) -> Result<(String, [usize; 3]), AllocError> {
     Ok((input, ends))
 }
 
-// What they are answered with.
+// Returns the replies to the three requests on a desk that has executed none of them.
 fn three_replies(alloc: Global) -> Result<[String; 3], AllocError> {
     let first = reply(alloc, Told::Open("200 OK", "{\"ok\":[\"1709251200016\"]}"))?;
     let second = reply(
@@ -52,6 +52,7 @@ fn three_replies(alloc: Global) -> Result<[String; 3], AllocError> {
     Ok([first, second, third])
 }
 
+// Returns the three requests with their replies.
 fn three_requests(alloc: Global) -> Result<Three, AllocError> {
     let (input, ends) = requests(alloc)?;
     let replies = three_replies(alloc)?;
@@ -62,7 +63,8 @@ fn three_requests(alloc: Global) -> Result<Three, AllocError> {
     })
 }
 
-// The replies to the requests that end within so many bytes, how many they are, and whether a part of another is there.
+// Returns the replies to the requests that end within the first `len` bytes, their number, and true
+// if a part of another request follows them.
 fn first_replies(
     alloc: Global,
     all: &Three,
@@ -81,6 +83,7 @@ fn first_replies(
     Ok((text, done, start < len))
 }
 
+// Checks the replies to a stream that is cut at each byte: a request that is cut gets 400.
 #[test]
 fn a_stream_may_be_cut_at_each_byte(rt: HostRuntime) -> Result<(), Fail> {
     let alloc = rt.alloc();
@@ -100,7 +103,7 @@ fn a_stream_may_be_cut_at_each_byte(rt: HostRuntime) -> Result<(), Fail> {
     Ok(())
 }
 
-// The replies to all requests at a desk that executed the first one before, or did not.
+// Returns the replies to all requests on a desk that has executed the first one, or none.
 fn all_replies(alloc: Global, all: &Three, executed: bool) -> Result<String, AllocError> {
     let first = if executed { 1 } else { 0 };
     let mut wanted = String::from_str(alloc, all.replies[first].as_str())?;
@@ -109,7 +112,8 @@ fn all_replies(alloc: Global, all: &Three, executed: bool) -> Result<String, All
     Ok(wanted)
 }
 
-// Sends all requests to a desk that executed the first one before, or did not, and compares the replies and all tables after them.
+// Sends all requests to a desk that has executed the first one, or none. Checks the replies and all
+// tables.
 fn complete(
     alloc: Global,
     mut desk: Desk<MemStore>,
@@ -125,7 +129,8 @@ fn complete(
     expect_tables(alloc, desk.into_store(), name, TABLES)
 }
 
-// Sends the requests by a reader that fails after so many bytes. Nothing is executed of the request that it did not read whole.
+// Serves the requests with a reader that fails after `len` bytes. Checks the fault and the replies,
+// and that a retry completes: no request is executed that was not read whole.
 fn expect_read(alloc: Global, all: &Three, len: usize, kind: ErrorKind) -> Result<(), Fail> {
     let name = format!(in alloc; "the reader fails after {len}")?;
     let (wanted, done, _) = first_replies(alloc, all, len)?;
@@ -140,6 +145,7 @@ fn expect_read(alloc: Global, all: &Three, len: usize, kind: ErrorKind) -> Resul
     complete(alloc, desk, name.as_str(), all, done > 0)
 }
 
+// Checks a stream whose reader fails, or is interrupted, at each byte.
 #[test]
 fn a_reader_may_fail_at_each_byte(rt: HostRuntime) -> Result<(), Fail> {
     let all = three_requests(rt.alloc())?;
@@ -150,7 +156,8 @@ fn a_reader_may_fail_at_each_byte(rt: HostRuntime) -> Result<(), Fail> {
     Ok(())
 }
 
-// Sends the requests to a desk whose writer fails after so many bytes. A request is executed before its reply is written.
+// Serves the requests with a writer that fails after `room` bytes. Checks the fault and the written
+// bytes, and that a retry completes: a request is executed before its reply is written.
 fn expect_written(
     alloc: Global,
     all: &Three,
@@ -179,6 +186,7 @@ fn expect_written(
     complete(alloc, desk, name.as_str(), all, true)
 }
 
+// Checks a stream whose writer takes no byte, fails or is interrupted at each byte.
 #[test]
 fn a_writer_may_fail_at_each_byte(rt: HostRuntime) -> Result<(), Fail> {
     let all = three_requests(rt.alloc())?;

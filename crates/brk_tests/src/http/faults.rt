@@ -1,4 +1,4 @@
-//! A desk whose disk fails: the reply that reports it is the last of its stream.
+//! Test of a desk whose disk fails: the reply that reports it is the last of its stream.
 
 use crate::files::machine::desk_in;
 use crate::http::streams::{Told, post, reply, served};
@@ -8,7 +8,8 @@ use sqlite_disk::{Fuse, Memory};
 use std::alloc::Global;
 use std::test::Fail;
 
-// A desk over files in memory, where it can be made. Their log takes so many calls and fails at each one after.
+// Returns a new desk over files in memory, or `None` if it cannot be created. The log accepts the
+// given number of calls and fails at each one after.
 fn desk_of(alloc: Global, calls: u64) -> Option<Desk<FileStore<Fuse<Memory>>>> {
     let files = Files {
         log: Fuse::new(Memory::new(alloc), calls),
@@ -17,6 +18,7 @@ fn desk_of(alloc: Global, calls: u64) -> Option<Desk<FileStore<Fuse<Memory>>>> {
     desk_in(alloc, files, Options::new(1))
 }
 
+// Checks, for a log that fails at each of its calls, that the reply is 503 and ends the stream.
 #[test]
 fn a_fault_of_the_store_ends_a_stream(rt: HostRuntime) -> Result<(), Fail> {
     let alloc = rt.alloc();

@@ -1,4 +1,4 @@
-//! Streams over sockets of this machine, in one process.
+//! Tests of streams over sockets of this machine, in one process.
 
 use crate::desks::{Still, new_desk};
 use brk_http::{ListenFault, serve_on};
@@ -9,8 +9,9 @@ use std::net::{Shutdown, TcpListener, TcpStream};
 use std::process::Abort;
 use std::test::Fail;
 
-// The bytes that each peer sends, in the order of their streams, and its replies. A peer without replies breaks its stream off: the
-// first such peer within its second request, the other one before the reply to its first.
+// The bytes that each peer sends, in the order of their streams, and its wanted replies. A peer
+// without replies breaks its stream off: the first such peer within its second request, the other
+// one before the reply to its first.
 const PEERS: [(&str, Option<&str>); 6] = [
     (
         "POST /rows/S/1 HTTP/1.1\r\nContent-Length: 19\r\n\r\n[\"broker\",\"1\",\"Bo\"]\
@@ -46,7 +47,8 @@ const PEERS: [(&str, Option<&str>); 6] = [
     ),
 ];
 
-// Connects a peer, which sends its bytes. One that waits for replies ends its side.
+// Connects a peer to the listener and sends its bytes. A peer that waits for replies ends its
+// writing side.
 fn connected(
     rt: &HostRuntime,
     listener: &TcpListener,
@@ -61,7 +63,8 @@ fn connected(
     Ok(peer)
 }
 
-// Connects all peers. Returns those that wait for replies, each with the replies that are wanted; the others break off.
+// Connects all peers. Returns those that wait for replies, with the wanted replies; the others
+// break their streams off.
 fn all_connected(
     rt: &HostRuntime,
     listener: &TcpListener,
@@ -76,7 +79,7 @@ fn all_connected(
     Ok(waiting)
 }
 
-// Compares what the peers were told.
+// Checks the replies that the peers receive.
 fn expect_told(
     rt: &impl Abort,
     alloc: Global,
@@ -89,6 +92,8 @@ fn expect_told(
     Ok(())
 }
 
+// Checks the replies of six streams, served in sequence on one desk, and that an accept that fails
+// ends serving with `Net`.
 #[test]
 fn streams_share_a_desk(rt: HostRuntime) -> Result<(), Fail> {
     let mut listener = TcpListener::bind(&rt, ("127.0.0.1", 0))?;

@@ -1,5 +1,5 @@
-//! Streams whose bytes come in large pieces, in pieces of seven, and one by one: line ends and bodies that are split, what stands
-//! behind a request, and the longest head.
+//! Tests of streams whose bytes arrive in large pieces, in pieces of seven, and one by one: line
+//! ends and bodies that are split, bytes behind a request, and the longest head.
 
 use crate::http::streams::{Told, answers};
 use std::alloc::{AllocError, Global};
@@ -13,7 +13,7 @@ const EMPTY: Told = Told::Open("200 OK", "{\"view\":[]}");
 
 const SAID: Told = Told::Last("200 OK", "{\"view\":[]}");
 
-// A stream and its replies. What follows a reply that ends a stream is not read.
+// A stream and its replies. Bytes after a reply that ends a stream are not read.
 const STREAMS: [(&str, &[Told]); 7] = [
     (
         "POST /rows/H/1 HTTP/1.1\r\nContent-Length: 19\r\n\r\n[\"broker\",\"2\",\"Cy\"]\
@@ -48,6 +48,7 @@ const STREAMS: [(&str, &[Told]); 7] = [
     ),
 ];
 
+// Checks that the replies to a stream do not depend on the sizes of its pieces.
 #[test]
 fn a_stream_may_come_in_pieces(rt: HostRuntime) -> Result<(), Fail> {
     for (input, wanted) in STREAMS {
@@ -56,7 +57,7 @@ fn a_stream_may_come_in_pieces(rt: HostRuntime) -> Result<(), Fail> {
     Ok(())
 }
 
-// A request whose head has so many bytes, filled up in one field.
+// Returns a request whose head has `len` bytes, with one long field.
 fn with_head(alloc: Global, len: usize) -> Result<String, AllocError> {
     let front = "POST /ask/submitted HTTP/1.1\r\nContent-Length: 2\r\nX: ";
     let mut head = String::from_str(alloc, front)?;
@@ -67,6 +68,8 @@ fn with_head(alloc: Global, len: usize) -> Result<String, AllocError> {
     Ok(head)
 }
 
+// Checks that a head of 16,384 bytes is accepted and a longer one is refused, for every size of
+// pieces.
 #[test]
 fn a_head_in_pieces_has_16_384_bytes_at_most(rt: HostRuntime) -> Result<(), Fail> {
     for (len, wanted) in [(16_384, EMPTY), (16_385, LARGE)] {

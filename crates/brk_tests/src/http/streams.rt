@@ -1,4 +1,4 @@
-//! Streams that are sent to a desk, and the replies that are wanted.
+//! Streams that are served by a desk, and their wanted replies.
 
 use crate::desks::{Still, set_desk};
 use brk_http::{ServeFault, serve_stream};
@@ -9,7 +9,7 @@ use std::io;
 use std::io::Read;
 use std::test::Fail;
 
-/// Gives its bytes in pieces of at most this size.
+/// A reader that returns its bytes in pieces of at most `size` bytes.
 #[derive(Drop)]
 pub struct Pieces<'a> {
     pub bytes: &'a [u8],
@@ -26,16 +26,17 @@ impl Read for Pieces<'_> {
     }
 }
 
-/// A reply that is wanted, with its status and its body.
+/// A wanted reply, with its status and its body.
 #[derive(Clone, Copy)]
 pub enum Told {
-    /// The stream goes on after it.
+    /// The stream continues after the reply.
     Open(&'static str, &'static str),
-    /// It ends the stream.
+    /// The reply ends the stream.
     Last(&'static str, &'static str),
 }
 
-/// What a desk writes to a stream whose bytes come in pieces of a size, and how the stream ends.
+/// Serves a stream whose bytes arrive in pieces of `size` bytes. Returns the written bytes and the
+/// result.
 pub fn served<S: Alter>(
     alloc: Global,
     desk: &mut Desk<S>,
@@ -53,13 +54,13 @@ pub fn served<S: Alter>(
     (out, ended)
 }
 
-/// A request by POST.
+/// Returns the text of a POST request with this target and body.
 pub fn post(alloc: Global, target: &str, body: &str) -> Result<String, AllocError> {
     let len = body.len();
     format!(in alloc; "POST {target} HTTP/1.1\r\nHost: desk\r\nContent-Length: {len}\r\n\r\n{body}")
 }
 
-/// The bytes of a reply.
+/// Returns the bytes of a wanted reply.
 pub fn reply(alloc: Global, wanted: Told) -> Result<String, AllocError> {
     let (status, body, close) = match wanted {
         Told::Open(status, body) => (status, body, ""),
@@ -76,7 +77,7 @@ pub fn reply(alloc: Global, wanted: Told) -> Result<String, AllocError> {
     )
 }
 
-// Whether a stream wrote these replies, and ended well after them.
+// Returns true if a stream wrote exactly these replies and completed.
 fn is_told(
     alloc: Global,
     out: &[u8],
@@ -90,8 +91,8 @@ fn is_told(
     Ok(out == bytes.as_bytes() && ended == Ok(wanted.len() as u64))
 }
 
-/// Sends bytes to a desk in large pieces, in pieces of seven bytes and byte by byte, each time to a desk of its own that was set up,
-/// and says whether it answered with these replies.
+/// Serves bytes in pieces of 4,096, of seven and of one, each time on a new desk after the batch
+/// `SET`. Returns true if the replies are always as wanted.
 pub fn answers(alloc: Global, bytes: &[u8], wanted: &[Told]) -> Result<bool, Fail> {
     for size in [4096usize, 7, 1] {
         let mut desk = set_desk(alloc)?;

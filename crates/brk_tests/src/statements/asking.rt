@@ -1,4 +1,4 @@
-//! A statement that is asked for.
+//! The account and the days of a statement.
 
 use brk_money::{Day, Id, parse_day};
 use std::test::Fail;
@@ -11,7 +11,8 @@ pub struct Asked {
     pub to: Day,
 }
 
-/// An account by its number and two days by their texts.
+/// Returns the account and the days of a statement from the account's number and the texts of the
+/// days.
 pub fn span_of(account: u64, from: &str, to: &str) -> Result<Asked, Fail> {
     let account = Id::new(account).ok_or("an account")?;
     let from = parse_day(from.as_bytes()).ok_or("a first day")?;

@@ -1,10 +1,10 @@
-//! Amounts in their column: as wide as it, and wider.
+//! Test of amounts as wide as their column, and wider.
 
 use brk_money::Wide;
 use brk_report_lines::amount_line;
 use std::test::Fail;
 
-// A word, an amount in cents, and their line.
+// A word, an amount in cents, and the line of both.
 const AMOUNTS: [(&str, i128, &str); 6] = [
     ("Opening", 0, "Opening                      0.00\n"),
     ("Closing", -1, "Closing                     -0.01\n"),
@@ -30,6 +30,7 @@ const AMOUNTS: [(&str, i128, &str); 6] = [
     ),
 ];
 
+// Checks that an amount wider than its column is printed whole.
 #[test]
 fn an_amount_is_never_cut(rt: HostRuntime) -> Result<(), Fail> {
     for (word, cents, wanted) in AMOUNTS {

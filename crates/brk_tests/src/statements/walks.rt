@@ -1,4 +1,5 @@
-//! Walks: the rows in order, both ends of the span among them, and the first error of the closure ends the walk.
+//! Tests of walks: they pass the rows in order, both ends of the span included, and end at the
+//! first error of the closure.
 
 use crate::desks::{Step, expect, set_desk};
 use brk_changes::MoveRow;
@@ -6,7 +7,8 @@ use brk_lots::Lot;
 use brk_money::{Fault, Id, Stamp};
 use std::test::Fail;
 
-// Two purchases, a sale that takes the last lot first, a short sale on margin of another symbol, and a deposit.
+// Two purchases, a sale that closes the last lot first, a short sale on margin of another symbol,
+// and a deposit.
 const TRADES: Step = Step {
     batch: b"batch,W\n\
         order,100,TMB,ABC,100,,cash,fifo,Ann,Lee,T10\n\
@@ -32,7 +34,7 @@ const TRADES: Step = Step {
         10,ok,1709251200025,4,8442.40\nend,10,0,0\n",
 };
 
-// Why a walk ended early: a fault, or the trade at whose row it was to stop.
+// The error that ended a walk: a fault, or the trade at whose row the closure stopped.
 #[derive(Debug, PartialEq, Eq, Clone, Copy)]
 enum Ended {
     Fault(Fault),
@@ -45,14 +47,15 @@ impl From<Fault> for Ended {
     }
 }
 
-// What a walk saw, and how many rows it is still to see.
+// The rows that a walk passed, and the number of rows that it may still pass.
 #[derive(Drop)]
 struct Seen {
     rows: String,
     left: u64,
 }
 
-// Counts a row of a trade, if it is still to be seen. A movement is of none, which is told as 0.
+// Counts a row of a trade, or stops the walk there if no more rows may be passed. A movement has
+// trade 0.
 fn count(seen: &mut Seen, trade: u64) -> Result<(), Ended> {
     if seen.left == 0 {
         return Err(Ended::At(trade));
@@ -61,6 +64,7 @@ fn count(seen: &mut Seen, trade: u64) -> Result<(), Ended> {
     Ok(())
 }
 
+// Counts and records a cash row.
 fn see_cash(seen: &mut Seen, row: &MoveRow) -> Result<(), Ended> {
     let trade = row.trade.map_or(0, Id::get);
     count(seen, trade)?;
@@ -71,6 +75,7 @@ fn see_cash(seen: &mut Seen, row: &MoveRow) -> Result<(), Ended> {
     }
 }
 
+// Counts and records a lot.
 fn see_lot(seen: &mut Seen, symbol: &str, lot: &Lot) -> Result<(), Ended> {
     count(seen, lot.trade.get())?;
     let (trade, stamp, price) = (lot.trade.get(), lot.stamp.get(), lot.price.get());
@@ -80,7 +85,8 @@ fn see_lot(seen: &mut Seen, symbol: &str, lot: &Lot) -> Result<(), Ended> {
     }
 }
 
-// Two stamps, how many rows a walk is to see, those that it sees, each after its place among all, and how it ends.
+// The first and the last stamp, the number of rows that a walk may pass, the rows that it passes,
+// and its result.
 const CASH: [(i64, i64, u64, &str, Result<(), Ended>); 10] = [
     (
         0,
@@ -142,6 +148,7 @@ const CASH: [(i64, i64, u64, &str, Result<(), Ended>); 10] = [
     ),
 ];
 
+// Checks the cash rows that a walk passes, by stamp, and its result.
 #[test]
 fn cash_rows_are_walked_by_their_stamps(rt: HostRuntime) -> Result<(), Fail> {
     let alloc = rt.alloc();
@@ -165,7 +172,7 @@ fn cash_rows_are_walked_by_their_stamps(rt: HostRuntime) -> Result<(), Fail> {
     Ok(())
 }
 
-// An account, how many lots a walk is to see, those that it sees, and how it ends.
+// An account, the number of lots that a walk may pass, the lots that it passes, and its result.
 const LOTS: [(u64, u64, &str, Result<(), Ended>); 5] = [
     (
         100,
@@ -185,6 +192,7 @@ const LOTS: [(u64, u64, &str, Result<(), Ended>); 5] = [
     (101, 9, "", Ok(())),
 ];
 
+// Checks the lots that a walk passes, by symbol, and its result.
 #[test]
 fn lots_are_walked_by_symbol(rt: HostRuntime) -> Result<(), Fail> {
     let alloc = rt.alloc();

@@ -1,4 +1,5 @@
-//! A writer that stops at each byte of a statement: what it took before is written, and nothing after.
+//! Test of a writer that fails at each byte of a statement: the bytes before are written, and none
+//! after.
 
 use crate::desks::{Step, expect, set_desk};
 use crate::faulty::Narrow;
@@ -43,7 +44,8 @@ const WANTED: &str = "Statement of account 100\n\
     Holdings                  1500.00\n\
     Cash rows 3, lots 1\n";
 
-// How a writer with room for so many bytes stops: it takes no byte, fails, or is interrupted.
+// Returns how a writer with room for `room` bytes fails: it takes no byte (`None`), fails, or is
+// interrupted.
 fn stop_of(room: usize) -> Option<ErrorKind> {
     match room % 3 {
         0 => None,
@@ -52,7 +54,8 @@ fn stop_of(room: usize) -> Option<ErrorKind> {
     }
 }
 
-// Compares a statement whose writer has room for so many bytes.
+// Writes the statement with a writer that has room for `room` bytes. Checks the result and the
+// written bytes.
 fn expect_cut(
     rt: &impl Abort,
     alloc: Global,
@@ -86,6 +89,7 @@ fn expect_cut(
     Ok(())
 }
 
+// Checks a statement whose writer takes no byte, fails or is interrupted at each byte.
 #[test]
 fn a_writer_may_stop_at_each_byte(rt: HostRuntime) -> Result<(), Fail> {
     let alloc = rt.alloc();
