@@ -19,28 +19,28 @@ MAKING = 'crates/brk_tables_create/proofs'
 # For each table: the SQL name, its name among the tables, the type of its rows, the key of a row, the list of its rows,
 # whether its key is the rowid, and its columns: name, kind, how a row r shows it, the table and column it names.
 DATA = [
-    ('desk_row', 'DESK', 'TheDesk', 'DeskRow', 'desk_key', 'desk_rows schema t.last', True, [('D_ID', 'whole', 'nat r.id', None), ('D_SCHEMA', 'whole', 'nat r.schema', None), ('D_LAST', 'perhaps', 'maybe r.last', None)]),
-    ('kept', 'KEPT', 'KeptRows', 'Kept', 'kept_key', 't.kept', False, [('K_BATCH', 'text', 'Words r.key.batch', None), ('K_N', 'whole', 'nat r.key.row', None), ('K_ROW', 'text', 'Words r.row_text', None), ('K_LINE', 'text', 'Words r.line', None)]),
-    ('broker', 'BROKER', 'Brokers', 'BrokerRow', 'broker_key', 't.brokers', True, [('B_ID', 'whole', 'nat r.id', None), ('B_NAME', 'text', 'Words r.name', None), ('B_NUM_TRADES', 'whole', 'Int r.trades', None), ('B_COMM_TOTAL', 'whole', 'nat r.commissions', None)]),
-    ('customer', 'CUSTOMER', 'Customers', 'Customer', 'customer_key', 't.customers', True, [('C_ID', 'whole', 'nat r.id', None), ('C_TIER', 'whole', 'nat r.tier', None), ('C_TAX_ID', 'text', 'Words r.tax_id', None), ('C_L_NAME', 'text', 'Words r.last_name', None), ('C_F_NAME', 'text', 'Words r.first_name', None)]),
-    ('account', 'CUSTOMER_ACCOUNT', 'Accounts', 'AccountRow', 'account_key', 't.accounts', True, [('CA_ID', 'whole', 'nat r.id', None), ('CA_C_ID', 'whole', 'nat r.customer', 'CUSTOMER.C_ID'), ('CA_B_ID', 'whole', 'nat r.broker', 'BROKER.B_ID'), ('CA_NAME', 'text', 'Words r.name', None), ('CA_TAX_ST', 'whole', 'nat (tax_status_number r.tax_status)', None), ('CA_OPEN', 'whole', 'Int r.opening', None), ('CA_BAL', 'whole', 'Int r.balance', None)]),
-    ('permission', 'ACCOUNT_PERMISSION', 'Permissions', 'Permission', 'permission_key', 't.permissions', False, [('AP_CA_ID', 'whole', 'nat r.account', 'CUSTOMER_ACCOUNT.CA_ID'), ('AP_TAX_ID', 'text', 'Words r.tax_id', None), ('AP_ACL', 'text', 'Words r.acl', None), ('AP_L_NAME', 'text', 'Words r.last_name', None), ('AP_F_NAME', 'text', 'Words r.first_name', None)]),
-    ('security', 'SECURITY', 'Securities', 'SecurityRow', 'security_key', 't.securities', False, [('S_SYMB', 'text', 'Words r.symbol', None), ('S_NAME', 'text', 'Words r.name', None), ('S_EX_ID', 'text', 'Words r.exchange', None), ('S_SECTOR', 'text', 'Words r.sector', None)]),
-    ('last_trade', 'LAST_TRADE', 'LastTrades', 'LastTradeRow', 'last_trade_key', 't.last_trades', False, [('LT_S_SYMB', 'text', 'Words r.symbol', 'SECURITY.S_SYMB'), ('LT_DTS', 'whole', 'nat r.stamp', None), ('LT_PRICE', 'whole', 'nat r.price', None), ('LT_VOL', 'whole', 'nat r.volume', None)]),
-    ('charge', 'CHARGE', 'Charges', 'Charge', 'charge_key', 't.charges', False, [('CH_TT_ID', 'text', 'Words (type_code r.kind)', None), ('CH_C_TIER', 'whole', 'nat r.tier', None), ('CH_CHRG', 'whole', 'nat r.amount', None)]),
-    ('band', 'COMMISSION_RATE', 'Bands', 'Band', 'band_key', 't.bands', False, [('CR_C_TIER', 'whole', 'nat r.tier', None), ('CR_TT_ID', 'text', 'Words (type_code r.kind)', None), ('CR_EX_ID', 'text', 'Words r.exchange', None), ('CR_FROM_QTY', 'whole', 'nat r.from_qty', None), ('CR_TO_QTY', 'whole', 'nat r.to_qty', None), ('CR_RATE', 'whole', 'nat r.rate', None)]),
-    ('tax_rate', 'TAXRATE', 'TaxRates', 'TaxRate', 'tax_rate_key', 't.tax_rates', True, [('TX_ID', 'whole', 'nat r.id', None), ('TX_NAME', 'text', 'Words r.name', None), ('TX_RATE', 'whole', 'nat r.rate', None)]),
-    ('customer_tax', 'CUSTOMER_TAXRATE', 'CustomerTaxes', 'CustomerTax', 'customer_tax_key', 't.customer_taxes', False, [('CX_C_ID', 'whole', 'nat r.customer', 'CUSTOMER.C_ID'), ('CX_TX_ID', 'whole', 'nat r.tax', 'TAXRATE.TX_ID')]),
-    ('trade', 'TRADE', 'Trades', 'TradeRow', 'trade_key', 't.trades', True, [('T_ID', 'whole', 'nat r.id', None), ('T_DTS', 'whole', 'nat r.stamp', None), ('T_ST_ID', 'text', 'Words (status_code r.status)', None), ('T_TT_ID', 'text', 'Words (type_code r.kind)', None), ('T_IS_CASH', 'whole', 'flag r.is_cash', None), ('T_S_SYMB', 'text', 'Words r.symbol', 'SECURITY.S_SYMB'), ('T_QTY', 'whole', 'nat r.qty', None), ('T_BID_PRICE', 'whole', 'nat r.bid', None), ('T_CA_ID', 'whole', 'nat r.account', 'CUSTOMER_ACCOUNT.CA_ID'), ('T_EXEC_NAME', 'text', 'Words r.executor', None), ('T_TRADE_PRICE', 'perhaps', 'maybe r.price', None), ('T_CHRG', 'whole', 'nat r.charge', None), ('T_COMM', 'whole', 'nat r.commission', None), ('T_TAX', 'whole', 'nat r.tax', None), ('T_LIFO', 'whole', 'flag r.is_lifo', None)]),
-    ('history', 'TRADE_HISTORY', 'TradeHistory', 'HistoryRow', 'history_key', 't.history', False, [('TH_T_ID', 'whole', 'nat r.trade', 'TRADE.T_ID'), ('TH_ST_ID', 'text', 'Words (status_code r.status)', None), ('TH_DTS', 'whole', 'nat r.stamp', None)]),
-    ('request', 'TRADE_REQUEST', 'Requests', 'RequestRow', 'request_key', 't.requests', True, [('TR_T_ID', 'whole', 'nat r.trade', 'TRADE.T_ID'), ('TR_TT_ID', 'text', 'Words (type_code r.kind)', None), ('TR_S_SYMB', 'text', 'Words r.symbol', 'SECURITY.S_SYMB'), ('TR_QTY', 'whole', 'nat r.qty', None), ('TR_BID_PRICE', 'whole', 'nat r.bid', None), ('TR_B_ID', 'whole', 'nat r.broker', 'BROKER.B_ID')]),
-    ('holding', 'HOLDING', 'Holdings', 'HoldingRow', 'holding_key', 't.holdings', True, [('H_T_ID', 'whole', 'nat r.trade', 'TRADE.T_ID'), ('H_CA_ID', 'whole', 'nat r.account', 'CUSTOMER_ACCOUNT.CA_ID'), ('H_S_SYMB', 'text', 'Words r.symbol', 'SECURITY.S_SYMB'), ('H_DTS', 'whole', 'nat r.stamp', None), ('H_PRICE', 'whole', 'nat r.price', None), ('H_QTY', 'whole', 'Int r.qty', None)]),
-    ('summary', 'HOLDING_SUMMARY', 'Summaries', 'SummaryRow', 'summary_key', 't.summaries', False, [('HS_CA_ID', 'whole', 'nat r.account', 'CUSTOMER_ACCOUNT.CA_ID'), ('HS_S_SYMB', 'text', 'Words r.symbol', 'SECURITY.S_SYMB'), ('HS_QTY', 'whole', 'Int r.qty', None)]),
-    ('holding_history', 'HOLDING_HISTORY', 'HoldingHistory', 'HoldingHistoryRow', 'holding_history_key', 't.holding_history', False, [('HH_H_T_ID', 'whole', 'nat r.lot', 'TRADE.T_ID'), ('HH_T_ID', 'whole', 'nat r.trade', 'TRADE.T_ID'), ('HH_BEFORE_QTY', 'whole', 'Int r.before', None), ('HH_AFTER_QTY', 'whole', 'Int r.after', None)]),
-    ('settlement', 'SETTLEMENT', 'Settlements', 'SettlementRow', 'settlement_key', 't.settlements', True, [('SE_T_ID', 'whole', 'nat r.trade', 'TRADE.T_ID'), ('SE_CASH_TYPE', 'text', 'Words r.cash_type', None), ('SE_CASH_DUE_DATE', 'whole', 'nat r.due_day', None), ('SE_AMT', 'whole', 'Int r.amount', None)]),
-    ('cash', 'CASH_TRANSACTION', 'CashRows', 'CashRow', 'cash_key', 't.cash', True, [('CT_T_ID', 'whole', 'nat r.trade', 'TRADE.T_ID'), ('CT_DTS', 'whole', 'nat r.stamp', None), ('CT_AMT', 'whole', 'Int r.amount', None), ('CT_NAME', 'text', 'Words r.name', None)]),
-    ('move', 'CASH_MOVE', 'CashMoves', 'MoveRow', 'move_key', 't.moves', True, [('CM_ID', 'whole', 'nat r.id', None), ('CM_CA_ID', 'whole', 'nat r.account', 'CUSTOMER_ACCOUNT.CA_ID'), ('CM_T_ID', 'perhaps', 'maybe r.trade', 'TRADE.T_ID'), ('CM_DTS', 'whole', 'nat r.stamp', None), ('CM_AMT', 'whole', 'Int r.amount', None), ('CM_NAME', 'text', 'Words r.name', None)]),
-    ('rule', 'SETTLE_RULE', 'SettleRules', 'RuleRow', 'rule_key', 'rule_rows t.rule', True, [('SR_ID', 'whole', 'nat r.id', None), ('SR_DAY', 'whole', 'nat r.day', None)]),
+    ('desk_row', 'DESK', 'TheDesk', 'DeskRow', 'desk_key', 'desk_rows schema t.last', True, [('D_ID', 'integer_column', 'natural_as_value r.id', None), ('D_SCHEMA', 'integer_column', 'natural_as_value r.schema', None), ('D_LAST', 'nullable_integer_column', 'optional_as_value r.last', None)]),
+    ('kept', 'KEPT', 'KeptRows', 'Kept', 'kept_key', 't.kept', False, [('K_BATCH', 'text_column', 'Words r.key.batch', None), ('K_N', 'integer_column', 'natural_as_value r.key.row', None), ('K_ROW', 'text_column', 'Words r.row_text', None), ('K_LINE', 'text_column', 'Words r.line', None)]),
+    ('broker', 'BROKER', 'Brokers', 'BrokerRow', 'broker_key', 't.brokers', True, [('B_ID', 'integer_column', 'natural_as_value r.id', None), ('B_NAME', 'text_column', 'Words r.name', None), ('B_NUM_TRADES', 'integer_column', 'Int r.trades', None), ('B_COMM_TOTAL', 'integer_column', 'natural_as_value r.commissions', None)]),
+    ('customer', 'CUSTOMER', 'Customers', 'Customer', 'customer_key', 't.customers', True, [('C_ID', 'integer_column', 'natural_as_value r.id', None), ('C_TIER', 'integer_column', 'natural_as_value r.tier', None), ('C_TAX_ID', 'text_column', 'Words r.tax_id', None), ('C_L_NAME', 'text_column', 'Words r.last_name', None), ('C_F_NAME', 'text_column', 'Words r.first_name', None)]),
+    ('account', 'CUSTOMER_ACCOUNT', 'Accounts', 'AccountRow', 'account_key', 't.accounts', True, [('CA_ID', 'integer_column', 'natural_as_value r.id', None), ('CA_C_ID', 'integer_column', 'natural_as_value r.customer', 'CUSTOMER.C_ID'), ('CA_B_ID', 'integer_column', 'natural_as_value r.broker', 'BROKER.B_ID'), ('CA_NAME', 'text_column', 'Words r.name', None), ('CA_TAX_ST', 'integer_column', 'natural_as_value (tax_status_number r.tax_status)', None), ('CA_OPEN', 'integer_column', 'Int r.opening', None), ('CA_BAL', 'integer_column', 'Int r.balance', None)]),
+    ('permission', 'ACCOUNT_PERMISSION', 'Permissions', 'Permission', 'permission_key', 't.permissions', False, [('AP_CA_ID', 'integer_column', 'natural_as_value r.account', 'CUSTOMER_ACCOUNT.CA_ID'), ('AP_TAX_ID', 'text_column', 'Words r.tax_id', None), ('AP_ACL', 'text_column', 'Words r.acl', None), ('AP_L_NAME', 'text_column', 'Words r.last_name', None), ('AP_F_NAME', 'text_column', 'Words r.first_name', None)]),
+    ('security', 'SECURITY', 'Securities', 'SecurityRow', 'security_key', 't.securities', False, [('S_SYMB', 'text_column', 'Words r.symbol', None), ('S_NAME', 'text_column', 'Words r.name', None), ('S_EX_ID', 'text_column', 'Words r.exchange', None), ('S_SECTOR', 'text_column', 'Words r.sector', None)]),
+    ('last_trade', 'LAST_TRADE', 'LastTrades', 'LastTradeRow', 'last_trade_key', 't.last_trades', False, [('LT_S_SYMB', 'text_column', 'Words r.symbol', 'SECURITY.S_SYMB'), ('LT_DTS', 'integer_column', 'natural_as_value r.stamp', None), ('LT_PRICE', 'integer_column', 'natural_as_value r.price', None), ('LT_VOL', 'integer_column', 'natural_as_value r.volume', None)]),
+    ('charge', 'CHARGE', 'Charges', 'Charge', 'charge_key', 't.charges', False, [('CH_TT_ID', 'text_column', 'Words (trade_type_code r.kind)', None), ('CH_C_TIER', 'integer_column', 'natural_as_value r.tier', None), ('CH_CHRG', 'integer_column', 'natural_as_value r.amount', None)]),
+    ('band', 'COMMISSION_RATE', 'Bands', 'Band', 'band_key', 't.bands', False, [('CR_C_TIER', 'integer_column', 'natural_as_value r.tier', None), ('CR_TT_ID', 'text_column', 'Words (trade_type_code r.kind)', None), ('CR_EX_ID', 'text_column', 'Words r.exchange', None), ('CR_FROM_QTY', 'integer_column', 'natural_as_value r.from_qty', None), ('CR_TO_QTY', 'integer_column', 'natural_as_value r.to_qty', None), ('CR_RATE', 'integer_column', 'natural_as_value r.rate', None)]),
+    ('tax_rate', 'TAXRATE', 'TaxRates', 'TaxRate', 'tax_rate_key', 't.tax_rates', True, [('TX_ID', 'integer_column', 'natural_as_value r.id', None), ('TX_NAME', 'text_column', 'Words r.name', None), ('TX_RATE', 'integer_column', 'natural_as_value r.rate', None)]),
+    ('customer_tax', 'CUSTOMER_TAXRATE', 'CustomerTaxes', 'CustomerTax', 'customer_tax_key', 't.customer_taxes', False, [('CX_C_ID', 'integer_column', 'natural_as_value r.customer', 'CUSTOMER.C_ID'), ('CX_TX_ID', 'integer_column', 'natural_as_value r.tax', 'TAXRATE.TX_ID')]),
+    ('trade', 'TRADE', 'Trades', 'TradeRow', 'trade_key', 't.trades', True, [('T_ID', 'integer_column', 'natural_as_value r.id', None), ('T_DTS', 'integer_column', 'natural_as_value r.stamp', None), ('T_ST_ID', 'text_column', 'Words (trade_status_code r.status)', None), ('T_TT_ID', 'text_column', 'Words (trade_type_code r.kind)', None), ('T_IS_CASH', 'integer_column', 'flag_as_value r.is_cash', None), ('T_S_SYMB', 'text_column', 'Words r.symbol', 'SECURITY.S_SYMB'), ('T_QTY', 'integer_column', 'natural_as_value r.qty', None), ('T_BID_PRICE', 'integer_column', 'natural_as_value r.bid', None), ('T_CA_ID', 'integer_column', 'natural_as_value r.account', 'CUSTOMER_ACCOUNT.CA_ID'), ('T_EXEC_NAME', 'text_column', 'Words r.executor', None), ('T_TRADE_PRICE', 'nullable_integer_column', 'optional_as_value r.price', None), ('T_CHRG', 'integer_column', 'natural_as_value r.charge', None), ('T_COMM', 'integer_column', 'natural_as_value r.commission', None), ('T_TAX', 'integer_column', 'natural_as_value r.tax', None), ('T_LIFO', 'integer_column', 'flag_as_value r.is_lifo', None)]),
+    ('history', 'TRADE_HISTORY', 'TradeHistory', 'HistoryRow', 'history_key', 't.history', False, [('TH_T_ID', 'integer_column', 'natural_as_value r.trade', 'TRADE.T_ID'), ('TH_ST_ID', 'text_column', 'Words (trade_status_code r.status)', None), ('TH_DTS', 'integer_column', 'natural_as_value r.stamp', None)]),
+    ('request', 'TRADE_REQUEST', 'Requests', 'RequestRow', 'request_key', 't.requests', True, [('TR_T_ID', 'integer_column', 'natural_as_value r.trade', 'TRADE.T_ID'), ('TR_TT_ID', 'text_column', 'Words (trade_type_code r.kind)', None), ('TR_S_SYMB', 'text_column', 'Words r.symbol', 'SECURITY.S_SYMB'), ('TR_QTY', 'integer_column', 'natural_as_value r.qty', None), ('TR_BID_PRICE', 'integer_column', 'natural_as_value r.bid', None), ('TR_B_ID', 'integer_column', 'natural_as_value r.broker', 'BROKER.B_ID')]),
+    ('holding', 'HOLDING', 'Holdings', 'HoldingRow', 'holding_key', 't.holdings', True, [('H_T_ID', 'integer_column', 'natural_as_value r.trade', 'TRADE.T_ID'), ('H_CA_ID', 'integer_column', 'natural_as_value r.account', 'CUSTOMER_ACCOUNT.CA_ID'), ('H_S_SYMB', 'text_column', 'Words r.symbol', 'SECURITY.S_SYMB'), ('H_DTS', 'integer_column', 'natural_as_value r.stamp', None), ('H_PRICE', 'integer_column', 'natural_as_value r.price', None), ('H_QTY', 'integer_column', 'Int r.qty', None)]),
+    ('summary', 'HOLDING_SUMMARY', 'Summaries', 'SummaryRow', 'summary_key', 't.summaries', False, [('HS_CA_ID', 'integer_column', 'natural_as_value r.account', 'CUSTOMER_ACCOUNT.CA_ID'), ('HS_S_SYMB', 'text_column', 'Words r.symbol', 'SECURITY.S_SYMB'), ('HS_QTY', 'integer_column', 'Int r.qty', None)]),
+    ('holding_history', 'HOLDING_HISTORY', 'HoldingHistory', 'HoldingHistoryRow', 'holding_history_key', 't.holding_history', False, [('HH_H_T_ID', 'integer_column', 'natural_as_value r.lot', 'TRADE.T_ID'), ('HH_T_ID', 'integer_column', 'natural_as_value r.trade', 'TRADE.T_ID'), ('HH_BEFORE_QTY', 'integer_column', 'Int r.before', None), ('HH_AFTER_QTY', 'integer_column', 'Int r.after', None)]),
+    ('settlement', 'SETTLEMENT', 'Settlements', 'SettlementRow', 'settlement_key', 't.settlements', True, [('SE_T_ID', 'integer_column', 'natural_as_value r.trade', 'TRADE.T_ID'), ('SE_CASH_TYPE', 'text_column', 'Words r.cash_type', None), ('SE_CASH_DUE_DATE', 'integer_column', 'natural_as_value r.due_day', None), ('SE_AMT', 'integer_column', 'Int r.amount', None)]),
+    ('cash', 'CASH_TRANSACTION', 'CashRows', 'CashRow', 'cash_key', 't.cash', True, [('CT_T_ID', 'integer_column', 'natural_as_value r.trade', 'TRADE.T_ID'), ('CT_DTS', 'integer_column', 'natural_as_value r.stamp', None), ('CT_AMT', 'integer_column', 'Int r.amount', None), ('CT_NAME', 'text_column', 'Words r.name', None)]),
+    ('move', 'CASH_MOVE', 'CashMoves', 'MoveRow', 'move_key', 't.moves', True, [('CM_ID', 'integer_column', 'natural_as_value r.id', None), ('CM_CA_ID', 'integer_column', 'natural_as_value r.account', 'CUSTOMER_ACCOUNT.CA_ID'), ('CM_T_ID', 'nullable_integer_column', 'optional_as_value r.trade', 'TRADE.T_ID'), ('CM_DTS', 'integer_column', 'natural_as_value r.stamp', None), ('CM_AMT', 'integer_column', 'Int r.amount', None), ('CM_NAME', 'text_column', 'Words r.name', None)]),
+    ('rule', 'SETTLE_RULE', 'SettleRules', 'RuleRow', 'rule_key', 'rule_rows t.rule', True, [('SR_ID', 'integer_column', 'natural_as_value r.id', None), ('SR_DAY', 'integer_column', 'natural_as_value r.day', None)]),
 ]
 
 # the tables that not every schema has, each with what says so of a schema
@@ -141,7 +141,7 @@ use Rattle.sqlite_draft.specs.declared.query.Draft.{{Draft}}
 use Rattle.sqlite_draft.specs.Query.{{query_of}}
 use Rattle.sqlite_tied.specs.Compute.{{everything}}
 use Rattle.brk_sql.specs.Partly.{{lowering}}
-use Rattle.brk_sql.specs.Desk.{{whole, text, perhaps, Stands}}
+use Rattle.brk_sql.specs.Desk.{{integer_column, text_column, nullable_integer_column, IsTableAt}}
 use Rattle.brk_sql.proofs.Meant.{{meant, inserts, updates_or, deletes_or, reads_or}}
 use Rattle.brk_sql.proofs.Pick.{{selection, whole_page}}
 use Rattle.brk_sql.proofs.Scoped.{{over_one, column_is, heading_is}}
@@ -198,7 +198,7 @@ statement = codes "{text}"
 abbrev pub terms : List Term
 terms = {lst(terms)}
 
-pub understood_as : (schema : Schema) (at tree : ℕ) → Stands schema ({t} tree) at → compiled schema statement ≡ Ok (meant (read statement) [] (Insert at (Values terms {len(terms)})))
+pub understood_as : (schema : Schema) (at tree : ℕ) → IsTableAt schema ({t} tree) at → compiled schema statement ≡ Ok (meant (read statement) [] (Insert at (Values terms {len(terms)})))
 unfolding everything
 understood_as schema at tree h = inserts schema statement (read statement) refl refl ({q(sql)}) at ({t} tree) h.named h.found _ _ _ refl refl
 ''')
@@ -236,7 +236,7 @@ draft_is : (schema : Schema) (at tree : ℕ) → slice_get schema.tables at ≡ 
 unfolding lowering
 draft_is schema at tree found = rw ({", ".join(test_lemmas(t, tests, '[]', False))})
 
-pub understood_as : (schema : Schema) (at tree : ℕ) → Stands schema ({t} tree) at
+pub understood_as : (schema : Schema) (at tree : ℕ) → IsTableAt schema ({t} tree) at
     → (compiled schema statement ≡ Ok (meant (read statement) [] (Update at (record {{ lets = []; body = selection tree terms project [] whole_page }})))) ⊎ (compiled schema statement ≡ Err Mismatch)
 unfolding everything
 understood_as schema at tree h = updates_or schema statement (read statement) refl refl ({q(sql)}) at ({t} tree) h.named h.found sets (Some test) (draft tree) refl (draft_is schema at tree h.found)
@@ -267,7 +267,7 @@ draft_is : (schema : Schema) (at tree : ℕ) → slice_get schema.tables at ≡ 
 unfolding lowering
 draft_is schema at tree found = {proof}
 
-pub understood_as : (schema : Schema) (at tree : ℕ) → Stands schema ({t} tree) at
+pub understood_as : (schema : Schema) (at tree : ℕ) → IsTableAt schema ({t} tree) at
     → (compiled schema statement ≡ Ok (meant (read statement) [] (Delete at (record {{ lets = []; body = selection tree terms project [] whole_page }})))) ⊎ (compiled schema statement ≡ Err Mismatch)
 unfolding everything
 understood_as schema at tree h = deletes_or schema statement (read statement) refl refl ({q(sql)}) at ({t} tree) h.named h.found test (draft tree) refl (draft_is schema at tree h.found)
@@ -380,7 +380,7 @@ names = {lst(q(c) for c in names)}
 abbrev after : ℕ → Carried → State
 after spent last = record (fresh 2 max_budget) {{ budget = max_budget - spent; last = last }}
 
-module _ (schema : Schema) (at tree : ℕ) (h : Stands schema ({t} tree) at) where
+module _ (schema : Schema) (at tree : ℕ) (h : IsTableAt schema ({t} tree) at) where
   abbrev found : slice_get schema.tables at ≡ Some ({t} tree)
   found = h.found
 
@@ -421,7 +421,7 @@ def shapes():
     out = """-- Written by tools/tables.py: the shape of each table, with its rows in any tree.
 use Rattle.std.specs.Prelude.{ℕ, List, [], ◌∷◌, codes, Some, None}
 use Rattle.sqlite_schema.specs.declared.schema.Table.{Table}
-use Rattle.brk_sql.specs.Desk.{text, whole, perhaps, refers, table_of}
+use Rattle.brk_sql.specs.Desk.{text_column, integer_column, nullable_integer_column, foreign_key, table_without_checks}
 """
     for t, sql, w, row, key, rows, rowkey, cols in DATA:
         cs = lst(f'{k} ({q(c)})' for c, k, _, _ in cols)
@@ -429,11 +429,11 @@ use Rattle.brk_sql.specs.Desk.{text, whole, perhaps, refers, table_of}
         n = 1 if rowkey else KEYS[t]
         primary = lst(str(spot(i)) for i in range(n))
         uniques = ([] if rowkey else [f'({primary})']) + [f'({u} ∷ [])' for u in UNIQUE.get(t, [])]
-        refs = lst(f'refers {spot(i)} ({q(r.split(".")[0])}) ({q(r.split(".")[1])})' for i, (c, k, _, r) in enumerate(cols) if r)
+        refs = lst(f'foreign_key {spot(i)} ({q(r.split(".")[0])}) ({q(r.split(".")[1])})' for i, (c, k, _, r) in enumerate(cols) if r)
         out += f"""
 -- The table {sql}: its columns, keys and foreign keys, with its rows at `tree`.
 abbrev pub {t} : ℕ → Table
-{t} tree = table_of ({q(sql)}) tree ({cs})
+{t} tree = table_without_checks ({q(sql)}) tree ({cs})
     {'(Some 0)' if rowkey else 'None'} ({primary}) ({lst(uniques)}) ({refs})
 """
     save(f'{SPECS}/Shapes.antt', out)
@@ -448,7 +448,7 @@ use Rattle.sqlite_value.specs.declared.value.Value.{{Value}}
 use Rattle.sqlite_value.specs.declared.value.Value.TheVariants.{{Int, Text as Words}}
 use Rattle.sqlite_value.specs.Order.{{Row}}
 use Rattle.sqlite.specs.Values.{{or_null}}
-use Rattle.brk_money.specs.Kinds.{{type_code, status_code, tax_status_number}}
+use Rattle.brk_money.specs.Kinds.{{trade_type_code, trade_status_code, tax_status_number}}
 use Rattle.brk_model.specs.Records.{{{RECORDS}}}
 use Rattle.brk_model.specs.Tables.{{{ROWS}}}
 
@@ -464,16 +464,16 @@ pub record RuleRow : Type 0 where
   pub day : ℕ
 
 -- The SQL value of a natural number, an INTEGER.
-abbrev pub nat : ℕ → Value
-nat n = Int (pos n)
+abbrev pub natural_as_value : ℕ → Value
+natural_as_value n = Int (pos n)
 
 -- The SQL value of a natural number, or NULL for `None`.
-abbrev pub maybe : Option ℕ → Value
-maybe = or_null (λ n. Int (pos n))
+abbrev pub optional_as_value : Option ℕ → Value
+optional_as_value = or_null (λ n. Int (pos n))
 
 -- The SQL value of a Boolean: 1 for true, 0 for false.
-abbrev pub flag : Bool → Value
-flag b = Int (pos (if b then 1 else 0))
+abbrev pub flag_as_value : Bool → Value
+flag_as_value b = Int (pos (if b then 1 else 0))
 """
     for t, sql, w, row, key, rows, rowkey, cols in DATA:
         out += f"""
@@ -497,7 +497,7 @@ use Rattle.brk_model.specs.Keys.{{KeyPart, number, {', '.join(d[4] for d in DATA
 use Rattle.brk_sql.specs.Desk.{{Desk}}
 use Rattle.brk_tables_schema.specs.Shapes.{{{', '.join(d[0] for d in DATA)}}}
 use Rattle.brk_tables_schema.specs.Cells.{{DeskRow, RuleRow, {', '.join(d[0] + '_cells' for d in DATA)}}}
-use Rattle.brk_tables_schema.specs.Order.{{by_key_values}}
+use Rattle.brk_tables_schema.specs.Order.{{ordering_by_key}}
 
 -- A table, by its name.
 pub data Which : Type 0 where
@@ -547,40 +547,40 @@ abbrev pub key : (w : Which) → Item w → List KeyPart
 
 -- Compares two records of a table by their primary keys.
 abbrev pub order : (w : Which) → Item w → Item w → Ordering
-order w = by_key_values (key w)
+order w = ordering_by_key (key w)
 
 -- The records of the table `w` of a desk with the tables `t`. Only the one of DESK depends on the
 -- schema.
-abbrev pub list_in : Schema → (w : Which) → Tables → List (Item w)
-{both(lambda d: f'list_in schema {d[2]} t = {d[5]}')}
+abbrev pub rows_in_schema : Schema → (w : Which) → Tables → List (Item w)
+{both(lambda d: f'rows_in_schema schema {d[2]} t = {d[5]}')}
 
 -- The records of the table `w` of a desk in schema 3 with the tables `t`.
 abbrev pub list : (w : Which) → Tables → List (Item w)
-list = list_in third_schema
+list = rows_in_schema third_schema
 
 -- All tables of a desk, with the number of the given schema in the row of DESK.
-abbrev pub desk_in : Schema → Desk Which Tables
-desk_in schema = record {{ shape = shape; placed = placed; Item = Item; encode = encode; order = order; list = list_in schema }}
+abbrev pub desk_of_schema : Schema → Desk Which Tables
+desk_of_schema schema = record {{ shape = shape; placed = placed; Item = Item; encode = encode; order = order; list = rows_in_schema schema }}
 
 -- All tables of a desk in schema 3.
 abbrev pub desk : Desk Which Tables
-desk = desk_in third_schema
+desk = desk_of_schema third_schema
 
 -- The list of all tables, which are those of schema 3.
 abbrev pub all_tables : List Which
 all_tables = {lst(d[2] for d in DATA)}
 
 -- The list of the tables that a schema has.
-abbrev pub tables_in : Schema → List Which
-tables_in schema = filter (has_table schema) all_tables
+abbrev pub tables_in_schema : Schema → List Which
+tables_in_schema schema = filter (has_table schema) all_tables
 
 -- The SQL name of a table.
-abbrev pub name_of : Which → List ℕ
-name_of w = (shape w 0).name
+abbrev pub table_name : Which → List ℕ
+table_name w = (shape w 0).name
 
 -- The SQL names of all tables.
-abbrev pub names : List (List ℕ)
-names = map name_of all_tables
+abbrev pub all_table_names : List (List ℕ)
+all_table_names = map table_name all_tables
 """
     save(f'{SPECS}/Desk.antt', out)
 
@@ -611,12 +611,12 @@ def create_text(d):
     t, sql, w, row, key, rows, rowkey, cols = d
     parts = []
     for i, (c, k, _, r) in enumerate(cols):
-        s = c + ' ' + ('TEXT' if k == 'text' else 'INTEGER')
+        s = c + ' ' + ('TEXT' if k == 'text_column' else 'INTEGER')
         if rowkey and i == 0:
             s += ' PRIMARY KEY NOT NULL'
         elif t in INLINE and i == 0:
             s += ' NOT NULL PRIMARY KEY'
-        elif k != 'perhaps':
+        elif k != 'nullable_integer_column':
             s += ' NOT NULL'
         if i + 1 in UNIQUE.get(t, []):
             s += ' UNIQUE'
@@ -632,11 +632,11 @@ def making():
 use Rattle.std.proofs.Common.{{◌≡◌, ℕ, List, [], ◌∷◌, codes, Ok, refl, inl, inr}}
 use Rattle.sqlite.specs.State.{{State, Executes}}
 use Rattle.sqlite_tied.specs.Compute.{{everything}}
-use Rattle.brk_sql.specs.Desk.{{Makes}}
+use Rattle.brk_sql.specs.Desk.{{CreatesTableOfShape}}
 use Rattle.brk_sql.proofs.Texts.{{read}}
 use Rattle.brk_sql.proofs.Created.{{makes}}
 use Rattle.brk_sql.proofs.Founded.{{Among}}
-use Rattle.brk_model.specs.Tables.{{no_rows}}
+use Rattle.brk_model.specs.Tables.{{tables_without_rows}}
 use Rattle.brk_tables_schema.specs.Shapes.{{{', '.join(d[0] for d in DATA)}}}
 use Rattle.brk_tables_schema.specs.Desk.{{Which, {', '.join(d[2] for d in DATA)}, shape, all_tables}}
 use Rattle.brk_tables_schema.proofs.Wide.{{Wide, wide, wide_list}}
@@ -644,19 +644,19 @@ use Rattle.brk_tables_create.specs.Texts.{{create_text}}
 
 -- The tables without rows, DESK included.
 abbrev pub bare : Wide
-bare = record {{ rows = []; rules = []; tables = no_rows }}
+bare = record {{ rows = []; rules = []; tables = tables_without_rows }}
 """
     for d in DATA:
         out += f"""
 abbrev {d[0]}_text : List ℕ
 {d[0]}_text = create_text {d[2]}
 
-makes_{d[0]} : (old new : State) (count : ℕ) → Executes {d[0]}_text [] old new (Ok count) → Makes old.now new.now {d[0]}
+makes_{d[0]} : (old new : State) (count : ℕ) → Executes {d[0]}_text [] old new (Ok count) → CreatesTableOfShape old.now new.now {d[0]}
 unfolding everything
 makes_{d[0]} = makes {d[0]}_text {d[0]} refl (λ tree. refl) (λ tree. refl) refl (read {d[0]}_text) _ refl refl refl refl refl refl refl refl
 """
     out += f"""
-pub makes_of : (w : Which) (old new : State) (count : ℕ) → Executes (create_text w) [] old new (Ok count) → Makes old.now new.now (shape w)
+pub makes_of : (w : Which) (old new : State) (count : ℕ) → Executes (create_text w) [] old new (Ok count) → CreatesTableOfShape old.now new.now (shape w)
 {chr(10).join(f'makes_of {d[2]} = makes_{d[0]}' for d in DATA)}
 """
     out += f"""
@@ -678,13 +678,13 @@ def since():
 def texts():
     out = f"""-- Written by tools/tables.py: the tables as the code names them, and their SQL texts.
 use Rattle.std.specs.Prelude.{{ℕ, List, ◌++◌, codes}}
-use Rattle.brk_tables_schema.specs.Desk.{{Which, {', '.join(d[2] for d in DATA)}, name_of}}
+use Rattle.brk_tables_schema.specs.Desk.{{Which, {', '.join(d[2] for d in DATA)}, table_name}}
 use Rattle.brk_tables_create.specs.declared.table.Table.{{Table}}
 use Rattle.brk_tables_create.specs.declared.table.Table.TheVariants as table
 
 -- The table of the specification that a table of the code represents.
-abbrev pub which_of : Table → Which
-{chr(10).join(f'which_of table.{d[2]} = {d[2]}' for d in DATA)}
+abbrev pub specified_table : Table → Which
+{chr(10).join(f'specified_table table.{d[2]} = {d[2]}' for d in DATA)}
 
 -- The text of the CREATE TABLE statement of a table.
 abbrev pub create_text : Which → List ℕ
@@ -692,14 +692,14 @@ abbrev pub create_text : Which → List ℕ
 
 -- The text of a DELETE on a table. It is prepared, to see if the table exists, and never run.
 abbrev pub probe_text : Which → List ℕ
-probe_text w = codes "DELETE FROM " ++ name_of w
+probe_text w = codes "DELETE FROM " ++ table_name w
 """
     save('crates/brk_tables_create/specs/Texts.antt', out)
     def function(name, what, contract, text):
         return f"""
     /// {what}
     pub fn {name}(self) -> &'static str
-        ensures {{ result.now ≡ {contract} (which_of self) }}
+        ensures {{ result.now ≡ {contract} (specified_table self) }}
     {{
         match self {{
 {chr(10).join(f'            Table::{d[2]} => "{text(d)}",' for d in DATA)}
@@ -709,7 +709,7 @@ probe_text w = codes "DELETE FROM " ++ name_of w
     out = f"""//! Written by tools/tables.py: the tables of a desk, and their SQL texts.
 
 ghost use Rattle.std.specs.Prelude.{{◌≡◌}};
-ghost use Rattle.brk_tables_create.specs.Texts.{{create_text, probe_text, which_of}};
+ghost use Rattle.brk_tables_create.specs.Texts.{{create_text, probe_text, specified_table}};
 
 /// A table of a desk.
 #[derive(Clone, Copy)]
@@ -732,11 +732,11 @@ use Rattle.std.proofs.Common.{{◌≡◌, ℕ, List, codes, Bool, refl}}
 use Rattle.sqlite_schema.specs.declared.schema.Schema.{{Schema}}
 use Rattle.sqlite.specs.Listing.{{listing_schema}}
 use Rattle.sqlite_tied.specs.Compute.{{everything}}
-use Rattle.brk_sql.specs.Desk.{{Probes}}
+use Rattle.brk_sql.specs.Desk.{{MatchesCompilation}}
 use Rattle.brk_sql.proofs.Probe.{{probed}}
 use Rattle.brk_sql.proofs.Texts.{{read}}
 use Rattle.brk_tables_schema.specs.Desk.{{Which, {', '.join(d[2] for d in DATA)}}}
-use Rattle.brk_tables_create.specs.Present.{{is_named}}
+use Rattle.brk_tables_create.specs.Present.{{has_table_named}}
 use Rattle.brk_tables_create.specs.Texts.{{probe_text}}
 """
     for d in DATA:
@@ -744,12 +744,12 @@ use Rattle.brk_tables_create.specs.Texts.{{probe_text}}
 abbrev {d[0]}_probe : List ℕ
 {d[0]}_probe = probe_text {d[2]}
 
-{d[0]}_probed : (schema : Schema) (has : Bool) → Probes {d[0]}_probe has schema → has ≡ is_named schema {d[2]}
+{d[0]}_probed : (schema : Schema) (has : Bool) → MatchesCompilation {d[0]}_probe has schema → has ≡ has_table_named schema {d[2]}
 unfolding everything listing_schema
 {d[0]}_probed = probed {d[0]}_probe (read {d[0]}_probe) ({q(d[1])}) refl refl refl refl
 """
     out += f"""
-pub probed_of : (w : Which) (schema : Schema) (has : Bool) → Probes (probe_text w) has schema → has ≡ is_named schema w
+pub probed_of : (w : Which) (schema : Schema) (has : Bool) → MatchesCompilation (probe_text w) has schema → has ≡ has_table_named schema w
 {chr(10).join(f'probed_of {d[2]} = {d[0]}_probed' for d in DATA)}
 """
     save(f'{MAKING}/Probing.antt', out)
@@ -782,13 +782,13 @@ use Rattle.sqlite_tied.specs.Compute.{{everything}}
 use Rattle.brk_sql.proofs.Stars.{{shown_columns}}
 use Rattle.brk_sql.proofs.Texts.{{read}}
 use Rattle.brk_tables_schema.specs.Desk.{{Which, {', '.join(d[2] for d in DATA)}, shape}}
-use Rattle.brk_tables_scan.specs.Headings.{{star}}
+use Rattle.brk_tables_scan.specs.Headings.{{select_all_text}}
 
 pub columns_told : (w : Which) (schema : Schema) (at : ℕ) (table : Table) → table_named schema (shape w 0).name ≡ Some at → slice_get schema.tables at ≡ Some table
-    → (c : Compiled) → understood schema (star w) ≡ Ok c → column_names c ≡ map (λ c. c.name) table.columns
+    → (c : Compiled) → understood schema (select_all_text w) ≡ Ok c → column_names c ≡ map (λ c. c.name) table.columns
 unfolding everything listing_schema
 """
-    out += ''.join(f'columns_told {d[2]} = shown_columns (star {d[2]}) (read (star {d[2]})) ({q(d[1])}) refl refl refl refl\n' for d in DATA)
+    out += ''.join(f'columns_told {d[2]} = shown_columns (select_all_text {d[2]}) (read (select_all_text {d[2]})) ({q(d[1])}) refl refl refl refl\n' for d in DATA)
     save('crates/brk_tables_scan/proofs/Stars.antt', out)
 
 def column_names():
@@ -807,12 +807,12 @@ def listed():
     out = f"""-- Written by tools/tables.py: the names of a table and of its columns do not depend on its tree.
 use Rattle.std.proofs.Common.{{◌≡◌, ℕ, refl}}
 use Rattle.brk_tables_schema.specs.Desk.{{Which, {', '.join(d[2] for d in DATA)}, shape}}
-use Rattle.brk_tables_scan.specs.Schemas.{{names_of}}
+use Rattle.brk_tables_scan.specs.Schemas.{{table_names_of}}
 
 pub same_name_at : (w : Which) (i j : ℕ) → (shape w i).name ≡ (shape w j).name
 {chr(10).join(f'same_name_at {d[2]} i j = refl' for d in DATA)}
 
-pub names_alike : (w : Which) (m n : ℕ) → names_of (shape w m) ≡ names_of (shape w n)
+pub names_alike : (w : Which) (m n : ℕ) → table_names_of (shape w m) ≡ table_names_of (shape w n)
 {chr(10).join(f'names_alike {d[2]} m n = refl' for d in DATA)}
 """
     save('crates/brk_tables_scan/proofs/Listed.antt', out)
@@ -940,13 +940,13 @@ use Rattle.std.proofs.Common.{{◌≡◌, List, [], pos, refl}}
 use Rattle.sqlite_value.specs.declared.value.Value.TheVariants.{{Int, Text as Words}}
 use Rattle.sqlite_value.specs.Order.{{Row, column}}
 use Rattle.sqlite.specs.State.{{State, Shown}}
-use Rattle.brk_money.specs.Kinds.{{type_code, status_code}}
+use Rattle.brk_money.specs.Kinds.{{trade_type_code, trade_status_code}}
 use Rattle.brk_model.specs.Keys.{{{', '.join(d[4] for d in DATA if d[4] not in OWN_KEYS)}}}
 use Rattle.brk_sql.proofs.Texts.{{read}}
-use Rattle.brk_tables_schema.specs.Cells.{{nat}}
+use Rattle.brk_tables_schema.specs.Cells.{{natural_as_value}}
 use Rattle.brk_tables_schema.specs.Desk.{{{', '.join(d[2] for d in DATA)}, desk_key, rule_key}}
 use Rattle.brk_tables_schema.proofs.Order.{{key_total}}
-use Rattle.brk_tables_scan.specs.Whole.{{ShowsAll}}
+use Rattle.brk_tables_scan.specs.Whole.{{ShowsAllRows}}
 use Rattle.brk_tables_scan.proofs.Whole.{{shows_all}}
 use Rattle.brk_tables_scan.proofs.Keyed.{{{', '.join(d[0] + '_once' for d in DATA)}}}
 {chr(10).join(f'use Rattle.brk_tables_scan.proofs.{whole_name(d)}' for d in DATA)}
@@ -957,7 +957,7 @@ use Rattle.brk_tables_scan.proofs.Keyed.{{{', '.join(d[0] + '_once' for d in DAT
         lets = ''.join(f'let p{i} : column a {at(c)} ≡ {cell_at(d, c, "x")} = cc in let q{i} : column b {at(c)} ≡ {cell_at(d, c, "y")} = cc in ' for i, c in enumerate(key_columns(d)))
         rws = ', '.join(f'p{i}, q{i}' for i, c in enumerate(key_columns(d)))
         out += f"""
-pub {d[0]}_shown : (old new : State) (rows : List Row) → Shown {n}.statement [] old new rows → ShowsAll {d[2]} rows old.now
+pub {d[0]}_shown : (old new : State) (rows : List Row) → Shown {n}.statement [] old new rows → ShowsAllRows {d[2]} rows old.now
 {d[0]}_shown old new rows shown =
     shows_all {d[2]} (key_total {d[4]}) {d[0]}_once {n}.statement (read {n}.statement) {n}.project {n}.order {n}.names {n}.understood_as (λ tree r. refl)
     (λ tree a b x y e f. {lets}rw ({rws}) refl) old new rows shown
@@ -971,10 +971,13 @@ GROUPS = [('First', 'first', 'f'), ('Account', 'accounts', 'a'), ('Rate', 'rates
 # the types of rows whose name in code is another
 RUST = {'SecurityRow': 'Security', 'LastTradeRow': 'LastTrade', 'TaxRate': 'Tax', 'HoldingHistoryRow': 'LotChange'}
 
+# the tables whose rows in code have a meaning with a name that does not follow from their type in the model
+MEANINGS = {'kept': 'kept_row', 'holding_history': 'lot_change_row'}
+
 # the tables of at most one row, which the sheets hold as a value: its type, how code decodes it, its rows, and whether they have their form
 VALUES = {
-    'desk_row': ('Option<Stamp>', 'stamp_in_rows(schema, &raw.desk)', 'desk_rows schema sheets.last', 'is_desk_row desk raw.desk.items'),
-    'rule': ('Option<Day>', 'day_in_rows(&raw.rule)', 'rule_rows sheets.rule', 'is_rule raw.rule.items'),
+    'desk_row': ('Option<Stamp>', 'last_stamp_in_rows(schema, &raw.desk)', 'desk_rows schema sheets.last', 'is_one_valid_desk_row desk raw.desk.items'),
+    'rule': ('Option<Day>', 'day_in_rows(&raw.rule)', 'rule_rows sheets.rule', 'is_at_most_one_valid_rule raw.rule.items'),
 }
 
 WHICHES = ', '.join(d[2] for d in DATA)
@@ -1009,9 +1012,13 @@ def record_type(d):
     """The type of a table's rows in code"""
     return RUST.get(d[3], d[3])
 
+def words_of(name):
+    """The words of a type's name, in small letters, with an underscore between them"""
+    return re.sub(r'(?<!^)([A-Z])', r'_\1', name).lower()
+
 def record_meaning(d):
     """What a row in code is in the model"""
-    return re.sub(r'(?<!^)([A-Z])', r'_\1', record_type(d)).lower() + '_of'
+    return 'abstract_' + MEANINGS.get(d[0], words_of(d[3]))
 
 def records_of(crate):
     """The tables whose type of rows is in brk_ref, which are those before the trades, or in brk_changes"""
@@ -1022,6 +1029,10 @@ def records_of(crate):
 def all_of(words):
     """The words in a row, the last after 'and'"""
     return f'{", ".join(words[:-1])} and {words[-1]}'
+
+def group_function(verb, field):
+    """The function that reads or decodes a group. An adjective has the word `tables` behind it."""
+    return f'{verb}_{field}' + ('_tables' if field in ('first', 'last', 'later') else '')
 
 def rows_name(d):
     """The function that reads a whole table, in every schema"""
@@ -1035,10 +1046,10 @@ def read_whole(d):
     return f"""
 {head} {rows_name(d)}<S: Alter>(tx: &mut Transaction<'_, S>) -> Result<Vec<Row>, Fault>
     {SAME_REFERENCE}
-    ensures step {{ ReadsWhole S.Store tx.old tx.new result {d[2]} }}
+    ensures step {{ ReadsAllRows S.Store tx.old tx.new result {d[2]} }}
     {STORE_FAULT}
 {{
-    select(
+    select_rows(
         tx,
         "SELECT {columns} FROM {d[1]} ORDER BY {keys}",
         &[],
@@ -1057,7 +1068,7 @@ pub fn {rows_name(d)}_in<S: Alter>(
     schema: Schema,
 ) -> Result<Vec<Row>, Fault>
     {SAME_REFERENCE}
-    ensures step {{ ReadsIf S.Store tx.old tx.new result (schema_of schema) {d[2]} }}
+    ensures step {{ ReadsRowsIfPresent S.Store tx.old tx.new result (abstract_schema schema) {d[2]} }}
     {STORE_FAULT}
 {{
     if !schema.{LATER[d[0]]}() {{
@@ -1074,12 +1085,12 @@ def rows_code():
 ghost use Rattle.std.specs.Prelude.{{◌≡◌, Err, OnErr}};
 ghost use Rattle.brk_money.specs.declared.fault.Fault.TheVariants.{{Store}};
 ghost use Rattle.brk_tables_schema.specs.Desk.{{{WHICHES}}};
-ghost use Rattle.brk_changes.specs.Schemas.{{schema_of}};
-ghost use Rattle.brk_tables_scan.specs.Whole.{{ReadsIf, ReadsWhole}};
+ghost use Rattle.brk_changes.specs.Schemas.{{abstract_schema}};
+ghost use Rattle.brk_tables_scan.specs.Whole.{{ReadsRowsIfPresent, ReadsAllRows}};
 
 use brk_changes::Schema;
 use brk_money::Fault;
-use brk_tables_schema::calls::select;
+use brk_tables_schema::calls::select_rows;
 use sqlite::{{Alter, Row, Transaction}};
 use std::alloc::Global;
 """
@@ -1100,14 +1111,14 @@ def read_group(word, field, tables):
     """The function that reads a group"""
     later = word == 'Later'
     takes = "(\n    tx: &mut Transaction<'_, S>,\n    alloc: Global,\n    schema: Schema,\n)" if later else "(tx: &mut Transaction<'_, S>)"
-    shows = 'ShowsLater (schema_of schema)' if later else f'Shows{word}'
+    shows = 'ShowsLaterTables (abstract_schema schema)' if later else f'Shows{word}Tables'
     call = lambda d: f'{rows_name(d)}_in(tx, alloc, schema)?' if later else f'{rows_name(d)}(tx)?'
     fields = ''.join(f'        {raw_field(d)}: {call(d)},\n' for d in tables)
     return f"""
 {remark(f'Reads all rows of {named(tables)}. Fails with `Store` only.', '//')}
-fn read_{field}<S: Alter>{takes} -> Result<{word}Rows, Fault>
+fn {group_function('read', field)}<S: Alter>{takes} -> Result<{word}Rows, Fault>
     {SAME_REFERENCE}
-    ensures step {{ Steps S.Store tx.old tx.new result (λ raw. {shows} raw) }}
+    ensures step {{ IsConnectionStep S.Store tx.old tx.new result (λ raw. {shows} raw) }}
     {STORE_FAULT}
 {{
     Ok({word}Rows {{
@@ -1122,9 +1133,9 @@ def raw_code():
 
 ghost use Rattle.std.specs.Prelude.{{◌≡◌, Err, OnErr}};
 ghost use Rattle.brk_money.specs.declared.fault.Fault.TheVariants.{{Store}};
-ghost use Rattle.brk_sql.specs.Model.{{Steps}};
-ghost use Rattle.brk_tables_scan.specs.Raw.{{{', '.join(f'Shows{group[0]}' for group in GROUPS)}, ShowsDesk}};
-ghost use Rattle.brk_changes.specs.Schemas.{{schema_of}};
+ghost use Rattle.brk_sql.specs.Model.{{IsConnectionStep}};
+ghost use Rattle.brk_tables_scan.specs.Raw.{{{', '.join(f'Shows{group[0]}Tables' for group in GROUPS)}, ShowsDeskTables}};
+ghost use Rattle.brk_changes.specs.Schemas.{{abstract_schema}};
 
 use crate::rows::{{{', '.join(reads)}}};
 use brk_changes::Schema;
@@ -1144,17 +1155,17 @@ pub struct RawSheets {{
     out += f"""
 /// Reads all rows of the tables of `schema`, each list sorted by key. A table that it lacks has no
 /// rows. Fails with `Store` only.
-pub fn read_raw<S: Alter>(
+pub fn read_raw_sheets<S: Alter>(
     tx: &mut Transaction<'_, S>,
     alloc: Global,
     schema: Schema,
 ) -> Result<RawSheets, Fault>
     {SAME_REFERENCE}
-    ensures step {{ Steps S.Store tx.old tx.new result (λ raw. ShowsDesk (schema_of schema) raw) }}
+    ensures step {{ IsConnectionStep S.Store tx.old tx.new result (λ raw. ShowsDeskTables (abstract_schema schema) raw) }}
     {STORE_FAULT}
 {{
     Ok(RawSheets {{
-{''.join(f'        {field}: read_{field}{call(word)},{chr(10)}' for word, field, _ in GROUPS)}    }})
+{''.join(f'        {field}: {group_function("read", field)}{call(word)},{chr(10)}' for word, field, _ in GROUPS)}    }})
 }}
 """
     save('crates/brk_tables_scan/src/raw.rt', out)
@@ -1162,9 +1173,9 @@ pub fn read_raw<S: Alter>(
 def decode_group(word, field, tables):
     """The rows of a group in types, and the function that decodes them"""
     first = word == 'First'
-    schema, of_schema = ('schema: Schema, ', ' (schema_of schema)') if first else ('', '')
+    schema, of_schema = ('schema: Schema, ', ' (abstract_schema schema)') if first else ('', '')
     types = ''.join(f'    {sheet_field(d)}: {VALUES[d[0]][0] if d[0] in VALUES else f"Vec<{record_type(d)}>"},\n' for d in tables)
-    decoded = lambda d: VALUES[d[0]][1] if d[0] in VALUES else f'all_records(alloc, &raw.{raw_field(d)})'
+    decoded = lambda d: VALUES[d[0]][1] if d[0] in VALUES else f'decode_records(alloc, &raw.{raw_field(d)})'
     fields = ''.join(f'        {sheet_field(d)}: {decoded(d)}?,\n' for d in tables)
     return f"""
 #[derive(Drop)]
@@ -1173,9 +1184,9 @@ pub struct {word}Sheets {{
 
 {remark(f'Decodes the rows of {named(tables)}. Fails with `Form` only if one is malformed, or with `Memory`.', '//')}
 #[tactic(auto, using(crate::proofs::Formless::first_fails, crate::proofs::Formless::last_fails))]
-fn decode_{field}(alloc: Global, {schema}raw: &{word}Rows) -> Result<{word}Sheets, DecodeError>
-    ensures value {{ IfOk result (λ sheets. Is{word}{of_schema} sheets raw.now) }}
-    ensures form {{ result ≡ Err Formless → formed_{field}{of_schema} raw.now ≡ false }}
+fn {group_function('decode', field)}(alloc: Global, {schema}raw: &{word}Rows) -> Result<{word}Sheets, DecodeError>
+    ensures value {{ IfOk result (λ sheets. Decodes{word}Tables{of_schema} sheets raw.now) }}
+    ensures form {{ result ≡ Err Formless → are_{field}_well_formed{of_schema} raw.now ≡ false }}
 {{
     Ok({word}Sheets {{
 {fields}    }})
@@ -1189,16 +1200,16 @@ def decoding_code():
 
 ghost use Rattle.std.specs.Prelude.{{◌≡◌, Err, IfOk, false}};
 ghost use Rattle.brk_tables_schema.specs.declared.decode_error.DecodeError.TheVariants.{{Form as Formless}};
-ghost use Rattle.brk_tables_scan.specs.Decoded.{{AreSheets, {', '.join(f'Is{group[0]}' for group in GROUPS)}, formed, {', '.join(f'formed_{group[1]}' for group in GROUPS)}}};
-ghost use Rattle.brk_changes.specs.Schemas.{{schema_of}};
+ghost use Rattle.brk_tables_scan.specs.Decoded.{{DecodesSheets, {', '.join(f'Decodes{group[0]}Tables' for group in GROUPS)}, are_raw_sheets_well_formed, {', '.join(f'are_{group[1]}_well_formed' for group in GROUPS)}}};
+ghost use Rattle.brk_changes.specs.Schemas.{{abstract_schema}};
 
 use crate::raw::{{{', '.join(sorted([f'{group[0]}Rows' for group in GROUPS] + ['RawSheets']))}}};
 use brk_changes::{{{types('brk_changes', 'Schema', 'Sheets')}}};
 use brk_money::{{Day, Stamp}};
 use brk_ref::{{{types('brk_ref')}}};
 use brk_tables_schema::DecodeError;
-use brk_tables_schema::desk_row::stamp_in_rows;
-use brk_tables_schema::record::all_records;
+use brk_tables_schema::desk_row::last_stamp_in_rows;
+use brk_tables_schema::record::decode_records;
 use brk_tables_schema::rule_row::day_in_rows;
 use std::alloc::Global;
 """
@@ -1206,11 +1217,11 @@ use std::alloc::Global;
     schema = lambda word: 'schema, ' if word == 'First' else ''
     out += f"""
 /// Decodes the rows of all tables. Fails with `Form` only if a row is malformed, or with `Memory`.
-pub fn decode(alloc: Global, schema: Schema, raw: &RawSheets) -> Result<Sheets, DecodeError>
-    ensures value {{ IfOk result (λ sheets. AreSheets (schema_of schema) sheets raw.now) }}
-    ensures form {{ result ≡ Err Formless → formed (schema_of schema) raw.now ≡ false }}
+pub fn decode_sheets(alloc: Global, schema: Schema, raw: &RawSheets) -> Result<Sheets, DecodeError>
+    ensures value {{ IfOk result (λ sheets. DecodesSheets (abstract_schema schema) sheets raw.now) }}
+    ensures form {{ result ≡ Err Formless → are_raw_sheets_well_formed (abstract_schema schema) raw.now ≡ false }}
 {{
-{''.join(f'    let {field} = decode_{field}(alloc, {schema(word)}&raw.{field})?;{chr(10)}' for word, field, _ in GROUPS)}    Ok(Sheets {{
+{''.join(f'    let {field} = {group_function("decode", field)}(alloc, {schema(word)}&raw.{field})?;{chr(10)}' for word, field, _ in GROUPS)}    Ok(Sheets {{
 {''.join(f'        {sheet_field(d)}: {field}.{sheet_field(d)},{chr(10)}' for _, field, _, tables in groups() for d in tables)}    }})
 }}
 """
@@ -1234,44 +1245,44 @@ use Rattle.sqlite_value.specs.Order.{{Row}}
 use Rattle.sqlite.specs.State.{{State}}
 use Rattle.brk_tables_schema.specs.Desk.{{Which, {WHICHES}}}
 use Rattle.brk_model.specs.Schemas.{{Schema}}
-use Rattle.brk_tables_scan.specs.Whole.{{ShowsAll, ShowsIf}}
+use Rattle.brk_tables_scan.specs.Whole.{{ShowsAllRows, ShowsRowsIfPresent}}
 {declared('raw', 'Rows')}
 use Rattle.brk_tables_scan.specs.declared.raw.RawSheets.{{RawSheets}}
 
 -- The database was open, and its contents are unchanged.
-abbrev pub Stays : State → State → Type 0
-Stays old new = IsTrue old.is_open × (new.now ≡ old.now)
+abbrev pub IsUnchangedAndOpen : State → State → Type 0
+IsUnchangedAndOpen old new = IsTrue old.is_open × (new.now ≡ old.now)
 
 -- The lists are all rows of these four tables, sorted by key, and the reads changed nothing.
 -- Vacuous for a table that is not defined as a desk defines it.
-pub record ShowsFour (first second third fourth : Which) (a b c d : List Row) (old new : State) : Type 0 where
-  pub stays : Stays old new
-  pub one : ShowsAll first a old.now
-  pub two : ShowsAll second b old.now
-  pub three : ShowsAll third c old.now
-  pub four : ShowsAll fourth d old.now
+pub record ShowsFourTables (first second third fourth : Which) (a b c d : List Row) (old new : State) : Type 0 where
+  pub stays : IsUnchangedAndOpen old new
+  pub one : ShowsAllRows first a old.now
+  pub two : ShowsAllRows second b old.now
+  pub three : ShowsAllRows third c old.now
+  pub four : ShowsAllRows fourth d old.now
 """
     for word, _, _, tables in groups()[:-1]:
         out += f"""
 {remark(f'The raw rows are all rows of {named(tables)}, sorted by key, and the reads changed nothing.')}
-abbrev pub Shows{word} : {word}Rows → State → State → Type 0
-Shows{word} raw = ShowsFour {' '.join(d[2] for d in tables)} {' '.join(f'raw.{raw_field(d)}.items' for d in tables)}
+abbrev pub Shows{word}Tables : {word}Rows → State → State → Type 0
+Shows{word}Tables raw = ShowsFourTables {' '.join(d[2] for d in tables)} {' '.join(f'raw.{raw_field(d)}.items' for d in tables)}
 """
     out += f"""
 -- The raw rows are all rows of CASH_MOVE and of SETTLE_RULE, sorted by key, or none of a table that
 -- the schema `desk` does not have. The reads changed nothing.
-pub record ShowsLater (desk : Schema) (raw : LaterRows) (old new : State) : Type 0 where
+pub record ShowsLaterTables (desk : Schema) (raw : LaterRows) (old new : State) : Type 0 where
   pub same : new.now ≡ old.now
-{chr(10).join(f'  pub {raw_field(d)} : ShowsIf desk {d[2]} raw.{raw_field(d)}.items old.now' for d in groups()[-1][3])}
+{chr(10).join(f'  pub {raw_field(d)} : ShowsRowsIfPresent desk {d[2]} raw.{raw_field(d)}.items old.now' for d in groups()[-1][3])}
 
 -- Those of the raw rows that are of one table.
-abbrev pub raw_rows : RawSheets → Which → List Row
-{chr(10).join(f'raw_rows raw {d[2]} = raw.{field}.{raw_field(d)}.items' for _, field, _, tables in groups() for d in tables)}
+abbrev pub raw_rows_of_table : RawSheets → Which → List Row
+{chr(10).join(f'raw_rows_of_table raw {d[2]} = raw.{field}.{raw_field(d)}.items' for _, field, _, tables in groups() for d in tables)}
 
 -- The raw rows are all rows of each table of the schema `desk`, sorted by key, and none of other
 -- tables. The database was open, and the reads changed nothing.
-abbrev pub ShowsDesk : Schema → RawSheets → State → State → Type 0
-ShowsDesk desk raw old new = Stays old new × ((w : Which) → ShowsIf desk w (raw_rows raw w) old.now)
+abbrev pub ShowsDeskTables : Schema → RawSheets → State → State → Type 0
+ShowsDeskTables desk raw old new = IsUnchangedAndOpen old new × ((w : Which) → ShowsRowsIfPresent desk w (raw_rows_of_table raw w) old.now)
 """
     save('crates/brk_tables_scan/specs/Raw.antt', out)
 
@@ -1282,21 +1293,21 @@ def decoded_group(word, field, tables):
     rows = lambda d: VALUES[d[0]][2] if d[0] in VALUES else f'sheets.{sheet_field(d)}.items'
     shown = lambda d: f'{d[0]}_cells' if d[0] in VALUES else f'(λ r. {d[0]}_cells ({record_meaning(d)} r))'
     of = lambda d: f'({rows(d)})' if d[0] in VALUES else rows(d)
-    form = lambda d: VALUES[d[0]][3] if d[0] in VALUES else f'list_all (all_formed {d[0]}_forms) raw.{raw_field(d)}.items'
+    form = lambda d: VALUES[d[0]][3] if d[0] in VALUES else f'list_all (passes_all_cell_checks {d[0]}_column_cell_checks) raw.{raw_field(d)}.items'
     fields = '\n'.join(f'  pub {raw_field(d)} : map {shown(d)} {of(d)} ≡ raw.{raw_field(d)}.items' for d in tables)
     return f"""
 {remark(f'The raw rows of {named(tables)} are, in order, the encodings of the typed rows.')}
-pub record Is{word} {'(schema : Schema) ' if first else ''}(sheets : {word}Sheets) (raw : {word}Rows) : Type 0 where
+pub record Decodes{word}Tables {'(schema : Schema) ' if first else ''}(sheets : {word}Sheets) (raw : {word}Rows) : Type 0 where
 {fields}
 
 {remark(f'True if each column of each raw row of {named(tables)} is well-formed.' + counted)}
-abbrev pub formed_{field} : {'Schema → ' if first else ''}{word}Rows → Bool
-formed_{field} {'desk ' if first else ''}raw = {' && '.join(form(d) for d in tables)}
+abbrev pub are_{field}_well_formed : {'Schema → ' if first else ''}{word}Rows → Bool
+are_{field}_well_formed {'desk ' if first else ''}raw = {' && '.join(form(d) for d in tables)}
 """
 
 def decoded_spec():
     """What the rows of all tables are in types"""
-    forms = ', '.join(VALUES[d[0]][3].split()[0] if d[0] in VALUES else f'{d[0]}_forms' for d in DATA)
+    forms = ', '.join(VALUES[d[0]][3].split()[0] if d[0] in VALUES else f'{d[0]}_column_cell_checks' for d in DATA)
     out = f"""-- The typed rows of all tables, and the test that each raw row is well-formed.
 use Rattle.std.specs.Prelude.{{◌≡◌, Bool, ◌&&◌, map}}
 use Rattle.std.specs.List.{{list_all}}
@@ -1305,9 +1316,9 @@ use Rattle.brk_model.specs.Schemas.{{Schema}}
 use Rattle.brk_changes.specs.Sheets.{{tables_in_sheets}}
 use Rattle.brk_changes.specs.declared.sheets.Sheets.{{Sheets}}
 use Rattle.brk_tables_schema.specs.Cells.{{{CELLS}}}
-use Rattle.brk_tables_schema.specs.Desk.{{Which, desk_rows, rule_rows, encode, list_in}}
-use Rattle.brk_tables_schema.specs.Formed.{{all_formed, {forms}}}
-use Rattle.brk_tables_scan.specs.Raw.{{raw_rows}}
+use Rattle.brk_tables_schema.specs.Desk.{{Which, desk_rows, rule_rows, encode, rows_in_schema}}
+use Rattle.brk_tables_schema.specs.Formed.{{passes_all_cell_checks, {forms}}}
+use Rattle.brk_tables_scan.specs.Raw.{{raw_rows_of_table}}
 use Rattle.brk_tables_scan.specs.declared.raw.RawSheets.{{RawSheets}}
 {declared('raw', 'Rows')}
 {declared('decoding', 'Sheets')}
@@ -1317,13 +1328,13 @@ use Rattle.brk_tables_scan.specs.declared.raw.RawSheets.{{RawSheets}}
     out += f"""
 -- True if each column of each raw row is well-formed, there is one row of DESK, with the number of
 -- the schema `desk`, and there is at most one row of SETTLE_RULE.
-abbrev pub formed : Schema → RawSheets → Bool
-formed desk raw = {' && '.join(f'formed_{field} {desk(word)}raw.{field}' for word, field, _ in GROUPS)}
+abbrev pub are_raw_sheets_well_formed : Schema → RawSheets → Bool
+are_raw_sheets_well_formed desk raw = {' && '.join(f'are_{field}_well_formed {desk(word)}raw.{field}' for word, field, _ in GROUPS)}
 
 -- The raw rows of each table are, in order, the encodings of the typed rows `sheets`. The row of
 -- DESK has the number of the schema `desk`.
-abbrev pub AreSheets : Schema → Sheets → RawSheets → Type 0
-AreSheets desk sheets raw = (w : Which) → map (encode w) (list_in desk w (tables_in_sheets sheets)) ≡ raw_rows raw w
+abbrev pub DecodesSheets : Schema → Sheets → RawSheets → Type 0
+DecodesSheets desk sheets raw = (w : Which) → map (encode w) (rows_in_schema desk w (tables_in_sheets sheets)) ≡ raw_rows_of_table raw w
 """
     save('crates/brk_tables_scan/specs/Decoded.antt', out)
 
@@ -1332,7 +1343,7 @@ def sheeted():
     cells = ', '.join(f'{d[0]}_cells' for d in DATA if d[0] not in VALUES)
     desk = lambda word: 'desk ' if word == 'First' else ''
     sheets = ' '.join(f'({v} : {word}Sheets)' for word, _, v in GROUPS)
-    are = ' '.join(f'(is_{v} : Is{word} {desk(word)}{v} raw.{field})' for word, field, v in GROUPS)
+    are = ' '.join(f'(is_{v} : Decodes{word}Tables {desk(word)}{v} raw.{field})' for word, field, v in GROUPS)
     twice = lambda d, v: '' if d[0] in VALUES else f'map_twice {d[0]}_cells {record_meaning(d)} {v}.{sheet_field(d)}.items ∙ '
     out = f"""-- The typed rows of all tables are the sheets.
 use Rattle.std.proofs.Common.{{◌∙◌}}
@@ -1342,7 +1353,7 @@ use Rattle.brk_model.specs.Schemas.{{Schema}}
 use Rattle.brk_changes.specs.declared.sheets.Sheets.{{Sheets}}
 use Rattle.brk_tables_schema.specs.Cells.{{{cells}}}
 use Rattle.brk_tables_schema.specs.Desk.{{{WHICHES}}}
-use Rattle.brk_tables_scan.specs.Decoded.{{AreSheets, {', '.join(f'Is{group[0]}' for group in GROUPS)}}}
+use Rattle.brk_tables_scan.specs.Decoded.{{DecodesSheets, {', '.join(f'Decodes{group[0]}Tables' for group in GROUPS)}}}
 use Rattle.brk_tables_scan.specs.declared.raw.RawSheets.{{RawSheets}}
 {declared('decoding', 'Sheets')}
 
@@ -1350,7 +1361,7 @@ module _ {sheets} (desk : Schema) (raw : RawSheets) {are} where
   abbrev pub sheets : Sheets
   sheets = record {{ {'; '.join(f'{sheet_field(d)} = {v}.{sheet_field(d)}' for _, _, v, tables in groups() for d in tables)} }}
 
-  pub are_sheets : AreSheets desk sheets raw
+  pub are_sheets : DecodesSheets desk sheets raw
 {chr(10).join(f'  are_sheets {d[2]} = {twice(d, v)}is_{v}.{raw_field(d)}' for _, _, v, tables in groups() for d in tables)}
 """
     save('crates/brk_tables_scan/proofs/Sheeted.antt', out)
@@ -1364,7 +1375,7 @@ use Rattle.brk_model.specs.Tables.{{Tables}}
 {meanings()}
 use Rattle.brk_changes.specs.declared.sheets.Sheets.{{Sheets}}
 
--- The tables of the model with these typed rows.
+-- The model's tables with the values of the typed rows `s`.
 abbrev pub tables_in_sheets : Sheets → Tables
 tables_in_sheets s = record {{
 {chr(10).join(f'  {sheet_field(d)} = {rows(d)};' for d in DATA)}
@@ -1374,7 +1385,7 @@ tables_in_sheets s = record {{
 
 def sheets_code():
     """The sheets in code"""
-    module = lambda d: record_meaning(d).removesuffix('_of')
+    module = lambda d: words_of(record_type(d))
     uses = sorted(f'use crate::{module(d)}::{record_type(d)};' for d in records_of('brk_changes'))
     told = {'desk_row': 'The stamp of the last accepted command.', 'rule': 'The settlement day, if one is set: the first day whose completions settle after one day (SR_DAY).'}
     kind = lambda d: VALUES[d[0]][0] if d[0] in VALUES else f'Vec<{record_type(d)}>'
@@ -1430,10 +1441,10 @@ def same_tables():
 use Rattle.std.proofs.Common.{{◌≡◌}}
 use Rattle.brk_model.specs.Schemas.{{Schema}}
 use Rattle.brk_model.specs.Tables.{{Tables}}
-use Rattle.brk_tables_schema.specs.Desk.{{Which, list_in, {WHICHES}}}
+use Rattle.brk_tables_schema.specs.Desk.{{Which, rows_in_schema, {WHICHES}}}
 use Rattle.brk_tables_unique.proofs.Values.{{{', '.join(f'{sheet_field(d)}_alike' for d in DATA if d[0] in VALUES)}}}
 
-pub same_tables : (s : Schema) (t u : Tables) → ((w : Which) → list_in s w t ≡ list_in s w u) → t ≡ u
+pub same_tables : (s : Schema) (t u : Tables) → ((w : Which) → rows_in_schema s w t ≡ rows_in_schema s w u) → t ≡ u
 same_tables s t u each = λ i. record {{
 {chr(10).join(f'  {sheet_field(d)} = {values.get(d[0], f"each {d[2]} i")};' for d in DATA)}
 }}

@@ -6,4 +6,4 @@ mod notes;
 pub mod words;
 
 pub use job::{Job, UsageFault};
-pub use words::{no_text, read_words};
+pub use words::{non_utf8_argument_fault, read_words};

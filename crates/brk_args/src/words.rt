@@ -10,14 +10,14 @@ use std::alloc::{AllocError, Global};
 const VERSION: &str = "0.1.0 (schema 3, kit 13f)";
 
 // Returns the optional argument for the path of a file that is created if it is missing or empty.
-fn made_file<'a>(alloc: Global) -> Arg<'a> {
+fn optional_file_argument<'a>(alloc: Global) -> Arg<'a> {
     Arg::new(alloc, "db").long("db").value_name("FILE").help(
         "The file of the desk, created if it is missing or empty; without it the desk is in memory",
     )
 }
 
 // Returns the required argument for the path of a file that must exist.
-fn kept_file<'a>(alloc: Global) -> Arg<'a> {
+fn required_file_argument<'a>(alloc: Global) -> Arg<'a> {
     Arg::new(alloc, "db")
         .long("db")
         .value_name("FILE")
@@ -26,7 +26,7 @@ fn kept_file<'a>(alloc: Global) -> Arg<'a> {
 }
 
 // Returns the optional argument for a timestamp in milliseconds.
-fn moment<'a>(alloc: Global) -> Arg<'a> {
+fn timestamp_argument<'a>(alloc: Global) -> Arg<'a> {
     Arg::new(alloc, "at")
         .long("at")
         .value_name("MS")
@@ -37,7 +37,7 @@ fn moment<'a>(alloc: Global) -> Arg<'a> {
 }
 
 // Returns a required argument for a day, with this name.
-fn day<'a>(alloc: Global, name: &'static str, help: &'static str) -> Arg<'a> {
+fn day_argument<'a>(alloc: Global, name: &'static str, help: &'static str) -> Arg<'a> {
     Arg::new(alloc, name)
         .long(name)
         .value_name("DAY")
@@ -46,16 +46,16 @@ fn day<'a>(alloc: Global, name: &'static str, help: &'static str) -> Arg<'a> {
 }
 
 // Returns the subcommand that executes a batch, with its arguments.
-fn batch<'a>(alloc: Global) -> Result<Command<'a>, AllocError> {
+fn batch_command<'a>(alloc: Global) -> Result<Command<'a>, AllocError> {
     Command::new(alloc, "batch")
         .about("Reads a batch from standard input and writes a line for each row")
         .after_help(notes::BATCH)
-        .arg(made_file(alloc))?
-        .arg(moment(alloc))
+        .arg(optional_file_argument(alloc))?
+        .arg(timestamp_argument(alloc))
 }
 
 // Returns the required argument for the id of an account.
-fn account<'a>(alloc: Global) -> Arg<'a> {
+fn account_argument<'a>(alloc: Global) -> Arg<'a> {
     Arg::new(alloc, "account")
         .long("account")
         .value_name("ID")
@@ -65,26 +65,26 @@ fn account<'a>(alloc: Global) -> Arg<'a> {
 }
 
 // Returns the subcommand that prints a statement, with its arguments.
-fn statement<'a>(alloc: Global) -> Result<Command<'a>, AllocError> {
+fn statement_command<'a>(alloc: Global) -> Result<Command<'a>, AllocError> {
     Command::new(alloc, "statement")
         .about("Prints the statement of an account: its cash, day by day, and its lots")
         .after_help(notes::STATEMENT)
-        .arg(kept_file(alloc))?
-        .arg(account(alloc))?
-        .arg(day(alloc, "from", "The first day, as 2024-03-01"))?
-        .arg(day(alloc, "to", "The last day"))
+        .arg(required_file_argument(alloc))?
+        .arg(account_argument(alloc))?
+        .arg(day_argument(alloc, "from", "The first day, as 2024-03-01"))?
+        .arg(day_argument(alloc, "to", "The last day"))
 }
 
 // Returns the subcommand that audits a desk, with its argument.
-fn audit<'a>(alloc: Global) -> Result<Command<'a>, AllocError> {
+fn audit_command<'a>(alloc: Global) -> Result<Command<'a>, AllocError> {
     Command::new(alloc, "audit")
         .about("Recomputes every derived table of a desk, and prints ok if all are right")
         .after_help(notes::AUDIT)
-        .arg(kept_file(alloc))
+        .arg(required_file_argument(alloc))
 }
 
 // Returns an argument without a value, with this name.
-fn flag<'a>(alloc: Global, name: &'static str, help: &'static str) -> Arg<'a> {
+fn flag_argument<'a>(alloc: Global, name: &'static str, help: &'static str) -> Arg<'a> {
     Arg::new(alloc, name)
         .long(name)
         .action(ArgAction::SetTrue)
@@ -92,7 +92,7 @@ fn flag<'a>(alloc: Global, name: &'static str, help: &'static str) -> Arg<'a> {
 }
 
 // Returns the required argument with the name of a view.
-fn view<'a>(alloc: Global) -> Arg<'a> {
+fn view_argument<'a>(alloc: Global) -> Arg<'a> {
     Arg::new(alloc, "view")
         .value_name("VIEW")
         .help("The name of the view")
@@ -100,7 +100,7 @@ fn view<'a>(alloc: Global) -> Arg<'a> {
 }
 
 // Returns the argument with the arguments of a view, any number of them.
-fn arguments<'a>(alloc: Global) -> Arg<'a> {
+fn view_arguments<'a>(alloc: Global) -> Arg<'a> {
     Arg::new(alloc, "arguments")
         .value_name("ARGUMENT")
         .num_args(0..)
@@ -108,23 +108,23 @@ fn arguments<'a>(alloc: Global) -> Arg<'a> {
 }
 
 // Returns the subcommand that prints a view, with its arguments.
-fn ask<'a>(alloc: Global) -> Result<Command<'a>, AllocError> {
+fn ask_command<'a>(alloc: Global) -> Result<Command<'a>, AllocError> {
     Command::new(alloc, "ask")
         .about("Prints a view of a desk: a CSV row for each record")
         .after_help(notes::ASK)
-        .arg(kept_file(alloc))?
-        .arg(flag(alloc, "json", "Prints the view as JSON, as over HTTP"))?
-        .arg(flag(
+        .arg(required_file_argument(alloc))?
+        .arg(flag_argument(alloc, "json", "Prints the view as JSON, as over HTTP"))?
+        .arg(flag_argument(
             alloc,
             "heads",
             "Prints the names of the fields first, where all records have the same",
         ))?
-        .arg(view(alloc))?
-        .arg(arguments(alloc))
+        .arg(view_argument(alloc))?
+        .arg(view_arguments(alloc))
 }
 
 // Returns the subcommand that prints an explanation, with its arguments.
-fn explain<'a>(alloc: Global) -> Result<Command<'a>, AllocError> {
+fn explain_command<'a>(alloc: Global) -> Result<Command<'a>, AllocError> {
     let words = Arg::new(alloc, "words")
         .value_name("WORD")
         .num_args(0..)
@@ -132,12 +132,12 @@ fn explain<'a>(alloc: Global) -> Result<Command<'a>, AllocError> {
     Command::new(alloc, "explain")
         .about("Prints how the amounts of a trade or of an account come about")
         .after_help(notes::EXPLAIN)
-        .arg(kept_file(alloc))?
+        .arg(required_file_argument(alloc))?
         .arg(words)
 }
 
 // Returns the required argument for a port: 1 to 65,535.
-fn port<'a>(alloc: Global) -> Arg<'a> {
+fn port_argument<'a>(alloc: Global) -> Arg<'a> {
     Arg::new(alloc, "port")
         .long("port")
         .value_name("P")
@@ -147,7 +147,7 @@ fn port<'a>(alloc: Global) -> Arg<'a> {
 }
 
 // Returns the argument for a number of streams: 1 to 1,000,000, and 1 by default.
-fn streams<'a>(alloc: Global) -> Arg<'a> {
+fn streams_argument<'a>(alloc: Global) -> Arg<'a> {
     Arg::new(alloc, "streams")
         .long("streams")
         .value_name("N")
@@ -157,19 +157,19 @@ fn streams<'a>(alloc: Global) -> Arg<'a> {
 }
 
 // Returns the subcommand that serves a desk, with its arguments.
-fn serve<'a>(alloc: Global) -> Result<Command<'a>, AllocError> {
+fn serve_command<'a>(alloc: Global) -> Result<Command<'a>, AllocError> {
     Command::new(alloc, "serve")
         .about("Serves the desk over HTTP, one stream after the other")
         .after_help(notes::SERVE)
-        .arg(port(alloc))?
-        .arg(made_file(alloc))?
-        .arg(moment(alloc))?
-        .arg(streams(alloc))
+        .arg(port_argument(alloc))?
+        .arg(optional_file_argument(alloc))?
+        .arg(timestamp_argument(alloc))?
+        .arg(streams_argument(alloc))
 }
 
 // Adds a subcommand to a command. It is a function of its own because a function that holds several
 // commands, at each place where it may return, takes the prover more than a minute.
-fn with<'a>(
+fn add_subcommand<'a>(
     command: Result<Command<'a>, AllocError>,
     added: Result<Command<'a>, AllocError>,
 ) -> Result<Command<'a>, AllocError> {
@@ -177,7 +177,7 @@ fn with<'a>(
 }
 
 // Returns the command `brk` without its subcommands.
-fn program<'a>(alloc: Global) -> Result<Command<'a>, AllocError> {
+fn program_command<'a>(alloc: Global) -> Result<Command<'a>, AllocError> {
     Command::new(alloc, "brk")
         .version(VERSION)
         .about("A brokerage back office")
@@ -187,22 +187,29 @@ fn program<'a>(alloc: Global) -> Result<Command<'a>, AllocError> {
 }
 
 // Returns the command `brk` with its six subcommands.
-fn grammar<'a>(alloc: Global) -> Result<Command<'a>, AllocError> {
-    let command = with(program(alloc), batch(alloc));
-    let command = with(command, statement(alloc));
-    let command = with(command, ask(alloc));
-    let command = with(command, explain(alloc));
-    let command = with(command, audit(alloc));
-    with(command, serve(alloc))
+fn command_with_subcommands<'a>(alloc: Global) -> Result<Command<'a>, AllocError> {
+    let command = add_subcommand(program_command(alloc), batch_command(alloc));
+    let command = add_subcommand(command, statement_command(alloc));
+    let command = add_subcommand(command, ask_command(alloc));
+    let command = add_subcommand(command, explain_command(alloc));
+    let command = add_subcommand(command, audit_command(alloc));
+    add_subcommand(command, serve_command(alloc))
 }
 
 // Returns a copy of the text of argument `name`, or an empty text if it is missing.
-fn text_of(alloc: Global, matches: &ArgMatches<'_>, name: &str) -> Result<String, AllocError> {
+fn argument_text(
+    alloc: Global,
+    matches: &ArgMatches<'_>,
+    name: &str,
+) -> Result<String, AllocError> {
     String::from_str(alloc, matches.get_str(name).unwrap_or(""))
 }
 
 // Returns a copy of the path of the desk's file, or `None` if it is missing.
-fn file_of(alloc: Global, matches: &ArgMatches<'_>) -> Result<Option<String>, AllocError> {
+fn file_path_argument(
+    alloc: Global,
+    matches: &ArgMatches<'_>,
+) -> Result<Option<String>, AllocError> {
     match matches.get_str("db") {
         Some(path) => Ok(Some(String::from_str(alloc, path)?)),
         None => Ok(None),
@@ -210,42 +217,42 @@ fn file_of(alloc: Global, matches: &ArgMatches<'_>) -> Result<Option<String>, Al
 }
 
 // Returns the timestamp of the arguments, or `None` if it is missing.
-fn moment_of(matches: &ArgMatches<'_>) -> Option<Stamp> {
+fn timestamp_of_matches(matches: &ArgMatches<'_>) -> Option<Stamp> {
     matches.get_one::<i64>("at").and_then(Stamp::new)
 }
 
 // Parses the day of argument `name`. Fails with `Day` if it is not a day.
-fn day_of(matches: &ArgMatches<'_>, name: &str) -> Result<Day, UsageFault> {
+fn parse_day_argument(matches: &ArgMatches<'_>, name: &str) -> Result<Day, UsageFault> {
     let text = matches.get_str(name).unwrap_or("");
     parse_day(text.as_bytes()).ok_or(UsageFault::Day)
 }
 
 // Returns the statement job of the matched arguments. Fails with `Day` or `Memory`, and with
 // `Words` if there is no account.
-fn statement_of(alloc: Global, matches: &ArgMatches<'_>) -> Result<Job, UsageFault> {
+fn statement_job(alloc: Global, matches: &ArgMatches<'_>) -> Result<Job, UsageFault> {
     let Some(account) = matches.get_one::<u64>("account").and_then(Id::new) else {
         return Err(UsageFault::Words(String::new(alloc)));
     };
     Ok(Job::Statement {
-        db: text_of(alloc, matches, "db")?,
+        db: argument_text(alloc, matches, "db")?,
         account,
-        from: day_of(matches, "from")?,
-        to: day_of(matches, "to")?,
+        from: parse_day_argument(matches, "from")?,
+        to: parse_day_argument(matches, "to")?,
     })
 }
 
 // Returns the serve job of the matched arguments. Fails with `Memory` only.
-fn serve_of(alloc: Global, matches: &ArgMatches<'_>) -> Result<Job, UsageFault> {
+fn serve_job(alloc: Global, matches: &ArgMatches<'_>) -> Result<Job, UsageFault> {
     Ok(Job::Serve {
         port: matches.get_one("port").unwrap_or(0),
-        db: file_of(alloc, matches)?,
-        at: moment_of(matches),
+        db: file_path_argument(alloc, matches)?,
+        at: timestamp_of_matches(matches),
         streams: matches.get_one("streams").unwrap_or(1),
     })
 }
 
 // Returns copies of the texts of argument `name`, in order.
-fn texts_of(
+fn argument_texts(
     alloc: Global,
     matches: &ArgMatches<'_>,
     name: &str,
@@ -258,52 +265,56 @@ fn texts_of(
 }
 
 // Returns the ask job of the matched arguments. Fails with `Memory` only.
-fn ask_of(alloc: Global, matches: &ArgMatches<'_>) -> Result<Job, UsageFault> {
+fn ask_job(alloc: Global, matches: &ArgMatches<'_>) -> Result<Job, UsageFault> {
     Ok(Job::Ask {
-        db: text_of(alloc, matches, "db")?,
+        db: argument_text(alloc, matches, "db")?,
         json: matches.get_flag("json"),
         heads: matches.get_flag("heads"),
-        view: text_of(alloc, matches, "view")?,
-        arguments: texts_of(alloc, matches, "arguments")?,
+        view: argument_text(alloc, matches, "view")?,
+        arguments: argument_texts(alloc, matches, "arguments")?,
     })
 }
 
 // Returns the explain job of the matched arguments. Fails with `Memory` only.
-fn explain_of(alloc: Global, matches: &ArgMatches<'_>) -> Result<Job, UsageFault> {
+fn explain_job(alloc: Global, matches: &ArgMatches<'_>) -> Result<Job, UsageFault> {
     Ok(Job::Explain {
-        db: text_of(alloc, matches, "db")?,
-        words: texts_of(alloc, matches, "words")?,
+        db: argument_text(alloc, matches, "db")?,
+        words: argument_texts(alloc, matches, "words")?,
     })
 }
 
 // Returns the job of the subcommand `name` with its matched arguments. Every other name than those
 // of five subcommands is a batch.
-fn job_of(alloc: Global, name: &str, matches: &ArgMatches<'_>) -> Result<Job, UsageFault> {
+fn job_of_subcommand(
+    alloc: Global,
+    name: &str,
+    matches: &ArgMatches<'_>,
+) -> Result<Job, UsageFault> {
     if name == "statement" {
-        return statement_of(alloc, matches);
+        return statement_job(alloc, matches);
     }
     if name == "serve" {
-        return serve_of(alloc, matches);
+        return serve_job(alloc, matches);
     }
     if name == "ask" {
-        return ask_of(alloc, matches);
+        return ask_job(alloc, matches);
     }
     if name == "explain" {
-        return explain_of(alloc, matches);
+        return explain_job(alloc, matches);
     }
     if name == "audit" {
-        let db = text_of(alloc, matches, "db")?;
+        let db = argument_text(alloc, matches, "db")?;
         return Ok(Job::Audit { db });
     }
     Ok(Job::Batch {
-        db: file_of(alloc, matches)?,
-        at: moment_of(matches),
+        db: file_path_argument(alloc, matches)?,
+        at: timestamp_of_matches(matches),
     })
 }
 
 // Converts an error of the argument parser into a usage fault: `Help` for help and the version,
 // `Memory` if memory ran out, otherwise `Words` with the error's text.
-fn fault_of(alloc: Global, error: &Error) -> UsageFault {
+fn usage_fault_of_error(alloc: Global, error: &Error) -> UsageFault {
     let kind = error.kind();
     if kind == ErrorKind::OutOfMemory {
         return UsageFault::Memory;
@@ -319,7 +330,7 @@ fn fault_of(alloc: Global, error: &Error) -> UsageFault {
 }
 
 /// Returns the usage fault of an argument that is not UTF-8: `Words` with its text, or `Memory`.
-pub fn no_text(alloc: Global) -> UsageFault {
+pub fn non_utf8_argument_fault(alloc: Global) -> UsageFault {
     match String::from_str(alloc, "error: a word that is no UTF-8\n") {
         Ok(text) => UsageFault::Words(text),
         Err(_) => UsageFault::Memory,
@@ -332,13 +343,13 @@ pub fn no_text(alloc: Global) -> UsageFault {
 /// why the arguments give no job.
 pub fn read_words(words: Vec<String>) -> Result<Job, UsageFault> {
     let alloc = *words.allocator();
-    let command = grammar(alloc)?;
+    let command = command_with_subcommands(alloc)?;
     let matched = command.try_get_matches_from(words.as_slice());
     match matched {
         Ok(matches) => match matches.subcommand() {
-            Some((name, given)) => job_of(alloc, name, given),
+            Some((name, given)) => job_of_subcommand(alloc, name, given),
             None => Err(UsageFault::Words(String::new(alloc))),
         },
-        Err(error) => Err(fault_of(alloc, &error)),
+        Err(error) => Err(usage_fault_of_error(alloc, &error)),
     }
 }

@@ -1,17 +1,17 @@
 ghost use Rattle.std.specs.Prelude.{◌≡◌, OnErr, Err, IfOk, Ok};
-ghost use Rattle.brk_ask.specs.Asked.{IsQueryAnswered, PrintPost, WritesText};
-ghost use Rattle.brk_ask.specs.Printed.{printed_view};
+ghost use Rattle.brk_ask.specs.Asked.{AsksQueryAndWritesView, PrintViewPost, WritesTextOrFails};
+ghost use Rattle.brk_ask.specs.Printed.{printed_view_text};
 ghost use Rattle.brk_model.specs.Ask as model;
 ghost use Rattle.brk_money.specs.declared.fault.Fault.TheVariants.{Memory};
-ghost use Rattle.brk_ref.specs.Fields.{texts};
-ghost use Rattle.brk_view.specs.Queries.{query_of};
-ghost use Rattle.brk_view.specs.Views.{fields_of};
+ghost use Rattle.brk_ref.specs.Fields.{texts_of_fields};
+ghost use Rattle.brk_view.specs.Queries.{abstract_query};
+ghost use Rattle.brk_view.specs.Views.{records_of_view};
 
 use crate::form::Form;
-use crate::heads::heads;
-use crate::rows::{json, rows};
+use crate::heads::header_records;
+use crate::rows::{format_csv_rows, format_json_line};
 use brk_desk::{Desk, Query, View, parse_query, view_fields};
-use brk_io::write_out;
+use brk_io::write_all_bytes;
 use brk_money::Fault;
 use brk_report_lines::ReportFault;
 use sqlite::Alter;
@@ -19,21 +19,21 @@ use std::alloc::Global;
 use std::io::Write;
 
 // Returns the text of a query's view in this form. Fails with `Memory` only.
-fn text(alloc: Global, query: &Query, view: &View, form: Form) -> Result<Vec<u8>, Fault>
-    ensures text { IfOk result (λ text. text.items ≡ printed_view form (query_of query.now) (fields_of view.now)) }
+fn format_view(alloc: Global, query: &Query, view: &View, form: Form) -> Result<Vec<u8>, Fault>
+    ensures text { IfOk result (λ text. text.items ≡ printed_view_text form (abstract_query query.now) (records_of_view view.now)) }
     ensures fault { OnErr result (result ≡ Err Memory) }
 {
     let mut records = if form.heads {
-        heads(alloc, query)?
+        header_records(alloc, query)?
     } else {
         Vec::new(alloc)
     };
     let mut shown = view_fields(alloc, view)?;
     records.append(&mut shown)?;
     if form.json {
-        Ok(json(alloc, &records)?)
+        Ok(format_json_line(alloc, &records)?)
     } else {
-        Ok(rows(alloc, &records)?)
+        Ok(format_csv_rows(alloc, &records)?)
     }
 }
 
@@ -47,10 +47,10 @@ fn write_view<W: Write>(
     form: Form,
     writer: &mut W,
 ) -> Result<(), ReportFault>
-    ensures { WritesText (printed_view form (query_of query.now) (fields_of view.now)) (W.contents writer.old) (W.contents writer.new) result }
+    ensures { WritesTextOrFails (printed_view_text form (abstract_query query.now) (records_of_view view.now)) (W.contents writer.old) (W.contents writer.new) result }
 {
-    match text(alloc, query, view, form) {
-        Ok(text) => match write_out(writer, &text) {
+    match format_view(alloc, query, view, form) {
+        Ok(text) => match write_all_bytes(writer, &text) {
             Ok(()) => Ok(()),
             Err(_) => Err(ReportFault::Write),
         },
@@ -61,14 +61,14 @@ fn write_view<W: Write>(
 // Executes the query on the desk, and writes its view in this form.
 //
 // Fails with `Refused` or `Desk` and nothing written, or with `Write` after a prefix of the text.
-fn ask_query<W: Write, S: Alter>(
+fn ask_query_and_write<W: Write, S: Alter>(
     alloc: Global,
     desk: &mut Desk<S>,
     query: &Query,
     form: Form,
     writer: &mut W,
 ) -> Result<(), ReportFault>
-    ensures { IsQueryAnswered S.Store desk.old desk.new form (Ok (query_of query.now)) (W.contents writer.old) (W.contents writer.new) result }
+    ensures { AsksQueryAndWritesView S.Store desk.old desk.new form (Ok (abstract_query query.now)) (W.contents writer.old) (W.contents writer.new) result }
 {
     match desk.ask(alloc, query) {
         Ok(Ok(view)) => write_view(alloc, query, &view, form, writer),
@@ -94,10 +94,10 @@ pub fn ask<W: Write, S: Alter>(
     form: Form,
     writer: &mut W,
 ) -> Result<(), ReportFault>
-    ensures asked { PrintPost S.Store desk.old desk.new form (model.parse_query view.now (texts arguments.now)) (W.contents writer.old) (W.contents writer.new) result }
+    ensures asked { PrintViewPost S.Store desk.old desk.new form (model.parse_query view.now (texts_of_fields arguments.now)) (W.contents writer.old) (W.contents writer.new) result }
 {
     match parse_query(alloc, view, arguments) {
-        Ok(Ok(query)) => ask_query(alloc, desk, &query, form, writer),
+        Ok(Ok(query)) => ask_query_and_write(alloc, desk, &query, form, writer),
         Ok(Err(refusal)) => Err(ReportFault::Refused(refusal)),
         Err(fault) => Err(ReportFault::Desk(fault)),
     }

@@ -1,16 +1,16 @@
 ghost use Rattle.std.specs.Prelude.{◌≡◌, IfOk};
-ghost use Rattle.brk_ask.specs.Printed.{names_of_fields, heads_of};
-ghost use Rattle.brk_ref.specs.Fields.{texts};
-ghost use Rattle.brk_view.specs.Queries.{query_of};
-ghost use Rattle.brk_view.specs.Views.{record_of, records_of};
+ghost use Rattle.brk_ask.specs.Printed.{field_names_of_view, field_name_records};
+ghost use Rattle.brk_ref.specs.Fields.{texts_of_fields};
+ghost use Rattle.brk_view.specs.Queries.{abstract_query};
+ghost use Rattle.brk_view.specs.Views.{texts_of_record, texts_of_records};
 
 use brk_desk::Query;
 use std::alloc::{AllocError, Global};
 
 // Returns the names of the fields of a query's view, or no name if its records have different
 // fields.
-fn field_names(query: &Query) -> &'static [&'static str]
-    ensures { texts result.now ≡ names_of_fields (query_of query.now) }
+fn view_field_names(query: &Query) -> &'static [&'static str]
+    ensures { texts_of_fields result.now ≡ field_names_of_view (abstract_query query.now) }
 {
     match query {
         Query::Position(_) | Query::PositionOfTaxId(_) => &["account", "balance", "holdings"],
@@ -33,8 +33,8 @@ fn field_names(query: &Query) -> &'static [&'static str]
 }
 
 // Returns owned copies of names, in order.
-fn name_record(alloc: Global, names: &[&str]) -> Result<Vec<String>, AllocError>
-    ensures { IfOk result (λ owned. record_of owned ≡ texts names.now) }
+fn copy_names(alloc: Global, names: &[&str]) -> Result<Vec<String>, AllocError>
+    ensures { IfOk result (λ owned. texts_of_record owned ≡ texts_of_fields names.now) }
 {
     let mut owned = Vec::new(alloc);
     for name in names {
@@ -45,13 +45,13 @@ fn name_record(alloc: Global, names: &[&str]) -> Result<Vec<String>, AllocError>
 
 /// Returns the list with one record of the names of a view's fields, or an empty list if its
 /// records have different fields.
-pub fn heads(alloc: Global, query: &Query) -> Result<Vec<Vec<String>>, AllocError>
-    ensures { IfOk result (λ heads. records_of heads ≡ heads_of (query_of query.now)) }
+pub fn header_records(alloc: Global, query: &Query) -> Result<Vec<Vec<String>>, AllocError>
+    ensures { IfOk result (λ heads. texts_of_records heads ≡ field_name_records (abstract_query query.now)) }
 {
     let mut heads = Vec::new(alloc);
-    let names = field_names(query);
+    let names = view_field_names(query);
     if !names.is_empty() {
-        heads.push(name_record(alloc, names)?)?;
+        heads.push(copy_names(alloc, names)?)?;
     }
     Ok(heads)
 }

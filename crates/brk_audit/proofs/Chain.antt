@@ -1,21 +1,21 @@
 -- What the conditions before give to those after.
 use Rattle.brk_money.specs.declared.fault.Condition.TheVariants.{Form, Status}
 use Rattle.std.proofs.Common.{◌≡◌, true}
-use Rattle.brk_model.specs.Form.{has_form}
+use Rattle.brk_model.specs.Form.{satisfies_form_condition}
 use Rattle.brk_model.specs.Audit.{ConditionHolds}
 use Rattle.brk_model.specs.Schemas.{Schema}
 use Rattle.brk_changes.specs.Sheets.{tables_in_sheets}
 use Rattle.brk_changes.specs.declared.sheets.Sheets.{Sheets}
-use Rattle.brk_audit.specs.Conditions.{HasForm, HasStatuses}
+use Rattle.brk_audit.specs.Conditions.{HasWellFormedRows, HasValidStatuses}
 
-pub form_held : (schema : Schema) (s : Sheets) → ConditionHolds schema Form (tables_in_sheets s) → HasForm s
+pub form_held : (schema : Schema) (s : Sheets) → ConditionHolds schema Form (tables_in_sheets s) → HasWellFormedRows s
 unfolding ConditionHolds
 form_held schema s h = record { schema = schema; form = h }
 
-pub statuses_held : (schema : Schema) (s : Sheets) → ConditionHolds schema Status (tables_in_sheets s) → HasStatuses s
+pub statuses_held : (schema : Schema) (s : Sheets) → ConditionHolds schema Status (tables_in_sheets s) → HasValidStatuses s
 unfolding ConditionHolds
 statuses_held schema s h = h
 
-pub form_told : (schema : Schema) (s : Sheets) → ConditionHolds schema Form (tables_in_sheets s) → has_form schema (tables_in_sheets s) ≡ true
+pub form_told : (schema : Schema) (s : Sheets) → ConditionHolds schema Form (tables_in_sheets s) → satisfies_form_condition schema (tables_in_sheets s) ≡ true
 unfolding ConditionHolds
 form_told schema s h = h

@@ -4,24 +4,24 @@ use Rattle.std.specs.Prelude.{bytes_eq}
 use Rattle.std.specs.List.{AllByRecursion, list_any, sum_by}
 use Rattle.std.proofs.lemmas.Bool.{and_from, and_parts, eq-eqb, eqb-true}
 use Rattle.std.proofs.lemmas.Slice.Eq.{bytes_eq-Decides}
-use Rattle.brk_model.specs.Base.{Base, completed}
-use Rattle.brk_model.specs.Derived.{deals_in, shares_in}
-use Rattle.brk_model.specs.Keys.{number, row_before}
-use Rattle.brk_model.specs.Shares.{Deal, Share, lots, replay}
+use Rattle.brk_model.specs.Base.{Base, completed_trades}
+use Rattle.brk_model.specs.Derived.{deals_of_position, shares_of_position}
+use Rattle.brk_model.specs.Keys.{number, is_row_key_less}
+use Rattle.brk_model.specs.Shares.{Deal, Share, lots_of_shares, replay}
 use Rattle.brk_model.specs.Tables.{HoldingRow, TradeRow}
 use Rattle.brk_model.specs.Sheets.{sheets}
 use Rattle.brk_lots.specs.declared.lot.Lot.{Lot}
-use Rattle.brk_lots.specs.Lots.{plain_lot}
+use Rattle.brk_lots.specs.Lots.{abstract_lot}
 use Rattle.brk_lots.proofs.Ends.{walk_of}
 use Rattle.brk_lots.proofs.Plain.{lots_walk}
 use Rattle.brk_book_theorems.specs.Books.{BooksInvariant}
-use Rattle.brk_book_theorems.specs.TradeReads.{lots_of_position, position_in, row_lot}
+use Rattle.brk_book_theorems.specs.TradeReads.{holding_rows_of_position, position_lots, lot_of_row}
 use Rattle.brk_book_theorems.proofs.LotOrder.{position_read, shares_read}
 use Rattle.brk_book_theorems.proofs.LotReading.{All-sort, all_pass}
 use Rattle.brk_book_theorems.proofs.Places.{filter-all, filter-append}
 use Rattle.brk_book_theorems.proofs.Same.{All-map, All-of, filter-none}
 use Rattle.brk_audit_theorems.proofs.Climbs.{In}
-use Rattle.brk_audit.specs.Positions.{Leave, lot_row, nothing, position, row_deal, run_rows, same_place}
+use Rattle.brk_audit.specs.Positions.{AreLotsLeftByTrades, lot_row_of_position, nothing, position, deal_of_completed_row, lot_rows_left_by_trades, is_same_position}
 use Rattle.brk_book_theorems.proofs.Orders.{sum_append, sum_both, sum_filter, sum_same, sum_sort}
 use Rattle.brk_audit.proofs.Places.{all_back, at_one, one_place, same_self}
 
@@ -48,13 +48,13 @@ at_it : (r : TradeRow) (h : HoldingRow) → IsAt r h → at_place r h ≡ true
 at_it r h e = and_from (h.account == r.account) (bytes_eq h.symbol r.symbol) (eq-eqb h.account r.account e.account) ((bytes_eq-Decides h.symbol r.symbol).1 e.symbol)
 
 -- a row is of two positions only where these are one
-two_places : (r s : TradeRow) (h : HoldingRow) → at_place r h ≡ true → at_place s h ≡ true → same_place r s ≡ true
+two_places : (r s : TradeRow) (h : HoldingRow) → at_place r h ≡ true → at_place s h ≡ true → is_same_position r s ≡ true
 two_places r s h e f =
     let k = is_at r h e in
     let l = is_at s h f in
     one_place r s (record { account = sym k.account ∙ l.account; symbol = sym k.symbol ∙ l.symbol })
 
-along : (r s : TradeRow) (h : HoldingRow) → same_place r s ≡ true → at_place s h ≡ true → at_place r h ≡ true
+along : (r s : TradeRow) (h : HoldingRow) → is_same_position r s ≡ true → at_place s h ≡ true → at_place r h ≡ true
 along r s h e f =
     let k = at_one r s e in
     let l = is_at s h f in
@@ -62,24 +62,24 @@ along r s h e f =
 
 -- ---- a position
 
-rows_back : (r : TradeRow) (hs : List HoldingRow) → AllByRecursion (λ h. at_place r h ≡ true) hs → map (lot_row r) (map plain_lot (map row_lot hs)) ≡ hs
+rows_back : (r : TradeRow) (hs : List HoldingRow) → AllByRecursion (λ h. at_place r h ≡ true) hs → map (lot_row_of_position r) (map abstract_lot (map lot_of_row hs)) ≡ hs
 rows_back r [] p = refl
 rows_back r (h ∷ hs) p = let k = is_at r h p.0 in λ i. record h { account = sym k.account i; symbol = sym k.symbol i } ∷ rows_back r hs p.1 i
 
 -- what a position's deals leave is what the tables have of it
-rows_there : (base : Base) → BooksInvariant base → (r : TradeRow) (run : List TradeRow) → map row_deal run ≡ deals_in (completed base) r.account r.symbol
-    → run_rows r run ≡ lots_of_position (sheets base) r.account r.symbol
-unfolding shares_in
+rows_there : (base : Base) → BooksInvariant base → (r : TradeRow) (run : List TradeRow) → map deal_of_completed_row run ≡ deals_of_position (completed_trades base) r.account r.symbol
+    → lot_rows_left_by_trades r run ≡ holding_rows_of_position (sheets base) r.account r.symbol
+unfolding shares_of_position
 rows_there base books r run e =
-    let P : List Lot = position_in (sheets base) r.account r.symbol in
-    ap (λ (ds : List Deal). map (lot_row r) (lots (replay ds))) e
-    ∙ ap (λ (us : List Share). map (lot_row r) (lots us)) (sym (shares_read base r.account r.symbol books))
-    ∙ ap (map (lot_row r)) (lots_walk P (walk_of P (position_read base r.account r.symbol books)))
-    ∙ rows_back r (lots_of_position (sheets base) r.account r.symbol)
-    (All-sort (λ h. at_place r h ≡ true) (row_before (λ h. number h.stamp ∷ number h.trade ∷ [])) (filter (at_place r) (sheets base).holdings) (all_pass (at_place r) (sheets base).holdings))
+    let P : List Lot = position_lots (sheets base) r.account r.symbol in
+    ap (λ (ds : List Deal). map (lot_row_of_position r) (lots_of_shares (replay ds))) e
+    ∙ ap (λ (us : List Share). map (lot_row_of_position r) (lots_of_shares us)) (sym (shares_read base r.account r.symbol books))
+    ∙ ap (map (lot_row_of_position r)) (lots_walk P (walk_of P (position_read base r.account r.symbol books)))
+    ∙ rows_back r (holding_rows_of_position (sheets base) r.account r.symbol)
+    (All-sort (λ h. at_place r h ≡ true) (is_row_key_less (λ h. number h.stamp ∷ number h.trade ∷ [])) (filter (at_place r) (sheets base).holdings) (all_pass (at_place r) (sheets base).holdings))
 
-sum_there : (base : Base) (r : TradeRow) (f : HoldingRow → ℕ) → sum_by f (lots_of_position (sheets base) r.account r.symbol) ≡ sum_by f (filter (at_place r) (sheets base).holdings)
-sum_there base r f = sum_sort f (row_before (λ h. number h.stamp ∷ number h.trade ∷ [])) (filter (at_place r) (sheets base).holdings)
+sum_there : (base : Base) (r : TradeRow) (f : HoldingRow → ℕ) → sum_by f (holding_rows_of_position (sheets base) r.account r.symbol) ≡ sum_by f (filter (at_place r) (sheets base).holdings)
+sum_there base r f = sum_sort f (is_row_key_less (λ h. number h.stamp ∷ number h.trade ∷ [])) (filter (at_place r) (sheets base).holdings)
 
 -- ---- position by position
 
@@ -105,15 +105,15 @@ any_in {X = X} p (y ∷ ys) x (inr m) e = by_test (p y) refl (any_in p ys x m e)
     by_test false f h = rw f h
 
 -- a row is of the first position or of one behind it, and not of both
-parted : (r : TradeRow) (run later : List TradeRow) (h : HoldingRow) (v : ℕ) → AllByRecursion (λ s. same_place r s ≡ true) run → AllByRecursion (λ s. same_place r s ≡ false) later
+parted : (r : TradeRow) (run later : List TradeRow) (h : HoldingRow) (v : ℕ) → AllByRecursion (λ s. is_same_position r s ≡ true) run → AllByRecursion (λ s. is_same_position r s ≡ false) later
     → cond (at_any (r ∷ run ++ later) h) v 0 ≡ cond (at_place r h) v 0 + cond (at_any later h) v 0
 parted r run later h v same apart = by_test (at_place r h) refl
   where
-    none_later : at_place r h ≡ true → (s : TradeRow) → same_place r s ≡ false → (b : Bool) → at_place s h ≡ b → at_place s h ≡ false
+    none_later : at_place r h ≡ true → (s : TradeRow) → is_same_position r s ≡ false → (b : Bool) → at_place s h ≡ b → at_place s h ≡ false
     none_later e s n false f = f
-    none_later e s n true f = let k : same_place r s ≡ true = two_places r s h e f in absurd (cc)
+    none_later e s n true f = let k : is_same_position r s ≡ true = two_places r s h e f in absurd (cc)
 
-    none_run : at_place r h ≡ false → (s : TradeRow) → same_place r s ≡ true → (b : Bool) → at_place s h ≡ b → at_place s h ≡ false
+    none_run : at_place r h ≡ false → (s : TradeRow) → is_same_position r s ≡ true → (b : Bool) → at_place s h ≡ b → at_place s h ≡ false
     none_run e s n false f = f
     none_run e s n true f = let k : at_place r h ≡ true = along r s h n f in absurd (cc)
 
@@ -126,23 +126,23 @@ parted r run later h v same apart = by_test (at_place r h) refl
         rw (e, k) (omega arith)
 
 -- the deals of a position's trades, among others
-pub deals_among : (r x : TradeRow) (run later : List TradeRow) → AllByRecursion (λ s. same_place r s ≡ true) run → same_place r x ≡ false → filter (same_place x) (r ∷ run ++ later) ≡ filter (same_place x) later
+pub deals_among : (r x : TradeRow) (run later : List TradeRow) → AllByRecursion (λ s. is_same_position r s ≡ true) run → is_same_position r x ≡ false → filter (is_same_position x) (r ∷ run ++ later) ≡ filter (is_same_position x) later
 deals_among r x run later same n =
-    filter-append (same_place x) (r ∷ run) later
-    ∙ ap (λ (rs : List TradeRow). rs ++ filter (same_place x) later) (filter-none (same_place x) (r ∷ run) (All-map (r ∷ run) (λ s e. other s e (same_place x s) refl) (same_self r, same)))
+    filter-append (is_same_position x) (r ∷ run) later
+    ∙ ap (λ (rs : List TradeRow). rs ++ filter (is_same_position x) later) (filter-none (is_same_position x) (r ∷ run) (All-map (r ∷ run) (λ s e. other s e (is_same_position x s) refl) (same_self r, same)))
   where
-    other : (s : TradeRow) → same_place r s ≡ true → (b : Bool) → same_place x s ≡ b → same_place x s ≡ false
+    other : (s : TradeRow) → is_same_position r s ≡ true → (b : Bool) → is_same_position x s ≡ b → is_same_position x s ≡ false
     other s e false f = f
     other s e true f =
         let k = at_one r s e in
         let l = at_one x s f in
-        let m : same_place r x ≡ true = one_place r x (record { account = k.account ∙ sym l.account; symbol = k.symbol ∙ sym l.symbol }) in
+        let m : is_same_position r x ≡ true = one_place r x (record { account = k.account ∙ sym l.account; symbol = k.symbol ∙ sym l.symbol }) in
         absurd (cc)
 
-pub own_run : (r : TradeRow) (run later : List TradeRow) → AllByRecursion (λ s. same_place r s ≡ true) run → AllByRecursion (λ s. same_place r s ≡ false) later → filter (same_place r) (r ∷ run ++ later) ≡ r ∷ run
+pub own_run : (r : TradeRow) (run later : List TradeRow) → AllByRecursion (λ s. is_same_position r s ≡ true) run → AllByRecursion (λ s. is_same_position r s ≡ false) later → filter (is_same_position r) (r ∷ run ++ later) ≡ r ∷ run
 own_run r run later same apart =
-    filter-append (same_place r) (r ∷ run) later
-    ∙ (λ i. filter-all (same_place r) (r ∷ run) (same_self r, same) i ++ filter-none (same_place r) later apart i)
+    filter-append (is_same_position r) (r ∷ run) later
+    ∙ (λ i. filter-all (is_same_position r) (r ∷ run) (same_self r, same) i ++ filter-none (is_same_position r) later apart i)
     ∙ append_nil (r ∷ run)
   where
     append_nil : {X : Type 0} (xs : List X) → xs ++ [] ≡ xs
@@ -151,25 +151,25 @@ own_run r run later same apart =
 
 -- each position's deals are those of the base
 abbrev pub AreDealt : Base → List TradeRow → Type 0
-AreDealt base rs = AllByRecursion (λ r. map row_deal (filter (same_place r) rs) ≡ deals_in (completed base) r.account r.symbol) rs
+AreDealt base rs = AllByRecursion (λ r. map deal_of_completed_row (filter (is_same_position r) rs) ≡ deals_of_position (completed_trades base) r.account r.symbol) rs
 
-pub leave_sums : (base : Base) → BooksInvariant base → {rs : List TradeRow} {rows : List HoldingRow} → Leave rs rows → AreDealt base rs
+pub leave_sums : (base : Base) → BooksInvariant base → {rs : List TradeRow} {rows : List HoldingRow} → AreLotsLeftByTrades rs rows → AreDealt base rs
     → (f : HoldingRow → ℕ) → sum_by f rows ≡ sum_by f (filter (at_any rs) (sheets base).holdings)
 leave_sums base books nothing d f = sym (ap (sum_by f) (filter-none (at_any []) (sheets base).holdings (All-of (sheets base).holdings (λ h. refl))))
 leave_sums base books (position r run later rows same apart l) d f =
     let E : List HoldingRow = (sheets base).holdings in
-    let here : sum_by f (run_rows r (r ∷ run)) ≡ sum_by f (filter (at_place r) E) =
-    ap (sum_by f) (rows_there base books r (r ∷ run) (ap (map row_deal) (sym (own_run r run later same apart)) ∙ d.0)) ∙ sum_there base r f in
+    let here : sum_by f (lot_rows_left_by_trades r (r ∷ run)) ≡ sum_by f (filter (at_place r) E) =
+    ap (sum_by f) (rows_there base books r (r ∷ run) (ap (map deal_of_completed_row) (sym (own_run r run later same apart)) ∙ d.0)) ∙ sum_there base r f in
     let rest : AreDealt base later =
-    both later apart (all_back (λ s. map row_deal (filter (same_place s) (r ∷ run ++ later)) ≡ deals_in (completed base) s.account s.symbol) run later d.1) in
+    both later apart (all_back (λ s. map deal_of_completed_row (filter (is_same_position s) (r ∷ run ++ later)) ≡ deals_of_position (completed_trades base) s.account s.symbol) run later d.1) in
     let ih : sum_by f rows ≡ sum_by f (filter (at_any later) E) = leave_sums base books l rest f in
-    sum_append f (run_rows r (r ∷ run)) rows ∙ (λ i. here i + ih i)
+    sum_append f (lot_rows_left_by_trades r (r ∷ run)) rows ∙ (λ i. here i + ih i)
     ∙ (λ i. sum_filter f (at_place r) E i + sum_filter f (at_any later) E i)
     ∙ sym (sum_both (λ h. cond (at_place r h) (f h) 0) (λ h. cond (at_any later h) (f h) 0) E)
     ∙ sym (sum_same (λ h. cond (at_any (r ∷ run ++ later) h) (f h) 0) (λ h. cond (at_place r h) (f h) 0 + cond (at_any later h) (f h) 0) E (All-of E (λ h. parted r run later h (f h) same apart)))
     ∙ sym (sum_filter f (at_any (r ∷ run ++ later)) E)
   where
-    both : (ss : List TradeRow) → AllByRecursion (λ s. same_place r s ≡ false) ss → AllByRecursion (λ s. map row_deal (filter (same_place s) (r ∷ run ++ later)) ≡ deals_in (completed base) s.account s.symbol) ss
-        → AllByRecursion (λ s. map row_deal (filter (same_place s) later) ≡ deals_in (completed base) s.account s.symbol) ss
+    both : (ss : List TradeRow) → AllByRecursion (λ s. is_same_position r s ≡ false) ss → AllByRecursion (λ s. map deal_of_completed_row (filter (is_same_position s) (r ∷ run ++ later)) ≡ deals_of_position (completed_trades base) s.account s.symbol) ss
+        → AllByRecursion (λ s. map deal_of_completed_row (filter (is_same_position s) later) ≡ deals_of_position (completed_trades base) s.account s.symbol) ss
     both [] a e = tt
-    both (s ∷ ss) a e = (ap (map row_deal) (sym (deals_among r s run later same a.0)) ∙ e.0, both ss a.1 e.1)
+    both (s ∷ ss) a e = (ap (map deal_of_completed_row) (sym (deals_among r s run later same a.0)) ∙ e.0, both ss a.1 e.1)

@@ -9,17 +9,17 @@ use Rattle.std.proofs.lemmas.Bool.{and_from, and_parts, cases_Bool, eq-eqb, eqb-
 use Rattle.std.proofs.lemmas.Bool.Decides.{Decides-int_eq}
 use Rattle.std.proofs.lemmas.List.Sums.{sum_by-cons}
 use Rattle.brk_model.specs.Records.{Trade}
-use Rattle.brk_model.specs.Base.{Base, completed}
-use Rattle.brk_model.specs.Derived.{deal_of, deals_in}
-use Rattle.brk_model.specs.Keys.{KeyPart, by_key, row_before, holding_history_key}
+use Rattle.brk_model.specs.Base.{Base, completed_trades}
+use Rattle.brk_model.specs.Derived.{deal_of_trade, deals_of_position}
+use Rattle.brk_model.specs.Keys.{KeyPart, rows_sorted_by_key, is_row_key_less, holding_history_key}
 use Rattle.brk_model.specs.Shares.{Deal}
-use Rattle.brk_model.specs.Tables.{HoldingHistoryRow, Tables, TradeRow, is_moved, lot_history, lot_rows, tables_at}
-use Rattle.brk_model.specs.Sheets.{sheets, sheets_of}
-use Rattle.brk_model.specs.Adopted.{base_of, trade_of_row}
-use Rattle.brk_model.specs.Audit.{expected}
-use Rattle.brk_model.specs.Ways.{has_status_rows}
-use Rattle.brk_lots.specs.Chains.{replay_rows}
-use Rattle.brk_lots.specs.Deals.{AreDeals, IsLater}
+use Rattle.brk_model.specs.Tables.{HoldingHistoryRow, Tables, TradeRow, row_changes_quantity, holding_history_rows_of_lot, lot_rows_of_deals, tables_of_base_in_schema}
+use Rattle.brk_model.specs.Sheets.{sheets, tables_sorted_by_key}
+use Rattle.brk_model.specs.Adopted.{base_of_tables, trade_of_row}
+use Rattle.brk_model.specs.Audit.{expected_tables}
+use Rattle.brk_model.specs.Ways.{satisfies_status_condition}
+use Rattle.brk_lots.specs.Chains.{lot_changes_of_deals}
+use Rattle.brk_lots.specs.Deals.{AreAscendingDeals, IsLaterDeal}
 use Rattle.brk_book_theorems.specs.Books.{BooksInvariant}
 use Rattle.brk_book_theorems.proofs.LotOrder.{Follows, InOrder, held_in_order, trades_held}
 use Rattle.brk_book_theorems.proofs.Order.{Sorted, key_one_way, key_splits, sorted_sort}
@@ -28,15 +28,15 @@ use Rattle.brk_audit_theorems.proofs.AdoptedBooks.{adopted_books}
 use Rattle.brk_audit_theorems.proofs.Climbs.{Climbs}
 use Rattle.brk_audit_theorems.proofs.Parts.{key_parts}
 use Rattle.brk_model_theorems.proofs.FormParts.{form_parts}
-use Rattle.brk_audit.specs.Completed.{done_rows}
-use Rattle.brk_audit.specs.Positions.{Trace, moves, place_before, row_deal, same_place, untouched}
+use Rattle.brk_audit.specs.Completed.{completed_trade_rows}
+use Rattle.brk_audit.specs.Positions.{AreLotChangesOfTrades, moves, precedes_by_position, deal_of_completed_row, is_same_position, untouched}
 use Rattle.brk_audit.proofs.Completed.{completed_rows}
 use Rattle.brk_audit.proofs.Leaving.{AreDealt, deals_among, own_run}
 use Rattle.brk_audit.proofs.LotRows.{dealt}
 use Rattle.brk_audit.proofs.Moves.{run_sums}
 use Rattle.brk_book_theorems.proofs.Orders.{SameSums, permuted, sum_append, sum_map, sum_none, sum_same, sum_sort}
 use Rattle.brk_audit.proofs.Places.{all_back, at_one, same_self}
-use Rattle.brk_audit.specs.Conditions.{HasSomeForm}
+use Rattle.brk_audit.specs.Conditions.{IsWellFormedBySomeSchema}
 use Rattle.brk_audit.proofs.Expected.{same_history}
 use Rattle.brk_model.specs.Schemas.{Schema}
 
@@ -53,12 +53,12 @@ abbrev level : {X : Type 0} → (X → X → Bool) → (X → X → Bool) → X 
 level before same m x = cond (before x m) 0 (cond (before m x) 0 (cond (same x m) 0 1))
 
 -- two lists with the same sums, of which one climbs and the other is sorted, are one
-pub key_order_one : {X : Type 0} (key : X → List KeyPart) (same : X → X → Bool) → ((x y : X) → Decides (same x y) (x ≡ y)) → (xs ys : List X) → Climbs key xs → Sorted (row_before key) ys → SameSums ys xs → ys ≡ xs
+pub key_order_one : {X : Type 0} (key : X → List KeyPart) (same : X → X → Bool) → ((x y : X) → Decides (same x y) (x ≡ y)) → (xs ys : List X) → Climbs key xs → Sorted (is_row_key_less key) ys → SameSums ys xs → ys ≡ xs
 key_order_one key same d [] [] c a h = refl
 key_order_one key same d [] (y ∷ ys) c a h = let e = h (λ _. 1) in absurd (omega (arith, e, sum_by-cons (λ _. 1) y ys))
 key_order_one key same d (x ∷ xs) [] c a h = let e = h (λ _. 1) in absurd (omega (arith, e, sum_by-cons (λ _. 1) x xs))
 key_order_one {X = X} key same d (x ∷ xs) (y ∷ ys) c a h =
-    let b : X → X → Bool = row_before key in
+    let b : X → X → Bool = is_row_key_less key in
     let self : b x x ≡ false = itself x in
     let behind : AllByRecursion (λ z. b z x ≡ false) xs = All-map xs (λ z p. key_one_way (key x) (key z) p) c.0 in
     let none_ahead : sum_by (ahead b x) (x ∷ xs) ≡ 0 = sum_none (ahead b x) (x ∷ xs) (ap (λ v. cond v 1 0) self, All-map xs (λ z p. ap (λ v. cond v 1 0) p) behind) in
@@ -92,47 +92,47 @@ key_order_one {X = X} key same d (x ∷ xs) (y ∷ ys) c a h =
     let rest : ys ≡ xs = key_order_one key same d xs ys c.1 a.1 (λ f. let s = h f in let fe : f y ≡ f x = ap f first in omega (arith, s, fe, sum_by-cons f y ys, sum_by-cons f x xs)) in
     ap (λ (z : X). z ∷ ys) first ∙ ap (λ (zs : List X). x ∷ zs) rest
   where
-    itself : (z : X) → row_before key z z ≡ false
-    itself z = elim (cases_Bool (row_before key z z)) [ inl e ↦ key_one_way (key z) (key z) e | inr e ↦ e ]
+    itself : (z : X) → is_row_key_less key z z ≡ false
+    itself z = elim (cases_Bool (is_row_key_less key z z)) [ inl e ↦ key_one_way (key z) (key z) e | inr e ↦ e ]
 
-    past : (z : X) → row_before key x y ≡ true → row_before key z y ≡ false → row_before key x z ≡ true
-    past z e p = elim (cases_Bool (row_before key x z)) [ inl k ↦ k | inr k ↦ let m : row_before key z y ≡ true = key_splits (key y) (key z) (key x) e k in absurd (cc) ]
+    past : (z : X) → is_row_key_less key x y ≡ true → is_row_key_less key z y ≡ false → is_row_key_less key x z ≡ true
+    past z e p = elim (cases_Bool (is_row_key_less key x z)) [ inl k ↦ k | inr k ↦ let m : is_row_key_less key z y ≡ true = key_splits (key y) (key z) (key x) e k in absurd (cc) ]
 
 -- ---- position by position
 
 -- what the rows of a trade's lot give to a sum
 abbrev pub own : Base → (HoldingHistoryRow → ℕ) → TradeRow → ℕ
-own base f r = sum_by f (filter is_moved (lot_rows r.id [] (deals_in (completed base) r.account r.symbol)))
+own base f r = sum_by f (filter row_changes_quantity (lot_rows_of_deals r.id [] (deals_of_position (completed_trades base) r.account r.symbol)))
 
-deals_of_order : (ts : List Trade) → InOrder ts → AreDeals (map deal_of ts)
+deals_of_order : (ts : List Trade) → InOrder ts → AreAscendingDeals (map deal_of_trade ts)
 deals_of_order [] o = tt
 deals_of_order (t ∷ ts) o = (behind ts o.0, deals_of_order ts o.1)
   where
-    behind : (us : List Trade) → AllByRecursion (Follows t) us → AllByRecursion (IsLater (deal_of t)) (map deal_of us)
+    behind : (us : List Trade) → AllByRecursion (Follows t) us → AllByRecursion (IsLaterDeal (deal_of_trade t)) (map deal_of_trade us)
     behind [] h = tt
     behind (u ∷ us) h = (((λ e. eqb-false u.id t.id h.0.0 (sym e)), h.0.1), behind us h.1)
 
-pub trace_sums : (base : Base) → BooksInvariant base → {rs : List TradeRow} {rows : List HoldingHistoryRow} → Trace rs rows → AreDealt base rs
+pub trace_sums : (base : Base) → BooksInvariant base → {rs : List TradeRow} {rows : List HoldingHistoryRow} → AreLotChangesOfTrades rs rows → AreDealt base rs
     → (f : HoldingHistoryRow → ℕ) → sum_by f rows ≡ sum_by (own base f) rs
 trace_sums base books untouched d f = refl
 trace_sums base books (moves r run later rows same apart l) d f =
-    let ds : List Deal = map row_deal (r ∷ run) in
-    let e : ds ≡ deals_in (completed base) r.account r.symbol = ap (map row_deal) (sym (own_run r run later same apart)) ∙ d.0 in
-    let a : AreDeals ds = subst AreDeals (sym e) (deals_of_order (trades_held base r.account r.symbol) (held_in_order base r.account r.symbol books)) in
-    let here : sum_by f (replay_rows ds []) ≡ sum_by (own base f) (r ∷ run) =
-    run_sums ds a f ∙ sum_map (λ d. sum_by f (filter is_moved (lot_rows d.trade [] ds))) row_deal (r ∷ run)
-    ∙ sum_same (λ s. sum_by f (filter is_moved (lot_rows s.id [] ds))) (own base f) (r ∷ run) (All-map (r ∷ run) (λ s p. one s p ds e) (same_self r, same)) in
+    let ds : List Deal = map deal_of_completed_row (r ∷ run) in
+    let e : ds ≡ deals_of_position (completed_trades base) r.account r.symbol = ap (map deal_of_completed_row) (sym (own_run r run later same apart)) ∙ d.0 in
+    let a : AreAscendingDeals ds = subst AreAscendingDeals (sym e) (deals_of_order (trades_held base r.account r.symbol) (held_in_order base r.account r.symbol books)) in
+    let here : sum_by f (lot_changes_of_deals ds []) ≡ sum_by (own base f) (r ∷ run) =
+    run_sums ds a f ∙ sum_map (λ d. sum_by f (filter row_changes_quantity (lot_rows_of_deals d.trade [] ds))) deal_of_completed_row (r ∷ run)
+    ∙ sum_same (λ s. sum_by f (filter row_changes_quantity (lot_rows_of_deals s.id [] ds))) (own base f) (r ∷ run) (All-map (r ∷ run) (λ s p. one s p ds e) (same_self r, same)) in
     let rest : AreDealt base later =
-    both later apart (all_back (λ s. map row_deal (filter (same_place s) (r ∷ run ++ later)) ≡ deals_in (completed base) s.account s.symbol) run later d.1) in
-    sum_append f (replay_rows ds []) rows ∙ (λ i. here i + trace_sums base books l rest f i) ∙ sym (sum_append (own base f) (r ∷ run) later)
+    both later apart (all_back (λ s. map deal_of_completed_row (filter (is_same_position s) (r ∷ run ++ later)) ≡ deals_of_position (completed_trades base) s.account s.symbol) run later d.1) in
+    sum_append f (lot_changes_of_deals ds []) rows ∙ (λ i. here i + trace_sums base books l rest f i) ∙ sym (sum_append (own base f) (r ∷ run) later)
   where
-    one : (s : TradeRow) → same_place r s ≡ true → (ds : List Deal) → ds ≡ deals_in (completed base) r.account r.symbol → sum_by f (filter is_moved (lot_rows s.id [] ds)) ≡ own base f s
-    one s p ds e = let k = at_one r s p in ap (λ (es : List Deal). sum_by f (filter is_moved (lot_rows s.id [] es))) (e ∙ (λ i. deals_in (completed base) (k.account i) (k.symbol i)))
+    one : (s : TradeRow) → is_same_position r s ≡ true → (ds : List Deal) → ds ≡ deals_of_position (completed_trades base) r.account r.symbol → sum_by f (filter row_changes_quantity (lot_rows_of_deals s.id [] ds)) ≡ own base f s
+    one s p ds e = let k = at_one r s p in ap (λ (es : List Deal). sum_by f (filter row_changes_quantity (lot_rows_of_deals s.id [] es))) (e ∙ (λ i. deals_of_position (completed_trades base) (k.account i) (k.symbol i)))
 
-    both : (ss : List TradeRow) → AllByRecursion (λ s. same_place r s ≡ false) ss → AllByRecursion (λ s. map row_deal (filter (same_place s) (r ∷ run ++ later)) ≡ deals_in (completed base) s.account s.symbol) ss
-        → AllByRecursion (λ s. map row_deal (filter (same_place s) later) ≡ deals_in (completed base) s.account s.symbol) ss
+    both : (ss : List TradeRow) → AllByRecursion (λ s. is_same_position r s ≡ false) ss → AllByRecursion (λ s. map deal_of_completed_row (filter (is_same_position s) (r ∷ run ++ later)) ≡ deals_of_position (completed_trades base) s.account s.symbol) ss
+        → AllByRecursion (λ s. map deal_of_completed_row (filter (is_same_position s) later) ≡ deals_of_position (completed_trades base) s.account s.symbol) ss
     both [] a e = tt
-    both (s ∷ ss) a e = (ap (map row_deal) (sym (deals_among r s run later same a.0)) ∙ e.0, both ss a.1 e.1)
+    both (s ∷ ss) a e = (ap (map deal_of_completed_row) (sym (deals_among r s run later same a.0)) ∙ e.0, both ss a.1 e.1)
 
 sum_flat : {X Y : Type 0} (f : Y → ℕ) (g : X → List Y) (xs : List X) → sum_by f (flat_map g xs) ≡ sum_by (λ x. sum_by f (g x)) xs
 sum_flat f g [] = refl
@@ -159,24 +159,24 @@ changes_decide a b =
           (and_from v w ((Decides-int_eq a.before b.before).1 (ap (λ (h : HoldingHistoryRow). h.before) e)) ((Decides-int_eq a.after b.after).1 (ap (λ (h : HoldingHistoryRow). h.after) e))))),
     )
 
-listed : (base : Base) → (sheets base).holding_history ≡ by_key holding_history_key (flat_map (lot_history (completed base)) (completed base))
-unfolding tables_at sheets_of
+listed : (base : Base) → (sheets base).holding_history ≡ rows_sorted_by_key holding_history_key (flat_map (holding_history_rows_of_lot (completed_trades base)) (completed_trades base))
+unfolding tables_of_base_in_schema tables_sorted_by_key
 listed base = refl
 
-pub moves_told : (schema : Schema) (t : Tables) → HasSomeForm t → has_status_rows t ≡ true → (rs : List TradeRow) (rows moved : List HoldingHistoryRow) → IsPermutation (done_rows t) rs → Sorted place_before rs
-    → Trace rs rows → IsPermutation rows moved → Sorted (row_before holding_history_key) moved → (moved ≡ t.holding_history) ↔ (t.holding_history ≡ (expected schema t).holding_history)
+pub moves_told : (schema : Schema) (t : Tables) → IsWellFormedBySomeSchema t → satisfies_status_condition t ≡ true → (rs : List TradeRow) (rows moved : List HoldingHistoryRow) → IsPermutation (completed_trade_rows t) rs → Sorted precedes_by_position rs
+    → AreLotChangesOfTrades rs rows → IsPermutation rows moved → Sorted (is_row_key_less holding_history_key) moved → (moved ≡ t.holding_history) ↔ (t.holding_history ≡ (expected_tables schema t).holding_history)
 moves_told schema t f s rs rows moved p o l q a =
-    let base : Base = base_of t in
+    let base : Base = base_of_tables t in
     let books : BooksInvariant base = adopted_books f.schema t f.form s in
-    let done : List Trade = completed base in
+    let done : List Trade = completed_trades base in
     let E : List HoldingHistoryRow = (sheets base).holding_history in
     let climb : Climbs holding_history_key t.holding_history = (key_parts t (form_parts f.schema t f.form).keys).holding_history in
-    let ordered : Sorted (row_before holding_history_key) E =
-    subst (Sorted (row_before holding_history_key)) (sym (listed base)) (sorted_sort (row_before holding_history_key) (flat_map (lot_history done) done) (λ x y z. key_splits (holding_history_key x) (holding_history_key y) (holding_history_key z)) (λ x y. key_one_way (holding_history_key x) (holding_history_key y))) in
+    let ordered : Sorted (is_row_key_less holding_history_key) E =
+    subst (Sorted (is_row_key_less holding_history_key)) (sym (listed base)) (sorted_sort (is_row_key_less holding_history_key) (flat_map (holding_history_rows_of_lot done) done) (λ x y z. key_splits (holding_history_key x) (holding_history_key y) (holding_history_key z)) (λ x y. key_one_way (holding_history_key x) (holding_history_key y))) in
     let sums : SameSums moved E = λ g.
-    permuted rows moved q g ∙ trace_sums base books l (All-of rs (dealt t f s rs p o)) g ∙ permuted (done_rows t) rs p (own base g)
-    ∙ sym (ap (sum_by g) (listed base) ∙ sum_sort g (row_before holding_history_key) (flat_map (lot_history done) done) ∙ sum_flat g (lot_history done) done
-    ∙ ap (sum_by (λ u. sum_by g (lot_history done u))) (completed_rows t s) ∙ sum_map (λ u. sum_by g (lot_history done u)) (trade_of_row t) (done_rows t)) in (
+    permuted rows moved q g ∙ trace_sums base books l (All-of rs (dealt t f s rs p o)) g ∙ permuted (completed_trade_rows t) rs p (own base g)
+    ∙ sym (ap (sum_by g) (listed base) ∙ sum_sort g (is_row_key_less holding_history_key) (flat_map (holding_history_rows_of_lot done) done) ∙ sum_flat g (holding_history_rows_of_lot done) done
+    ∙ ap (sum_by (λ u. sum_by g (holding_history_rows_of_lot done u))) (completed_rows t s) ∙ sum_map (λ u. sum_by g (holding_history_rows_of_lot done u)) (trade_of_row t) (completed_trade_rows t)) in (
       (λ e. sym (key_order_one holding_history_key same_change changes_decide t.holding_history E climb ordered (λ g. sym (sums g) ∙ ap (sum_by g) e)) ∙ sym (same_history schema base)),
       (λ e. let k : t.holding_history ≡ E = e ∙ same_history schema base in
           key_order_one holding_history_key same_change changes_decide E moved (subst (Climbs holding_history_key) k climb) a sums ∙ sym k),

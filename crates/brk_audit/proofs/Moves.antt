@@ -6,11 +6,11 @@ use Rattle.std.proofs.lemmas.Bool.{eq-eqb, eqb-true, eqb-false, ne_eqb}
 use Rattle.std.proofs.lemmas.List.Sums.{sum_by-cons}
 use Rattle.std.proofs.lemmas.List.Sorted.{IsPermutation-reverse}
 use Rattle.brk_model.specs.Lists.{is_zero}
-use Rattle.brk_model.specs.Shares.{Share, Deal, Touch, firsts, history, is_change, lot_qty, lots, opened_shares, shares_after, touch_of, touches, touch_by}
-use Rattle.brk_model.specs.Tables.{HoldingHistoryRow, is_moved, lot_rows, touch_row}
-use Rattle.brk_lots.specs.Chains.{deal_rows, opening_touch, replay_rows}
-use Rattle.brk_lots.specs.Deals.{AreDeals, IsLater}
-use Rattle.brk_lots.specs.Lots.{from_end}
+use Rattle.brk_model.specs.Shares.{Share, Deal, Touch, first_shares_of_lots, lot_touches_of_deal, changes_lot_quantity, lot_quantity, lots_of_shares, opened_shares, shares_after_deal, touch_of_lot_with_share, touches_of_existing_lots, touch_of_lot}
+use Rattle.brk_model.specs.Tables.{HoldingHistoryRow, row_changes_quantity, lot_rows_of_deals, holding_history_row}
+use Rattle.brk_lots.specs.Chains.{lot_changes_of_deal, opening_touch, lot_changes_of_deals}
+use Rattle.brk_lots.specs.Deals.{AreAscendingDeals, IsLaterDeal}
+use Rattle.brk_lots.specs.Lots.{list_in_closing_order}
 use Rattle.brk_lots.proofs.Changes.{all_firsts}
 use Rattle.brk_lots.proofs.Deals.{IsOlder, all_after, older_after}
 use Rattle.brk_lots.proofs.History.{history_rows}
@@ -109,18 +109,18 @@ reindex {X = X} n G (k ∷ ks) xs u c m z =
 abbrev of_trade : Share → ℕ
 of_trade v = v.trade
 
-firsts_once : (us : List Share) (t : ℕ) → count of_trade t (firsts us) ≤ 1
+firsts_once : (us : List Share) (t : ℕ) → count of_trade t (first_shares_of_lots us) ≤ 1
 firsts_once [] t = omega arith
 firsts_once (u ∷ us) t = by_test (u.trade == t) refl (firsts_once us t)
   where
     rest : List Share
-    rest = filter (λ v. not (v.trade == u.trade)) (firsts us)
+    rest = filter (λ v. not (v.trade == u.trade)) (first_shares_of_lots us)
 
     cons : count of_trade t (u ∷ rest) ≡ cond (u.trade == t) 1 0 + count of_trade t rest
     cons = sum_by-cons (λ (v : Share). cond (v.trade == t) 1 0) u rest
 
     none : u.trade ≡ t → count of_trade t rest ≡ 0
-    none e = sum_none (λ (v : Share). cond (v.trade == t) 1 0) rest (All-map rest (λ v h. one v h.1) (filtered (λ v. ⊤) (λ v. not (v.trade == u.trade)) (firsts us) (All-of (firsts us) (λ v. tt))))
+    none e = sum_none (λ (v : Share). cond (v.trade == t) 1 0) rest (All-map rest (λ v h. one v h.1) (filtered (λ v. ⊤) (λ v. not (v.trade == u.trade)) (first_shares_of_lots us) (All-of (first_shares_of_lots us) (λ v. tt))))
       where
         one : (v : Share) → not (v.trade == u.trade) ≡ true → cond {A = ℕ} (v.trade == t) 1 0 ≡ 0
         one v h = ap (λ (b : Bool). cond {A = ℕ} b 1 0) (ap (λ k. v.trade == k) (sym e) ∙ untrue (v.trade == u.trade) h)
@@ -129,92 +129,92 @@ firsts_once (u ∷ us) t = by_test (u.trade == t) refl (firsts_once us t)
             untrue true k = cc
             untrue false k = refl
 
-    by_test : (b : Bool) → (u.trade == t) ≡ b → count of_trade t (firsts us) ≤ 1 → count of_trade t (u ∷ rest) ≤ 1
+    by_test : (b : Bool) → (u.trade == t) ≡ b → count of_trade t (first_shares_of_lots us) ≤ 1 → count of_trade t (u ∷ rest) ≤ 1
     by_test true e h = let z = none (eqb-true u.trade t e) in let o : cond {A = ℕ} (u.trade == t) 1 0 ≡ 1 = ap (λ (b : Bool). cond {A = ℕ} b 1 0) e in omega (arith, cons, z, o)
     by_test false e h =
         let o : cond {A = ℕ} (u.trade == t) 1 0 ≡ 0 = ap (λ (b : Bool). cond {A = ℕ} b 1 0) e in
-        let l = sum_le (λ (v : Share). cond (v.trade == t) 1 0) (λ v. not (v.trade == u.trade)) (firsts us) in
+        let l = sum_le (λ (v : Share). cond (v.trade == t) 1 0) (λ v. not (v.trade == u.trade)) (first_shares_of_lots us) in
         omega (arith, cons, o, l, h)
 
-without_firsts : (us : List Share) (t : ℕ) → count of_trade t (firsts us) ≡ 0 → Without t us
+without_firsts : (us : List Share) (t : ℕ) → count of_trade t (first_shares_of_lots us) ≡ 0 → Without t us
 without_firsts [] t e = tt
 without_firsts (u ∷ us) t e = by_test (u.trade == t) refl (without_firsts us t)
   where
     rest : List Share
-    rest = filter (λ v. not (v.trade == u.trade)) (firsts us)
+    rest = filter (λ v. not (v.trade == u.trade)) (first_shares_of_lots us)
 
     cons : count of_trade t (u ∷ rest) ≡ cond (u.trade == t) 1 0 + count of_trade t rest
     cons = sum_by-cons (λ (v : Share). cond (v.trade == t) 1 0) u rest
 
-    by_test : (b : Bool) → (u.trade == t) ≡ b → (count of_trade t (firsts us) ≡ 0 → Without t us) → Without t (u ∷ us)
+    by_test : (b : Bool) → (u.trade == t) ≡ b → (count of_trade t (first_shares_of_lots us) ≡ 0 → Without t us) → Without t (u ∷ us)
     by_test true h ih = let o : cond {A = ℕ} (u.trade == t) 1 0 ≡ 1 = ap (λ (b : Bool). cond {A = ℕ} b 1 0) h in absurd (omega (arith, cons, o, e))
     by_test false h ih =
         let o : cond {A = ℕ} (u.trade == t) 1 0 ≡ 0 = ap (λ (b : Bool). cond {A = ℕ} b 1 0) h in
         let z : count of_trade t rest ≡ 0 = omega (arith, cons, o, e) in
-        (h, ih (sym (others_count of_trade u.trade t (firsts us) (eqb-false u.trade t h)) ∙ z))
+        (h, ih (sym (others_count of_trade u.trade t (first_shares_of_lots us) (eqb-false u.trade t h)) ∙ z))
 
 -- ---- one deal
 
 -- what a deal gives to a sum by the lot of a trade
 abbrev pub by_lot : (HoldingHistoryRow → ℕ) → Deal → List Share → ℕ → ℕ
-by_lot f d us t = cond (is_change (touch_by t d us)) (f (touch_row d.trade (touch_by t d us))) 0
+by_lot f d us t = cond (changes_lot_quantity (touch_of_lot t d us)) (f (holding_history_row d.trade (touch_of_lot t d us))) 0
 
-sum_end : {X : Type 0} (f : X → ℕ) (b : Bool) (xs : List X) → sum_by f (from_end b xs) ≡ sum_by f xs
+sum_end : {X : Type 0} (f : X → ℕ) (b : Bool) (xs : List X) → sum_by f (list_in_closing_order b xs) ≡ sum_by f xs
 sum_end f true xs = permuted xs (reverse xs) (IsPermutation-reverse xs) f
 sum_end f false xs = refl
 
-no_lot : (f : HoldingHistoryRow → ℕ) (d : Deal) (us : List Share) (t : ℕ) → count of_trade t (firsts (us ++ shares_after us d)) ≡ 0 → by_lot f d us t ≡ 0
+no_lot : (f : HoldingHistoryRow → ℕ) (d : Deal) (us : List Share) (t : ℕ) → count of_trade t (first_shares_of_lots (us ++ shares_after_deal us d)) ≡ 0 → by_lot f d us t ≡ 0
 no_lot f d us t e =
-    let w : Without t (us ++ shares_after us d) = without_firsts (us ++ shares_after us d) t e in
-    let a : lot_qty us t ≡ pos 0 = lot_without t us (all_front (λ s. (s.trade == t) ≡ false) us (shares_after us d) w) in
-    let b : lot_qty (shares_after us d) t ≡ pos 0 = lot_without t (shares_after us d) (all_back (λ s. (s.trade == t) ≡ false) us (shares_after us d) w) in
-    λ i. cond (not (is_zero (a i -ℤ b i))) (f (touch_row d.trade (touch_by t d us))) 0
+    let w : Without t (us ++ shares_after_deal us d) = without_firsts (us ++ shares_after_deal us d) t e in
+    let a : lot_quantity us t ≡ pos 0 = lot_without t us (all_front (λ s. (s.trade == t) ≡ false) us (shares_after_deal us d) w) in
+    let b : lot_quantity (shares_after_deal us d) t ≡ pos 0 = lot_without t (shares_after_deal us d) (all_back (λ s. (s.trade == t) ≡ false) us (shares_after_deal us d) w) in
+    λ i. cond (not (is_zero (a i -ℤ b i))) (f (holding_history_row d.trade (touch_of_lot t d us))) 0
 
-deal_sum : (ks : List ℕ) → Unique ks → (d : Deal) (us : List Share) → AllByRecursion (λ v. v.trade ≢ d.trade) us → AllByRecursion (λ v. In v.trade ks) (us ++ shares_after us d)
-    → (f : HoldingHistoryRow → ℕ) → sum_by f (deal_rows d us) ≡ sum_by (by_lot f d us) ks
-unfolding history
+deal_sum : (ks : List ℕ) → Unique ks → (d : Deal) (us : List Share) → AllByRecursion (λ v. v.trade ≢ d.trade) us → AllByRecursion (λ v. In v.trade ks) (us ++ shares_after_deal us d)
+    → (f : HoldingHistoryRow → ℕ) → sum_by f (lot_changes_of_deal d us) ≡ sum_by (by_lot f d us) ks
+unfolding lot_touches_of_deal
 deal_sum ks u d us fresh m f =
-    let h : Touch → ℕ = λ t. f (touch_row d.trade t) in
-    let opened : List Touch = map opening_touch (lots (opened_shares d us)) in
-    let ws : List Share = us ++ shares_after us d in
-    sum_map f (touch_row d.trade) (from_end d.is_lifo (touches d us) ++ opened)
-    ∙ sum_append h (from_end d.is_lifo (touches d us)) opened
-    ∙ ap (λ n. n + sum_by h opened) (sum_end h d.is_lifo (touches d us))
-    ∙ sym (sum_append h (touches d us) opened)
+    let h : Touch → ℕ = λ t. f (holding_history_row d.trade t) in
+    let opened : List Touch = map opening_touch (lots_of_shares (opened_shares d us)) in
+    let ws : List Share = us ++ shares_after_deal us d in
+    sum_map f (holding_history_row d.trade) (list_in_closing_order d.is_lifo (touches_of_existing_lots d us) ++ opened)
+    ∙ sum_append h (list_in_closing_order d.is_lifo (touches_of_existing_lots d us)) opened
+    ∙ ap (λ n. n + sum_by h opened) (sum_end h d.is_lifo (touches_of_existing_lots d us))
+    ∙ sym (sum_append h (touches_of_existing_lots d us) opened)
     ∙ ap (sum_by h) (sym (history_rows d us fresh))
-    ∙ sum_filter h is_change (map (touch_of d us) (firsts ws))
-    ∙ sum_map (λ t. cond (is_change t) (h t) 0) (touch_of d us) (firsts ws)
-    ∙ reindex of_trade (by_lot f d us) ks (firsts ws) u (firsts_once ws) (all_firsts (λ v. In v.trade ks) ws m) (All-of ks (no_lot f d us))
+    ∙ sum_filter h changes_lot_quantity (map (touch_of_lot_with_share d us) (first_shares_of_lots ws))
+    ∙ sum_map (λ t. cond (changes_lot_quantity t) (h t) 0) (touch_of_lot_with_share d us) (first_shares_of_lots ws)
+    ∙ reindex of_trade (by_lot f d us) ks (first_shares_of_lots ws) u (firsts_once ws) (all_firsts (λ v. In v.trade ks) ws m) (All-of ks (no_lot f d us))
 
 -- ---- deals one after another
 
-replay_sums : (ks : List ℕ) → Unique ks → (ds : List Deal) (us : List Share) → AreDeals ds → AllByRecursion (λ d. AllByRecursion (IsOlder d) us) ds
+replay_sums : (ks : List ℕ) → Unique ks → (ds : List Deal) (us : List Share) → AreAscendingDeals ds → AllByRecursion (λ d. AllByRecursion (IsOlder d) us) ds
     → AllByRecursion (λ v. In v.trade ks) us → AllByRecursion (λ d. In d.trade ks) ds
-    → (f : HoldingHistoryRow → ℕ) → sum_by f (replay_rows ds us) ≡ sum_by (λ t. sum_by f (filter is_moved (lot_rows t us ds))) ks
+    → (f : HoldingHistoryRow → ℕ) → sum_by f (lot_changes_of_deals ds us) ≡ sum_by (λ t. sum_by f (filter row_changes_quantity (lot_rows_of_deals t us ds))) ks
 replay_sums ks u [] us a o m n f = sym (sum_none (λ t. 0) ks (All-of ks (λ t. refl)))
 replay_sums ks u (d ∷ ds) us a o m n f =
-    let after : List Share = shares_after us d in
+    let after : List Share = shares_after_deal us d in
     let there : AllByRecursion (λ v. In v.trade ks) after = all_after (λ v. In v.trade ks) d us n.0 m in
-    let here : sum_by f (deal_rows d us) ≡ sum_by (by_lot f d us) ks = deal_sum ks u d us (All-map us (λ v k. k.0) o.0) (All-append (λ v. In v.trade ks) us after m there) f in
-    let ih : sum_by f (replay_rows ds after) ≡ sum_by (λ t. sum_by f (filter is_moved (lot_rows t after ds))) ks = replay_sums ks u ds after a.1 (older_after d ds us a.0 o.1) there n.1 f in
-    sum_append f (deal_rows d us) (replay_rows ds after) ∙ (λ i. here i + ih i)
-    ∙ sym (sum_both (by_lot f d us) (λ t. sum_by f (filter is_moved (lot_rows t after ds))) ks)
-    ∙ sym (sum_same (λ t. sum_by f (filter is_moved (lot_rows t us (d ∷ ds)))) (λ t. by_lot f d us t + sum_by f (filter is_moved (lot_rows t after ds))) ks (All-of ks (λ t. first t (is_change (touch_by t d us)))))
+    let here : sum_by f (lot_changes_of_deal d us) ≡ sum_by (by_lot f d us) ks = deal_sum ks u d us (All-map us (λ v k. k.0) o.0) (All-append (λ v. In v.trade ks) us after m there) f in
+    let ih : sum_by f (lot_changes_of_deals ds after) ≡ sum_by (λ t. sum_by f (filter row_changes_quantity (lot_rows_of_deals t after ds))) ks = replay_sums ks u ds after a.1 (older_after d ds us a.0 o.1) there n.1 f in
+    sum_append f (lot_changes_of_deal d us) (lot_changes_of_deals ds after) ∙ (λ i. here i + ih i)
+    ∙ sym (sum_both (by_lot f d us) (λ t. sum_by f (filter row_changes_quantity (lot_rows_of_deals t after ds))) ks)
+    ∙ sym (sum_same (λ t. sum_by f (filter row_changes_quantity (lot_rows_of_deals t us (d ∷ ds)))) (λ t. by_lot f d us t + sum_by f (filter row_changes_quantity (lot_rows_of_deals t after ds))) ks (All-of ks (λ t. first t (changes_lot_quantity (touch_of_lot t d us)))))
   where
-    first : (t : ℕ) (b : Bool) → sum_by f (cond b (touch_row d.trade (touch_by t d us) ∷ filter is_moved (lot_rows t (shares_after us d) ds)) (filter is_moved (lot_rows t (shares_after us d) ds)))
-        ≡ cond b (f (touch_row d.trade (touch_by t d us))) 0 + sum_by f (filter is_moved (lot_rows t (shares_after us d) ds))
-    first t true = sum_by-cons f (touch_row d.trade (touch_by t d us)) (filter is_moved (lot_rows t (shares_after us d) ds))
+    first : (t : ℕ) (b : Bool) → sum_by f (cond b (holding_history_row d.trade (touch_of_lot t d us) ∷ filter row_changes_quantity (lot_rows_of_deals t (shares_after_deal us d) ds)) (filter row_changes_quantity (lot_rows_of_deals t (shares_after_deal us d) ds)))
+        ≡ cond b (f (holding_history_row d.trade (touch_of_lot t d us))) 0 + sum_by f (filter row_changes_quantity (lot_rows_of_deals t (shares_after_deal us d) ds))
+    first t true = sum_by-cons f (holding_history_row d.trade (touch_of_lot t d us)) (filter row_changes_quantity (lot_rows_of_deals t (shares_after_deal us d) ds))
     first t false = omega arith
 
-trades_unique : (ds : List Deal) → AreDeals ds → Unique (map (λ d. d.trade) ds)
+trades_unique : (ds : List Deal) → AreAscendingDeals ds → Unique (map (λ d. d.trade) ds)
 trades_unique [] a = tt
 trades_unique (d ∷ ds) a = (ahead ds a.0, trades_unique ds a.1)
   where
-    ahead : (es : List Deal) → AllByRecursion (IsLater d) es → AllByRecursion (λ t. d.trade ≢ t) (map (λ d. d.trade) es)
+    ahead : (es : List Deal) → AllByRecursion (IsLaterDeal d) es → AllByRecursion (λ t. d.trade ≢ t) (map (λ d. d.trade) es)
     ahead [] h = tt
     ahead (e ∷ es) h = (h.0.0, ahead es h.1)
 
-pub run_sums : (ds : List Deal) → AreDeals ds → (f : HoldingHistoryRow → ℕ) → sum_by f (replay_rows ds []) ≡ sum_by (λ d. sum_by f (filter is_moved (lot_rows d.trade [] ds))) ds
+pub run_sums : (ds : List Deal) → AreAscendingDeals ds → (f : HoldingHistoryRow → ℕ) → sum_by f (lot_changes_of_deals ds []) ≡ sum_by (λ d. sum_by f (filter row_changes_quantity (lot_rows_of_deals d.trade [] ds))) ds
 run_sums ds a f =
     replay_sums (map (λ d. d.trade) ds) (trades_unique ds a) ds [] a (All-of ds (λ d. tt)) tt (All-map ds (λ d m. in_map (λ (e : Deal). e.trade) ds d m) (each_in ds)) f
-    ∙ sum_map (λ t. sum_by f (filter is_moved (lot_rows t [] ds))) (λ d. d.trade) ds
+    ∙ sum_map (λ t. sum_by f (filter row_changes_quantity (lot_rows_of_deals t [] ds))) (λ d. d.trade) ds

@@ -9,21 +9,21 @@ use Rattle.std.proofs.lemmas.Bool.{eqb-false, le-ltb, ltb-false, and_from, and_p
 use Rattle.std.proofs.lemmas.Cmp.{nat_cmp_total, nat_list_cmp_total}
 use Rattle.std.proofs.lemmas.Slice.Eq.{bytes_eq-Decides}
 use Rattle.brk_money.specs.Spelling.{Text}
-use Rattle.brk_model.specs.Keys.{KeyPart, number, word, key_before}
-use Rattle.brk_model.specs.Lists.{text_before}
+use Rattle.brk_model.specs.Keys.{KeyPart, number, word, is_key_less}
+use Rattle.brk_model.specs.Lists.{is_text_less}
 use Rattle.brk_model.specs.Tables.{TradeRow}
-use Rattle.brk_lots.specs.Deals.{AreDeals, IsLater}
+use Rattle.brk_lots.specs.Deals.{AreAscendingDeals, IsLaterDeal}
 use Rattle.brk_book_theorems.proofs.Order.{NoneBefore, Sorted, key_one_way, key_splits, key_total}
 use Rattle.brk_book_theorems.proofs.Same.{All-map}
 use Rattle.brk_audit_form.proofs.KeyOrders.{gt_lt, numbers_before, texts_before}
-use Rattle.brk_audit.specs.Positions.{Heads, clash, place_before, place_key, row_deal, same_place}
+use Rattle.brk_audit.specs.Positions.{FirstElementSatisfies, has_same_id_or_stamp, precedes_by_position, position_sort_key, deal_of_completed_row, is_same_position}
 
 -- ---- a comparison tells it
 
 numbers_behind : (m n : ℕ) → nat_lt n m ≡ is_gt (nat_cmp m n)
 numbers_behind m n = numbers_before n m ∙ sym (gt_lt (nat_cmp m n) (nat_cmp n m) (nat_cmp_total.antisymm m n))
 
-texts_ahead : (s t : List ℕ) → text_before s t ≡ is_lt (slice_cmp nat_cmp s t)
+texts_ahead : (s t : List ℕ) → is_text_less s t ≡ is_lt (slice_cmp nat_cmp s t)
 texts_ahead s t = texts_before s t ∙ gt_lt (slice_cmp nat_cmp t s) (slice_cmp nat_cmp s t) (nat_list_cmp_total.antisymm t s)
 
 decided : (o rest : Ordering) (a b c : Bool) → a ≡ is_lt o → b ≡ is_gt o → c ≡ is_lt rest → is_lt (ordering_then o rest) ≡ (a || (not b && c))
@@ -40,29 +40,29 @@ alone false true = refl
 alone false false = refl
 
 pub places_compare : (a b : ℕ) (s t : Text) (m n : ℕ)
-    → is_lt (ordering_then (nat_cmp a b) (ordering_then (slice_cmp nat_cmp s t) (nat_cmp m n))) ≡ key_before (number a ∷ word s ∷ number m ∷ []) (number b ∷ word t ∷ number n ∷ [])
+    → is_lt (ordering_then (nat_cmp a b) (ordering_then (slice_cmp nat_cmp s t) (nat_cmp m n))) ≡ is_key_less (number a ∷ word s ∷ number m ∷ []) (number b ∷ word t ∷ number n ∷ [])
 places_compare a b s t m n =
     decided (nat_cmp a b) (ordering_then (slice_cmp nat_cmp s t) (nat_cmp m n)) _ _ _ (numbers_before a b) (numbers_behind a b)
     (sym (decided (slice_cmp nat_cmp s t) (nat_cmp m n) _ _ _ (texts_ahead s t) (texts_before t s) (sym (alone (nat_lt m n) (nat_lt n m)) ∙ numbers_before m n)))
 
-pub pairs_compare : (a b m n : ℕ) → is_lt (ordering_then (nat_cmp a b) (nat_cmp m n)) ≡ key_before (number a ∷ number m ∷ []) (number b ∷ number n ∷ [])
+pub pairs_compare : (a b m n : ℕ) → is_lt (ordering_then (nat_cmp a b) (nat_cmp m n)) ≡ is_key_less (number a ∷ number m ∷ []) (number b ∷ number n ∷ [])
 pairs_compare a b m n = decided (nat_cmp a b) (nat_cmp m n) _ _ _ (numbers_before a b) (numbers_behind a b) (sym (alone (nat_lt m n) (nat_lt n m)) ∙ numbers_before m n)
 
 -- the order by a key
-pub key_order : {X : Type 0} (key : X → List KeyPart) → IsStrictWeakOrder (λ x y. key_before (key x) (key y))
+pub key_order : {X : Type 0} (key : X → List KeyPart) → IsStrictWeakOrder (λ x y. is_key_less (key x) (key y))
 key_order {X = X} key = record {
   one_way = λ x y e. key_one_way (key x) (key y) e;
-  chain = λ x y z e f. chained x y z e f (key_before (key x) (key z)) refl;
+  chain = λ x y z e f. chained x y z e f (is_key_less (key x) (key z)) refl;
 }
   where
-    chained : (x y z : X) → key_before (key x) (key y) ≡ false → key_before (key y) (key z) ≡ false → (b : Bool) → key_before (key x) (key z) ≡ b → key_before (key x) (key z) ≡ false
+    chained : (x y z : X) → is_key_less (key x) (key y) ≡ false → is_key_less (key y) (key z) ≡ false → (b : Bool) → is_key_less (key x) (key z) ≡ b → is_key_less (key x) (key z) ≡ false
     chained x y z e f false h = h
     chained x y z e f true h =
-        let k : key_before (key y) (key z) ≡ true = key_splits (key z) (key y) (key x) h e in
+        let k : is_key_less (key y) (key z) ≡ true = key_splits (key z) (key y) (key x) h e in
         absurd (cc)
 
-pub place_order : {X : Type 0} (g : X → TradeRow) → IsStrictWeakOrder (λ x y. place_before (g x) (g y))
-place_order g = key_order (λ x. place_key (g x))
+pub place_order : {X : Type 0} (g : X → TradeRow) → IsStrictWeakOrder (λ x y. precedes_by_position (g x) (g y))
+place_order g = key_order (λ x. position_sort_key (g x))
 
 -- ---- trades of one position
 
@@ -70,25 +70,25 @@ pub record AtOne (r s : TradeRow) : Type 0 where
   pub account : r.account ≡ s.account
   pub symbol : r.symbol ≡ s.symbol
 
-pub at_one : (r s : TradeRow) → same_place r s ≡ true → AtOne r s
+pub at_one : (r s : TradeRow) → is_same_position r s ≡ true → AtOne r s
 at_one r s e =
     let h = and_parts (r.account == s.account) (bytes_eq r.symbol s.symbol) e in
     record { account = eqb-true r.account s.account h.0; symbol = (bytes_eq-Decides r.symbol s.symbol).0 h.1 }
 
-pub one_place : (r s : TradeRow) → AtOne r s → same_place r s ≡ true
+pub one_place : (r s : TradeRow) → AtOne r s → is_same_position r s ≡ true
 one_place r s e = and_from (r.account == s.account) (bytes_eq r.symbol s.symbol) (eq-eqb r.account s.account e.account) ((bytes_eq-Decides r.symbol s.symbol).1 e.symbol)
 
-text_self : (s : List ℕ) → text_before s s ≡ false
+text_self : (s : List ℕ) → is_text_less s s ≡ false
 text_self [] = refl
 text_self (x ∷ s) = let e : nat_lt x x ≡ false = le-ltb x x (omega arith) in rw e (text_self s)
 
 -- of two of one position the later one stands behind
-moments_told : (a : ℕ) (s : Text) (m n : ℕ) → key_before (number a ∷ word s ∷ number m ∷ []) (number a ∷ word s ∷ number n ∷ []) ≡ nat_lt m n
+moments_told : (a : ℕ) (s : Text) (m n : ℕ) → is_key_less (number a ∷ word s ∷ number m ∷ []) (number a ∷ word s ∷ number n ∷ []) ≡ nat_lt m n
 moments_told a s m n = let e : nat_lt a a ≡ false = le-ltb a a (omega arith) in rw (e, text_self s) (sym (alone (nat_lt m n) (nat_lt n m)))
 
-pub moment_order : (r s : TradeRow) → AtOne r s → place_before s r ≡ false → r.stamp ≤ s.stamp
+pub moment_order : (r s : TradeRow) → AtOne r s → precedes_by_position s r ≡ false → r.stamp ≤ s.stamp
 moment_order r s e h =
-    let k : key_before (number r.account ∷ word r.symbol ∷ number s.stamp ∷ []) (place_key r) ≡ false = (λ i. key_before (number (e.account i) ∷ word (e.symbol i) ∷ number s.stamp ∷ []) (place_key r)) ∙ h in
+    let k : is_key_less (number r.account ∷ word r.symbol ∷ number s.stamp ∷ []) (position_sort_key r) ≡ false = (λ i. is_key_less (number (e.account i) ∷ word (e.symbol i) ∷ number s.stamp ∷ []) (position_sort_key r)) ∙ h in
     ltb-false s.stamp r.stamp (sym (moments_told r.account r.symbol s.stamp r.stamp) ∙ k)
 
 or_none : (a b : Bool) → (a || b) ≡ false → (a ≡ false) × (b ≡ false)
@@ -103,15 +103,15 @@ and_then false b e f = absurd (cc)
 between_numbers : (m n : ℕ) → nat_lt n m ≡ false → nat_lt m n ≡ false → m ≡ n
 between_numbers m n e f = omega (arith, ltb-false n m e, ltb-false m n f)
 
-between_texts : (s t : List ℕ) → text_before t s ≡ false → text_before s t ≡ false → s ≡ t
+between_texts : (s t : List ℕ) → is_text_less t s ≡ false → is_text_less s t ≡ false → s ≡ t
 between_texts s t e f =
-    let k : word s ∷ [] ≡ word t ∷ [] = key_total (word s ∷ []) (word t ∷ []) (sym (alone (text_before s t) (text_before t s)) ∙ f) (sym (alone (text_before t s) (text_before s t)) ∙ e) in
+    let k : word s ∷ [] ≡ word t ∷ [] = key_total (word s ∷ []) (word t ∷ []) (sym (alone (is_text_less s t) (is_text_less t s)) ∙ f) (sym (alone (is_text_less t s) (is_text_less s t)) ∙ e) in
     cc
 
-past_account : (a : ℕ) (ks ls : List KeyPart) → key_before (number a ∷ ks) (number a ∷ ls) ≡ key_before ks ls
+past_account : (a : ℕ) (ks ls : List KeyPart) → is_key_less (number a ∷ ks) (number a ∷ ls) ≡ is_key_less ks ls
 past_account a ks ls = let e : nat_lt a a ≡ false = le-ltb a a (omega arith) in rw e refl
 
-pub between : (r y z : TradeRow) → AtOne r z → place_before y r ≡ false → place_before z y ≡ false → AtOne r y
+pub between : (r y z : TradeRow) → AtOne r z → precedes_by_position y r ≡ false → precedes_by_position z y ≡ false → AtOne r y
 between r y z h e f =
     let low : nat_lt y.account r.account ≡ false = (or_none _ _ e).0 in
     let high : nat_lt z.account y.account ≡ false = (or_none _ _ f).0 in
@@ -119,11 +119,11 @@ between r y z h e f =
     let ys : List KeyPart = word y.symbol ∷ number y.stamp ∷ [] in
     let rs : List KeyPart = word r.symbol ∷ number r.stamp ∷ [] in
     let zs : List KeyPart = word z.symbol ∷ number z.stamp ∷ [] in
-    let e1 : key_before ys rs ≡ false = sym (past_account r.account ys rs) ∙ (λ i. key_before (number (a i) ∷ ys) (number r.account ∷ rs)) ∙ e in
-    let f1 : key_before zs ys ≡ false = sym (past_account r.account zs ys) ∙ (λ i. key_before (number (h.account i) ∷ zs) (number (a i) ∷ ys)) ∙ f in
-    let s1 : text_before y.symbol r.symbol ≡ false = (or_none _ _ e1).0 in
-    let s2 : text_before z.symbol y.symbol ≡ false = (or_none _ _ f1).0 in
-    record { account = a; symbol = between_texts r.symbol y.symbol s1 ((λ i. text_before (h.symbol i) y.symbol) ∙ s2) }
+    let e1 : is_key_less ys rs ≡ false = sym (past_account r.account ys rs) ∙ (λ i. is_key_less (number (a i) ∷ ys) (number r.account ∷ rs)) ∙ e in
+    let f1 : is_key_less zs ys ≡ false = sym (past_account r.account zs ys) ∙ (λ i. is_key_less (number (h.account i) ∷ zs) (number (a i) ∷ ys)) ∙ f in
+    let s1 : is_text_less y.symbol r.symbol ≡ false = (or_none _ _ e1).0 in
+    let s2 : is_text_less z.symbol y.symbol ≡ false = (or_none _ _ f1).0 in
+    record { account = a; symbol = between_texts r.symbol y.symbol s1 ((λ i. is_text_less (h.symbol i) y.symbol) ∙ s2) }
 
 pub all_front : {X : Type 0} (P : X → Type 0) (xs ys : List X) → AllByRecursion P (xs ++ ys) → AllByRecursion P xs
 all_front P [] ys h = tt
@@ -158,19 +158,19 @@ distinct_drop same (suc n) [] d = tt
 distinct_drop same (suc n) (x ∷ xs) d = distinct_drop same n xs d.1
 
 -- those behind the trades of a position are of others
-pub others : (r : TradeRow) (run later : List TradeRow) → Sorted place_before (r ∷ run ++ later) → Heads (λ s. same_place r s ≡ false) later → AllByRecursion (λ s. same_place r s ≡ false) later
-others r run later s h = by_first later (all_back (λ y. place_before y r ≡ false) run later s.0) (sorted_back place_before run later s.1) h
+pub others : (r : TradeRow) (run later : List TradeRow) → Sorted precedes_by_position (r ∷ run ++ later) → FirstElementSatisfies (λ s. is_same_position r s ≡ false) later → AllByRecursion (λ s. is_same_position r s ≡ false) later
+others r run later s h = by_first later (all_back (λ y. precedes_by_position y r ≡ false) run later s.0) (sorted_back precedes_by_position run later s.1) h
   where
-    other : (y z : TradeRow) → place_before y r ≡ false → same_place r y ≡ false → place_before z y ≡ false → (b : Bool) → same_place r z ≡ b → same_place r z ≡ false
+    other : (y z : TradeRow) → precedes_by_position y r ≡ false → is_same_position r y ≡ false → precedes_by_position z y ≡ false → (b : Bool) → is_same_position r z ≡ b → is_same_position r z ≡ false
     other y z e n f false k = k
-    other y z e n f true k = let p : same_place r y ≡ true = one_place r y (between r y z (at_one r z k) e f) in absurd (cc)
+    other y z e n f true k = let p : is_same_position r y ≡ true = one_place r y (between r y z (at_one r z k) e f) in absurd (cc)
 
-    by_first : (ys : List TradeRow) → AllByRecursion (λ y. place_before y r ≡ false) ys → Sorted place_before ys → Heads (λ s. same_place r s ≡ false) ys → AllByRecursion (λ s. same_place r s ≡ false) ys
+    by_first : (ys : List TradeRow) → AllByRecursion (λ y. precedes_by_position y r ≡ false) ys → Sorted precedes_by_position ys → FirstElementSatisfies (λ s. is_same_position r s ≡ false) ys → AllByRecursion (λ s. is_same_position r s ≡ false) ys
     by_first [] a t h = tt
-    by_first (y ∷ ys) a t h = (h, All-map ys (λ z f. other y z a.0 h f (same_place r z) refl) t.0)
+    by_first (y ∷ ys) a t h = (h, All-map ys (λ z f. other y z a.0 h f (is_same_position r z) refl) t.0)
 
 -- the trades of a position are deals one after another
-follows : (p r s : TradeRow) → same_place p r ≡ true → same_place p s ≡ true → clash r s ≡ false → place_before s r ≡ false → IsLater (row_deal r) (row_deal s)
+follows : (p r s : TradeRow) → is_same_position p r ≡ true → is_same_position p s ≡ true → has_same_id_or_stamp r s ≡ false → precedes_by_position s r ≡ false → IsLaterDeal (deal_of_completed_row r) (deal_of_completed_row s)
 follows p r s e f c b =
     let x = at_one p r e in
     let y = at_one p s f in
@@ -178,14 +178,14 @@ follows p r s e f c b =
     let low : r.stamp ≤ s.stamp = moment_order r s (record { account = sym x.account ∙ y.account; symbol = sym x.symbol ∙ y.symbol }) b in
     (eqb-false r.id s.id k.0, let n : r.stamp ≢ s.stamp = eqb-false r.stamp s.stamp k.1 in omega (arith, low, n))
 
-pub deals_follow : (p : TradeRow) (run : List TradeRow) → Sorted place_before run → IsDistinct clash run → AllByRecursion (λ s. same_place p s ≡ true) run → AreDeals (map row_deal run)
+pub deals_follow : (p : TradeRow) (run : List TradeRow) → Sorted precedes_by_position run → IsDistinct has_same_id_or_stamp run → AllByRecursion (λ s. is_same_position p s ≡ true) run → AreAscendingDeals (map deal_of_completed_row run)
 unfolding IsDistinct
 deals_follow p [] s d a = tt
 deals_follow p (r ∷ run) s d a = (behind run s.0 d.0 a.1, deals_follow p run s.1 d.1 a.1)
   where
-    behind : (ss : List TradeRow) → NoneBefore place_before r ss → AllByRecursion (λ t. clash r t ≡ false) ss → AllByRecursion (λ t. same_place p t ≡ true) ss → AllByRecursion (IsLater (row_deal r)) (map row_deal ss)
+    behind : (ss : List TradeRow) → NoneBefore precedes_by_position r ss → AllByRecursion (λ t. has_same_id_or_stamp r t ≡ false) ss → AllByRecursion (λ t. is_same_position p t ≡ true) ss → AllByRecursion (IsLaterDeal (deal_of_completed_row r)) (map deal_of_completed_row ss)
     behind [] h k l = tt
     behind (t ∷ ts) h k l = (follows p r t a.0 l.0 k.0 h.0, behind ts h.1 k.1 l.1)
 
-pub same_self : (r : TradeRow) → same_place r r ≡ true
+pub same_self : (r : TradeRow) → is_same_position r r ≡ true
 same_self r = one_place r r (record { account = refl; symbol = refl })

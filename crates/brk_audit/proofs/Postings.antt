@@ -11,13 +11,13 @@ use Rattle.brk_book_theorems.proofs.SumReading.{total-map}
 use Rattle.brk_book_theorems.proofs.Same.{map-last}
 use Rattle.brk_audit_theorems.proofs.AdoptedBooks.{filter-map}
 use Rattle.brk_audit.specs.declared.tally.Posting.{Posting}
-use Rattle.brk_audit.specs.Tally.{total_at}
+use Rattle.brk_audit.specs.Tally.{total_amount_at_key}
 
 pub total_mapped : {X Y : Type 0} (f : Y → ℤ) (p : Y → Bool) (g : X → Y) (xs : List X) → total_by f (filter p (map g xs)) ≡ total_by (λ x. f (g x)) (filter (λ x. p (g x)) xs)
 total_mapped f p g xs = ap (total_by f) (filter-map p g xs) ∙ total-map f g (filter (λ x. p (g x)) xs)
 
 pub total_posted : {K X : Type 0} (cmp : K → K → Ordering) (p : X → Bool) (k : X → K) (a : X → ℤ) (xs : List X) (q : K)
-    → total_at cmp (filter_map {Y = Posting K} (λ x. cond (p x) (Some (record { key = k x; amount = a x })) None) xs) q ≡ total_by a (filter (λ x. p x && is_eq (cmp (k x) q)) xs)
+    → total_amount_at_key cmp (filter_map {Y = Posting K} (λ x. cond (p x) (Some (record { key = k x; amount = a x })) None) xs) q ≡ total_by a (filter (λ x. p x && is_eq (cmp (k x) q)) xs)
 unfolding total_by
 total_posted cmp p k a [] q = refl
 total_posted {K = K} {X = X} cmp p k a (x ∷ xs) q = by_tests (p x) (is_eq (cmp (k x) q)) refl (total_posted cmp p k a xs q)
@@ -31,8 +31,8 @@ total_posted {K = K} {X = X} cmp p k a (x ∷ xs) q = by_tests (p x) (is_eq (cmp
     more : List X
     more = filter (λ x. p x && is_eq (cmp (k x) q)) xs
 
-    by_tests : (b c : Bool) → is_eq (cmp (k x) q) ≡ c → total_at cmp rest q ≡ total_by a more
-        → total_at cmp (cons_option (cond b (Some posting) None) rest) q ≡ total_by a (cond (b && c) (x ∷ more) more)
+    by_tests : (b c : Bool) → is_eq (cmp (k x) q) ≡ c → total_amount_at_key cmp rest q ≡ total_by a more
+        → total_amount_at_key cmp (cons_option (cond b (Some posting) None) rest) q ≡ total_by a (cond (b && c) (x ∷ more) more)
     by_tests true true e h = ap (λ c. total_by (λ p. p.amount) (cond c (posting ∷ filter (λ p. is_eq (cmp p.key q)) rest) (filter (λ p. is_eq (cmp p.key q)) rest))) e ∙ ap (λ z. a x +ℤ z) h
     by_tests true false e h = ap (λ c. total_by (λ p. p.amount) (cond c (posting ∷ filter (λ p. is_eq (cmp p.key q)) rest) (filter (λ p. is_eq (cmp p.key q)) rest))) e ∙ h
     by_tests false c e h = h

@@ -12,15 +12,15 @@ use Rattle.std.specs.declared.cmp.Ordering.TheVariants.{Less, Equal, Greater}
 use Rattle.std.proofs.lemmas.Bool.{and_parts, eqb-true}
 use Rattle.std.proofs.lemmas.Map.Text.{is_eq-slice_cmp}
 use Rattle.std.proofs.lemmas.Slice.Eq.{bytes_eq-Decides}
-use Rattle.brk_money.specs.Kinds.{side_of}
+use Rattle.brk_money.specs.Kinds.{side_of_trade_type}
 use Rattle.brk_money.specs.Spelling.{Text}
-use Rattle.brk_model.specs.Form.{has_account, has_security, is_id, is_price, is_qty, is_stamp, price_form, summary_form, trade_form}
+use Rattle.brk_model.specs.Form.{has_account, has_security, is_id, is_price, is_quantity_in_schema, is_at_most_last_stamp, price_matches_completion, is_well_formed_summary_row, is_well_formed_trade_row}
 use Rattle.brk_model.specs.Limits.{greatest_amount, greatest_charge}
 use Rattle.brk_model.specs.Lists.{is_zero, total_by}
-use Rattle.brk_model.specs.Shares.{signed}
+use Rattle.brk_model.specs.Shares.{signed_by_side}
 use Rattle.brk_model.specs.Schemas.{Schema}
 use Rattle.brk_model.specs.Tables.{Tables, SummaryRow, TradeRow}
-use Rattle.brk_changes.specs.Rows.{summary_row_of, trade_row_of}
+use Rattle.brk_changes.specs.Rows.{abstract_summary_row, abstract_trade_row}
 use Rattle.brk_changes.specs.Sheets.{tables_in_sheets}
 use Rattle.brk_changes.specs.declared.sheets.Sheets.{Sheets}
 use Rattle.brk_book_theorems.proofs.Same.{All-map, All-mapped, All-of, filter-none, filter-same, find-none}
@@ -29,12 +29,12 @@ use Rattle.brk_audit_theorems.proofs.Members.{FoundIn, found_in}
 use Rattle.brk_model_theorems.proofs.FormParts.{form_parts}
 use Rattle.brk_model_theorems.proofs.Conjunctions.{parts10, parts3}
 use Rattle.brk_audit.specs.Completed.{is_completed_row}
-use Rattle.brk_audit.specs.PositionSums.{SummariesHold, TellsShares, plain, position_cmp, shares_posting, sum_of_position, told_of_position, told_posting}
-use Rattle.brk_audit.specs.Tally.{at_key, total_at}
+use Rattle.brk_audit.specs.PositionSums.{SummariesMatchTrades, HasNonzeroQuantity, plain_posting, position_cmp, share_posting_of_trade, shares_left_by_trades, shares_in_summaries, share_posting_of_summary}
+use Rattle.brk_audit.specs.Tally.{sum_at_key, total_amount_at_key}
 use Rattle.brk_audit.specs.declared.tally.Posting.{Posting}
 use Rattle.brk_audit.proofs.Checked.{rows_back, rows_hold}
 use Rattle.brk_audit.proofs.Postings.{All-filter_map, total_mapped, total_posted}
-use Rattle.brk_audit.specs.Conditions.{HasSomeForm}
+use Rattle.brk_audit.specs.Conditions.{IsWellFormedBySomeSchema}
 
 abbrev pub Place : Type 0
 Place = ℕ × Bor (List ℕ)
@@ -54,82 +54,82 @@ is_same_place m n s u = both_equal (nat_cmp m n) (slice_cmp nat_cmp s u) ∙ (λ
 
 -- ---- sums
 
-sum_there : (s : Sheets) (ps : List (Posting Place)) (q : Place) → map plain ps ≡ filter_map (λ r. shares_posting (trade_row_of r)) s.trades.items
-    → total_at position_cmp ps q ≡ sum_of_position (tables_in_sheets s) q.0 q.1.now
+sum_there : (s : Sheets) (ps : List (Posting Place)) (q : Place) → map plain_posting ps ≡ filter_map (λ r. share_posting_of_trade (abstract_trade_row r)) s.trades.items
+    → total_amount_at_key position_cmp ps q ≡ shares_left_by_trades (tables_in_sheets s) q.0 q.1.now
 unfolding plain_cmp
 sum_there s ps q e =
     let at : ℕ × Text = (q.0, q.1.now) in
-    let f : TradeRow → ℤ = λ r. signed (side_of r.kind) r.qty in
-    sym (total_mapped (λ p. p.amount) (λ p. is_eq (plain_cmp p.key at)) plain ps)
-    ∙ ap (λ xs. total_at plain_cmp xs at) e
-    ∙ total_posted plain_cmp (λ r. is_completed_row (trade_row_of r)) (λ r. ((trade_row_of r).account, (trade_row_of r).symbol)) (λ r. f (trade_row_of r)) s.trades.items at
-    ∙ ap (total_by (λ r. f (trade_row_of r))) (filter-same (λ r. is_completed_row (trade_row_of r) && is_eq (plain_cmp ((trade_row_of r).account, (trade_row_of r).symbol) at))
-    (λ r. is_completed_row (trade_row_of r) && (((trade_row_of r).account == q.0) && bytes_eq (trade_row_of r).symbol q.1.now)) s.trades.items
-    (All-of s.trades.items (λ r i. is_completed_row (trade_row_of r) && is_same_place (trade_row_of r).account q.0 (trade_row_of r).symbol q.1.now i)))
-    ∙ sym (total_mapped f (λ r. is_completed_row r && ((r.account == q.0) && bytes_eq r.symbol q.1.now)) trade_row_of s.trades.items)
+    let f : TradeRow → ℤ = λ r. signed_by_side (side_of_trade_type r.kind) r.qty in
+    sym (total_mapped (λ p. p.amount) (λ p. is_eq (plain_cmp p.key at)) plain_posting ps)
+    ∙ ap (λ xs. total_amount_at_key plain_cmp xs at) e
+    ∙ total_posted plain_cmp (λ r. is_completed_row (abstract_trade_row r)) (λ r. ((abstract_trade_row r).account, (abstract_trade_row r).symbol)) (λ r. f (abstract_trade_row r)) s.trades.items at
+    ∙ ap (total_by (λ r. f (abstract_trade_row r))) (filter-same (λ r. is_completed_row (abstract_trade_row r) && is_eq (plain_cmp ((abstract_trade_row r).account, (abstract_trade_row r).symbol) at))
+    (λ r. is_completed_row (abstract_trade_row r) && (((abstract_trade_row r).account == q.0) && bytes_eq (abstract_trade_row r).symbol q.1.now)) s.trades.items
+    (All-of s.trades.items (λ r i. is_completed_row (abstract_trade_row r) && is_same_place (abstract_trade_row r).account q.0 (abstract_trade_row r).symbol q.1.now i)))
+    ∙ sym (total_mapped f (λ r. is_completed_row r && ((r.account == q.0) && bytes_eq r.symbol q.1.now)) abstract_trade_row s.trades.items)
 
-told_there : (s : Sheets) (cs : List (Posting Place)) (q : Place) → map plain cs ≡ map (λ r. told_posting (summary_row_of r)) s.summaries.items
-    → total_at position_cmp cs q ≡ told_of_position (tables_in_sheets s).summaries q.0 q.1.now
+told_there : (s : Sheets) (cs : List (Posting Place)) (q : Place) → map plain_posting cs ≡ map (λ r. share_posting_of_summary (abstract_summary_row r)) s.summaries.items
+    → total_amount_at_key position_cmp cs q ≡ shares_in_summaries (tables_in_sheets s).summaries q.0 q.1.now
 unfolding plain_cmp
 told_there s cs q e =
     let at : ℕ × Text = (q.0, q.1.now) in
-    sym (total_mapped (λ p. p.amount) (λ p. is_eq (plain_cmp p.key at)) plain cs)
-    ∙ ap (λ xs. total_at plain_cmp xs at) e
-    ∙ total_mapped (λ p. p.amount) (λ p. is_eq (plain_cmp p.key at)) (λ r. told_posting (summary_row_of r)) s.summaries.items
-    ∙ ap (total_by (λ r. (summary_row_of r).qty)) (filter-same (λ r. is_eq (plain_cmp ((summary_row_of r).account, (summary_row_of r).symbol) at))
-    (λ r. ((summary_row_of r).account == q.0) && bytes_eq (summary_row_of r).symbol q.1.now) s.summaries.items
-    (All-of s.summaries.items (λ r. is_same_place (summary_row_of r).account q.0 (summary_row_of r).symbol q.1.now)))
-    ∙ sym (total_mapped (λ h. h.qty) (λ h. (h.account == q.0) && bytes_eq h.symbol q.1.now) summary_row_of s.summaries.items)
+    sym (total_mapped (λ p. p.amount) (λ p. is_eq (plain_cmp p.key at)) plain_posting cs)
+    ∙ ap (λ xs. total_amount_at_key plain_cmp xs at) e
+    ∙ total_mapped (λ p. p.amount) (λ p. is_eq (plain_cmp p.key at)) (λ r. share_posting_of_summary (abstract_summary_row r)) s.summaries.items
+    ∙ ap (total_by (λ r. (abstract_summary_row r).qty)) (filter-same (λ r. is_eq (plain_cmp ((abstract_summary_row r).account, (abstract_summary_row r).symbol) at))
+    (λ r. ((abstract_summary_row r).account == q.0) && bytes_eq (abstract_summary_row r).symbol q.1.now) s.summaries.items
+    (All-of s.summaries.items (λ r. is_same_place (abstract_summary_row r).account q.0 (abstract_summary_row r).symbol q.1.now)))
+    ∙ sym (total_mapped (λ h. h.qty) (λ h. (h.account == q.0) && bytes_eq h.symbol q.1.now) abstract_summary_row s.summaries.items)
 
 -- ---- known positions
 
 abbrev IsKnown : Tables → ℕ → Text → Type 0
 IsKnown t account symbol = (has_account t account ≡ true) × (has_security t symbol ≡ true)
 
-trade_known : (schema : Schema) (t : Tables) (r : TradeRow) → trade_form schema t r ≡ true → IsKnown t r.account r.symbol
+trade_known : (schema : Schema) (t : Tables) (r : TradeRow) → is_well_formed_trade_row schema t r ≡ true → IsKnown t r.account r.symbol
 trade_known schema t r e =
-    let k = parts10 (is_id r.id) (is_stamp t r.stamp) (has_security t r.symbol) (is_qty schema r.qty) (is_price r.bid) (has_account t r.account) (price_form t r)
+    let k = parts10 (is_id r.id) (is_at_most_last_stamp t r.stamp) (has_security t r.symbol) (is_quantity_in_schema schema r.qty) (is_price r.bid) (has_account t r.account) (price_matches_completion t r)
     (nat_le r.charge greatest_charge) (nat_le r.commission greatest_amount) (nat_le r.tax greatest_amount) e in
     (k.5, k.2)
 
-summary_known : (schema : Schema) (t : Tables) (h : SummaryRow) → summary_form schema t h ≡ true → IsKnown t h.account h.symbol
+summary_known : (schema : Schema) (t : Tables) (h : SummaryRow) → is_well_formed_summary_row schema t h ≡ true → IsKnown t h.account h.symbol
 summary_known schema t h e = let p = parts3 (has_account t h.account) (has_security t h.symbol) (nat_le (nat_abs h.qty) schema.greatest_summary) e in (p.0, p.1)
 
-postings_known : (s : Sheets) (ps : List (Posting Place)) → HasSomeForm (tables_in_sheets s) → map plain ps ≡ filter_map (λ r. shares_posting (trade_row_of r)) s.trades.items
+postings_known : (s : Sheets) (ps : List (Posting Place)) → IsWellFormedBySomeSchema (tables_in_sheets s) → map plain_posting ps ≡ filter_map (λ r. share_posting_of_trade (abstract_trade_row r)) s.trades.items
     → AllByRecursion (λ p. IsKnown (tables_in_sheets s) p.key.0 p.key.1.now) ps
 postings_known s ps f e =
     let t : Tables = tables_in_sheets s in
-    rows_back (λ p. IsKnown t p.key.0 p.key.1.now) (λ p. IsKnown t p.key.0 p.key.1) plain ps (λ p h. h)
+    rows_back (λ p. IsKnown t p.key.0 p.key.1.now) (λ p. IsKnown t p.key.0 p.key.1) plain_posting ps (λ p h. h)
     (subst (AllByRecursion (λ p. IsKnown t p.key.0 p.key.1)) (sym e)
-    (All-filter_map (λ p. IsKnown t p.key.0 p.key.1) (λ r. is_completed_row (trade_row_of r))
-    (λ r. record { key = ((trade_row_of r).account, (trade_row_of r).symbol); amount = signed (side_of (trade_row_of r).kind) (trade_row_of r).qty }) s.trades.items
-    (rows_back (λ r. IsKnown t (trade_row_of r).account (trade_row_of r).symbol) (λ r. trade_form f.schema t r ≡ true) trade_row_of s.trades.items (λ r. trade_known f.schema t (trade_row_of r))
-    (list_all_true (trade_form f.schema t) t.trades (form_parts f.schema t f.form).trades))))
+    (All-filter_map (λ p. IsKnown t p.key.0 p.key.1) (λ r. is_completed_row (abstract_trade_row r))
+    (λ r. record { key = ((abstract_trade_row r).account, (abstract_trade_row r).symbol); amount = signed_by_side (side_of_trade_type (abstract_trade_row r).kind) (abstract_trade_row r).qty }) s.trades.items
+    (rows_back (λ r. IsKnown t (abstract_trade_row r).account (abstract_trade_row r).symbol) (λ r. is_well_formed_trade_row f.schema t r ≡ true) abstract_trade_row s.trades.items (λ r. trade_known f.schema t (abstract_trade_row r))
+    (list_all_true (is_well_formed_trade_row f.schema t) t.trades (form_parts f.schema t f.form).trades))))
 
-claims_known : (s : Sheets) (cs : List (Posting Place)) → HasSomeForm (tables_in_sheets s) → map plain cs ≡ map (λ r. told_posting (summary_row_of r)) s.summaries.items
+claims_known : (s : Sheets) (cs : List (Posting Place)) → IsWellFormedBySomeSchema (tables_in_sheets s) → map plain_posting cs ≡ map (λ r. share_posting_of_summary (abstract_summary_row r)) s.summaries.items
     → AllByRecursion (λ p. IsKnown (tables_in_sheets s) p.key.0 p.key.1.now) cs
 claims_known s cs f e =
     let t : Tables = tables_in_sheets s in
-    rows_back (λ p. IsKnown t p.key.0 p.key.1.now) (λ p. IsKnown t p.key.0 p.key.1) plain cs (λ p h. h)
+    rows_back (λ p. IsKnown t p.key.0 p.key.1.now) (λ p. IsKnown t p.key.0 p.key.1) plain_posting cs (λ p h. h)
     (subst (AllByRecursion (λ p. IsKnown t p.key.0 p.key.1)) (sym e)
-    (All-mapped (λ p. IsKnown t p.key.0 p.key.1) (λ r. told_posting (summary_row_of r)) s.summaries.items
-    (rows_back (λ r. IsKnown t (summary_row_of r).account (summary_row_of r).symbol) (λ r. summary_form f.schema t r ≡ true) summary_row_of s.summaries.items (λ r. summary_known f.schema t (summary_row_of r))
-    (list_all_true (summary_form f.schema t) t.summaries (form_parts f.schema t f.form).summaries))))
+    (All-mapped (λ p. IsKnown t p.key.0 p.key.1) (λ r. share_posting_of_summary (abstract_summary_row r)) s.summaries.items
+    (rows_back (λ r. IsKnown t (abstract_summary_row r).account (abstract_summary_row r).symbol) (λ r. is_well_formed_summary_row f.schema t r ≡ true) abstract_summary_row s.summaries.items (λ r. summary_known f.schema t (abstract_summary_row r))
+    (list_all_true (is_well_formed_summary_row f.schema t) t.summaries (form_parts f.schema t f.form).summaries))))
 
 -- ---- where tallies agree
 
 -- two tallies, of what trades leave and of what summaries tell
 pub record Tallied (s : Sheets) (sums told : BTreeMap Place ℤ) (ps cs : List (Posting Place)) : Type 0 where
-  pub posted : map plain ps ≡ filter_map (λ r. shares_posting (trade_row_of r)) s.trades.items
-  pub claimed : map plain cs ≡ map (λ r. told_posting (summary_row_of r)) s.summaries.items
-  pub of_trades : (q : Place) → at_key position_cmp sums q ≡ total_at position_cmp ps q
-  pub of_rows : (q : Place) → at_key position_cmp told q ≡ total_at position_cmp cs q
+  pub posted : map plain_posting ps ≡ filter_map (λ r. share_posting_of_trade (abstract_trade_row r)) s.trades.items
+  pub claimed : map plain_posting cs ≡ map (λ r. share_posting_of_summary (abstract_summary_row r)) s.summaries.items
+  pub of_trades : (q : Place) → sum_at_key position_cmp sums q ≡ total_amount_at_key position_cmp ps q
+  pub of_rows : (q : Place) → sum_at_key position_cmp told q ≡ total_amount_at_key position_cmp cs q
 
 abbrev pub Agree : BTreeMap Place ℤ → BTreeMap Place ℤ → Posting Place → Type 0
-Agree sums told p = at_key position_cmp sums p.key ≡ at_key position_cmp told p.key
+Agree sums told p = sum_at_key position_cmp sums p.key ≡ sum_at_key position_cmp told p.key
 
 -- what a list of postings does not name has no sum
-none_there : (ps : List (Posting Place)) (q : Place) → is_some (find (λ p. is_eq (position_cmp p.key q)) ps) ≡ false → total_at position_cmp ps q ≡ pos 0
+none_there : (ps : List (Posting Place)) (q : Place) → is_some (find (λ p. is_eq (position_cmp p.key q)) ps) ≡ false → total_amount_at_key position_cmp ps q ≡ pos 0
 unfolding total_by
 none_there ps q e = ap (total_by (λ p. p.amount)) (filter-none (λ p. is_eq (position_cmp p.key q)) ps (find-none (λ p. is_eq (position_cmp p.key q)) ps e))
 
@@ -137,46 +137,46 @@ module _ (s : Sheets) (sums told : BTreeMap Place ℤ) (ps cs : List (Posting Pl
   abbrev t : Tables
   t = tables_in_sheets s
 
-  sum_is : (q : Place) → at_key position_cmp sums q ≡ sum_of_position t q.0 q.1.now
+  sum_is : (q : Place) → sum_at_key position_cmp sums q ≡ shares_left_by_trades t q.0 q.1.now
   sum_is q = w.of_trades q ∙ sum_there s ps q w.posted
 
-  told_is : (q : Place) → at_key position_cmp told q ≡ told_of_position t.summaries q.0 q.1.now
+  told_is : (q : Place) → sum_at_key position_cmp told q ≡ shares_in_summaries t.summaries q.0 q.1.now
   told_is q = w.of_rows q ∙ told_there s cs q w.claimed
 
   -- they agree at a position that one of some postings names
   named : (xs : List (Posting Place)) (q : Place) → AllByRecursion (Agree sums told) xs → is_some (find (λ p. is_eq (position_cmp p.key q)) xs) ≡ true
-      → sum_of_position t q.0 q.1.now ≡ told_of_position t.summaries q.0 q.1.now
+      → shares_left_by_trades t q.0 q.1.now ≡ shares_in_summaries t.summaries q.0 q.1.now
   named xs q a e =
       let f : FoundIn (Posting Place) (λ p. is_eq (position_cmp p.key q)) xs = found_in (λ p. is_eq (position_cmp p.key q)) xs e in
       let k = and_parts (f.item.key.0 == q.0) (bytes_eq f.item.key.1.now q.1.now) (sym (is_same_place f.item.key.0 q.0 f.item.key.1.now q.1.now) ∙ f.passes) in
       let m : f.item.key.0 ≡ q.0 = eqb-true f.item.key.0 q.0 k.0 in
       let n : f.item.key.1.now ≡ q.1.now = (bytes_eq-Decides f.item.key.1.now q.1.now).0 k.1 in
-      let g : sum_of_position t f.item.key.0 f.item.key.1.now ≡ told_of_position t.summaries f.item.key.0 f.item.key.1.now =
+      let g : shares_left_by_trades t f.item.key.0 f.item.key.1.now ≡ shares_in_summaries t.summaries f.item.key.0 f.item.key.1.now =
       sym (sum_is f.item.key) ∙ of_all (Agree sums told) xs f.item a f.there ∙ told_is f.item.key in
-      (λ i. sum_of_position t (sym m i) (sym n i)) ∙ g ∙ (λ i. told_of_position t.summaries (m i) (n i))
+      (λ i. shares_left_by_trades t (sym m i) (sym n i)) ∙ g ∙ (λ i. shares_in_summaries t.summaries (m i) (n i))
 
-  agreed : AllByRecursion (Agree sums told) ps → AllByRecursion (Agree sums told) cs → (q : Place) → sum_of_position t q.0 q.1.now ≡ told_of_position t.summaries q.0 q.1.now
+  agreed : AllByRecursion (Agree sums told) ps → AllByRecursion (Agree sums told) cs → (q : Place) → shares_left_by_trades t q.0 q.1.now ≡ shares_in_summaries t.summaries q.0 q.1.now
   agreed a b q = by_tests (is_some (find (λ p. is_eq (position_cmp p.key q)) ps)) (is_some (find (λ p. is_eq (position_cmp p.key q)) cs)) refl refl
     where
       by_tests : (b c : Bool) → is_some (find (λ p. is_eq (position_cmp p.key q)) ps) ≡ b → is_some (find (λ p. is_eq (position_cmp p.key q)) cs) ≡ c
-          → sum_of_position t q.0 q.1.now ≡ told_of_position t.summaries q.0 q.1.now
+          → shares_left_by_trades t q.0 q.1.now ≡ shares_in_summaries t.summaries q.0 q.1.now
       by_tests true d e f = named ps q a e
       by_tests false true e f = named cs q b f
       by_tests false false e f = sym (sum_there s ps q w.posted) ∙ none_there ps q e ∙ sym (none_there cs q f) ∙ told_there s cs q w.claimed
 
-  pub they_hold : AllByRecursion (Agree sums told) ps → AllByRecursion (Agree sums told) cs → AllByRecursion (λ r. is_zero r.qty ≡ false) s.summaries.items → SummariesHold t
+  pub they_hold : AllByRecursion (Agree sums told) ps → AllByRecursion (Agree sums told) cs → AllByRecursion (λ r. is_zero r.qty ≡ false) s.summaries.items → SummariesMatchTrades t
   they_hold a b n = record {
     sums = λ account symbol i j. agreed a b (account, record { ref_ptr = (0, 0); now = symbol });
-    told = rows_hold (λ r. is_zero r.qty ≡ false) TellsShares summary_row_of s.summaries.items (λ r h. h) n;
+    told = rows_hold (λ r. is_zero r.qty ≡ false) HasNonzeroQuantity abstract_summary_row s.summaries.items (λ r h. h) n;
   }
 
-  known_agree : (xs : List (Posting Place)) → SummariesHold t → AllByRecursion (λ p. IsKnown t p.key.0 p.key.1.now) xs → AllByRecursion (Agree sums told) xs
+  known_agree : (xs : List (Posting Place)) → SummariesMatchTrades t → AllByRecursion (λ p. IsKnown t p.key.0 p.key.1.now) xs → AllByRecursion (Agree sums told) xs
   known_agree xs h k = All-map xs (λ p e. sum_is p.key ∙ h.sums p.key.0 p.key.1.now e.0 e.1 ∙ sym (told_is p.key)) k
 
-  pub they_agree : HasSomeForm t → SummariesHold t
+  pub they_agree : IsWellFormedBySomeSchema t → SummariesMatchTrades t
       → AllByRecursion (Agree sums told) ps × AllByRecursion (Agree sums told) cs × AllByRecursion (λ r. is_zero r.qty ≡ false) s.summaries.items
   they_agree f h = (
     known_agree ps h (postings_known s ps f w.posted),
     known_agree cs h (claims_known s cs f w.claimed),
-    rows_back (λ r. is_zero r.qty ≡ false) TellsShares summary_row_of s.summaries.items (λ r e. e) h.told,
+    rows_back (λ r. is_zero r.qty ≡ false) HasNonzeroQuantity abstract_summary_row s.summaries.items (λ r e. e) h.told,
   )

@@ -4,14 +4,14 @@ use Rattle.std.specs.Prelude.{◌&&◌, ◌||◌, is_none, not}
 use Rattle.std.specs.List.{prefix_len}
 use Rattle.std.proofs.lemmas.Bool.{and_cases, and_from, and_left, and_right, cases_eq, eq-eqb, ne_eqb, not-false, or_cases, or_left, or_right}
 use Rattle.std.proofs.lemmas.List.{append-nil, drop_more, drop-map, take-append-drop, take-map, take_more}
-use Rattle.brk_money.specs.Kinds.{same_status}
+use Rattle.brk_money.specs.Kinds.{is_same_trade_status}
 use Rattle.brk_money.specs.declared.status.Status.TheVariants.{Completed}
 use Rattle.brk_model.specs.Lists.{all_distinct, contains_number}
-use Rattle.brk_changes.specs.Rows.{history_row_of, move_row_of, trade_row_of}
+use Rattle.brk_changes.specs.Rows.{abstract_history_row, abstract_move_row, abstract_trade_row}
 use Rattle.brk_changes.specs.declared.trade_row.TradeRow.{TradeRow}
 use Rattle.brk_changes.specs.declared.history_row.HistoryRow.{HistoryRow}
 use Rattle.brk_changes.specs.declared.move_row.MoveRow.{MoveRow}
-use Rattle.brk_audit.specs.Statuses.{all_valid, is_valid_history, moved_stamps_of, completion_stamps_of}
+use Rattle.brk_audit.specs.Statuses.{all_histories_are_valid, is_valid_history, movement_stamps_of, completion_stamps_of}
 
 false_true : {A : Type 0} → false ≡ true → A
 false_true e = absurd (cc)
@@ -25,14 +25,14 @@ prefix_len-map p f (x ∷ xs) = ap (λ n. cond (p (f x)) (1 + n) 0) (prefix_len-
 -- one trade further
 pub go_more : (ts : List TradeRow) (i : ℕ) (t : TradeRow) (hs rows others : List HistoryRow) (n : ℕ) → i < length ts → t ≡ get_or ts i t
     → n ≡ prefix_len (λ h. h.trade == t.id) hs → rows ≡ take n hs → others ≡ drop n hs
-    → all_valid (map trade_row_of (drop i ts)) (map history_row_of hs)
-    ≡ is_valid_history (trade_row_of t) (map history_row_of rows) && all_valid (map trade_row_of (drop (i + 1) ts)) (map history_row_of others)
+    → all_histories_are_valid (map abstract_trade_row (drop i ts)) (map abstract_history_row hs)
+    ≡ is_valid_history (abstract_trade_row t) (map abstract_history_row rows) && all_histories_are_valid (map abstract_trade_row (drop (i + 1) ts)) (map abstract_history_row others)
 go_more ts i t hs rows others n l e m r o =
-    let k : prefix_len (λ h. h.trade == t.id) (map history_row_of hs) ≡ n = prefix_len-map (λ h. h.trade == t.id) history_row_of hs ∙ sym m in
-    ap (λ us. all_valid (map trade_row_of us) (map history_row_of hs)) (drop_more ts i t l ∙ ap (λ u. u ∷ drop (i + 1) ts) (sym e))
-    ∙ (λ j. is_valid_history (trade_row_of t) (take (k j) (map history_row_of hs)) && all_valid (map trade_row_of (drop (i + 1) ts)) (drop (k j) (map history_row_of hs)))
-    ∙ (λ j. is_valid_history (trade_row_of t) ((take-map history_row_of n hs ∙ ap (map history_row_of) (sym r)) j)
-    && all_valid (map trade_row_of (drop (i + 1) ts)) ((drop-map history_row_of n hs ∙ ap (map history_row_of) (sym o)) j))
+    let k : prefix_len (λ h. h.trade == t.id) (map abstract_history_row hs) ≡ n = prefix_len-map (λ h. h.trade == t.id) abstract_history_row hs ∙ sym m in
+    ap (λ us. all_histories_are_valid (map abstract_trade_row us) (map abstract_history_row hs)) (drop_more ts i t l ∙ ap (λ u. u ∷ drop (i + 1) ts) (sym e))
+    ∙ (λ j. is_valid_history (abstract_trade_row t) (take (k j) (map abstract_history_row hs)) && all_histories_are_valid (map abstract_trade_row (drop (i + 1) ts)) (drop (k j) (map abstract_history_row hs)))
+    ∙ (λ j. is_valid_history (abstract_trade_row t) ((take-map abstract_history_row n hs ∙ ap (map abstract_history_row) (sym r)) j)
+    && all_histories_are_valid (map abstract_trade_row (drop (i + 1) ts)) ((drop-map abstract_history_row n hs ∙ ap (map abstract_history_row) (sym o)) j))
 
 -- ---- stamps
 
@@ -82,15 +82,15 @@ not_distinct_front (m ∷ ms) ns e =
 
 -- the stamps of completions that rows of the history tell
 abbrev pub told_stamps : List HistoryRow → List ℕ
-told_stamps hs = completion_stamps_of (map history_row_of hs)
+told_stamps hs = completion_stamps_of (map abstract_history_row hs)
 
 told-append : (hs ks : List HistoryRow) → told_stamps (hs ++ ks) ≡ told_stamps hs ++ told_stamps ks
 told-append [] ks = refl
-told-append (h ∷ hs) ks = by_test (same_status h.status Completed) (told-append hs ks)
+told-append (h ∷ hs) ks = by_test (is_same_trade_status h.status Completed) (told-append hs ks)
   where
     by_test : (b : Bool) → told_stamps (hs ++ ks) ≡ told_stamps hs ++ told_stamps ks
-        → map (λ h. h.stamp) (cond b (history_row_of h ∷ filter (λ h. same_status h.status Completed) (map history_row_of (hs ++ ks))) (filter (λ h. same_status h.status Completed) (map history_row_of (hs ++ ks))))
-        ≡ map (λ h. h.stamp) (cond b (history_row_of h ∷ filter (λ h. same_status h.status Completed) (map history_row_of hs)) (filter (λ h. same_status h.status Completed) (map history_row_of hs))) ++ told_stamps ks
+        → map (λ h. h.stamp) (cond b (abstract_history_row h ∷ filter (λ h. is_same_trade_status h.status Completed) (map abstract_history_row (hs ++ ks))) (filter (λ h. is_same_trade_status h.status Completed) (map abstract_history_row (hs ++ ks))))
+        ≡ map (λ h. h.stamp) (cond b (abstract_history_row h ∷ filter (λ h. is_same_trade_status h.status Completed) (map abstract_history_row hs)) (filter (λ h. is_same_trade_status h.status Completed) (map abstract_history_row hs))) ++ told_stamps ks
     by_test true e = ap (λ ns. h.stamp ∷ ns) e
     by_test false e = e
 
@@ -99,37 +99,37 @@ told_more hs i h l e = ap told_stamps (take_more hs i h l ∙ ap (λ k. take i h
 
 -- what is seen after one more row
 pub seen_more : (hs : List HistoryRow) (i : ℕ) (h : HistoryRow) (q : ℕ) (was is : Bool) → i < length hs → h ≡ get_or hs i h
-    → was ≡ contains_number q (told_stamps (take i hs)) → is ≡ was || (same_status h.status Completed && (h.stamp == q))
+    → was ≡ contains_number q (told_stamps (take i hs)) → is ≡ was || (is_same_trade_status h.status Completed && (h.stamp == q))
     → is ≡ contains_number q (told_stamps (take (i + 1) hs))
 seen_more hs i h q was is l e f g =
-    g ∙ ap (λ b. b || (same_status h.status Completed && (h.stamp == q))) f ∙ by_test (same_status h.status Completed) (told_stamps (take i hs))
+    g ∙ ap (λ b. b || (is_same_trade_status h.status Completed && (h.stamp == q))) f ∙ by_test (is_same_trade_status h.status Completed) (told_stamps (take i hs))
     ∙ sym (ap (contains_number q) (told_more hs i h l e))
   where
-    by_test : (b : Bool) (ns : List ℕ) → contains_number q ns || (b && (h.stamp == q)) ≡ contains_number q (ns ++ map (λ h. h.stamp) (cond b (history_row_of h ∷ []) []))
+    by_test : (b : Bool) (ns : List ℕ) → contains_number q ns || (b && (h.stamp == q)) ≡ contains_number q (ns ++ map (λ h. h.stamp) (cond b (abstract_history_row h ∷ []) []))
     by_test true ns = sym (contains_more q ns h.stamp)
     by_test false ns = or_false (contains_number q ns) ∙ ap (contains_number q) (sym (append-nil ns))
 
 -- stamps stay apart after a row that tells a new one
 pub apart_more : (hs : List HistoryRow) (i : ℕ) (h : HistoryRow) (was : Bool) → i < length hs → h ≡ get_or hs i h
-    → was ≡ contains_number h.stamp (told_stamps (take i hs)) → not (same_status h.status Completed && was) ≡ true
+    → was ≡ contains_number h.stamp (told_stamps (take i hs)) → not (is_same_trade_status h.status Completed && was) ≡ true
     → all_distinct (told_stamps (take i hs)) ≡ true → all_distinct (told_stamps (take (i + 1) hs)) ≡ true
 apart_more hs i h was l e f g d =
     ap all_distinct (told_more hs i h l e)
-    ∙ by_test (same_status h.status Completed) (told_stamps (take i hs)) (sym (ap (λ b. not (same_status h.status Completed && b)) f) ∙ g) d
+    ∙ by_test (is_same_trade_status h.status Completed) (told_stamps (take i hs)) (sym (ap (λ b. not (is_same_trade_status h.status Completed && b)) f) ∙ g) d
   where
-    by_test : (b : Bool) (ns : List ℕ) → not (b && contains_number h.stamp ns) ≡ true → all_distinct ns ≡ true → all_distinct (ns ++ map (λ h. h.stamp) (cond b (history_row_of h ∷ []) [])) ≡ true
+    by_test : (b : Bool) (ns : List ℕ) → not (b && contains_number h.stamp ns) ≡ true → all_distinct ns ≡ true → all_distinct (ns ++ map (λ h. h.stamp) (cond b (abstract_history_row h ∷ []) [])) ≡ true
     by_test true ns n d = distinct_more ns h.stamp ∙ and_from (all_distinct ns) (not (contains_number h.stamp ns)) d n
     by_test false ns n d = ap all_distinct (append-nil ns) ∙ d
 
 -- and they are not apart where a row tells a stamp that was seen
 pub not_apart : (hs : List HistoryRow) (i : ℕ) (h : HistoryRow) (was : Bool) → i < length hs → h ≡ get_or hs i h
-    → was ≡ contains_number h.stamp (told_stamps (take i hs)) → not (same_status h.status Completed && was) ≡ false → all_distinct (told_stamps hs) ≡ false
+    → was ≡ contains_number h.stamp (told_stamps (take i hs)) → not (is_same_trade_status h.status Completed && was) ≡ false → all_distinct (told_stamps hs) ≡ false
 not_apart hs i h was l e f g =
     ap (λ ks. all_distinct (told_stamps ks)) (sym (take-append-drop (i + 1) hs)) ∙ ap all_distinct (told-append (take (i + 1) hs) (drop (i + 1) hs))
     ∙ not_distinct_front (told_stamps (take (i + 1) hs)) (told_stamps (drop (i + 1) hs))
-    (ap all_distinct (told_more hs i h l e) ∙ by_test (same_status h.status Completed) (told_stamps (take i hs)) (sym (ap (λ b. not (same_status h.status Completed && b)) f) ∙ g))
+    (ap all_distinct (told_more hs i h l e) ∙ by_test (is_same_trade_status h.status Completed) (told_stamps (take i hs)) (sym (ap (λ b. not (is_same_trade_status h.status Completed && b)) f) ∙ g))
   where
-    by_test : (b : Bool) (ns : List ℕ) → not (b && contains_number h.stamp ns) ≡ false → all_distinct (ns ++ map (λ h. h.stamp) (cond b (history_row_of h ∷ []) [])) ≡ false
+    by_test : (b : Bool) (ns : List ℕ) → not (b && contains_number h.stamp ns) ≡ false → all_distinct (ns ++ map (λ h. h.stamp) (cond b (abstract_history_row h ∷ []) [])) ≡ false
     by_test true ns n = distinct_more ns h.stamp ∙ and_right (all_distinct ns) (not (contains_number h.stamp ns)) n
     by_test false ns n = false_true (sym n)
 
@@ -137,15 +137,15 @@ not_apart hs i h was l e f g =
 
 -- the stamps of movements that rows tell
 abbrev pub moved_told : List MoveRow → List ℕ
-moved_told rs = moved_stamps_of (map move_row_of rs)
+moved_told rs = movement_stamps_of (map abstract_move_row rs)
 
 moved-append : (rs ks : List MoveRow) → moved_told (rs ++ ks) ≡ moved_told rs ++ moved_told ks
 moved-append [] ks = refl
 moved-append (r ∷ rs) ks = by_test (is_none r.trade) (moved-append rs ks)
   where
     by_test : (b : Bool) → moved_told (rs ++ ks) ≡ moved_told rs ++ moved_told ks
-        → map (λ r. r.stamp) (cond b (move_row_of r ∷ filter (λ r. is_none r.trade) (map move_row_of (rs ++ ks))) (filter (λ r. is_none r.trade) (map move_row_of (rs ++ ks))))
-        ≡ map (λ r. r.stamp) (cond b (move_row_of r ∷ filter (λ r. is_none r.trade) (map move_row_of rs)) (filter (λ r. is_none r.trade) (map move_row_of rs))) ++ moved_told ks
+        → map (λ r. r.stamp) (cond b (abstract_move_row r ∷ filter (λ r. is_none r.trade) (map abstract_move_row (rs ++ ks))) (filter (λ r. is_none r.trade) (map abstract_move_row (rs ++ ks))))
+        ≡ map (λ r. r.stamp) (cond b (abstract_move_row r ∷ filter (λ r. is_none r.trade) (map abstract_move_row rs)) (filter (λ r. is_none r.trade) (map abstract_move_row rs))) ++ moved_told ks
     by_test true e = ap (λ ns. r.stamp ∷ ns) e
     by_test false e = e
 
@@ -167,7 +167,7 @@ seen_moved before rs i r q was is l e f g =
     g ∙ ap (λ b. b || (is_none r.trade && (r.stamp == q))) f ∙ by_test (is_none r.trade) (before ++ moved_told (take i rs))
     ∙ sym (ap (contains_number q) (moved_more before rs i r l e))
   where
-    by_test : (b : Bool) (ns : List ℕ) → contains_number q ns || (b && (r.stamp == q)) ≡ contains_number q (ns ++ map (λ r. r.stamp) (cond b (move_row_of r ∷ []) []))
+    by_test : (b : Bool) (ns : List ℕ) → contains_number q ns || (b && (r.stamp == q)) ≡ contains_number q (ns ++ map (λ r. r.stamp) (cond b (abstract_move_row r ∷ []) []))
     by_test true ns = sym (contains_more q ns r.stamp)
     by_test false ns = or_false (contains_number q ns) ∙ ap (contains_number q) (sym (append-nil ns))
 
@@ -179,7 +179,7 @@ apart_moved before rs i r was l e f g d =
     ap all_distinct (moved_more before rs i r l e)
     ∙ by_test (is_none r.trade) (before ++ moved_told (take i rs)) (sym (ap (λ b. not (is_none r.trade && b)) f) ∙ g) d
   where
-    by_test : (b : Bool) (ns : List ℕ) → not (b && contains_number r.stamp ns) ≡ true → all_distinct ns ≡ true → all_distinct (ns ++ map (λ r. r.stamp) (cond b (move_row_of r ∷ []) [])) ≡ true
+    by_test : (b : Bool) (ns : List ℕ) → not (b && contains_number r.stamp ns) ≡ true → all_distinct ns ≡ true → all_distinct (ns ++ map (λ r. r.stamp) (cond b (abstract_move_row r ∷ []) [])) ≡ true
     by_test true ns n d = distinct_more ns r.stamp ∙ and_from (all_distinct ns) (not (contains_number r.stamp ns)) d n
     by_test false ns n d = ap all_distinct (append-nil ns) ∙ d
 
@@ -192,6 +192,6 @@ not_apart_moved before rs i r was l e f g =
     ∙ not_distinct_front (before ++ moved_told (take (i + 1) rs)) (moved_told (drop (i + 1) rs))
     (ap all_distinct (moved_more before rs i r l e) ∙ by_test (is_none r.trade) (before ++ moved_told (take i rs)) (sym (ap (λ b. not (is_none r.trade && b)) f) ∙ g))
   where
-    by_test : (b : Bool) (ns : List ℕ) → not (b && contains_number r.stamp ns) ≡ false → all_distinct (ns ++ map (λ r. r.stamp) (cond b (move_row_of r ∷ []) [])) ≡ false
+    by_test : (b : Bool) (ns : List ℕ) → not (b && contains_number r.stamp ns) ≡ false → all_distinct (ns ++ map (λ r. r.stamp) (cond b (abstract_move_row r ∷ []) [])) ≡ false
     by_test true ns n = distinct_more ns r.stamp ∙ and_right (all_distinct ns) (not (contains_number r.stamp ns)) n
     by_test false ns n = false_true (sym n)

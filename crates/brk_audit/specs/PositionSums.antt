@@ -5,49 +5,49 @@ use Rattle.std.specs.List.{AllByRecursion}
 use Rattle.std.specs.declared.cmp.Ordering.{Ordering}
 use Rattle.std.specs.Cmp.Lexicographic.{slice_cmp}
 use Rattle.std.specs.Ordering.{nat_cmp, ordering_then}
-use Rattle.brk_money.specs.Kinds.{side_of}
+use Rattle.brk_money.specs.Kinds.{side_of_trade_type}
 use Rattle.brk_money.specs.Spelling.{Text}
 use Rattle.brk_model.specs.Form.{has_account, has_security}
 use Rattle.brk_model.specs.Lists.{is_zero, total_by}
-use Rattle.brk_model.specs.Shares.{signed}
+use Rattle.brk_model.specs.Shares.{signed_by_side}
 use Rattle.brk_model.specs.Tables.{Tables, SummaryRow, TradeRow}
 use Rattle.brk_audit.specs.Completed.{is_completed_row}
 use Rattle.brk_audit.specs.declared.tally.Posting.{Posting}
 
 -- The number of shares that the completed trades of the account in the symbol sum to, negative if
 -- sold short.
-abbrev pub sum_of_position : Tables → ℕ → Text → ℤ
-sum_of_position t account symbol =
-    total_by (λ r. signed (side_of r.kind) r.qty) (filter (λ r. is_completed_row r && ((r.account == account) && bytes_eq r.symbol symbol)) t.trades)
+abbrev pub shares_left_by_trades : Tables → ℕ → Text → ℤ
+shares_left_by_trades t account symbol =
+    total_by (λ r. signed_by_side (side_of_trade_type r.kind) r.qty) (filter (λ r. is_completed_row r && ((r.account == account) && bytes_eq r.symbol symbol)) t.trades)
 
 -- The sum of the quantities of the summaries of the account in the symbol.
-abbrev pub told_of_position : List SummaryRow → ℕ → Text → ℤ
-told_of_position rows account symbol = total_by (λ h. h.qty) (filter (λ h. (h.account == account) && bytes_eq h.symbol symbol) rows)
+abbrev pub shares_in_summaries : List SummaryRow → ℕ → Text → ℤ
+shares_in_summaries rows account symbol = total_by (λ h. h.qty) (filter (λ h. (h.account == account) && bytes_eq h.symbol symbol) rows)
 
 -- The quantity of the summary is not 0.
-abbrev pub TellsShares : SummaryRow → Type 0
-TellsShares h = is_zero h.qty ≡ false
+abbrev pub HasNonzeroQuantity : SummaryRow → Type 0
+HasNonzeroQuantity h = is_zero h.qty ≡ false
 
 -- For each existing account and security, the summaries sum to the shares of the completed trades.
 -- No summary has the quantity 0.
-pub record SummariesHold (t : Tables) : Type 0 where
+pub record SummariesMatchTrades (t : Tables) : Type 0 where
   pub sums : (account : ℕ) (symbol : Text) → has_account t account ≡ true → has_security t symbol ≡ true
-      → sum_of_position t account symbol ≡ told_of_position t.summaries account symbol
-  pub told : AllByRecursion TellsShares t.summaries
+      → shares_left_by_trades t account symbol ≡ shares_in_summaries t.summaries account symbol
+  pub told : AllByRecursion HasNonzeroQuantity t.summaries
 
 -- The order of positions: by account, then by the bytes of the symbol.
 abbrev pub position_cmp : ℕ × Bor (List ℕ) → ℕ × Bor (List ℕ) → Ordering
 position_cmp x y = ordering_then (nat_cmp x.0 y.0) (slice_cmp nat_cmp x.1.now y.1.now)
 
 -- The posting with the bytes of its symbol in place of a reference to them.
-abbrev pub plain : Posting (ℕ × Bor (List ℕ)) → Posting (ℕ × Text)
-plain p = record { key = (p.key.0, p.key.1.now); amount = p.amount }
+abbrev pub plain_posting : Posting (ℕ × Bor (List ℕ)) → Posting (ℕ × Text)
+plain_posting p = record { key = (p.key.0, p.key.1.now); amount = p.amount }
 
 -- The posting of the signed quantity of the trade at its account and symbol, or `None` if the trade
 -- is not completed.
-abbrev pub shares_posting : TradeRow → Option (Posting (ℕ × Text))
-shares_posting r = if is_completed_row r then Some (record { key = (r.account, r.symbol); amount = signed (side_of r.kind) r.qty }) else None
+abbrev pub share_posting_of_trade : TradeRow → Option (Posting (ℕ × Text))
+share_posting_of_trade r = if is_completed_row r then Some (record { key = (r.account, r.symbol); amount = signed_by_side (side_of_trade_type r.kind) r.qty }) else None
 
 -- The posting of the quantity of the summary at its account and symbol.
-abbrev pub told_posting : SummaryRow → Posting (ℕ × Text)
-told_posting h = record { key = (h.account, h.symbol); amount = h.qty }
+abbrev pub share_posting_of_summary : SummaryRow → Posting (ℕ × Text)
+share_posting_of_summary h = record { key = (h.account, h.symbol); amount = h.qty }

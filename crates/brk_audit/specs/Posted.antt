@@ -1,7 +1,7 @@
 -- The figures of a trade's cash row, as the program holds them.
-use Rattle.brk_audit.specs.Settling.{Posted}
+use Rattle.brk_audit.specs.Settling.{MoveRowFigures}
 use Rattle.brk_audit.specs.declared.cash.Posted as declared
 
 -- The figures of the typed value `p`, as the specification has them.
-abbrev pub posted_of : declared.Posted → Posted
-posted_of p = record { account = p.account; trade = p.trade; stamp = p.stamp; amount = p.amount }
+abbrev pub abstract_posted_figures : declared.Posted → MoveRowFigures
+abstract_posted_figures p = record { account = p.account; trade = p.trade; stamp = p.stamp; amount = p.amount }

@@ -2,67 +2,67 @@
 -- valid status sequence.
 use Rattle.std.specs.Prelude.{ℕ, ◌==◌, Bool, true, false, ◌&&◌, nat_lt, List, [], ◌∷◌, take, drop, map, filter, is_none}
 use Rattle.std.specs.List.{prefix_len}
-use Rattle.brk_money.specs.Kinds.{same_status}
+use Rattle.brk_money.specs.Kinds.{is_same_trade_status}
 use Rattle.brk_money.specs.declared.status.Status.{Status}
 use Rattle.brk_money.specs.declared.status.Status.TheVariants.{Completed, Active, Submitted, Pending, Canceled}
 use Rattle.brk_model.specs.Tables.{HistoryRow, MoveRow, TradeRow}
 
 -- True if a trade can begin with the status: `Submitted` or `Pending`.
-abbrev pub is_first : Status → Bool
-is_first Completed = false
-is_first Active = false
-is_first Submitted = true
-is_first Pending = true
-is_first Canceled = false
+abbrev pub is_first_status : Status → Bool
+is_first_status Completed = false
+is_first_status Active = false
+is_first_status Submitted = true
+is_first_status Pending = true
+is_first_status Canceled = false
 
 -- True if the trade's row has the status and the stamp of the history row.
-abbrev pub is_at : TradeRow → HistoryRow → Bool
-is_at r h = same_status r.status h.status && (r.stamp == h.stamp)
+abbrev pub has_status_and_stamp_of : TradeRow → HistoryRow → Bool
+has_status_and_stamp_of r h = is_same_trade_status r.status h.status && (r.stamp == h.stamp)
 
 -- For two statuses of a history, sorted by code: `first` if they can be a valid sequence that ends
 -- in the first of them, `second` if in the second, and false if they cannot be a valid sequence.
-abbrev pub two_by : Status → Status → Bool → Bool → Bool
-two_by Completed Submitted first second = first
-two_by Canceled Pending first second = first
-two_by Pending Submitted first second = second
-two_by _ _ first second = false
+abbrev pub two_status_result : Status → Status → Bool → Bool → Bool
+two_status_result Completed Submitted first second = first
+two_status_result Canceled Pending first second = first
+two_status_result Pending Submitted first second = second
+two_status_result _ _ first second = false
 
 -- True if the history of the two rows is a valid status sequence by their stamps, and the trade's
 -- row has the status and the stamp of its last row.
-abbrev pub are_valid_two : TradeRow → HistoryRow → HistoryRow → Bool
-are_valid_two r a b = two_by a.status b.status (nat_lt b.stamp a.stamp && is_at r a) (nat_lt a.stamp b.stamp && is_at r b)
+abbrev pub is_valid_two_row_history : TradeRow → HistoryRow → HistoryRow → Bool
+is_valid_two_row_history r a b = two_status_result a.status b.status (nat_lt b.stamp a.stamp && has_status_and_stamp_of r a) (nat_lt a.stamp b.stamp && has_status_and_stamp_of r b)
 
 -- For three statuses of a history, sorted by code: `told` if they can be a valid sequence,
 -- otherwise false.
-abbrev pub three_by : Status → Status → Status → Bool → Bool
-three_by Completed Pending Submitted told = told
-three_by _ _ _ told = false
+abbrev pub three_status_result : Status → Status → Status → Bool → Bool
+three_status_result Completed Pending Submitted told = told
+three_status_result _ _ _ told = false
 
 -- True if the history of the three rows is a valid status sequence by their stamps, and the trade's
 -- row has the status and the stamp of its last row.
-abbrev pub are_valid_three : TradeRow → HistoryRow → HistoryRow → HistoryRow → Bool
-are_valid_three r a b c = three_by a.status b.status c.status (nat_lt b.stamp c.stamp && nat_lt c.stamp a.stamp && is_at r a)
+abbrev pub is_valid_three_row_history : TradeRow → HistoryRow → HistoryRow → HistoryRow → Bool
+is_valid_three_row_history r a b c = three_status_result a.status b.status c.status (nat_lt b.stamp c.stamp && nat_lt c.stamp a.stamp && has_status_and_stamp_of r a)
 
 -- True if the history rows of the trade, sorted by status code, are a valid status sequence by
 -- their stamps, and the trade's row has the status and the stamp of the last one.
 abbrev pub is_valid_history : TradeRow → List HistoryRow → Bool
 is_valid_history r [] = false
-is_valid_history r (h ∷ []) = is_first h.status && is_at r h
-is_valid_history r (a ∷ b ∷ []) = are_valid_two r a b
-is_valid_history r (a ∷ b ∷ c ∷ []) = are_valid_three r a b c
+is_valid_history r (h ∷ []) = is_first_status h.status && has_status_and_stamp_of r h
+is_valid_history r (a ∷ b ∷ []) = is_valid_two_row_history r a b
+is_valid_history r (a ∷ b ∷ c ∷ []) = is_valid_three_row_history r a b c
 is_valid_history r (a ∷ b ∷ c ∷ d ∷ hs) = false
 
 -- True if the history rows of each trade are a valid status sequence (`is_valid_history`). The
 -- history rows are listed in the order of the trades.
-abbrev pub all_valid : List TradeRow → List HistoryRow → Bool
-all_valid [] hs = true
-all_valid (r ∷ rs) hs =
-    is_valid_history r (take (prefix_len (λ h. h.trade == r.id) hs) hs) && all_valid rs (drop (prefix_len (λ h. h.trade == r.id) hs) hs)
+abbrev pub all_histories_are_valid : List TradeRow → List HistoryRow → Bool
+all_histories_are_valid [] hs = true
+all_histories_are_valid (r ∷ rs) hs =
+    is_valid_history r (take (prefix_len (λ h. h.trade == r.id) hs) hs) && all_histories_are_valid rs (drop (prefix_len (λ h. h.trade == r.id) hs) hs)
 
 -- The stamps of the history rows with the status `Completed`.
 abbrev pub completion_stamps_of : List HistoryRow → List ℕ
-completion_stamps_of hs = map (λ h. h.stamp) (filter (λ h. same_status h.status Completed) hs)
+completion_stamps_of hs = map (λ h. h.stamp) (filter (λ h. is_same_trade_status h.status Completed) hs)
 
 -- The stamps of the cash rows without a trade: deposits and withdrawals.
-abbrev pub moved_stamps_of : List MoveRow → List ℕ
-moved_stamps_of rows = map (λ r. r.stamp) (filter (λ r. is_none r.trade) rows)
+abbrev pub movement_stamps_of : List MoveRow → List ℕ
+movement_stamps_of rows = map (λ r. r.stamp) (filter (λ r. is_none r.trade) rows)

@@ -4,16 +4,16 @@ use Rattle.brk_money.specs.declared.tax_status.TaxStatus.{TaxStatus}
 use Rattle.brk_model.specs.Lists.{total_by}
 use Rattle.brk_model.specs.Tables.{MoveRow, Tables, TradeRow}
 use Rattle.brk_audit.specs.Completed.{is_completed_row}
-use Rattle.brk_audit.specs.Settling.{amount_at, broker_at, is_done_in_cash}
+use Rattle.brk_audit.specs.Settling.{settlement_amount_at, account_broker_or_zero, is_completed_cash_trade}
 use Rattle.brk_audit.specs.declared.tally.Posting.{Posting}
 
 -- The sum of `amount` over the completed trades of the broker's accounts.
-abbrev pub sum_of_broker : Tables → (TradeRow → ℤ) → ℕ → ℤ
-sum_of_broker t amount broker = total_by amount (filter (λ r. is_completed_row r && (broker_at t r.account == broker)) t.trades)
+abbrev pub sum_over_broker_trades : Tables → (TradeRow → ℤ) → ℕ → ℤ
+sum_over_broker_trades t amount broker = total_by amount (filter (λ r. is_completed_row r && (account_broker_or_zero t r.account == broker)) t.trades)
 
 -- The sum of `amount` over the completed cash trades of the account.
-abbrev pub sum_of_account : Tables → (TradeRow → ℤ) → ℕ → ℤ
-sum_of_account t amount account = total_by amount (filter (λ r. is_done_in_cash r && (r.account == account)) t.trades)
+abbrev pub sum_over_account_cash_trades : Tables → (TradeRow → ℤ) → ℕ → ℤ
+sum_over_account_cash_trades t amount account = total_by amount (filter (λ r. is_completed_cash_trade r && (r.account == account)) t.trades)
 
 -- The posting of 1 at the broker of the trade's account, or `None` if the trade is not completed.
 abbrev pub count_posting : (ℕ → ℕ) → TradeRow → Option (Posting ℕ)
@@ -27,11 +27,11 @@ commission_posting brokers r = if is_completed_row r then Some (record { key = b
 -- The posting of the trade's settlement amount at its account, or `None` if it is not a completed
 -- cash trade.
 abbrev pub cash_posting : (ℕ → TaxStatus) → TradeRow → Option (Posting ℕ)
-cash_posting statuses r = if is_done_in_cash r then Some (record { key = r.account; amount = amount_at (statuses r.account) r }) else None
+cash_posting statuses r = if is_completed_cash_trade r then Some (record { key = r.account; amount = settlement_amount_at (statuses r.account) r }) else None
 
 -- The sum of the amounts of the account's deposits and withdrawals; a withdrawal counts below 0.
-abbrev pub sum_of_movements : Tables → ℕ → ℤ
-sum_of_movements t account = total_by (λ r. r.amount) (filter (λ r. is_none r.trade && (r.account == account)) t.moves)
+abbrev pub movement_sum_of_account : Tables → ℕ → ℤ
+movement_sum_of_account t account = total_by (λ r. r.amount) (filter (λ r. is_none r.trade && (r.account == account)) t.moves)
 
 -- The posting of the row's amount at its account, or `None` if the row belongs to a trade.
 abbrev pub movement_posting : MoveRow → Option (Posting ℕ)

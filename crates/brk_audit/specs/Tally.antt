@@ -7,9 +7,9 @@ use Rattle.brk_model.specs.Lists.{total_by}
 use Rattle.brk_audit.specs.declared.tally.Posting.{Posting}
 
 -- The sum at the key `q` in the map `sums`, or 0 if the map does not contain the key.
-abbrev pub at_key : {K : Type 0} → (K → K → Ordering) → BTreeMap K ℤ → K → ℤ
-at_key cmp sums q = unwrap_or (get cmp sums q) (pos 0)
+abbrev pub sum_at_key : {K : Type 0} → (K → K → Ordering) → BTreeMap K ℤ → K → ℤ
+sum_at_key cmp sums q = unwrap_or (get cmp sums q) (pos 0)
 
 -- The sum of the amounts of those postings whose key is equal to `q` by the order `cmp`.
-abbrev pub total_at : {K : Type 0} → (K → K → Ordering) → List (Posting K) → K → ℤ
-total_at cmp postings q = total_by (λ p. p.amount) (filter (λ p. is_eq (cmp p.key q)) postings)
+abbrev pub total_amount_at_key : {K : Type 0} → (K → K → Ordering) → List (Posting K) → K → ℤ
+total_amount_at_key cmp postings q = total_by (λ p. p.amount) (filter (λ p. is_eq (cmp p.key q)) postings)

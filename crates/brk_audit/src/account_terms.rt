@@ -4,7 +4,7 @@ ghost use Rattle.std.specs.Prelude.{◌≡◌, ℕ, ◌==◌, IfErr, IfOk, find,
 ghost use Rattle.std.specs.Ordering.{nat_cmp};
 ghost use Rattle.std.specs.BTreeMap.{get};
 ghost use Rattle.brk_money.specs.declared.fault.Fault.TheVariants.{Memory};
-ghost use Rattle.brk_audit.specs.AccountTerms.{broker_by, tax_status_by, terms_of};
+ghost use Rattle.brk_audit.specs.AccountTerms.{broker_in_terms, tax_status_in_terms, terms_of_account_row};
 
 use brk_money::{Fault, Id, TaxStatus};
 use brk_ref::AccountRow;
@@ -20,11 +20,11 @@ pub(crate) struct AccountTerms {
 
 /// Returns a map from the id of each account to its broker and tax status. Fails with `Memory`
 /// only.
-pub(crate) fn terms_of_accounts(
+pub(crate) fn account_terms_by_id(
     alloc: Global,
     accounts: &[AccountRow],
 ) -> Result<BTreeMap<u64, AccountTerms>, Fault>
-    ensures terms { IfOk result (λ terms. (id : ℕ) → get nat_cmp terms id ≡ option_map terms_of (find (λ a. a.account.id == id) accounts.now)) }
+    ensures terms { IfOk result (λ terms. (id : ℕ) → get nat_cmp terms id ≡ option_map terms_of_account_row (find (λ a. a.account.id == id) accounts.now)) }
     ensures fault { IfErr result (λ fault. fault ≡ Memory) }
 {
     let mut terms = BTreeMap::new(alloc);
@@ -42,8 +42,8 @@ pub(crate) fn terms_of_accounts(
 }
 
 /// Returns the broker of the account in the map, or 0 if the map does not contain the account.
-pub(crate) fn broker_of(terms: &BTreeMap<u64, AccountTerms>, account: Id) -> u64
-    ensures { result ≡ broker_by terms.now account }
+pub(crate) fn account_broker_id(terms: &BTreeMap<u64, AccountTerms>, account: Id) -> u64
+    ensures { result ≡ broker_in_terms terms.now account }
 {
     let id = account.get();
     match terms.get(&id) {
@@ -54,8 +54,8 @@ pub(crate) fn broker_of(terms: &BTreeMap<u64, AccountTerms>, account: Id) -> u64
 
 /// Returns the tax status of the account in the map, or `Untaxed` if the map does not contain the
 /// account.
-pub(crate) fn tax_status_of(terms: &BTreeMap<u64, AccountTerms>, account: Id) -> TaxStatus
-    ensures { result ≡ tax_status_by terms.now account }
+pub(crate) fn account_tax_status(terms: &BTreeMap<u64, AccountTerms>, account: Id) -> TaxStatus
+    ensures { result ≡ tax_status_in_terms terms.now account }
 {
     let id = account.get();
     match terms.get(&id) {

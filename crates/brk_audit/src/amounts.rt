@@ -1,18 +1,18 @@
 //! The settlement amounts of completed trades.
 
 ghost use Rattle.std.specs.Prelude.{◌≡◌, ◌*◌, ◌≤◌, pos, ◌-ℤ◌, if◌then◌else◌, unwrap_or};
-ghost use Rattle.brk_model.specs.Base.{takes_tax_off};
-ghost use Rattle.brk_model.specs.Derived.{proceeds};
+ghost use Rattle.brk_model.specs.Base.{is_withholding_status};
+ghost use Rattle.brk_model.specs.Derived.{signed_proceeds};
 ghost use Rattle.brk_model.specs.Limits.{greatest_amount, greatest_price, greatest_qty};
-ghost use Rattle.brk_changes.specs.Rows.{trade_row_of};
-ghost use Rattle.brk_audit.specs.Settling.{amount_at};
+ghost use Rattle.brk_changes.specs.Rows.{abstract_trade_row};
+ghost use Rattle.brk_audit.specs.Settling.{settlement_amount_at};
 
 use brk_changes::TradeRow;
 use brk_money::{Amount, Price, Side, TaxStatus};
 
 // Returns the part of the tax that is withheld from the settlement at the tax status, in cents.
-fn withheld(tax: Amount, tax_status: TaxStatus) -> u64
-    ensures value { result ≡ (if takes_tax_off tax_status then tax else 0) }
+fn tax_withheld_from_settlement(tax: Amount, tax_status: TaxStatus) -> u64
+    ensures value { result ≡ (if is_withholding_status tax_status then tax else 0) }
     ensures high { result ≤ greatest_amount }
 {
     match tax_status {
@@ -22,7 +22,7 @@ fn withheld(tax: Amount, tax_status: TaxStatus) -> u64
 }
 
 // Returns the price in cents, or 0 if it is `None`.
-fn cents_of(price: Option<Price>) -> u64
+fn price_or_zero(price: Option<Price>) -> u64
     ensures value { result ≡ unwrap_or price 0 }
     ensures high { result ≤ greatest_price }
 {
@@ -33,7 +33,7 @@ fn cents_of(price: Option<Price>) -> u64
 }
 
 // Returns the value of `qty` shares at a price, in cents.
-fn worth(qty: u32, cents: u64) -> u64
+fn value_of_shares(qty: u32, cents: u64) -> u64
     requires qty { qty ≤ greatest_qty }
     requires cents { cents ≤ greatest_price }
     ensures value { result ≡ qty * cents }
@@ -43,10 +43,10 @@ fn worth(qty: u32, cents: u64) -> u64
 }
 
 // Returns the value of a sale, or the negated value of a purchase, minus `taken_off`, in cents.
-fn settled(side: Side, value: u64, taken_off: u64) -> i64
+fn proceeds_less_deductions(side: Side, value: u64, taken_off: u64) -> i64
     requires value { value ≤ greatest_qty * greatest_price }
     requires taken_off { taken_off ≤ 3 * greatest_amount }
-    ensures { result ≡ proceeds side value -ℤ pos taken_off }
+    ensures { result ≡ signed_proceeds side value -ℤ pos taken_off }
 {
     let brought = match side {
         Side::Buy => -(value as i64),
@@ -57,11 +57,13 @@ fn settled(side: Side, value: u64, taken_off: u64) -> i64
 
 /// Returns the settlement amount of a completed trade at its account's tax status, in cents;
 /// negative if the account pays.
-pub(crate) fn amount_of_row(trade: &TradeRow, tax_status: TaxStatus) -> i64
-    ensures { result ≡ amount_at tax_status (trade_row_of trade.now) }
+pub(crate) fn settlement_amount_of_row(trade: &TradeRow, tax_status: TaxStatus) -> i64
+    ensures { result ≡ settlement_amount_at tax_status (abstract_trade_row trade.now) }
 {
-    let value = worth(trade.qty.get(), cents_of(trade.price));
+    let value = value_of_shares(trade.qty.get(), price_or_zero(trade.price));
     let charge = u64::from(trade.charge.get());
-    let taken_off = charge + trade.commission.get() + withheld(trade.tax, tax_status);
-    settled(trade.kind.side(), value, taken_off)
+    let taken_off = charge
+        + trade.commission.get()
+        + tax_withheld_from_settlement(trade.tax, tax_status);
+    proceeds_less_deductions(trade.kind.side(), value, taken_off)
 }

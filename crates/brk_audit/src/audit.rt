@@ -1,19 +1,19 @@
 ghost use Rattle.std.specs.Prelude.{◌≡◌, IfErr, IfOk};
 ghost use Rattle.brk_money.specs.declared.fault.Fault.TheVariants.{Memory};
-ghost use Rattle.brk_model.specs.Audit.{IsAudit};
-ghost use Rattle.brk_changes.specs.Schemas.{schema_of};
+ghost use Rattle.brk_model.specs.Audit.{IsAuditResult};
+ghost use Rattle.brk_changes.specs.Schemas.{abstract_schema};
 ghost use Rattle.brk_changes.specs.Sheets.{tables_in_sheets};
 
-use crate::balances::has_balances;
-use crate::cash::has_cash_rows;
-use crate::commissions::has_commissions;
-use crate::counts::has_counts;
-use crate::history::has_lot_history;
-use crate::lots::has_lots;
-use crate::requests::has_requests;
-use crate::settlements::has_settlements;
-use crate::status::has_statuses;
-use crate::summaries::has_summaries;
+use crate::balances::balance_condition_holds;
+use crate::cash::cash_condition_holds;
+use crate::commissions::commission_condition_holds;
+use crate::counts::count_condition_holds;
+use crate::history::history_condition_holds;
+use crate::lots::lot_condition_holds;
+use crate::requests::request_condition_holds;
+use crate::settlements::settlement_condition_holds;
+use crate::status::status_condition_holds;
+use crate::summaries::summary_condition_holds;
 use brk_audit_form::has_form;
 use brk_changes::{Schema, Sheets};
 use brk_money::{Condition, Fault};
@@ -29,40 +29,40 @@ pub fn audit_rows(
     schema: Schema,
     sheets: &Sheets,
 ) -> Result<Option<Condition>, Fault>
-    ensures told { IfOk result (λ answer. IsAudit (schema_of schema) (tables_in_sheets sheets.now) answer) }
+    ensures told { IfOk result (λ answer. IsAuditResult (abstract_schema schema) (tables_in_sheets sheets.now) answer) }
     ensures fault { IfErr result (λ fault. fault ≡ Memory) }
 {
     if !has_form(alloc, schema, sheets)? {
         return Ok(Some(Condition::Form));
     }
-    if !has_statuses(alloc, sheets)? {
+    if !status_condition_holds(alloc, sheets)? {
         return Ok(Some(Condition::Status));
     }
-    if !has_requests(alloc, sheets)? {
+    if !request_condition_holds(alloc, sheets)? {
         return Ok(Some(Condition::Requests));
     }
-    if !has_lots(alloc, sheets)? {
+    if !lot_condition_holds(alloc, sheets)? {
         return Ok(Some(Condition::Lots));
     }
-    if !has_lot_history(alloc, sheets)? {
+    if !history_condition_holds(alloc, sheets)? {
         return Ok(Some(Condition::History));
     }
-    if !has_summaries(alloc, sheets)? {
+    if !summary_condition_holds(alloc, sheets)? {
         return Ok(Some(Condition::Summary));
     }
-    if !has_counts(alloc, sheets)? {
+    if !count_condition_holds(alloc, sheets)? {
         return Ok(Some(Condition::Count));
     }
-    if !has_commissions(alloc, sheets)? {
+    if !commission_condition_holds(alloc, sheets)? {
         return Ok(Some(Condition::Commission));
     }
-    if !has_settlements(alloc, sheets)? {
+    if !settlement_condition_holds(alloc, sheets)? {
         return Ok(Some(Condition::Settlement));
     }
-    if !has_cash_rows(alloc, schema, sheets)? {
+    if !cash_condition_holds(alloc, schema, sheets)? {
         return Ok(Some(Condition::Cash));
     }
-    if !has_balances(alloc, sheets)? {
+    if !balance_condition_holds(alloc, sheets)? {
         return Ok(Some(Condition::Balance));
     }
     Ok(None)

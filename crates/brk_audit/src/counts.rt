@@ -6,14 +6,14 @@ ghost use Rattle.brk_money.specs.declared.fault.Condition.TheVariants.{Count};
 ghost use Rattle.brk_money.specs.declared.fault.Fault.TheVariants.{Memory};
 ghost use Rattle.brk_model.specs.Audit.{ConditionHolds};
 ghost use Rattle.brk_model.specs.Schemas.{Schema};
-ghost use Rattle.brk_changes.specs.Rows.{trade_row_of};
+ghost use Rattle.brk_changes.specs.Rows.{abstract_trade_row};
 ghost use Rattle.brk_changes.specs.Sheets.{tables_in_sheets};
-ghost use Rattle.brk_audit.specs.AccountTerms.{broker_by};
-ghost use Rattle.brk_audit.specs.Conditions.{HasForm, HasStatuses};
+ghost use Rattle.brk_audit.specs.AccountTerms.{broker_in_terms};
+ghost use Rattle.brk_audit.specs.Conditions.{HasWellFormedRows, HasValidStatuses};
 ghost use Rattle.brk_audit.specs.Sums.{count_posting};
-ghost use Rattle.brk_audit.specs.Tally.{at_key};
+ghost use Rattle.brk_audit.specs.Tally.{sum_at_key};
 
-use crate::account_terms::{AccountTerms, broker_of, terms_of_accounts};
+use crate::account_terms::{AccountTerms, account_broker_id, account_terms_by_id};
 use crate::status::is_completed;
 use crate::tally::{Posting, sum_at, tally};
 use brk_changes::{Sheets, TradeRow};
@@ -24,46 +24,49 @@ use std::collections::BTreeMap;
 
 // Returns the posting of 1 at the broker of the trade's account, or `None` if the trade is not
 // completed.
-fn posting_of(terms: &BTreeMap<u64, AccountTerms>, trade: &TradeRow) -> Option<Posting<u64>>
-    ensures { result ≡ count_posting (broker_by terms.now) (trade_row_of trade.now) }
+fn count_posting_of_trade(
+    terms: &BTreeMap<u64, AccountTerms>,
+    trade: &TradeRow,
+) -> Option<Posting<u64>>
+    ensures { result ≡ count_posting (broker_in_terms terms.now) (abstract_trade_row trade.now) }
 {
     if !is_completed(trade.status) {
         return None;
     }
-    let key = broker_of(terms, trade.account);
+    let key = account_broker_id(terms, trade.account);
     Some(Posting { key, amount: 1 })
 }
 
 // Returns the postings of 1 for all completed trades. Fails with `Memory` only.
-fn postings_of(
+fn count_postings_of_trades(
     alloc: Global,
     terms: &BTreeMap<u64, AccountTerms>,
     trades: &[TradeRow],
 ) -> Result<Vec<Posting<u64>>, Fault>
-    ensures all { IfOk result (λ all. all.items ≡ filter_map (λ r. count_posting (broker_by terms.now) (trade_row_of r)) trades.now) }
+    ensures all { IfOk result (λ all. all.items ≡ filter_map (λ r. count_posting (broker_in_terms terms.now) (abstract_trade_row r)) trades.now) }
     ensures fault { IfErr result (λ fault. fault ≡ Memory) }
 {
     let all = trades
         .iter()
-        .filter_map(|trade| posting_of(terms, trade))
+        .filter_map(|trade| count_posting_of_trade(terms, trade))
         .collect(alloc)?;
     Ok(all)
 }
 
 // Returns true if the broker's trade count is the sum at the broker's id.
-fn is_counted(sums: &BTreeMap<u64, i128>, row: &BrokerRow) -> bool
-    ensures { IsTrue result ↔ (row.now.trades ≡ at_key nat_cmp sums.now row.now.broker.id) }
+fn has_trade_count(sums: &BTreeMap<u64, i128>, row: &BrokerRow) -> bool
+    ensures { IsTrue result ↔ (row.now.trades ≡ sum_at_key nat_cmp sums.now row.now.broker.id) }
 {
     let count = sum_at(sums, row.broker.id.get());
     i128::from(row.trades) == count
 }
 
 // Returns true if the trade count of each broker is the sum at the broker's id.
-fn are_counted(sums: &BTreeMap<u64, i128>, rows: &[BrokerRow]) -> bool
-    ensures { IsTrue result ↔ AllByRecursion (λ row. row.trades ≡ at_key nat_cmp sums.now row.broker.id) rows.now }
+fn all_have_trade_counts(sums: &BTreeMap<u64, i128>, rows: &[BrokerRow]) -> bool
+    ensures { IsTrue result ↔ AllByRecursion (λ row. row.trades ≡ sum_at_key nat_cmp sums.now row.broker.id) rows.now }
 {
     for row in rows {
-        if !is_counted(sums, row) {
+        if !has_trade_count(sums, row) {
             return false;
         }
     }
@@ -72,14 +75,14 @@ fn are_counted(sums: &BTreeMap<u64, i128>, rows: &[BrokerRow]) -> bool
 
 /// Returns true if each broker's trade count is the number of the completed trades of the broker's
 /// accounts. Fails with `Memory` only.
-pub(crate) fn has_counts(alloc: Global, sheets: &Sheets) -> Result<bool, Fault>
-    requires form { HasForm sheets.now }
-    requires status { HasStatuses sheets.now }
+pub(crate) fn count_condition_holds(alloc: Global, sheets: &Sheets) -> Result<bool, Fault>
+    requires form { HasWellFormedRows sheets.now }
+    requires status { HasValidStatuses sheets.now }
     ensures told { IfOk result (λ holds. (schema : Schema) → IsTrue holds ↔ ConditionHolds schema Count (tables_in_sheets sheets.now)) }
     ensures fault { IfErr result (λ fault. fault ≡ Memory) }
 {
-    let terms = terms_of_accounts(alloc, &sheets.accounts)?;
-    let postings = postings_of(alloc, &terms, &sheets.trades)?;
+    let terms = account_terms_by_id(alloc, &sheets.accounts)?;
+    let postings = count_postings_of_trades(alloc, &terms, &sheets.trades)?;
     let sums = tally(alloc, &postings)?;
-    Ok(are_counted(&sums, &sheets.brokers))
+    Ok(all_have_trade_counts(&sums, &sheets.brokers))
 }

@@ -1,25 +1,25 @@
 ghost use Rattle.std.specs.Prelude.{◌≡◌, ◌++◌, ◌↔◌, IfErr, IfOk, IsSome, IsTrue, OnOk, map};
 ghost use Rattle.std.specs.List.{AllByRecursion, IsDistinct};
 ghost use Rattle.std.specs.List.Sorted.{IsSortedBy};
-ghost use Rattle.brk_audit.specs.Conditions.{HasForm, HasStatuses};
-ghost use Rattle.brk_audit.specs.Positions.{Leave, clash, lot_row, place_before};
-ghost use Rattle.brk_changes.specs.Rows.{holding_row_of, trade_row_of};
+ghost use Rattle.brk_audit.specs.Conditions.{HasWellFormedRows, HasValidStatuses};
+ghost use Rattle.brk_audit.specs.Positions.{AreLotsLeftByTrades, has_same_id_or_stamp, lot_row_of_position, precedes_by_position};
+ghost use Rattle.brk_changes.specs.Rows.{abstract_holding_row, abstract_trade_row};
 ghost use Rattle.brk_changes.specs.Sheets.{tables_in_sheets};
-ghost use Rattle.brk_lots.specs.Lots.{plain_lot};
+ghost use Rattle.brk_lots.specs.Lots.{abstract_lot};
 ghost use Rattle.brk_model.specs.Audit.{ConditionHolds};
 ghost use Rattle.brk_model.specs.Schemas.{Schema};
 ghost use Rattle.brk_money.specs.declared.fault.Condition.TheVariants.{Lots};
 ghost use Rattle.brk_money.specs.declared.fault.Fault.TheVariants.{Memory};
 
-use crate::positions::{completed_by_position, position_after, position_len};
+use crate::positions::{completed_trades_by_position, leading_position_len, position_after_trades};
 use brk_changes::{HoldingRow, Sheets, TradeRow};
 use brk_lots::Lot;
 use brk_money::Fault;
 use std::alloc::Global;
 
 // Appends the lots, with the account and the symbol of the trade. Fails with `Memory` only.
-fn add_lots(held: &mut Vec<HoldingRow>, trade: &TradeRow, lots: &[Lot]) -> Result<(), Fault>
-    ensures added { OnOk result (map holding_row_of held.new.items ≡ map holding_row_of held.old.items ++ map (lot_row (trade_row_of trade.now)) (map plain_lot lots.now)) }
+fn append_lot_rows(held: &mut Vec<HoldingRow>, trade: &TradeRow, lots: &[Lot]) -> Result<(), Fault>
+    ensures added { OnOk result (map abstract_holding_row held.new.items ≡ map abstract_holding_row held.old.items ++ map (lot_row_of_position (abstract_trade_row trade.now)) (map abstract_lot lots.now)) }
     ensures fault { IfErr result (λ fault. fault ≡ Memory) }
 {
     for lot in lots {
@@ -36,20 +36,20 @@ fn add_lots(held: &mut Vec<HoldingRow>, trade: &TradeRow, lots: &[Lot]) -> Resul
 }
 
 // Returns the lots that the completed trades leave, position by position. Fails with `Memory` only.
-fn lots_left(alloc: Global, done: &[&TradeRow]) -> Result<Vec<HoldingRow>, Fault>
-    requires order { IsSortedBy (λ one other. place_before (trade_row_of one.now) (trade_row_of other.now)) done.now }
-    requires apart { IsDistinct clash (map (λ row. trade_row_of row.now) done.now) }
+fn lots_left_by_trades(alloc: Global, done: &[&TradeRow]) -> Result<Vec<HoldingRow>, Fault>
+    requires order { IsSortedBy (λ one other. precedes_by_position (abstract_trade_row one.now) (abstract_trade_row other.now)) done.now }
+    requires apart { IsDistinct has_same_id_or_stamp (map (λ row. abstract_trade_row row.now) done.now) }
     requires priced { AllByRecursion (λ row. IsSome row.now.price) done.now }
-    ensures left { IfOk result (λ held. Leave (map (λ row. trade_row_of row.now) done.now) (map holding_row_of held.items)) }
+    ensures left { IfOk result (λ held. AreLotsLeftByTrades (map (λ row. abstract_trade_row row.now) done.now) (map abstract_holding_row held.items)) }
     ensures fault { IfErr result (λ fault. fault ≡ Memory) }
 {
     let mut held = Vec::new(alloc);
     let mut begin = 0;
     while begin < done.len() {
         let trade = done[begin];
-        let end = begin + 1 + position_len(trade, &done[begin + 1..]);
-        let position = position_after(alloc, &done[begin..end])?;
-        add_lots(&mut held, trade, position.lots())?;
+        let end = begin + 1 + leading_position_len(trade, &done[begin + 1..]);
+        let position = position_after_trades(alloc, &done[begin..end])?;
+        append_lot_rows(&mut held, trade, position.lots())?;
         begin = end;
     }
     Ok(held)
@@ -57,7 +57,7 @@ fn lots_left(alloc: Global, done: &[&TradeRow]) -> Result<Vec<HoldingRow>, Fault
 
 // Returns true if the two rows are equal.
 fn is_same_row(one: &HoldingRow, other: &HoldingRow) -> bool
-    ensures { IsTrue result ↔ (holding_row_of one.now ≡ holding_row_of other.now) }
+    ensures { IsTrue result ↔ (abstract_holding_row one.now ≡ abstract_holding_row other.now) }
 {
     one.trade == other.trade
         && one.account == other.account
@@ -69,7 +69,7 @@ fn is_same_row(one: &HoldingRow, other: &HoldingRow) -> bool
 
 // Returns true if the two lists of rows are equal.
 fn are_same_rows(rows: &[HoldingRow], others: &[HoldingRow]) -> bool
-    ensures { IsTrue result ↔ (map holding_row_of rows.now ≡ map holding_row_of others.now) }
+    ensures { IsTrue result ↔ (map abstract_holding_row rows.now ≡ map abstract_holding_row others.now) }
 {
     if rows.len() != others.len() {
         return false;
@@ -84,14 +84,14 @@ fn are_same_rows(rows: &[HoldingRow], others: &[HoldingRow]) -> bool
 
 /// Returns true if the rows of HOLDING are exactly the lots that the completed trades leave. Fails
 /// with `Memory` only.
-pub(crate) fn has_lots(alloc: Global, sheets: &Sheets) -> Result<bool, Fault>
-    requires form { HasForm sheets.now }
-    requires status { HasStatuses sheets.now }
+pub(crate) fn lot_condition_holds(alloc: Global, sheets: &Sheets) -> Result<bool, Fault>
+    requires form { HasWellFormedRows sheets.now }
+    requires status { HasValidStatuses sheets.now }
     ensures told { IfOk result (λ holds. (schema : Schema) → IsTrue holds ↔ ConditionHolds schema Lots (tables_in_sheets sheets.now)) }
     ensures fault { IfErr result (λ fault. fault ≡ Memory) }
 {
-    let done = completed_by_position(alloc, &sheets.trades)?;
-    let mut held = lots_left(alloc, &done)?;
+    let done = completed_trades_by_position(alloc, &sheets.trades)?;
+    let mut held = lots_left_by_trades(alloc, &done)?;
     held.sort_unstable_by_key(|row| row.trade.get());
     Ok(are_same_rows(&held, &sheets.holdings))
 }

@@ -1,32 +1,32 @@
 ghost use Rattle.std.specs.Prelude.{◌≡◌, ◌↔◌, map, filter, IfErr, IfOk, IsTrue, MatchOption};
-ghost use Rattle.brk_money.specs.Kinds.{same_status, same_type};
+ghost use Rattle.brk_money.specs.Kinds.{is_same_trade_status, is_same_trade_type};
 ghost use Rattle.brk_money.specs.declared.fault.Condition.TheVariants as condition;
 ghost use Rattle.brk_money.specs.declared.fault.Fault.TheVariants.{Memory};
 ghost use Rattle.brk_money.specs.declared.status.Status.TheVariants.{Pending};
 ghost use Rattle.brk_model.specs.Audit.{ConditionHolds};
 ghost use Rattle.brk_model.specs.Schemas.{Schema};
-ghost use Rattle.brk_audit.specs.AccountTerms.{broker_by};
-ghost use Rattle.brk_audit.specs.Completed.{is_waiting};
-ghost use Rattle.brk_audit.specs.Conditions.{HasForm, HasStatuses};
-ghost use Rattle.brk_audit.specs.Settling.{Differs, Leaves, request_of};
-ghost use Rattle.brk_changes.specs.Rows.{request_row_of, trade_row_of};
+ghost use Rattle.brk_audit.specs.AccountTerms.{broker_in_terms};
+ghost use Rattle.brk_audit.specs.Completed.{is_pending_row};
+ghost use Rattle.brk_audit.specs.Conditions.{HasWellFormedRows, HasValidStatuses};
+ghost use Rattle.brk_audit.specs.Settling.{MatchIsImpossible, MatchReducesToOthers, request_row_of_trade};
+ghost use Rattle.brk_changes.specs.Rows.{abstract_request_row, abstract_trade_row};
 ghost use Rattle.brk_changes.specs.Sheets.{tables_in_sheets};
 
-use crate::account_terms::{AccountTerms, broker_of, terms_of_accounts};
+use crate::account_terms::{AccountTerms, account_broker_id, account_terms_by_id};
 use brk_changes::{RequestRow, Sheets, TradeRow};
 use brk_money::{Fault, Status, TradeType};
 use std::alloc::Global;
 use std::collections::BTreeMap;
 
 // Returns true if the two trade types are equal.
-fn is_kind(kind: TradeType, other: TradeType) -> bool
-    ensures { result ≡ same_type kind other }
+fn are_same_trade_type(kind: TradeType, other: TradeType) -> bool
+    ensures { result ≡ is_same_trade_type kind other }
 {
     kind == other
 }
 
 // Returns true if the request has the symbol, the quantity and the bid of the trade.
-fn asks_same(request: &RequestRow, trade: &TradeRow) -> bool
+fn has_order_terms_of_trade(request: &RequestRow, trade: &TradeRow) -> bool
     ensures { IsTrue result ↔ ((request.now.symbol ≡ trade.now.symbol) × (request.now.qty ≡ trade.now.qty) × (request.now.bid ≡ trade.now.bid)) }
 {
     request.symbol.as_str() == trade.symbol.as_str()
@@ -36,31 +36,31 @@ fn asks_same(request: &RequestRow, trade: &TradeRow) -> bool
 
 // Returns true if the request is exactly that of the trade with the broker `broker`.
 fn is_request_of(request: &RequestRow, trade: &TradeRow, broker: u64) -> bool
-    ensures { IsTrue result ↔ (request_row_of request.now ≡ request_of (λ account. broker) (trade_row_of trade.now)) }
+    ensures { IsTrue result ↔ (abstract_request_row request.now ≡ request_row_of_trade (λ account. broker) (abstract_trade_row trade.now)) }
 {
     request.trade == trade.id
-        && is_kind(request.kind, trade.kind)
-        && asks_same(request, trade)
+        && are_same_trade_type(request.kind, trade.kind)
+        && has_order_terms_of_trade(request, trade)
         && request.broker.get() == broker
 }
 
 // Returns true if the status is `Pending`.
 fn is_pending(status: Status) -> bool
-    ensures { result ≡ same_status status Pending }
+    ensures { result ≡ is_same_trade_status status Pending }
 {
     status == Status::Pending
 }
 
 // Returns the requests after the request of `trade`, or all requests if `trade` is not pending.
 // Returns `None` if the first request is not that of `trade`.
-fn left_after<'a>(
+fn requests_after_trade<'a>(
     requests: &'a [RequestRow],
     trade: &TradeRow,
     terms: &BTreeMap<u64, AccountTerms>,
 ) -> Option<&'a [RequestRow]>
     ensures { MatchOption result
-        (Differs (λ q. q) (request_of (broker_by terms.now)) is_waiting (map request_row_of requests.now) (trade_row_of trade.now))
-        (λ others. Leaves (λ q. q) (request_of (broker_by terms.now)) is_waiting (map request_row_of requests.now) (trade_row_of trade.now) (map request_row_of others.now)) }
+        (MatchIsImpossible (λ q. q) (request_row_of_trade (broker_in_terms terms.now)) is_pending_row (map abstract_request_row requests.now) (abstract_trade_row trade.now))
+        (λ others. MatchReducesToOthers (λ q. q) (request_row_of_trade (broker_in_terms terms.now)) is_pending_row (map abstract_request_row requests.now) (abstract_trade_row trade.now) (map abstract_request_row others.now)) }
 {
     if !is_pending(trade.status) {
         return Some(requests);
@@ -68,7 +68,7 @@ fn left_after<'a>(
     let [first, others @ ..] = requests else {
         return None;
     };
-    if is_request_of(first, trade, broker_of(terms, trade.account)) {
+    if is_request_of(first, trade, account_broker_id(terms, trade.account)) {
         Some(others)
     } else {
         None
@@ -76,16 +76,16 @@ fn left_after<'a>(
 }
 
 // Returns true if the requests are exactly those of the pending trades, in the order of the trades.
-fn are_requested(
+fn requests_match_trades(
     requests: &[RequestRow],
     trades: &[TradeRow],
     terms: &BTreeMap<u64, AccountTerms>,
 ) -> bool
-    ensures { IsTrue result ↔ (map (λ q. q) (map request_row_of requests.now) ≡ map (request_of (broker_by terms.now)) (filter is_waiting (map trade_row_of trades.now))) }
+    ensures { IsTrue result ↔ (map (λ q. q) (map abstract_request_row requests.now) ≡ map (request_row_of_trade (broker_in_terms terms.now)) (filter is_pending_row (map abstract_trade_row trades.now))) }
 {
     let mut rest = requests;
     for trade in trades {
-        let Some(others) = left_after(rest, trade, terms) else {
+        let Some(others) = requests_after_trade(rest, trade, terms) else {
             return false;
         };
         rest = others;
@@ -94,12 +94,12 @@ fn are_requested(
 }
 
 /// Returns true if the requests are exactly those of the pending trades. Fails with `Memory` only.
-pub(crate) fn has_requests(alloc: Global, sheets: &Sheets) -> Result<bool, Fault>
-    requires form { HasForm sheets.now }
-    requires status { HasStatuses sheets.now }
+pub(crate) fn request_condition_holds(alloc: Global, sheets: &Sheets) -> Result<bool, Fault>
+    requires form { HasWellFormedRows sheets.now }
+    requires status { HasValidStatuses sheets.now }
     ensures told { IfOk result (λ holds. (schema : Schema) → IsTrue holds ↔ ConditionHolds schema condition.Requests (tables_in_sheets sheets.now)) }
     ensures fault { IfErr result (λ fault. fault ≡ Memory) }
 {
-    let terms = terms_of_accounts(alloc, &sheets.accounts)?;
-    Ok(are_requested(&sheets.requests, &sheets.trades, &terms))
+    let terms = account_terms_by_id(alloc, &sheets.accounts)?;
+    Ok(requests_match_trades(&sheets.requests, &sheets.trades, &terms))
 }

@@ -3,16 +3,16 @@ ghost use Rattle.brk_money.specs.declared.fault.Condition.TheVariants.{Settlemen
 ghost use Rattle.brk_money.specs.declared.fault.Fault.TheVariants.{Memory};
 ghost use Rattle.brk_model.specs.Audit.{ConditionHolds};
 ghost use Rattle.brk_model.specs.Schemas.{Schema};
-ghost use Rattle.brk_model.specs.Derived.{due_after};
-ghost use Rattle.brk_audit.specs.AccountTerms.{tax_status_by};
+ghost use Rattle.brk_model.specs.Derived.{due_day_of_completion_stamp};
+ghost use Rattle.brk_audit.specs.AccountTerms.{tax_status_in_terms};
 ghost use Rattle.brk_audit.specs.Completed.{is_completed_row};
-ghost use Rattle.brk_audit.specs.Conditions.{HasForm, HasStatuses};
-ghost use Rattle.brk_audit.specs.Settling.{Differs, Leaves, amount_at, due_in, due_of};
-ghost use Rattle.brk_changes.specs.Rows.{settlement_row_of, trade_row_of};
+ghost use Rattle.brk_audit.specs.Conditions.{HasWellFormedRows, HasValidStatuses};
+ghost use Rattle.brk_audit.specs.Settling.{MatchIsImpossible, MatchReducesToOthers, settlement_amount_at, settlement_figures_of_row, settlement_figures_of_trade};
+ghost use Rattle.brk_changes.specs.Rows.{abstract_settlement_row, abstract_trade_row};
 ghost use Rattle.brk_changes.specs.Sheets.{tables_in_sheets};
 
-use crate::account_terms::{AccountTerms, tax_status_of, terms_of_accounts};
-use crate::amounts::amount_of_row;
+use crate::account_terms::{AccountTerms, account_tax_status, account_terms_by_id};
+use crate::amounts::settlement_amount_of_row;
 use crate::status::is_completed;
 use brk_changes::{SettlementRow, Sheets, TradeRow, settlement_days};
 use brk_money::{Day, Fault, Stamp, TaxStatus, day_of};
@@ -21,8 +21,8 @@ use std::collections::BTreeMap;
 
 // Returns true if a trade that is completed at `stamp` settles on `day`, by the settlement day
 // `rule` if one is set.
-fn is_due(day: Day, rule: Option<Day>, stamp: Stamp) -> bool
-    ensures { IsTrue result ↔ (day ≡ due_after rule stamp) }
+fn settles_on_day(day: Day, rule: Option<Day>, stamp: Stamp) -> bool
+    ensures { IsTrue result ↔ (day ≡ due_day_of_completion_stamp rule stamp) }
 {
     let completed = day_of(stamp);
     day.get() == completed.get() + i32::from(settlement_days(rule, completed))
@@ -36,25 +36,25 @@ fn is_settlement_of(
     rule: Option<Day>,
     tax_status: TaxStatus,
 ) -> bool
-    ensures { IsTrue result ↔ ((settlement.now.trade ≡ trade.now.id) × (settlement.now.due_day ≡ due_after rule trade.now.stamp)
-        × (settlement.now.amount ≡ amount_at tax_status (trade_row_of trade.now))) }
+    ensures { IsTrue result ↔ ((settlement.now.trade ≡ trade.now.id) × (settlement.now.due_day ≡ due_day_of_completion_stamp rule trade.now.stamp)
+        × (settlement.now.amount ≡ settlement_amount_at tax_status (abstract_trade_row trade.now))) }
 {
     settlement.trade == trade.id
-        && is_due(settlement.due_day, rule, trade.stamp)
-        && settlement.amount.get() == amount_of_row(trade, tax_status)
+        && settles_on_day(settlement.due_day, rule, trade.stamp)
+        && settlement.amount.get() == settlement_amount_of_row(trade, tax_status)
 }
 
 // Returns the settlements after the settlement of `trade`, or all settlements if `trade` is not
 // completed. Returns `None` if the first settlement is not that of `trade`.
-fn left_after<'a>(
+fn settlements_after_trade<'a>(
     settlements: &'a [SettlementRow],
     trade: &TradeRow,
     rule: &Option<Day>,
     terms: &BTreeMap<u64, AccountTerms>,
 ) -> Option<&'a [SettlementRow]>
     ensures { MatchOption result
-        (Differs due_in (due_of rule.now (tax_status_by terms.now)) is_completed_row (map settlement_row_of settlements.now) (trade_row_of trade.now))
-        (λ others. Leaves due_in (due_of rule.now (tax_status_by terms.now)) is_completed_row (map settlement_row_of settlements.now) (trade_row_of trade.now) (map settlement_row_of others.now)) }
+        (MatchIsImpossible settlement_figures_of_row (settlement_figures_of_trade rule.now (tax_status_in_terms terms.now)) is_completed_row (map abstract_settlement_row settlements.now) (abstract_trade_row trade.now))
+        (λ others. MatchReducesToOthers settlement_figures_of_row (settlement_figures_of_trade rule.now (tax_status_in_terms terms.now)) is_completed_row (map abstract_settlement_row settlements.now) (abstract_trade_row trade.now) (map abstract_settlement_row others.now)) }
 {
     if !is_completed(trade.status) {
         return Some(settlements);
@@ -62,7 +62,12 @@ fn left_after<'a>(
     let [first, others @ ..] = settlements else {
         return None;
     };
-    if is_settlement_of(first, trade, *rule, tax_status_of(terms, trade.account)) {
+    if is_settlement_of(
+        first,
+        trade,
+        *rule,
+        account_tax_status(terms, trade.account),
+    ) {
         Some(others)
     } else {
         None
@@ -71,17 +76,17 @@ fn left_after<'a>(
 
 // Returns true if the settlements are exactly those of the completed trades, in the order of the
 // trades.
-fn are_settled(
+fn settlements_match_trades(
     settlements: &[SettlementRow],
     trades: &[TradeRow],
     rule: &Option<Day>,
     terms: &BTreeMap<u64, AccountTerms>,
 ) -> bool
-    ensures { IsTrue result ↔ (map due_in (map settlement_row_of settlements.now) ≡ map (due_of rule.now (tax_status_by terms.now)) (filter is_completed_row (map trade_row_of trades.now))) }
+    ensures { IsTrue result ↔ (map settlement_figures_of_row (map abstract_settlement_row settlements.now) ≡ map (settlement_figures_of_trade rule.now (tax_status_in_terms terms.now)) (filter is_completed_row (map abstract_trade_row trades.now))) }
 {
     let mut rest = settlements;
     for trade in trades {
-        let Some(others) = left_after(rest, trade, rule, terms) else {
+        let Some(others) = settlements_after_trade(rest, trade, rule, terms) else {
             return false;
         };
         rest = others;
@@ -91,12 +96,12 @@ fn are_settled(
 
 /// Returns true if the settlements are exactly those of the completed trades. Fails with `Memory`
 /// only.
-pub(crate) fn has_settlements(alloc: Global, sheets: &Sheets) -> Result<bool, Fault>
-    requires form { HasForm sheets.now }
-    requires status { HasStatuses sheets.now }
+pub(crate) fn settlement_condition_holds(alloc: Global, sheets: &Sheets) -> Result<bool, Fault>
+    requires form { HasWellFormedRows sheets.now }
+    requires status { HasValidStatuses sheets.now }
     ensures told { IfOk result (λ holds. (schema : Schema) → IsTrue holds ↔ ConditionHolds schema Settlement (tables_in_sheets sheets.now)) }
     ensures fault { IfErr result (λ fault. fault ≡ Memory) }
 {
-    let terms = terms_of_accounts(alloc, &sheets.accounts)?;
-    Ok(are_settled(&sheets.settlements, &sheets.trades, &sheets.rule, &terms))
+    let terms = account_terms_by_id(alloc, &sheets.accounts)?;
+    Ok(settlements_match_trades(&sheets.settlements, &sheets.trades, &sheets.rule, &terms))
 }

@@ -2,16 +2,16 @@ ghost use Rattle.std.specs.Prelude.{◌≡◌, ◌↔◌, ◌==◌, ℕ, ◌&&�
 ghost use Rattle.std.specs.List.{prefix_len};
 ghost use Rattle.std.specs.Ordering.{nat_cmp};
 ghost use Rattle.std.specs.BTreeSet.{contains};
-ghost use Rattle.brk_money.specs.Kinds.{same_status};
+ghost use Rattle.brk_money.specs.Kinds.{is_same_trade_status};
 ghost use Rattle.brk_money.specs.declared.fault.Condition.TheVariants as condition;
 ghost use Rattle.brk_money.specs.declared.fault.Fault.TheVariants.{Memory};
 ghost use Rattle.brk_money.specs.declared.status.Status.TheVariants.{Completed};
 ghost use Rattle.brk_model.specs.Audit.{ConditionHolds};
 ghost use Rattle.brk_model.specs.Schemas.{Schema};
 ghost use Rattle.brk_model.specs.Lists.{all_distinct};
-ghost use Rattle.brk_audit.specs.Conditions.{HasForm};
+ghost use Rattle.brk_audit.specs.Conditions.{HasWellFormedRows};
 ghost use Rattle.brk_audit.specs.Statuses as spec;
-ghost use Rattle.brk_changes.specs.Rows.{history_row_of, move_row_of, trade_row_of};
+ghost use Rattle.brk_changes.specs.Rows.{abstract_history_row, abstract_move_row, abstract_trade_row};
 ghost use Rattle.brk_changes.specs.Sheets.{tables_in_sheets};
 
 use brk_changes::{HistoryRow, MoveRow, Sheets, TradeRow};
@@ -21,7 +21,7 @@ use std::collections::BTreeSet;
 
 /// Returns true if the status is `Completed`.
 pub(crate) fn is_completed(status: Status) -> bool
-    ensures { result ≡ same_status status Completed }
+    ensures { result ≡ is_same_trade_status status Completed }
 {
     status == Status::Completed
 }
@@ -41,41 +41,45 @@ fn is_before(first: Stamp, second: Stamp) -> bool
 }
 
 // Returns true if a trade can begin with the status: `Submitted` or `Pending`.
-fn is_first(status: Status) -> bool
-    ensures { result ≡ spec.is_first status }
+fn is_first_status(status: Status) -> bool
+    ensures { result ≡ spec.is_first_status status }
 {
     matches!(status, Status::Submitted | Status::Pending)
 }
 
 // Returns true if the trade's row has the status and the stamp of the history row.
-fn is_at(trade: &TradeRow, row: HistoryRow) -> bool
-    ensures { result ≡ spec.is_at (trade_row_of trade.now) (history_row_of row) }
+fn has_status_and_stamp_of(trade: &TradeRow, row: HistoryRow) -> bool
+    ensures { result ≡ spec.has_status_and_stamp_of (abstract_trade_row trade.now) (abstract_history_row row) }
 {
     trade.status == row.status && trade.stamp == row.stamp
 }
 
 // Returns true if the history of the two rows, sorted by status code, is a valid status sequence by
 // their stamps, and the trade's row has the status and the stamp of its last row.
-fn goes_two(trade: &TradeRow, a: HistoryRow, b: HistoryRow) -> bool
-    ensures { result ≡ spec.are_valid_two (trade_row_of trade.now) (history_row_of a) (history_row_of b) }
+fn is_valid_two_row_history(trade: &TradeRow, a: HistoryRow, b: HistoryRow) -> bool
+    ensures { result ≡ spec.is_valid_two_row_history (abstract_trade_row trade.now) (abstract_history_row a) (abstract_history_row b) }
 {
     match (a.status, b.status) {
         (Status::Completed, Status::Submitted) | (Status::Canceled, Status::Pending) => {
-            is_before(b.stamp, a.stamp) && is_at(trade, a)
+            is_before(b.stamp, a.stamp) && has_status_and_stamp_of(trade, a)
         }
-        (Status::Pending, Status::Submitted) => { is_before(a.stamp, b.stamp) && is_at(trade, b) }
+        (Status::Pending, Status::Submitted) => {
+            is_before(a.stamp, b.stamp) && has_status_and_stamp_of(trade, b)
+        }
         _ => false,
     }
 }
 
 // Returns true if the history of the three rows, sorted by status code, is a valid status sequence
 // by their stamps, and the trade's row has the status and the stamp of its last row.
-fn goes_three(trade: &TradeRow, a: HistoryRow, b: HistoryRow, c: HistoryRow) -> bool
-    ensures { result ≡ spec.are_valid_three (trade_row_of trade.now) (history_row_of a) (history_row_of b) (history_row_of c) }
+fn is_valid_three_row_history(trade: &TradeRow, a: HistoryRow, b: HistoryRow, c: HistoryRow) -> bool
+    ensures { result ≡ spec.is_valid_three_row_history (abstract_trade_row trade.now) (abstract_history_row a) (abstract_history_row b) (abstract_history_row c) }
 {
     match (a.status, b.status, c.status) {
         (Status::Completed, Status::Pending, Status::Submitted) => {
-            is_before(b.stamp, c.stamp) && is_before(c.stamp, a.stamp) && is_at(trade, a)
+            is_before(b.stamp, c.stamp)
+                && is_before(c.stamp, a.stamp)
+                && has_status_and_stamp_of(trade, a)
         }
         _ => false,
     }
@@ -83,19 +87,19 @@ fn goes_three(trade: &TradeRow, a: HistoryRow, b: HistoryRow, c: HistoryRow) -> 
 
 // Returns true if the history rows of the trade, sorted by status code, are a valid status sequence
 // by their stamps, and the trade's row has the status and the stamp of the last one.
-fn goes_way(trade: &TradeRow, rows: &[HistoryRow]) -> bool
-    ensures { result ≡ spec.is_valid_history (trade_row_of trade.now) (map history_row_of rows.now) }
+fn is_valid_trade_history(trade: &TradeRow, rows: &[HistoryRow]) -> bool
+    ensures { result ≡ spec.is_valid_history (abstract_trade_row trade.now) (map abstract_history_row rows.now) }
 {
     match rows {
-        [only] => is_first(only.status) && is_at(trade, *only),
-        [a, b] => goes_two(trade, *a, *b),
-        [a, b, c] => goes_three(trade, *a, *b, *c),
+        [only] => is_first_status(only.status) && has_status_and_stamp_of(trade, *only),
+        [a, b] => is_valid_two_row_history(trade, *a, *b),
+        [a, b, c] => is_valid_three_row_history(trade, *a, *b, *c),
         _ => false,
     }
 }
 
 // Returns the number of rows at the beginning of `history` that belong to the trade.
-fn leading_rows(history: &[HistoryRow], trade: Id) -> usize
+fn leading_row_count(history: &[HistoryRow], trade: Id) -> usize
     ensures { result ≡ prefix_len (λ h. h.trade == trade) history.now }
 {
     for (i, row) in history.iter().enumerate() {
@@ -108,13 +112,13 @@ fn leading_rows(history: &[HistoryRow], trade: Id) -> usize
 
 // Returns true if the history rows of each trade are a valid status sequence. The history rows are
 // listed in the order of the trades.
-fn all_go(trades: &[TradeRow], history: &[HistoryRow]) -> bool
-    ensures { result ≡ spec.all_valid (map trade_row_of trades.now) (map history_row_of history.now) }
+fn all_histories_are_valid(trades: &[TradeRow], history: &[HistoryRow]) -> bool
+    ensures { result ≡ spec.all_histories_are_valid (map abstract_trade_row trades.now) (map abstract_history_row history.now) }
 {
     let mut rest = history;
     for trade in trades {
-        let (rows, others) = rest.split_at(leading_rows(rest, trade.id));
-        if !goes_way(trade, rows) {
+        let (rows, others) = rest.split_at(leading_row_count(rest, trade.id));
+        if !is_valid_trade_history(trade, rows) {
             return false;
         }
         rest = others;
@@ -124,9 +128,9 @@ fn all_go(trades: &[TradeRow], history: &[HistoryRow]) -> bool
 
 // Inserts the stamp of the row into `seen` if the row is a completion. Returns false if the stamp
 // was in the set before, otherwise true. Fails with `Memory` only.
-fn is_new(seen: &mut BTreeSet<u64>, row: &HistoryRow) -> Result<bool, Fault>
-    ensures new { IfOk result (λ new. new ≡ not (same_status row.now.status Completed && contains nat_cmp seen.old row.now.stamp)) }
-    ensures seen { OnOk result ((q : ℕ) → contains nat_cmp seen.new q ≡ contains nat_cmp seen.old q || (same_status row.now.status Completed && (row.now.stamp == q))) }
+fn insert_completion_stamp(seen: &mut BTreeSet<u64>, row: &HistoryRow) -> Result<bool, Fault>
+    ensures new { IfOk result (λ new. new ≡ not (is_same_trade_status row.now.status Completed && contains nat_cmp seen.old row.now.stamp)) }
+    ensures seen { OnOk result ((q : ℕ) → contains nat_cmp seen.new q ≡ contains nat_cmp seen.old q || (is_same_trade_status row.now.status Completed && (row.now.stamp == q))) }
     ensures fault { IfErr result (λ fault. fault ≡ Memory) }
 {
     if !is_completed(row.status) {
@@ -138,7 +142,7 @@ fn is_new(seen: &mut BTreeSet<u64>, row: &HistoryRow) -> Result<bool, Fault>
 
 // Inserts the stamp of the row into `seen` if the row is a deposit or a withdrawal. Returns false
 // if the stamp was in the set before, otherwise true. Fails with `Memory` only.
-fn is_new_movement(seen: &mut BTreeSet<u64>, row: &MoveRow) -> Result<bool, Fault>
+fn insert_movement_stamp(seen: &mut BTreeSet<u64>, row: &MoveRow) -> Result<bool, Fault>
     ensures new { IfOk result (λ new. new ≡ not (is_none row.now.trade && contains nat_cmp seen.old row.now.stamp)) }
     ensures seen { OnOk result ((q : ℕ) → contains nat_cmp seen.new q ≡ contains nat_cmp seen.old q || (is_none row.now.trade && (row.now.stamp == q))) }
     ensures fault { IfErr result (λ fault. fault ≡ Memory) }
@@ -152,18 +156,22 @@ fn is_new_movement(seen: &mut BTreeSet<u64>, row: &MoveRow) -> Result<bool, Faul
 
 // Returns true if no two completions, deposits or withdrawals have the same stamp. Fails with
 // `Memory` only.
-fn are_apart(alloc: Global, history: &[HistoryRow], moves: &[MoveRow]) -> Result<bool, Fault>
-    ensures told { IfOk result (λ apart. apart ≡ all_distinct (spec.completion_stamps_of (map history_row_of history.now) ++ spec.moved_stamps_of (map move_row_of moves.now))) }
+fn has_distinct_stamps(
+    alloc: Global,
+    history: &[HistoryRow],
+    moves: &[MoveRow],
+) -> Result<bool, Fault>
+    ensures told { IfOk result (λ apart. apart ≡ all_distinct (spec.completion_stamps_of (map abstract_history_row history.now) ++ spec.movement_stamps_of (map abstract_move_row moves.now))) }
     ensures fault { IfErr result (λ fault. fault ≡ Memory) }
 {
     let mut seen = BTreeSet::new(alloc);
     for row in history {
-        if !is_new(&mut seen, row)? {
+        if !insert_completion_stamp(&mut seen, row)? {
             return Ok(false);
         }
     }
     for movement in moves {
-        if !is_new_movement(&mut seen, movement)? {
+        if !insert_movement_stamp(&mut seen, movement)? {
             return Ok(false);
         }
     }
@@ -172,14 +180,14 @@ fn are_apart(alloc: Global, history: &[HistoryRow], moves: &[MoveRow]) -> Result
 
 /// Returns true if each trade's history is a valid status sequence, and no two completions,
 /// deposits or withdrawals have the same stamp. Fails with `Memory` only.
-pub(crate) fn has_statuses(alloc: Global, sheets: &Sheets) -> Result<bool, Fault>
-    requires form { HasForm sheets.now }
+pub(crate) fn status_condition_holds(alloc: Global, sheets: &Sheets) -> Result<bool, Fault>
+    requires form { HasWellFormedRows sheets.now }
     ensures told { IfOk result (λ holds. (schema : Schema) → IsTrue holds ↔ ConditionHolds schema condition.Status (tables_in_sheets sheets.now)) }
     ensures fault { IfErr result (λ fault. fault ≡ Memory) }
 {
-    if !all_go(&sheets.trades, &sheets.history) {
+    if !all_histories_are_valid(&sheets.trades, &sheets.history) {
         return Ok(false);
     }
-    let apart = are_apart(alloc, &sheets.history, &sheets.moves)?;
+    let apart = has_distinct_stamps(alloc, &sheets.history, &sheets.moves)?;
     Ok(apart)
 }

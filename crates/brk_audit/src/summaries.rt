@@ -5,12 +5,12 @@ ghost use Rattle.brk_money.specs.declared.fault.Fault.TheVariants.{Memory};
 ghost use Rattle.brk_model.specs.Audit.{ConditionHolds};
 ghost use Rattle.brk_model.specs.Schemas.{Schema};
 ghost use Rattle.brk_model.specs.Lists.{is_zero};
-ghost use Rattle.brk_model.specs.Shares.{signed};
-ghost use Rattle.brk_changes.specs.Rows.{summary_row_of, trade_row_of};
+ghost use Rattle.brk_model.specs.Shares.{signed_by_side};
+ghost use Rattle.brk_changes.specs.Rows.{abstract_summary_row, abstract_trade_row};
 ghost use Rattle.brk_changes.specs.Sheets.{tables_in_sheets};
-ghost use Rattle.brk_audit.specs.Conditions.{HasForm, HasStatuses};
-ghost use Rattle.brk_audit.specs.PositionSums.{TellsShares, plain, shares_posting, told_posting};
-ghost use Rattle.brk_audit.specs.Tally.{at_key};
+ghost use Rattle.brk_audit.specs.Conditions.{HasWellFormedRows, HasValidStatuses};
+ghost use Rattle.brk_audit.specs.PositionSums.{HasNonzeroQuantity, plain_posting, share_posting_of_trade, share_posting_of_summary};
+ghost use Rattle.brk_audit.specs.Tally.{sum_at_key};
 
 use crate::status::is_completed;
 use crate::tally::{Posting, sum_at, tally};
@@ -20,8 +20,8 @@ use std::alloc::Global;
 use std::collections::BTreeMap;
 
 // Returns the quantity as a signed number: below 0 for a sale.
-fn shares_of(side: Side, qty: u32) -> i64
-    ensures { result ≡ signed side qty }
+fn signed_shares(side: Side, qty: u32) -> i64
+    ensures { result ≡ signed_by_side side qty }
 {
     match side {
         Side::Buy => i64::from(qty),
@@ -31,28 +31,28 @@ fn shares_of(side: Side, qty: u32) -> i64
 
 // Returns the posting of the trade's signed quantity at its account and symbol, or `None` if the
 // trade is not completed.
-fn posting_of(trade: &TradeRow) -> Option<Posting<(u64, &str)>>
-    ensures { option_map plain result ≡ shares_posting (trade_row_of trade.now) }
+fn share_posting_of_row(trade: &TradeRow) -> Option<Posting<(u64, &str)>>
+    ensures { option_map plain_posting result ≡ share_posting_of_trade (abstract_trade_row trade.now) }
 {
     if !is_completed(trade.status) {
         return None;
     }
     let key = (trade.account.get(), trade.symbol.as_str());
-    let amount = shares_of(trade.kind.side(), trade.qty.get());
+    let amount = signed_shares(trade.kind.side(), trade.qty.get());
     Some(Posting { key, amount })
 }
 
 // Returns the postings of the signed quantities of all completed trades. Fails with `Memory` only.
-fn postings_of<'a>(
+fn share_postings_of_trades<'a>(
     alloc: Global,
     trades: &'a [TradeRow],
 ) -> Result<Vec<Posting<(u64, &'a str)>>, Fault>
-    ensures all { IfOk result (λ all. map plain all.items ≡ filter_map (λ r. shares_posting (trade_row_of r)) trades.now) }
+    ensures all { IfOk result (λ all. map plain_posting all.items ≡ filter_map (λ r. share_posting_of_trade (abstract_trade_row r)) trades.now) }
     ensures fault { IfErr result (λ fault. fault ≡ Memory) }
 {
     let mut all = Vec::new(alloc);
     for trade in trades {
-        if let Some(posting) = posting_of(trade) {
+        if let Some(posting) = share_posting_of_row(trade) {
             all.push(posting)?;
         }
     }
@@ -60,8 +60,8 @@ fn postings_of<'a>(
 }
 
 // Returns the posting of the summary's quantity at its account and symbol.
-fn told_by(row: &SummaryRow) -> Posting<(u64, &str)>
-    ensures { plain result ≡ told_posting (summary_row_of row.now) }
+fn posting_of_summary(row: &SummaryRow) -> Posting<(u64, &str)>
+    ensures { plain_posting result ≡ share_posting_of_summary (abstract_summary_row row.now) }
 {
     let key = (row.account.get(), row.symbol.as_str());
     let amount = row.qty;
@@ -69,24 +69,27 @@ fn told_by(row: &SummaryRow) -> Posting<(u64, &str)>
 }
 
 // Returns the postings of the quantities of all summaries. Fails with `Memory` only.
-fn told_of<'a>(alloc: Global, rows: &'a [SummaryRow]) -> Result<Vec<Posting<(u64, &'a str)>>, Fault>
-    ensures all { IfOk result (λ all. map plain all.items ≡ map (λ r. told_posting (summary_row_of r)) rows.now) }
+fn postings_of_summaries<'a>(
+    alloc: Global,
+    rows: &'a [SummaryRow],
+) -> Result<Vec<Posting<(u64, &'a str)>>, Fault>
+    ensures all { IfOk result (λ all. map plain_posting all.items ≡ map (λ r. share_posting_of_summary (abstract_summary_row r)) rows.now) }
     ensures fault { IfErr result (λ fault. fault ≡ Memory) }
 {
     let mut all = Vec::new(alloc);
     for row in rows {
-        all.push(told_by(row))?;
+        all.push(posting_of_summary(row))?;
     }
     Ok(all)
 }
 
 // Returns true if the two maps have equal sums at the key of each posting.
-fn agree<K: Ord + Copy>(
+fn tallies_agree<K: Ord + Copy>(
     sums: &BTreeMap<K, i128>,
     told: &BTreeMap<K, i128>,
     postings: &[Posting<K>],
 ) -> bool
-    ensures { IsTrue result ↔ AllByRecursion (λ p. at_key K.cmp sums.now p.key ≡ at_key K.cmp told.now p.key) postings.now }
+    ensures { IsTrue result ↔ AllByRecursion (λ p. sum_at_key K.cmp sums.now p.key ≡ sum_at_key K.cmp told.now p.key) postings.now }
 {
     for posting in postings {
         if sum_at(sums, posting.key) != sum_at(told, posting.key) {
@@ -97,18 +100,18 @@ fn agree<K: Ord + Copy>(
 }
 
 // Returns true if the quantity is not 0.
-fn tells_shares(qty: i64) -> bool
+fn is_nonzero(qty: i64) -> bool
     ensures { IsTrue result ↔ (is_zero qty ≡ false) }
 {
     qty != 0
 }
 
 // Returns true if no summary has the quantity 0.
-fn tell_shares(rows: &[SummaryRow]) -> bool
+fn all_summaries_nonzero(rows: &[SummaryRow]) -> bool
     ensures { IsTrue result ↔ AllByRecursion (λ r. is_zero r.qty ≡ false) rows.now }
 {
     for row in rows {
-        if !tells_shares(row.qty) {
+        if !is_nonzero(row.qty) {
             return false;
         }
     }
@@ -116,7 +119,7 @@ fn tell_shares(rows: &[SummaryRow]) -> bool
 }
 
 /// Returns true if all three conditions are true.
-pub(crate) fn all_three(one: bool, other: bool, last: bool) -> bool
+pub(crate) fn all_three_true(one: bool, other: bool, last: bool) -> bool
     ensures { IsTrue result ↔ (IsTrue one × IsTrue other × IsTrue last) }
 {
     one && other && last
@@ -124,18 +127,18 @@ pub(crate) fn all_three(one: bool, other: bool, last: bool) -> bool
 
 /// Returns true if the summaries of each position sum to the shares of its completed trades, and no
 /// summary has the quantity 0. Fails with `Memory` only.
-pub(crate) fn has_summaries(alloc: Global, sheets: &Sheets) -> Result<bool, Fault>
-    requires form { HasForm sheets.now }
-    requires status { HasStatuses sheets.now }
+pub(crate) fn summary_condition_holds(alloc: Global, sheets: &Sheets) -> Result<bool, Fault>
+    requires form { HasWellFormedRows sheets.now }
+    requires status { HasValidStatuses sheets.now }
     ensures told { IfOk result (λ holds. (schema : Schema) → IsTrue holds ↔ ConditionHolds schema Summary (tables_in_sheets sheets.now)) }
     ensures fault { IfErr result (λ fault. fault ≡ Memory) }
 {
-    let postings = postings_of(alloc, &sheets.trades)?;
-    let claims = told_of(alloc, &sheets.summaries)?;
+    let postings = share_postings_of_trades(alloc, &sheets.trades)?;
+    let claims = postings_of_summaries(alloc, &sheets.summaries)?;
     let sums = tally(alloc, &postings)?;
     let told = tally(alloc, &claims)?;
-    let each_trade = agree(&sums, &told, &postings);
-    let each_row = agree(&sums, &told, &claims);
-    let shares = tell_shares(&sheets.summaries);
-    Ok(all_three(each_trade, each_row, shares))
+    let each_trade = tallies_agree(&sums, &told, &postings);
+    let each_row = tallies_agree(&sums, &told, &claims);
+    let shares = all_summaries_nonzero(&sheets.summaries);
+    Ok(all_three_true(each_trade, each_row, shares))
 }

@@ -4,23 +4,23 @@ use Rattle.std.specs.Prelude.{◌&&◌, bytes_eq, decimal, find}
 use Rattle.std.specs.List.{list_all}
 use Rattle.std.specs.Option.{option_map_or}
 use Rattle.brk_money.specs.Spelling.{Text}
-use Rattle.brk_money.specs.Kinds.{type_name}
+use Rattle.brk_money.specs.Kinds.{trade_type_name}
 use Rattle.brk_model.specs.Tables.{Tables, TradeRow, SecurityRow, LastTradeRow}
-use Rattle.brk_model.specs.Adopted.{base_of, security_of_row, security_of_rows, no_last_trade, trade_of_row}
-use Rattle.brk_model.specs.Results.{cash_text}
+use Rattle.brk_model.specs.Adopted.{base_of_tables, security_of_row, security_of_rows, zero_last_trade_row, trade_of_row}
+use Rattle.brk_model.specs.Results.{cash_row_name}
 use Rattle.brk_audit_form.specs.Names.{cash_text_in}
 
 symbol_same : (t : Tables) (s : SecurityRow) → (security_of_row t s).symbol ≡ s.symbol
 symbol_same t s = by_last (find (λ l. bytes_eq l.symbol s.symbol) t.last_trades)
   where
-    by_last : (o : Option LastTradeRow) → (option_map_or (security_of_rows s) o (security_of_rows s (no_last_trade s.symbol))).symbol ≡ s.symbol
+    by_last : (o : Option LastTradeRow) → (option_map_or (security_of_rows s) o (security_of_rows s (zero_last_trade_row s.symbol))).symbol ≡ s.symbol
     by_last None = refl
     by_last (Some l) = refl
 
 called_same : (t : Tables) (s : SecurityRow) → (security_of_row t s).name ≡ s.name
 called_same t s = by_last (find (λ l. bytes_eq l.symbol s.symbol) t.last_trades)
   where
-    by_last : (o : Option LastTradeRow) → (option_map_or (security_of_rows s) o (security_of_rows s (no_last_trade s.symbol))).name ≡ s.name
+    by_last : (o : Option LastTradeRow) → (option_map_or (security_of_rows s) o (security_of_rows s (zero_last_trade_row s.symbol))).name ≡ s.name
     by_last None = refl
     by_last (Some l) = refl
 
@@ -39,9 +39,9 @@ names_same t q (s ∷ rows) =
     by_test false e = e
 
 -- the text of a trade is that of its row
-pub text_same : (t : Tables) (words : Text) (row : TradeRow) → cash_text_in t words row ≡ cash_text words (base_of t) (trade_of_row t row)
-unfolding base_of
-text_same t words row = ap (λ name. type_name row.kind ++ 32 ∷ decimal row.qty ++ words ++ name) (sym (names_same t row.symbol t.securities))
+pub text_same : (t : Tables) (words : Text) (row : TradeRow) → cash_text_in t words row ≡ cash_row_name words (base_of_tables t) (trade_of_row t row)
+unfolding base_of_tables
+text_same t words row = ap (λ name. trade_type_name row.kind ++ 32 ∷ decimal row.qty ++ words ++ name) (sym (names_same t row.symbol t.securities))
 
 -- ---- a test of each row
 

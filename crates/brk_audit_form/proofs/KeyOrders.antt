@@ -7,12 +7,12 @@ use Rattle.std.specs.Cmp.Lexicographic.{slice_cmp}
 use Rattle.std.proofs.lemmas.Cmp.{nat_cmp_total, nat_list_cmp_total}
 use Rattle.std.proofs.lemmas.Bool.{cases_Bool, ltb-true, ltb-false, and_from}
 use Rattle.std.proofs.lemmas.Bool.Decides.{nat_tests}
-use Rattle.brk_model.specs.Lists.{text_before}
-use Rattle.brk_model.specs.Keys.{KeyPart, number, word, part_before, key_before}
-use Rattle.brk_model.specs.Form.{rises}
+use Rattle.brk_model.specs.Lists.{is_text_less}
+use Rattle.brk_model.specs.Keys.{KeyPart, number, word, is_key_part_less, is_key_less}
+use Rattle.brk_model.specs.Form.{is_sorted_by_unique_key}
 use Rattle.brk_audit_form.specs.Keys.{part_cmp, key_cmp}
 
-pub texts_before : (s t : List ℕ) → text_before s t ≡ is_gt (slice_cmp nat_cmp t s)
+pub texts_before : (s t : List ℕ) → is_text_less s t ≡ is_gt (slice_cmp nat_cmp t s)
 texts_before [] [] = refl
 texts_before (x ∷ s) [] = refl
 texts_before [] (y ∷ t) = refl
@@ -33,13 +33,13 @@ pub numbers_before : (m n : ℕ) → nat_lt m n ≡ is_lt (nat_cmp m n)
 numbers_before m n = grind (arith, nat_tests)
 
 -- how a part goes before another, one way and the other
-part_lt : (j k : KeyPart) → part_before j k ≡ is_lt (part_cmp j k)
+part_lt : (j k : KeyPart) → is_key_part_less j k ≡ is_lt (part_cmp j k)
 part_lt (number m) (number n) = numbers_before m n
 part_lt (word s) (word t) = texts_before s t ∙ gt_lt (slice_cmp nat_cmp t s) (slice_cmp nat_cmp s t) (nat_list_cmp_total.antisymm t s)
 part_lt (number m) (word t) = refl
 part_lt (word s) (number n) = refl
 
-part_gt : (j k : KeyPart) → part_before k j ≡ is_gt (part_cmp j k)
+part_gt : (j k : KeyPart) → is_key_part_less k j ≡ is_gt (part_cmp j k)
 part_gt (number m) (number n) = numbers_before n m ∙ sym (gt_lt (nat_cmp m n) (nat_cmp n m) (nat_cmp_total.antisymm m n))
 part_gt (word s) (word t) = texts_before t s
 part_gt (number m) (word t) = refl
@@ -61,7 +61,7 @@ alone o a b p q = (λ i. p i || (not (q i) && false)) ∙ by_cases o
     by_cases Equal = refl
     by_cases Greater = refl
 
-pub key_lt : (js ks : List KeyPart) → key_before js ks ≡ is_lt (key_cmp js ks)
+pub key_lt : (js ks : List KeyPart) → is_key_less js ks ≡ is_lt (key_cmp js ks)
 key_lt [] [] = refl
 key_lt [] (k ∷ ks) = refl
 key_lt (j ∷ js) [] = refl
@@ -71,25 +71,25 @@ key_lt (j ∷ i ∷ is) (k ∷ []) = decided (part_cmp j k) (key_cmp (i ∷ is) 
 key_lt (j ∷ i ∷ is) (k ∷ l ∷ ls) = decided (part_cmp j k) (key_cmp (i ∷ is) (l ∷ ls)) _ _ _ (part_lt j k) (part_gt j k) (key_lt (i ∷ is) (l ∷ ls))
 
 -- each row goes before the next
-rises_all : {X : Type 0} (key : X → List KeyPart) (xs : List X) → ((k : ℕ) (d : X) → suc k < length xs → key_before (key (get_or xs k d)) (key (get_or xs (suc k) d)) ≡ true)
-    → rises key xs ≡ true
+rises_all : {X : Type 0} (key : X → List KeyPart) (xs : List X) → ((k : ℕ) (d : X) → suc k < length xs → is_key_less (key (get_or xs k d)) (key (get_or xs (suc k) d)) ≡ true)
+    → is_sorted_by_unique_key key xs ≡ true
 rises_all key [] a = refl
 rises_all key (x ∷ []) a = refl
 rises_all key (x ∷ y ∷ ys) a = and_from _ _ (a 0 x (omega arith)) (rises_all key (y ∷ ys) (λ k d h. a (suc k) d (omega arith)))
 
 rises_not : {X : Type 0} (key : X → List KeyPart) (xs : List X) (k : ℕ) → suc k < length xs
-    → ((d : X) → key_before (key (get_or xs k d)) (key (get_or xs (suc k) d)) ≡ false) → rises key xs ≡ false
+    → ((d : X) → is_key_less (key (get_or xs k d)) (key (get_or xs (suc k) d)) ≡ false) → is_sorted_by_unique_key key xs ≡ false
 rises_not key [] k h f = absurd (omega arith)
 rises_not key (x ∷ []) k h f = absurd (omega arith)
-rises_not key (x ∷ y ∷ ys) zero h f = ap (λ b. b && rises key (y ∷ ys)) (f x)
-rises_not key (x ∷ y ∷ ys) (suc k) h f = ap (λ b. key_before (key x) (key y) && b) (rises_not key (y ∷ ys) k (omega arith) f) ∙ and_false (key_before (key x) (key y))
+rises_not key (x ∷ y ∷ ys) zero h f = ap (λ b. b && is_sorted_by_unique_key key (y ∷ ys)) (f x)
+rises_not key (x ∷ y ∷ ys) (suc k) h f = ap (λ b. is_key_less (key x) (key y) && b) (rises_not key (y ∷ ys) k (omega arith) f) ∙ and_false (is_key_less (key x) (key y))
   where
     and_false : (b : Bool) → (b && false) ≡ false
     and_false true = refl
     and_false false = refl
 
-pub rises_told : {X : Type 0} (key : X → List KeyPart) (xs : List X) (r : Bool) → IsAllAdjacentAnswer (λ x y b. b ≡ key_before (key x) (key y)) xs r → r ≡ rises key xs
+pub rises_told : {X : Type 0} (key : X → List KeyPart) (xs : List X) (r : Bool) → IsAllAdjacentAnswer (λ x y b. b ≡ is_key_less (key x) (key y)) xs r → r ≡ is_sorted_by_unique_key key xs
 rises_told key xs true a =
-    sym (rises_all key xs (λ k d h. subst (λ j. key_before (key (get_or xs k d)) (key (get_or xs j d)) ≡ true) (add-one k) (sym (a k d (omega arith)))))
+    sym (rises_all key xs (λ k d h. subst (λ j. is_key_less (key (get_or xs k d)) (key (get_or xs j d)) ≡ true) (add-one k) (sym (a k d (omega arith)))))
 rises_told key xs false a =
-    sym (rises_not key xs a.0 (omega (arith, a.1)) (λ d. subst (λ j. key_before (key (get_or xs a.0 d)) (key (get_or xs j d)) ≡ false) (add-one a.0) (sym (a.2 d))))
+    sym (rises_not key xs a.0 (omega (arith, a.1)) (λ d. subst (λ j. is_key_less (key (get_or xs a.0 d)) (key (get_or xs j d)) ≡ false) (add-one a.0) (sym (a.2 d))))

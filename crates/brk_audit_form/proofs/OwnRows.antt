@@ -4,9 +4,9 @@ use Rattle.std.specs.Prelude.{◌&&◌, ◌||◌, not, option_to_list}
 use Rattle.std.specs.Option.{option_map_or}
 use Rattle.std.proofs.lemmas.Bool.{and_cases, and_from, and_left, and_right, cases_eq, eq-eqb, ne_eqb, not-false, or_cases, or_left, or_right}
 use Rattle.std.proofs.lemmas.List.{append-nil, take-append-drop, take_more}
-use Rattle.brk_model.specs.Form.{trades_moved}
+use Rattle.brk_model.specs.Form.{trade_ids_of_cash_rows}
 use Rattle.brk_model.specs.Lists.{all_distinct, contains_number}
-use Rattle.brk_changes.specs.Rows.{move_row_of}
+use Rattle.brk_changes.specs.Rows.{abstract_move_row}
 use Rattle.brk_changes.specs.declared.move_row.MoveRow.{MoveRow}
 
 false_true : {A : Type 0} → false ≡ true → A
@@ -59,7 +59,7 @@ not_distinct_front (m ∷ ms) ns e =
 -- ---- the trades of rows
 
 abbrev pub trades : List MoveRow → List ℕ
-trades rows = trades_moved (map move_row_of rows)
+trades rows = trade_ids_of_cash_rows (map abstract_move_row rows)
 
 trades-append : (rs qs : List MoveRow) → trades (rs ++ qs) ≡ trades rs ++ trades qs
 trades-append [] qs = refl

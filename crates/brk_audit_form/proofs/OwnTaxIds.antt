@@ -8,19 +8,19 @@ use Rattle.std.proofs.lemmas.Cmp.{nat_list_cmp_total}
 use Rattle.std.proofs.lemmas.Map.Text.{is_eq-slice_cmp}
 use Rattle.std.proofs.lemmas.List.{take_more, take-append-drop, append-nil}
 use Rattle.std.proofs.lemmas.List.Folds.{list_any-append}
-use Rattle.brk_model.specs.Form.{distinct_tax_ids}
-use Rattle.brk_ref.specs.Records.{customer_of}
+use Rattle.brk_model.specs.Form.{has_distinct_tax_ids}
+use Rattle.brk_ref.specs.Records.{abstract_customer}
 use Rattle.brk_ref.specs.declared.customer.Customer.{Customer}
 
 abbrev pub are_own : List Customer → Bool
 are_own [] = true
 are_own (c ∷ cs) = not (list_any (λ d. bytes_eq d.tax_id c.tax_id) cs) && are_own cs
 
-any-mapped : (c : Customer) (cs : List Customer) → list_any (λ d. bytes_eq d.tax_id c.tax_id) cs ≡ list_any (λ d. bytes_eq d.tax_id c.tax_id) (map customer_of cs)
+any-mapped : (c : Customer) (cs : List Customer) → list_any (λ d. bytes_eq d.tax_id c.tax_id) cs ≡ list_any (λ d. bytes_eq d.tax_id c.tax_id) (map abstract_customer cs)
 any-mapped c [] = refl
 any-mapped c (d ∷ cs) = ap (λ b. bytes_eq d.tax_id c.tax_id || b) (any-mapped c cs)
 
-pub own-mapped : (cs : List Customer) → are_own cs ≡ distinct_tax_ids (map customer_of cs)
+pub own-mapped : (cs : List Customer) → are_own cs ≡ has_distinct_tax_ids (map abstract_customer cs)
 own-mapped [] = refl
 own-mapped (c ∷ cs) = λ i. not (any-mapped c cs i) && own-mapped cs i
 

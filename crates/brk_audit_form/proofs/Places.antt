@@ -8,11 +8,11 @@ use Rattle.std.specs.Cmp.{IsTotalOrder}
 use Rattle.std.specs.Cmp.Lexicographic.{slice_cmp}
 use Rattle.std.proofs.lemmas.Cmp.{nat_cmp_total, nat_list_cmp_total, alike_right, then_total, on_total}
 use Rattle.std.proofs.lemmas.Map.Text.{is_eq-slice_cmp}
-use Rattle.brk_money.specs.Kinds.{same_status, status_code}
+use Rattle.brk_money.specs.Kinds.{is_same_trade_status, trade_status_code}
 use Rattle.brk_money.specs.declared.status.Status.{Status}
 use Rattle.brk_money.specs.declared.status.Status.TheVariants.{Completed, Active, Submitted, Pending, Canceled}
-use Rattle.brk_model.specs.Keys.{number, word, key_before, history_key}
-use Rattle.brk_changes.specs.Rows.{history_row_of}
+use Rattle.brk_model.specs.Keys.{number, word, is_key_less, history_key}
+use Rattle.brk_changes.specs.Rows.{abstract_history_row}
 use Rattle.brk_changes.specs.declared.history_row.HistoryRow.{HistoryRow}
 use Rattle.brk_audit_theorems.proofs.Climbs.{Climbs}
 use Rattle.brk_audit_form.proofs.KeyOrders.{key_lt}
@@ -84,7 +84,7 @@ less_of Less e = refl
 less_of Equal e = absurd (cc)
 less_of Greater e = absurd (cc)
 
-pair_less : (a b : Pair) → key_before (number a.0 ∷ word a.1 ∷ []) (number b.0 ∷ word b.1 ∷ []) ≡ true → pair_cmp a b ≡ Less
+pair_less : (a b : Pair) → is_key_less (number a.0 ∷ word a.1 ∷ []) (number b.0 ∷ word b.1 ∷ []) ≡ true → pair_cmp a b ≡ Less
 pair_less a b h = less_of (pair_cmp a b) (sym (key_lt (number a.0 ∷ word a.1 ∷ []) (number b.0 ∷ word b.1 ∷ [])) ∙ h)
 
 then_eq : (o p : Ordering) → is_eq (ordering_then o p) ≡ (is_eq o && is_eq p)
@@ -92,7 +92,7 @@ then_eq Less p = refl
 then_eq Equal p = refl
 then_eq Greater p = refl
 
-same_code : (s : Status) → bytes_eq (status_code s) (status_code Completed) ≡ same_status s Completed
+same_code : (s : Status) → bytes_eq (trade_status_code s) (trade_status_code Completed) ≡ is_same_trade_status s Completed
 same_code Completed = refl
 same_code Active = refl
 same_code Submitted = refl
@@ -109,19 +109,19 @@ any_filter {X = X} p q (x ∷ xs) = by_test (p x) (any_filter p q xs)
     by_test false e = e
 
 abbrev pair_of : HistoryRow → Pair
-pair_of h = (h.trade, status_code h.status)
+pair_of h = (h.trade, trade_status_code h.status)
 
-pub completion_found : (xs ys : List HistoryRow) (n : ℕ) (code : List ℕ) (r : Result ℕ ℕ) (b : Bool) → ys ≡ xs → code ≡ status_code Completed → Climbs history_key (map history_row_of xs)
-    → IsSearchInRange r (length ys) → IsBinarySearchResult (λ h. ordering_then (nat_cmp h.trade n) (slice_cmp nat_cmp (status_code h.status) code)) ys r → b ≡ is_ok r
-    → b ≡ list_any (λ h. same_status h.status Completed) (filter (λ h. h.trade == n) (map history_row_of xs))
+pub completion_found : (xs ys : List HistoryRow) (n : ℕ) (code : List ℕ) (r : Result ℕ ℕ) (b : Bool) → ys ≡ xs → code ≡ trade_status_code Completed → Climbs history_key (map abstract_history_row xs)
+    → IsSearchInRange r (length ys) → IsBinarySearchResult (λ h. ordering_then (nat_cmp h.trade n) (slice_cmp nat_cmp (trade_status_code h.status) code)) ys r → b ≡ is_ok r
+    → b ≡ list_any (λ h. is_same_trade_status h.status Completed) (filter (λ h. h.trade == n) (map abstract_history_row xs))
 completion_found xs ys n code r b e f c within found is =
     let rows : Climbing pair_cmp pair_of ys =
-    subst (Climbing pair_cmp pair_of) (sym e) (climbing pair_cmp history_row_of history_key (λ h. (h.trade, status_code h.status)) (λ g h. pair_less (g.trade, status_code g.status) (h.trade, status_code h.status)) xs c) in
+    subst (Climbing pair_cmp pair_of) (sym e) (climbing pair_cmp abstract_history_row history_key (λ h. (h.trade, trade_status_code h.status)) (λ g h. pair_less (g.trade, trade_status_code g.status) (h.trade, trade_status_code h.status)) xs c) in
     is
-    ∙ any_searched (λ h. ordering_then (nat_cmp h.trade n) (slice_cmp nat_cmp (status_code h.status) code)) (λ h. (h.trade == n) && same_status h.status Completed) ys r
-    (λ h. then_eq (nat_cmp h.trade n) (slice_cmp nat_cmp (status_code h.status) code)
-    ∙ (λ i. eq_number h.trade n i && ((λ j. is_eq (slice_cmp nat_cmp (status_code h.status) (f j))) ∙ is_eq-slice_cmp (status_code h.status) (status_code Completed) ∙ same_code h.status) i))
+    ∙ any_searched (λ h. ordering_then (nat_cmp h.trade n) (slice_cmp nat_cmp (trade_status_code h.status) code)) (λ h. (h.trade == n) && is_same_trade_status h.status Completed) ys r
+    (λ h. then_eq (nat_cmp h.trade n) (slice_cmp nat_cmp (trade_status_code h.status) code)
+    ∙ (λ i. eq_number h.trade n i && ((λ j. is_eq (slice_cmp nat_cmp (trade_status_code h.status) (f j))) ∙ is_eq-slice_cmp (trade_status_code h.status) (trade_status_code Completed) ∙ same_code h.status) i))
     (rising_keys pair_total pair_of ys rows (n, code)) within found
-    ∙ any_map (λ h. (h.trade == n) && same_status h.status Completed) history_row_of ys
-    ∙ ap (λ l. list_any (λ h. (h.trade == n) && same_status h.status Completed) (map history_row_of l)) e
-    ∙ any_filter (λ h. h.trade == n) (λ h. same_status h.status Completed) (map history_row_of xs)
+    ∙ any_map (λ h. (h.trade == n) && is_same_trade_status h.status Completed) abstract_history_row ys
+    ∙ ap (λ l. list_any (λ h. (h.trade == n) && is_same_trade_status h.status Completed) (map abstract_history_row l)) e
+    ∙ any_filter (λ h. h.trade == n) (λ h. is_same_trade_status h.status Completed) (map abstract_history_row xs)

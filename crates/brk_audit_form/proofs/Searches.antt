@@ -12,8 +12,8 @@ use Rattle.std.proofs.lemmas.Bool.Decides.{nat_tests}
 use Rattle.std.proofs.lemmas.Bool.{cases_lt}
 use Rattle.std.proofs.lemmas.Map.Text.{is_eq-slice_cmp}
 use Rattle.std.proofs.lemmas.List.Sorted.{searchable_from_sorted}
-use Rattle.brk_model.specs.Keys.{KeyPart, number, word, key_before}
-use Rattle.brk_model.specs.Lists.{text_before}
+use Rattle.brk_model.specs.Keys.{KeyPart, number, word, is_key_less}
+use Rattle.brk_model.specs.Lists.{is_text_less}
 use Rattle.brk_audit_theorems.proofs.Climbs.{Climbs}
 use Rattle.brk_audit_form.proofs.KeyOrders.{texts_before}
 
@@ -42,7 +42,7 @@ ahead : {X Y K : Type 0} (R : K → K → Ordering) (of : X → Y) (P : Y → Ty
 ahead R of P key k less [] a = tt
 ahead R of P key k less (x ∷ xs) a = (less (of x) a.0, ahead R of P key k less xs a.1)
 
-pub climbing : {X Y K : Type 0} (R : K → K → Ordering) (of : X → Y) (whole : Y → List KeyPart) (key : Y → K) → ((y z : Y) → key_before (whole y) (whole z) ≡ true → R (key y) (key z) ≡ Less) → (xs : List X)
+pub climbing : {X Y K : Type 0} (R : K → K → Ordering) (of : X → Y) (whole : Y → List KeyPart) (key : Y → K) → ((y z : Y) → is_key_less (whole y) (whole z) ≡ true → R (key y) (key z) ≡ Less) → (xs : List X)
     → Climbs whole (map of xs) → Climbing R (λ x. key (of x)) xs
 climbing R of whole key less [] c = tt
 climbing R of whole key less (x ∷ xs) c = (ahead R of _ key (key (of x)) (λ y h. less (of x) y h) xs c.0, climbing R of whole key less xs c.1)
@@ -86,7 +86,7 @@ any_searched {X = X} ord p xs (Err at) same up within found = sym (any_none p xs
 
 -- ---- rows by a number, and rows by a text
 
-pub number_less : (m n : ℕ) → key_before (number m ∷ []) (number n ∷ []) ≡ true → nat_cmp m n ≡ Less
+pub number_less : (m n : ℕ) → is_key_less (number m ∷ []) (number n ∷ []) ≡ true → nat_cmp m n ≡ Less
 number_less m n h = by_ranked (m < n) (m ≡ n) (n < m) (nat_cmp m n) (ranked m n (nat_cmp m n) refl)
     (λ e l. e)
     (λ e same. grind (arith, nat_tests))
@@ -102,8 +102,8 @@ number_searched of key xs n r c within found =
     (rising_keys nat_cmp_total (λ x. key (of x)) xs (climbing nat_cmp of (λ y. number (key y) ∷ []) key (λ y z. number_less (key y) (key z)) xs c) n) within found
     ∙ any_map (λ y. key y == n) of xs
 
-pub word_less : (s t : List ℕ) → key_before (word s ∷ []) (word t ∷ []) ≡ true → slice_cmp nat_cmp s t ≡ Less
-word_less s t h = by_gt (slice_cmp nat_cmp s t) (slice_cmp nat_cmp t s) (nat_list_cmp_total.antisymm s t) (sym (texts_before s t) ∙ only (text_before s t) (text_before t s) h)
+pub word_less : (s t : List ℕ) → is_key_less (word s ∷ []) (word t ∷ []) ≡ true → slice_cmp nat_cmp s t ≡ Less
+word_less s t h = by_gt (slice_cmp nat_cmp s t) (slice_cmp nat_cmp t s) (nat_list_cmp_total.antisymm s t) (sym (texts_before s t) ∙ only (is_text_less s t) (is_text_less t s) h)
   where
     only : (b c : Bool) → b || (not c && false) ≡ true → b ≡ true
     only true c h = refl

@@ -5,20 +5,20 @@ use Rattle.brk_money.specs.declared.fault.Fault.{Fault}
 use Rattle.std.specs.Cmp.{both_ways}
 use Rattle.std.specs.List.{list_all, range_with_len}
 use Rattle.std.specs.Option.{option_map_or}
-use Rattle.brk_money.specs.Moments.{last_day, last_stamp}
+use Rattle.brk_money.specs.Moments.{greatest_day, greatest_stamp}
 use Rattle.brk_model.specs.Limits.{greatest_id}
 use Rattle.brk_model.specs.Lists.{all_distinct}
 use Rattle.brk_model.specs.Schemas.{Schema}
-use Rattle.brk_model.specs.Form.{has_form, has_keys, no_overlap, same_numbers, distinct_tax_ids, customer_limits, cash_form, move_form, trades_moved, lacks_later_rows}
-use Rattle.brk_ref.specs.Records.{customer_of, band_of}
-use Rattle.brk_changes.specs.Rows.{trade_row_of, cash_row_of, move_row_of}
+use Rattle.brk_model.specs.Form.{satisfies_form_condition, tables_are_sorted_by_unique_key, bands_are_disjoint, are_equal_number_lists, has_distinct_tax_ids, is_within_customer_limits, is_well_formed_cash_row, is_well_formed_move_row, trade_ids_of_cash_rows, lacks_rows_of_later_schemas}
+use Rattle.brk_ref.specs.Records.{abstract_customer, abstract_band}
+use Rattle.brk_changes.specs.Rows.{abstract_trade_row, abstract_cash_row, abstract_move_row}
 use Rattle.brk_changes.specs.Sheets.{tables_in_sheets}
 use Rattle.brk_changes.specs.declared.sheets.Sheets.{Sheets}
-use Rattle.brk_model_theorems.specs.FormParts.{FormParts}
+use Rattle.brk_model_theorems.specs.FormParts.{SatisfiesFormParts}
 use Rattle.brk_model_theorems.proofs.FormParts.{form_parts}
 use Rattle.brk_model_theorems.proofs.Conjunctions.{Hold, joined, parts, whole}
 use Rattle.brk_model_theorems.proofs.FormParts.{form_whole}
-use Rattle.brk_audit_form.specs.Groups.{plain_form, reference_forms, trading_forms}
+use Rattle.brk_audit_form.specs.Groups.{passes_unallocated_checks, reference_rows_are_well_formed, trading_rows_are_well_formed}
 use Rattle.brk_audit_form.proofs.CustomerSums.{count-mapped}
 use Rattle.brk_audit_form.proofs.FormGroups.{ReferenceForms, TradingForms, reference_forms_parts, reference_forms_whole, trading_forms_parts, trading_forms_whole}
 
@@ -30,39 +30,39 @@ length-mapped : {X Y : Type 0} (of : X → Y) (xs : List X) → length xs ≡ le
 length-mapped of [] = refl
 length-mapped of (x ∷ xs) = ap (λ n. suc n) (length-mapped of xs)
 
-numbers-mapped : (s : Sheets) → same_numbers (map (λ row. row.id) s.trades.items) (range_with_len 1 (length s.trades.items))
-    ≡ same_numbers (map (λ row. row.id) (map trade_row_of s.trades.items)) (range_with_len 1 (length (map trade_row_of s.trades.items)))
-numbers-mapped s = λ i. same_numbers (map-map (λ row. row.id) trade_row_of s.trades.items i) (range_with_len 1 (length-mapped trade_row_of s.trades.items i))
+numbers-mapped : (s : Sheets) → are_equal_number_lists (map (λ row. row.id) s.trades.items) (range_with_len 1 (length s.trades.items))
+    ≡ are_equal_number_lists (map (λ row. row.id) (map abstract_trade_row s.trades.items)) (range_with_len 1 (length (map abstract_trade_row s.trades.items)))
+numbers-mapped s = λ i. are_equal_number_lists (map-map (λ row. row.id) abstract_trade_row s.trades.items i) (range_with_len 1 (length-mapped abstract_trade_row s.trades.items i))
 
 moves-counted : (s : Sheets) → nat_le (length (filter (λ r. is_none r.trade) s.moves.items)) greatest_id
-    ≡ nat_le (length (filter (λ r. is_none r.trade) (map move_row_of s.moves.items))) greatest_id
-moves-counted s = ap (λ n. nat_le n greatest_id) (count-mapped (λ r. is_none r.trade) move_row_of s.moves.items)
+    ≡ nat_le (length (filter (λ r. is_none r.trade) (map abstract_move_row s.moves.items))) greatest_id
+moves-counted s = ap (λ n. nat_le n greatest_id) (count-mapped (λ r. is_none r.trade) abstract_move_row s.moves.items)
 
 -- the tests with memory, after the plain ones
 abbrev pub rests : Sheets → List Bool
 rests s =
-    distinct_tax_ids (map customer_of s.customers.items) ∷
-    list_all (customer_limits (tables_in_sheets s)) (map customer_of s.customers.items) ∷
-    list_all (cash_form (tables_in_sheets s)) (map cash_row_of s.cash.items) ∷
-    list_all (move_form (tables_in_sheets s)) (map move_row_of s.moves.items) ∷
-    all_distinct (trades_moved (map move_row_of s.moves.items)) ∷ []
+    has_distinct_tax_ids (map abstract_customer s.customers.items) ∷
+    list_all (is_within_customer_limits (tables_in_sheets s)) (map abstract_customer s.customers.items) ∷
+    list_all (is_well_formed_cash_row (tables_in_sheets s)) (map abstract_cash_row s.cash.items) ∷
+    list_all (is_well_formed_move_row (tables_in_sheets s)) (map abstract_move_row s.moves.items) ∷
+    all_distinct (trade_ids_of_cash_rows (map abstract_move_row s.moves.items)) ∷ []
 
 -- the plain tests, after the keys
 abbrev plain_rests : Schema → Sheets → List Bool
 plain_rests schema s =
-    reference_forms schema s ∷
-    option_map_or (λ last. nat_le last last_stamp) s.last true ∷
-    trading_forms schema s ∷
-    no_overlap (map band_of s.bands.items) ∷
-    same_numbers (map (λ row. row.id) s.trades.items) (range_with_len 1 (length s.trades.items)) ∷
+    reference_rows_are_well_formed schema s ∷
+    option_map_or (λ last. nat_le last greatest_stamp) s.last true ∷
+    trading_rows_are_well_formed schema s ∷
+    bands_are_disjoint (map abstract_band s.bands.items) ∷
+    are_equal_number_lists (map (λ row. row.id) s.trades.items) (range_with_len 1 (length s.trades.items)) ∷
     nat_le (length (filter (λ r. is_none r.trade) s.moves.items)) greatest_id ∷
-    option_map_or (λ day. nat_le day last_day) s.rule true ∷
-    lacks_later_rows schema (tables_in_sheets s) ∷ []
+    option_map_or (λ day. nat_le day greatest_day) s.rule true ∷
+    lacks_rows_of_later_schemas schema (tables_in_sheets s) ∷ []
 
-forth : (schema : Schema) (s : Sheets) → plain_form schema s ≡ true → Hold (rests s) → has_form schema (tables_in_sheets s) ≡ true
+forth : (schema : Schema) (s : Sheets) → passes_unallocated_checks schema s ≡ true → Hold (rests s) → satisfies_form_condition schema (tables_in_sheets s) ≡ true
 forth schema s plain h =
     let t = tables_in_sheets s in
-    let p = parts (has_keys t) (plain_rests schema s) plain in
+    let p = parts (tables_are_sorted_by_unique_key t) (plain_rests schema s) plain in
     let r : ReferenceForms schema s = reference_forms_parts schema s p.1.0 in
     let q : TradingForms schema s = trading_forms_parts schema s p.1.1.1.0 in
     form_whole schema t (record {
@@ -98,7 +98,7 @@ forth schema s plain h =
       fits = p.1.1.1.1.1.1.1.1.0;
     })
 
-back : (schema : Schema) (s : Sheets) → FormParts schema (tables_in_sheets s) → plain_form schema s ≡ true
+back : (schema : Schema) (s : Sheets) → SatisfiesFormParts schema (tables_in_sheets s) → passes_unallocated_checks schema s ≡ true
 back schema s p =
     let r : ReferenceForms schema s = record {
       kept = p.kept;
@@ -122,15 +122,15 @@ back schema s p =
       holding_history = p.holding_history;
       settlements = p.settlements;
     } in
-    whole (has_keys (tables_in_sheets s)) (plain_rests schema s) p.keys
+    whole (tables_are_sorted_by_unique_key (tables_in_sheets s)) (plain_rests schema s) p.keys
     (reference_forms_whole schema s r, (p.clock, (trading_forms_whole schema s q, (p.apart, (numbers-mapped s ∙ p.numbers, (moves-counted s ∙ p.counted, (p.rule, (p.fits, tt))))))))
 
 -- each of the six tests is of the whole, and together they are it
-pub form_told : (schema : Schema) (s : Sheets) → joined (plain_form schema s) (rests s) ≡ has_form schema (tables_in_sheets s)
+pub form_told : (schema : Schema) (s : Sheets) → joined (passes_unallocated_checks schema s) (rests s) ≡ satisfies_form_condition schema (tables_in_sheets s)
 form_told schema s =
     both_ways _ _
-    (λ e. let p = parts (plain_form schema s) (rests s) e in forth schema s p.0 p.1)
-    (λ e. let p = form_parts schema (tables_in_sheets s) e in whole (plain_form schema s) (rests s) (back schema s p) (p.tax_ids, (p.limits, (p.cash, (p.moves, (p.own_moves, tt))))))
+    (λ e. let p = parts (passes_unallocated_checks schema s) (rests s) e in forth schema s p.0 p.1)
+    (λ e. let p = form_parts schema (tables_in_sheets s) e in whole (passes_unallocated_checks schema s) (rests s) (back schema s p) (p.tax_ids, (p.limits, (p.cash, (p.moves, (p.own_moves, tt))))))
 
 -- ---- what an answer of the checker says
 

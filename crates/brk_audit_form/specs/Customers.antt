@@ -10,10 +10,10 @@ abbrev pub sum_at : BTreeMap ℕ ℕ → ℕ → ℕ
 sum_at sums q = unwrap_or (get nat_cmp sums q) 0
 
 -- The rate of the tax rate with the id `tax`, or 0 if it does not exist.
-abbrev pub rate_in : Tables → ℕ → ℕ
-rate_in t tax = option_map_or (λ r. r.rate) (find (λ r. r.id == tax) t.tax_rates) 0
+abbrev pub tax_rate_or_zero : Tables → ℕ → ℕ
+tax_rate_or_zero t tax = option_map_or (λ r. r.rate) (find (λ r. r.id == tax) t.tax_rates) 0
 
 -- The sum of the rates of the taxes that the customer pays. A tax rate that does not exist counts
 -- 0.
-abbrev pub rates_in : Tables → ℕ → ℕ
-rates_in t customer = sum_by (λ x. rate_in t x.tax) (filter (λ x. x.customer == customer) t.customer_taxes)
+abbrev pub rate_sum_paid_by : Tables → ℕ → ℕ
+rate_sum_paid_by t customer = sum_by (λ x. tax_rate_or_zero t x.tax) (filter (λ x. x.customer == customer) t.customer_taxes)

@@ -2,14 +2,14 @@
 use Rattle.std.specs.Prelude.{[], ◌∷◌, ◌++◌, decimal}
 use Rattle.std.specs.Option.{option_map_or}
 use Rattle.brk_money.specs.Spelling.{Text}
-use Rattle.brk_money.specs.Kinds.{type_name}
+use Rattle.brk_money.specs.Kinds.{trade_type_name}
 use Rattle.brk_model.specs.Tables.{Tables, TradeRow}
-use Rattle.brk_model.specs.Joins.{security_in}
+use Rattle.brk_model.specs.Joins.{security_row_with_symbol}
 
 -- The name of the security, or the empty text if the security does not exist.
 abbrev pub security_name_in : Tables → Text → Text
-security_name_in t symbol = option_map_or (λ s. s.name) (security_in t symbol) []
+security_name_in t symbol = option_map_or (λ s. s.name) (security_row_with_symbol t symbol) []
 
 -- The cash text of the trade: its type, its quantity, `words`, and the name of its security.
 abbrev pub cash_text_in : Tables → Text → TradeRow → Text
-cash_text_in t words row = type_name row.kind ++ 32 ∷ decimal row.qty ++ words ++ security_name_in t row.symbol
+cash_text_in t words row = trade_type_name row.kind ++ 32 ∷ decimal row.qty ++ words ++ security_name_in t row.symbol

@@ -4,8 +4,8 @@ ghost use Rattle.brk_money.specs.declared.fault.Fault.TheVariants.{Memory};
 ghost use Rattle.brk_model.specs.Form as form;
 ghost use Rattle.brk_model.specs.Limits as limits;
 ghost use Rattle.brk_changes.specs.Sheets.{tables_in_sheets};
-ghost use Rattle.brk_audit_form.specs.Conditions.{HasKeys};
-ghost use Rattle.brk_audit_form.specs.Customers.{rate_in, rates_in, sum_at};
+ghost use Rattle.brk_audit_form.specs.Conditions.{HasSortedKeys};
+ghost use Rattle.brk_audit_form.specs.Customers.{tax_rate_or_zero, rate_sum_paid_by, sum_at};
 
 use crate::references::find_tax;
 use brk_changes::Sheets;
@@ -18,7 +18,7 @@ use std::collections::BTreeMap;
 const MOST_ACCOUNTS: u128 = 10;
 
 // Adds `more` to the sum of the customer. Fails with `Memory` only.
-fn add(sums: &mut BTreeMap<u64, u128>, customer: Id, more: u32) -> Result<(), Fault>
+fn add_to_customer_sum(sums: &mut BTreeMap<u64, u128>, customer: Id, more: u32) -> Result<(), Fault>
     requires room { sum_at sums.old customer + 2 ^ 32 < 2 ^ 128 }
     ensures more { OnOk result ((q : ℕ) → sum_at sums.new q ≡ sum_at sums.old q + cond (customer == q) more 0) }
     ensures fault { IfErr result (λ fault. fault ≡ Memory) }
@@ -36,15 +36,15 @@ fn count_accounts(alloc: Global, accounts: &[AccountRow]) -> Result<BTreeMap<u64
 {
     let mut counts = BTreeMap::new(alloc);
     for row in accounts {
-        add(&mut counts, row.account.customer, 1)?;
+        add_to_customer_sum(&mut counts, row.account.customer, 1)?;
     }
     Ok(counts)
 }
 
 // Returns the rate of the tax rate, or 0 if it does not exist.
-fn rate_of(sheets: &Sheets, tax: Id) -> u32
-    requires { HasKeys sheets.now }
-    ensures rate { result ≡ rate_in (tables_in_sheets sheets.now) tax }
+fn rate_of_tax_or_zero(sheets: &Sheets, tax: Id) -> u32
+    requires { HasSortedKeys sheets.now }
+    ensures rate { result ≡ tax_rate_or_zero (tables_in_sheets sheets.now) tax }
     ensures high { result ≤ limits.greatest_tax_rate }
 {
     match find_tax(sheets, tax) {
@@ -55,21 +55,25 @@ fn rate_of(sheets: &Sheets, tax: Id) -> u32
 
 // Returns a map from each customer to the sum of the rates that it pays. Fails with `Memory` only.
 fn sum_rates(alloc: Global, sheets: &Sheets) -> Result<BTreeMap<u64, u128>, Fault>
-    requires { HasKeys sheets.now }
-    ensures sums { IfOk result (λ sums. (q : ℕ) → sum_at sums q ≡ rates_in (tables_in_sheets sheets.now) q) }
+    requires { HasSortedKeys sheets.now }
+    ensures sums { IfOk result (λ sums. (q : ℕ) → sum_at sums q ≡ rate_sum_paid_by (tables_in_sheets sheets.now) q) }
     ensures fault { IfErr result (λ fault. fault ≡ Memory) }
 {
     let mut sums = BTreeMap::new(alloc);
     for row in &sheets.customer_taxes {
-        let rate = rate_of(sheets, row.tax);
-        add(&mut sums, row.customer, rate)?;
+        let rate = rate_of_tax_or_zero(sheets, row.tax);
+        add_to_customer_sum(&mut sums, row.customer, rate)?;
     }
     Ok(sums)
 }
 
 // Returns true if the customer's number of accounts and sum of rates are within their limits.
-fn is_within(counts: &BTreeMap<u64, u128>, sums: &BTreeMap<u64, u128>, customer: &Customer) -> bool
-    ensures { result ≡ (nat_le (sum_at counts.now customer.now.id) limits.most_accounts && nat_le (sum_at sums.now customer.now.id) limits.greatest_tax_rate) }
+fn customer_is_within_limits(
+    counts: &BTreeMap<u64, u128>,
+    sums: &BTreeMap<u64, u128>,
+    customer: &Customer,
+) -> bool
+    ensures { result ≡ (nat_le (sum_at counts.now customer.now.id) limits.most_accounts_per_customer && nat_le (sum_at sums.now customer.now.id) limits.greatest_tax_rate) }
 {
     let number = customer.id.get();
     let count = counts.get(&number).copied().unwrap_or(0);
@@ -78,26 +82,24 @@ fn is_within(counts: &BTreeMap<u64, u128>, sums: &BTreeMap<u64, u128>, customer:
 }
 
 // Returns true if each customer's number of accounts and sum of rates are within their limits.
-fn all_within(
+fn all_within_customer_limits(
     counts: &BTreeMap<u64, u128>,
     sums: &BTreeMap<u64, u128>,
     customers: &[Customer],
 ) -> bool
-    ensures { result ≡ list_all (λ c. nat_le (sum_at counts.now c.id) limits.most_accounts && nat_le (sum_at sums.now c.id) limits.greatest_tax_rate) customers.now }
+    ensures { result ≡ list_all (λ c. nat_le (sum_at counts.now c.id) limits.most_accounts_per_customer && nat_le (sum_at sums.now c.id) limits.greatest_tax_rate) customers.now }
 {
-    customers
-        .iter()
-        .all(|customer| is_within(counts, sums, customer))
+    customers.iter().all(|customer| customer_is_within_limits(counts, sums, customer))
 }
 
 /// Returns true if each customer has at most 10 accounts, and pays at most the greatest tax rate in
 /// total. Fails with `Memory` only.
-pub(crate) fn are_within(alloc: Global, sheets: &Sheets) -> Result<bool, Fault>
-    requires { HasKeys sheets.now }
-    ensures told { IfOk result (λ holds. holds ≡ list_all (form.customer_limits (tables_in_sheets sheets.now)) (tables_in_sheets sheets.now).customers) }
+pub(crate) fn customers_are_within_limits(alloc: Global, sheets: &Sheets) -> Result<bool, Fault>
+    requires { HasSortedKeys sheets.now }
+    ensures told { IfOk result (λ holds. holds ≡ list_all (form.is_within_customer_limits (tables_in_sheets sheets.now)) (tables_in_sheets sheets.now).customers) }
     ensures fault { IfErr result (λ fault. fault ≡ Memory) }
 {
     let counts = count_accounts(alloc, &sheets.accounts)?;
     let sums = sum_rates(alloc, sheets)?;
-    Ok(all_within(&counts, &sums, &sheets.customers))
+    Ok(all_within_customer_limits(&counts, &sums, &sheets.customers))
 }

@@ -33,8 +33,8 @@ pub(crate) fn compare_texts<F: Form>(one: &Text<F>, other: &Text<F>) -> Ordering
 }
 
 /// Returns true if the rows are sorted by key, and no key occurs twice.
-pub(crate) fn rises<R: Keyed>(rows: &[R]) -> bool
-    ensures { result ≡ form.rises R.key rows.now }
+pub(crate) fn has_sorted_unique_keys<R: Keyed>(rows: &[R]) -> bool
+    ensures { result ≡ form.is_sorted_by_unique_key R.key rows.now }
 {
     rows.is_sorted_by(|row, next| row.compare(next).is_lt())
 }

@@ -1,7 +1,7 @@
 ghost use Rattle.std.specs.Prelude.{◌≡◌, nat_le};
 ghost use Rattle.brk_model.specs.Form as form;
 ghost use Rattle.brk_model.specs.Limits as limits;
-ghost use Rattle.brk_changes.specs.Schemas.{schema_of};
+ghost use Rattle.brk_changes.specs.Schemas.{abstract_schema};
 ghost use Rattle.brk_changes.specs.Sheets.{tables_in_sheets};
 
 use brk_changes::{Schema, Sheets};
@@ -17,14 +17,14 @@ pub(crate) fn is_id(id: Id) -> bool
 
 /// Returns true if the number of a cash row is within its limits.
 pub(crate) fn is_move_id(id: MoveId) -> bool
-    ensures { result ≡ form.is_move_id id }
+    ensures { result ≡ form.is_cash_row_number id }
 {
     1 <= id.get() && id.get() <= MoveId::GREATEST
 }
 
 /// Returns true if the quantity is within the limits of the schema.
-pub(crate) fn is_qty(schema: Schema, qty: Qty) -> bool
-    ensures { result ≡ form.is_qty (schema_of schema) qty }
+pub(crate) fn is_quantity_within_limits(schema: Schema, qty: Qty) -> bool
+    ensures { result ≡ form.is_quantity_in_schema (abstract_schema schema) qty }
 {
     1 <= qty.get() && qty.get() <= schema.greatest_qty()
 }
@@ -44,7 +44,7 @@ pub(crate) fn is_tier(tier: Tier) -> bool
 }
 
 /// Returns true if the signed amount is within its limits.
-pub(crate) fn is_balance(cents: Cents) -> bool
+pub(crate) fn is_balance_within_limit(cents: Cents) -> bool
     ensures { result ≡ form.is_amount cents }
 {
     cents.get().unsigned_abs() <= Cents::GREATEST
@@ -58,15 +58,15 @@ pub(crate) fn is_amount(amount: Amount) -> bool
 }
 
 /// Returns true if the charge is within its limit.
-pub(crate) fn is_charge(charge: ChargeAmount) -> bool
+pub(crate) fn is_charge_within_limit(charge: ChargeAmount) -> bool
     ensures { result ≡ nat_le charge limits.greatest_charge }
 {
     charge.get() <= ChargeAmount::GREATEST
 }
 
 /// Returns true if the stamp is at most the last stamp. Returns false if there is no last stamp.
-pub(crate) fn is_stamp(sheets: &Sheets, stamp: Stamp) -> bool
-    ensures { result ≡ form.is_stamp (tables_in_sheets sheets.now) stamp }
+pub(crate) fn is_stamp_up_to_last(sheets: &Sheets, stamp: Stamp) -> bool
+    ensures { result ≡ form.is_at_most_last_stamp (tables_in_sheets sheets.now) stamp }
 {
     let Some(last) = sheets.last else {
         return false;
@@ -75,7 +75,7 @@ pub(crate) fn is_stamp(sheets: &Sheets, stamp: Stamp) -> bool
 }
 
 /// Returns true if the text is well-formed.
-pub(crate) fn is_text<F: Form>(text: &Text<F>) -> bool
+pub(crate) fn is_well_formed_text<F: Form>(text: &Text<F>) -> bool
     ensures { result ≡ F.form text.now }
 {
     F::has_form(text.as_str())

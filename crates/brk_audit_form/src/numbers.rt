@@ -7,8 +7,8 @@ use brk_changes::{MoveRow, TradeRow};
 use brk_money::Id;
 
 /// Returns true if the trades are numbered from 1 without a gap.
-pub(crate) fn are_numbered(trades: &[TradeRow]) -> bool
-    ensures { result ≡ form.same_numbers (map (λ row. row.id) trades.now) (range_with_len 1 (length trades.now)) }
+pub(crate) fn are_numbered_from_one(trades: &[TradeRow]) -> bool
+    ensures { result ≡ form.are_equal_number_lists (map (λ row. row.id) trades.now) (range_with_len 1 (length trades.now)) }
 {
     for (place, row) in trades.iter().enumerate() {
         if row.id.get() - 1 != place as u64 {

@@ -3,9 +3,9 @@ ghost use Rattle.std.specs.BTreeSet.{contains};
 ghost use Rattle.std.specs.Option.{option_map_or};
 ghost use Rattle.std.specs.Ordering.{nat_cmp};
 ghost use Rattle.brk_money.specs.declared.fault.Fault.TheVariants.{Memory};
-ghost use Rattle.brk_model.specs.Form.{trades_moved};
+ghost use Rattle.brk_model.specs.Form.{trade_ids_of_cash_rows};
 ghost use Rattle.brk_model.specs.Lists.{all_distinct};
-ghost use Rattle.brk_changes.specs.Rows.{move_row_of};
+ghost use Rattle.brk_changes.specs.Rows.{abstract_move_row};
 
 use brk_changes::MoveRow;
 use brk_money::{Fault, Id};
@@ -14,7 +14,7 @@ use std::collections::BTreeSet;
 
 // Inserts the trade of a cash row into `seen`, if the row has one. Returns false if the trade was
 // in the set before, otherwise true. Fails with `Memory` only.
-fn is_new(seen: &mut BTreeSet<u64>, trade: Option<Id>) -> Result<bool, Fault>
+fn insert_cash_row_trade(seen: &mut BTreeSet<u64>, trade: Option<Id>) -> Result<bool, Fault>
     ensures new { IfOk result (λ new. new ≡ not (option_map_or (λ id. contains nat_cmp seen.old id) trade false)) }
     ensures seen { OnOk result ((q : ℕ) → contains nat_cmp seen.new q ≡ contains nat_cmp seen.old q || option_map_or (λ id. id == q) trade false) }
     ensures fault { IfErr result (λ fault. fault ≡ Memory) }
@@ -28,12 +28,12 @@ fn is_new(seen: &mut BTreeSet<u64>, trade: Option<Id>) -> Result<bool, Fault>
 
 /// Returns true if no trade has two rows of CASH_MOVE. Fails with `Memory` only.
 pub(crate) fn has_distinct_trades(alloc: Global, moves: &[MoveRow]) -> Result<bool, Fault>
-    ensures told { IfOk result (λ own. own ≡ all_distinct (trades_moved (map move_row_of moves.now))) }
+    ensures told { IfOk result (λ own. own ≡ all_distinct (trade_ids_of_cash_rows (map abstract_move_row moves.now))) }
     ensures fault { IfErr result (λ fault. fault ≡ Memory) }
 {
     let mut seen = BTreeSet::new(alloc);
     for row in moves {
-        if !is_new(&mut seen, row.trade)? {
+        if !insert_cash_row_trade(&mut seen, row.trade)? {
             return Ok(false);
         }
     }

@@ -9,7 +9,7 @@ use brk_ref::{
 use std::cmp::Ordering;
 
 impl Keyed for Kept {
-    ghost key = { λ row. keys.kept_key (of.kept_of row) };
+    ghost key = { λ row. keys.kept_key (of.abstract_kept_row row) };
 
     // Compares the rows by batch name, then by row number.
     fn compare(&self, other: &Kept) -> Ordering {
@@ -20,7 +20,7 @@ impl Keyed for Kept {
 }
 
 impl Keyed for BrokerRow {
-    ghost key = { λ row. keys.broker_key (of.broker_row_of row) };
+    ghost key = { λ row. keys.broker_key (of.abstract_broker_row row) };
 
     // Compares the rows by id.
     fn compare(&self, other: &BrokerRow) -> Ordering {
@@ -29,7 +29,7 @@ impl Keyed for BrokerRow {
 }
 
 impl Keyed for Customer {
-    ghost key = { λ row. keys.customer_key (of.customer_of row) };
+    ghost key = { λ row. keys.customer_key (of.abstract_customer row) };
 
     // Compares the rows by id.
     fn compare(&self, other: &Customer) -> Ordering {
@@ -38,7 +38,7 @@ impl Keyed for Customer {
 }
 
 impl Keyed for AccountRow {
-    ghost key = { λ row. keys.account_key (of.account_row_of row) };
+    ghost key = { λ row. keys.account_key (of.abstract_account_row row) };
 
     // Compares the rows by id.
     fn compare(&self, other: &AccountRow) -> Ordering {
@@ -47,7 +47,7 @@ impl Keyed for AccountRow {
 }
 
 impl Keyed for Permission {
-    ghost key = { λ row. keys.permission_key (of.permission_of row) };
+    ghost key = { λ row. keys.permission_key (of.abstract_permission row) };
 
     // Compares the rows by account, then by tax id.
     fn compare(&self, other: &Permission) -> Ordering {
@@ -56,7 +56,7 @@ impl Keyed for Permission {
 }
 
 impl Keyed for Security {
-    ghost key = { λ row. keys.security_key (of.security_of row) };
+    ghost key = { λ row. keys.security_key (of.abstract_security_row row) };
 
     // Compares the rows by symbol.
     fn compare(&self, other: &Security) -> Ordering {
@@ -65,7 +65,7 @@ impl Keyed for Security {
 }
 
 impl Keyed for LastTrade {
-    ghost key = { λ row. keys.last_trade_key (of.last_trade_of row) };
+    ghost key = { λ row. keys.last_trade_key (of.abstract_last_trade_row row) };
 
     // Compares the rows by symbol.
     fn compare(&self, other: &LastTrade) -> Ordering {
@@ -74,7 +74,7 @@ impl Keyed for LastTrade {
 }
 
 impl Keyed for Charge {
-    ghost key = { λ row. keys.charge_key (of.charge_of row) };
+    ghost key = { λ row. keys.charge_key (of.abstract_charge row) };
 
     // Compares the rows by trade type, then by tier.
     fn compare(&self, other: &Charge) -> Ordering {
@@ -86,7 +86,7 @@ impl Keyed for Charge {
 }
 
 impl Keyed for Band {
-    ghost key = { λ row. keys.band_key (of.band_of row) };
+    ghost key = { λ row. keys.band_key (of.abstract_band row) };
 
     // Compares the rows by tier, then by trade type, then by exchange, then by lower bound.
     fn compare(&self, other: &Band) -> Ordering {
@@ -98,7 +98,7 @@ impl Keyed for Band {
 }
 
 impl Keyed for Tax {
-    ghost key = { λ row. keys.tax_rate_key (of.tax_of row) };
+    ghost key = { λ row. keys.tax_rate_key (of.abstract_tax_rate row) };
 
     // Compares the rows by id.
     fn compare(&self, other: &Tax) -> Ordering {
@@ -107,7 +107,7 @@ impl Keyed for Tax {
 }
 
 impl Keyed for CustomerTax {
-    ghost key = { λ row. keys.customer_tax_key (of.customer_tax_of row) };
+    ghost key = { λ row. keys.customer_tax_key (of.abstract_customer_tax row) };
 
     // Compares the rows by customer, then by tax rate.
     fn compare(&self, other: &CustomerTax) -> Ordering {

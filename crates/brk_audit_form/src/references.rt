@@ -1,14 +1,14 @@
 ghost use Rattle.std.specs.Prelude.{◌≡◌, ◌==◌, bytes_eq, find, option_map};
 ghost use Rattle.std.specs.List.{list_any};
 ghost use Rattle.std.specs.Option.{option_copied};
-ghost use Rattle.brk_money.specs.Kinds.{same_status};
+ghost use Rattle.brk_money.specs.Kinds.{is_same_trade_status};
 ghost use Rattle.brk_money.specs.declared.status.Status.TheVariants.{Completed};
 ghost use Rattle.brk_model.specs.Form as form;
 ghost use Rattle.brk_model.specs.Joins as joins;
-ghost use Rattle.brk_changes.specs.Rows.{trade_row_of};
+ghost use Rattle.brk_changes.specs.Rows.{abstract_trade_row};
 ghost use Rattle.brk_changes.specs.Sheets.{tables_in_sheets};
-ghost use Rattle.brk_ref.specs.Records.{security_of, tax_of};
-ghost use Rattle.brk_audit_form.specs.Conditions.{HasKeys};
+ghost use Rattle.brk_ref.specs.Records.{abstract_security_row, abstract_tax_rate};
+ghost use Rattle.brk_audit_form.specs.Conditions.{HasSortedKeys};
 
 use crate::keys::{compare_ids, compare_texts};
 use brk_changes::{Sheets, TradeRow};
@@ -17,7 +17,7 @@ use brk_ref::{Security, Symbol, Tax};
 
 /// Returns true if the broker exists.
 pub(crate) fn has_broker(sheets: &Sheets, id: Id) -> bool
-    requires { HasKeys sheets.now }
+    requires { HasSortedKeys sheets.now }
     ensures { result ≡ form.has_broker (tables_in_sheets sheets.now) id }
 {
     let number = id.get();
@@ -29,7 +29,7 @@ pub(crate) fn has_broker(sheets: &Sheets, id: Id) -> bool
 
 /// Returns true if the customer exists.
 pub(crate) fn has_customer(sheets: &Sheets, id: Id) -> bool
-    requires { HasKeys sheets.now }
+    requires { HasSortedKeys sheets.now }
     ensures { result ≡ form.has_customer (tables_in_sheets sheets.now) id }
 {
     let number = id.get();
@@ -41,7 +41,7 @@ pub(crate) fn has_customer(sheets: &Sheets, id: Id) -> bool
 
 /// Returns true if the account exists.
 pub(crate) fn has_account(sheets: &Sheets, id: Id) -> bool
-    requires { HasKeys sheets.now }
+    requires { HasSortedKeys sheets.now }
     ensures { result ≡ form.has_account (tables_in_sheets sheets.now) id }
 {
     let number = id.get();
@@ -53,7 +53,7 @@ pub(crate) fn has_account(sheets: &Sheets, id: Id) -> bool
 
 /// Returns true if the trade exists.
 pub(crate) fn has_trade(sheets: &Sheets, id: Id) -> bool
-    requires { HasKeys sheets.now }
+    requires { HasSortedKeys sheets.now }
     ensures { result ≡ form.has_trade (tables_in_sheets sheets.now) id }
 {
     let number = id.get();
@@ -65,7 +65,7 @@ pub(crate) fn has_trade(sheets: &Sheets, id: Id) -> bool
 
 /// Returns true if the tax rate exists.
 pub(crate) fn has_tax(sheets: &Sheets, id: Id) -> bool
-    requires { HasKeys sheets.now }
+    requires { HasSortedKeys sheets.now }
     ensures { result ≡ list_any (λ r. r.id == id) (tables_in_sheets sheets.now).tax_rates }
 {
     let number = id.get();
@@ -77,7 +77,7 @@ pub(crate) fn has_tax(sheets: &Sheets, id: Id) -> bool
 
 /// Returns true if the security exists.
 pub(crate) fn has_security(sheets: &Sheets, symbol: &Symbol) -> bool
-    requires { HasKeys sheets.now }
+    requires { HasSortedKeys sheets.now }
     ensures { result ≡ form.has_security (tables_in_sheets sheets.now) symbol.now }
 {
     sheets
@@ -88,7 +88,7 @@ pub(crate) fn has_security(sheets: &Sheets, symbol: &Symbol) -> bool
 
 /// Returns true if the symbol has a row of LAST_TRADE.
 pub(crate) fn has_last_trade(sheets: &Sheets, symbol: &Symbol) -> bool
-    requires { HasKeys sheets.now }
+    requires { HasSortedKeys sheets.now }
     ensures { result ≡ list_any (λ l. bytes_eq l.symbol symbol.now) (tables_in_sheets sheets.now).last_trades }
 {
     sheets
@@ -99,8 +99,8 @@ pub(crate) fn has_last_trade(sheets: &Sheets, symbol: &Symbol) -> bool
 
 /// Returns true if the trade has a completion in its history.
 pub(crate) fn has_completion(sheets: &Sheets, id: Id) -> bool
-    requires { HasKeys sheets.now }
-    ensures { result ≡ list_any (λ h. same_status h.status Completed) (joins.history_in (tables_in_sheets sheets.now) id) }
+    requires { HasSortedKeys sheets.now }
+    ensures { result ≡ list_any (λ h. is_same_trade_status h.status Completed) (joins.history_rows_with_trade_id (tables_in_sheets sheets.now) id) }
 {
     let code = Status::Completed.code();
     sheets
@@ -111,8 +111,8 @@ pub(crate) fn has_completion(sheets: &Sheets, id: Id) -> bool
 
 /// Returns the row of the trade, or `None` if it does not exist.
 pub(crate) fn find_trade(sheets: &Sheets, id: Id) -> Option<&TradeRow>
-    requires { HasKeys sheets.now }
-    ensures { option_map trade_row_of (option_copied result) ≡ joins.trade_in (tables_in_sheets sheets.now) id }
+    requires { HasSortedKeys sheets.now }
+    ensures { option_map abstract_trade_row (option_copied result) ≡ joins.trade_row_with_id (tables_in_sheets sheets.now) id }
 {
     let number = id.get();
     match sheets
@@ -126,8 +126,8 @@ pub(crate) fn find_trade(sheets: &Sheets, id: Id) -> Option<&TradeRow>
 
 /// Returns the row of the security, or `None` if it does not exist.
 pub(crate) fn find_security<'a>(sheets: &'a Sheets, symbol: &Symbol) -> Option<&'a Security>
-    requires { HasKeys sheets.now }
-    ensures { option_map security_of (option_copied result) ≡ joins.security_in (tables_in_sheets sheets.now) symbol.now }
+    requires { HasSortedKeys sheets.now }
+    ensures { option_map abstract_security_row (option_copied result) ≡ joins.security_row_with_symbol (tables_in_sheets sheets.now) symbol.now }
 {
     match sheets
         .securities
@@ -140,8 +140,8 @@ pub(crate) fn find_security<'a>(sheets: &'a Sheets, symbol: &Symbol) -> Option<&
 
 /// Returns the row of the tax rate, or `None` if it does not exist.
 pub(crate) fn find_tax(sheets: &Sheets, id: Id) -> Option<&Tax>
-    requires { HasKeys sheets.now }
-    ensures { option_map tax_of (option_copied result) ≡ find (λ r. r.id == id) (tables_in_sheets sheets.now).tax_rates }
+    requires { HasSortedKeys sheets.now }
+    ensures { option_map abstract_tax_rate (option_copied result) ≡ find (λ r. r.id == id) (tables_in_sheets sheets.now).tax_rates }
 {
     let number = id.get();
     match sheets

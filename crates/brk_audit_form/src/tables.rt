@@ -1,82 +1,82 @@
 ghost use Rattle.std.specs.Prelude.{◌≡◌};
 ghost use Rattle.brk_model.specs.Form as form;
-ghost use Rattle.brk_changes.specs.Schemas.{schema_of};
+ghost use Rattle.brk_changes.specs.Schemas.{abstract_schema};
 ghost use Rattle.brk_changes.specs.Sheets.{tables_in_sheets};
-ghost use Rattle.brk_audit_form.specs.Conditions.{HasKeys};
-ghost use Rattle.brk_audit_form.specs.Groups.{reference_forms, reference_keys, trading_forms, trading_keys};
+ghost use Rattle.brk_audit_form.specs.Conditions.{HasSortedKeys};
+ghost use Rattle.brk_audit_form.specs.Groups.{reference_rows_are_well_formed, reference_tables_are_sorted, trading_rows_are_well_formed, trading_tables_are_sorted};
 
-use crate::keys::rises;
-use crate::rows::are_formed;
+use crate::keys::has_sorted_unique_keys;
+use crate::rows::all_rows_well_formed;
 use brk_changes::{Schema, Sheets};
 
 // Returns true if each table of reference data is sorted by key, and no key occurs twice.
-fn has_reference_keys(sheets: &Sheets) -> bool
-    ensures { result ≡ reference_keys sheets.now }
+fn has_sorted_reference_tables(sheets: &Sheets) -> bool
+    ensures { result ≡ reference_tables_are_sorted sheets.now }
 {
-    rises(&sheets.kept)
-        && rises(&sheets.brokers)
-        && rises(&sheets.customers)
-        && rises(&sheets.accounts)
-        && rises(&sheets.permissions)
-        && rises(&sheets.securities)
-        && rises(&sheets.last_trades)
-        && rises(&sheets.charges)
-        && rises(&sheets.bands)
-        && rises(&sheets.tax_rates)
-        && rises(&sheets.customer_taxes)
+    has_sorted_unique_keys(&sheets.kept)
+        && has_sorted_unique_keys(&sheets.brokers)
+        && has_sorted_unique_keys(&sheets.customers)
+        && has_sorted_unique_keys(&sheets.accounts)
+        && has_sorted_unique_keys(&sheets.permissions)
+        && has_sorted_unique_keys(&sheets.securities)
+        && has_sorted_unique_keys(&sheets.last_trades)
+        && has_sorted_unique_keys(&sheets.charges)
+        && has_sorted_unique_keys(&sheets.bands)
+        && has_sorted_unique_keys(&sheets.tax_rates)
+        && has_sorted_unique_keys(&sheets.customer_taxes)
 }
 
 // Returns true if each table of trades is sorted by key, and no key occurs twice.
-fn has_trading_keys(sheets: &Sheets) -> bool
-    ensures { result ≡ trading_keys sheets.now }
+fn has_sorted_trading_tables(sheets: &Sheets) -> bool
+    ensures { result ≡ trading_tables_are_sorted sheets.now }
 {
-    rises(&sheets.trades)
-        && rises(&sheets.history)
-        && rises(&sheets.requests)
-        && rises(&sheets.holdings)
-        && rises(&sheets.summaries)
-        && rises(&sheets.holding_history)
-        && rises(&sheets.settlements)
-        && rises(&sheets.cash)
-        && rises(&sheets.moves)
+    has_sorted_unique_keys(&sheets.trades)
+        && has_sorted_unique_keys(&sheets.history)
+        && has_sorted_unique_keys(&sheets.requests)
+        && has_sorted_unique_keys(&sheets.holdings)
+        && has_sorted_unique_keys(&sheets.summaries)
+        && has_sorted_unique_keys(&sheets.holding_history)
+        && has_sorted_unique_keys(&sheets.settlements)
+        && has_sorted_unique_keys(&sheets.cash)
+        && has_sorted_unique_keys(&sheets.moves)
 }
 
 /// Returns true if each table is sorted by key, and no key occurs twice.
-pub(crate) fn has_keys(sheets: &Sheets) -> bool
-    ensures { result ≡ form.has_keys (tables_in_sheets sheets.now) }
+pub(crate) fn all_tables_have_sorted_keys(sheets: &Sheets) -> bool
+    ensures { result ≡ form.tables_are_sorted_by_unique_key (tables_in_sheets sheets.now) }
 {
-    has_reference_keys(sheets) && has_trading_keys(sheets)
+    has_sorted_reference_tables(sheets) && has_sorted_trading_tables(sheets)
 }
 
 /// Returns true if the rows of reference data are well-formed.
-pub(crate) fn has_reference_forms(schema: Schema, sheets: &Sheets) -> bool
-    requires { HasKeys sheets.now }
-    ensures { result ≡ reference_forms (schema_of schema) sheets.now }
+pub(crate) fn has_well_formed_reference_rows(schema: Schema, sheets: &Sheets) -> bool
+    requires { HasSortedKeys sheets.now }
+    ensures { result ≡ reference_rows_are_well_formed (abstract_schema schema) sheets.now }
 {
-    are_formed(schema, sheets, &sheets.kept)
-        && are_formed(schema, sheets, &sheets.brokers)
-        && are_formed(schema, sheets, &sheets.customers)
-        && are_formed(schema, sheets, &sheets.accounts)
-        && are_formed(schema, sheets, &sheets.permissions)
-        && are_formed(schema, sheets, &sheets.securities)
-        && are_formed(schema, sheets, &sheets.last_trades)
-        && are_formed(schema, sheets, &sheets.charges)
-        && are_formed(schema, sheets, &sheets.bands)
-        && are_formed(schema, sheets, &sheets.tax_rates)
-        && are_formed(schema, sheets, &sheets.customer_taxes)
+    all_rows_well_formed(schema, sheets, &sheets.kept)
+        && all_rows_well_formed(schema, sheets, &sheets.brokers)
+        && all_rows_well_formed(schema, sheets, &sheets.customers)
+        && all_rows_well_formed(schema, sheets, &sheets.accounts)
+        && all_rows_well_formed(schema, sheets, &sheets.permissions)
+        && all_rows_well_formed(schema, sheets, &sheets.securities)
+        && all_rows_well_formed(schema, sheets, &sheets.last_trades)
+        && all_rows_well_formed(schema, sheets, &sheets.charges)
+        && all_rows_well_formed(schema, sheets, &sheets.bands)
+        && all_rows_well_formed(schema, sheets, &sheets.tax_rates)
+        && all_rows_well_formed(schema, sheets, &sheets.customer_taxes)
 }
 
 /// Returns true if the rows of trades are well-formed. Rows of CASH_TRANSACTION and CASH_MOVE are
 /// not checked.
-pub(crate) fn has_trading_forms(schema: Schema, sheets: &Sheets) -> bool
-    requires { HasKeys sheets.now }
-    ensures { result ≡ trading_forms (schema_of schema) sheets.now }
+pub(crate) fn has_well_formed_trading_rows(schema: Schema, sheets: &Sheets) -> bool
+    requires { HasSortedKeys sheets.now }
+    ensures { result ≡ trading_rows_are_well_formed (abstract_schema schema) sheets.now }
 {
-    are_formed(schema, sheets, &sheets.trades)
-        && are_formed(schema, sheets, &sheets.history)
-        && are_formed(schema, sheets, &sheets.requests)
-        && are_formed(schema, sheets, &sheets.holdings)
-        && are_formed(schema, sheets, &sheets.summaries)
-        && are_formed(schema, sheets, &sheets.holding_history)
-        && are_formed(schema, sheets, &sheets.settlements)
+    all_rows_well_formed(schema, sheets, &sheets.trades)
+        && all_rows_well_formed(schema, sheets, &sheets.history)
+        && all_rows_well_formed(schema, sheets, &sheets.requests)
+        && all_rows_well_formed(schema, sheets, &sheets.holdings)
+        && all_rows_well_formed(schema, sheets, &sheets.summaries)
+        && all_rows_well_formed(schema, sheets, &sheets.holding_history)
+        && all_rows_well_formed(schema, sheets, &sheets.settlements)
 }

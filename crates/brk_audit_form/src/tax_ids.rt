@@ -1,7 +1,7 @@
 ghost use Rattle.std.specs.Prelude.{◌≡◌, IfErr, IfOk, map};
 ghost use Rattle.brk_money.specs.declared.fault.Fault.TheVariants.{Memory};
 ghost use Rattle.brk_model.specs.Form as form;
-ghost use Rattle.brk_ref.specs.Records.{customer_of};
+ghost use Rattle.brk_ref.specs.Records.{abstract_customer};
 
 use brk_money::Fault;
 use brk_ref::Customer;
@@ -9,8 +9,8 @@ use std::alloc::Global;
 use std::collections::BTreeSet;
 
 /// Returns true if no two customers have the same tax id. Fails with `Memory` only.
-pub(crate) fn has_own_tax_ids(alloc: Global, customers: &[Customer]) -> Result<bool, Fault>
-    ensures told { IfOk result (λ holds. holds ≡ form.distinct_tax_ids (map customer_of customers.now)) }
+pub(crate) fn has_no_repeated_tax_ids(alloc: Global, customers: &[Customer]) -> Result<bool, Fault>
+    ensures told { IfOk result (λ holds. holds ≡ form.has_distinct_tax_ids (map abstract_customer customers.now)) }
     ensures fault { IfErr result (λ fault. fault ≡ Memory) }
 {
     let mut seen = BTreeSet::new(alloc);

@@ -1,29 +1,32 @@
 ghost use Rattle.std.specs.Prelude.{◌≡◌, ◌||◌, not, nat_le};
-ghost use Rattle.brk_money.specs.Kinds.{same_status};
-ghost use Rattle.brk_money.specs.Moments.{last_day};
+ghost use Rattle.brk_money.specs.Kinds.{is_same_trade_status};
+ghost use Rattle.brk_money.specs.Moments.{greatest_day};
 ghost use Rattle.brk_money.specs.declared.status.Status.TheVariants.{Completed};
 ghost use Rattle.brk_model.specs.Derived as derived;
 ghost use Rattle.brk_model.specs.Form as form;
 ghost use Rattle.brk_changes.specs.Rows as of;
 ghost use Rattle.brk_changes.specs.Sheets.{tables_in_sheets};
-ghost use Rattle.brk_audit_form.specs.Conditions.{HasKeys};
+ghost use Rattle.brk_audit_form.specs.Conditions.{HasSortedKeys};
 
-use crate::limits::{is_amount, is_balance, is_charge, is_id, is_price, is_qty, is_stamp};
+use crate::limits::{
+    is_amount, is_balance_within_limit, is_charge_within_limit, is_id, is_price,
+    is_quantity_within_limits, is_stamp_up_to_last,
+};
 use crate::references::{
     find_trade, has_account, has_broker, has_completion, has_security, has_trade,
 };
 use crate::rows::Formed;
 use brk_changes::{
     CashType, HistoryRow, HoldingRow, LotChange, RequestRow, Schema, SettlementRow, Sheets,
-    SummaryRow, TradeRow, due_after,
+    SummaryRow, TradeRow, due_day_after_completion,
 };
 use brk_money::{Day, Stamp, Status};
 
 // Returns true if the trade has a completion in its history and a well-formed price, or neither a
 // completion nor a price.
-fn has_its_price(sheets: &Sheets, row: &TradeRow) -> bool
-    requires { HasKeys sheets.now }
-    ensures { result ≡ form.price_form (tables_in_sheets sheets.now) (of.trade_row_of row.now) }
+fn row_has_price_exactly_if_completed(sheets: &Sheets, row: &TradeRow) -> bool
+    requires { HasSortedKeys sheets.now }
+    ensures { result ≡ form.price_matches_completion (tables_in_sheets sheets.now) (of.abstract_trade_row row.now) }
 {
     match row.price {
         Some(price) => has_completion(sheets, row.id) && is_price(price),
@@ -33,16 +36,16 @@ fn has_its_price(sheets: &Sheets, row: &TradeRow) -> bool
 
 // Returns true if the due day of a completion at `stamp` is within the calendar, by the settlement
 // day `rule`. Returns true for other statuses.
-fn settles(rule: Option<Day>, status: Status, stamp: Stamp) -> bool
-    ensures { result ≡ (not (same_status status Completed) || nat_le (derived.due_after rule stamp) last_day) }
+fn settles_within_calendar(rule: Option<Day>, status: Status, stamp: Stamp) -> bool
+    ensures { result ≡ (not (is_same_trade_status status Completed) || nat_le (derived.due_day_of_completion_stamp rule stamp) greatest_day) }
 {
-    status != Status::Completed || due_after(rule, stamp).is_some()
+    status != Status::Completed || due_day_after_completion(rule, stamp).is_some()
 }
 
 // Returns true if the settlement text is one of the two texts of a cash trade, or of a margin trade
 // if `is_cash` is false.
-fn is_word_of(is_cash: bool, word: CashType) -> bool
-    ensures { result ≡ form.is_cash_type is_cash (of.cash_type_word word) }
+fn is_settlement_text_of(is_cash: bool, word: CashType) -> bool
+    ensures { result ≡ form.is_cash_type_of_trade is_cash (of.cash_type_text word) }
 {
     match word {
         CashType::CashAccount | CashType::Cash => is_cash,
@@ -51,52 +54,52 @@ fn is_word_of(is_cash: bool, word: CashType) -> bool
 }
 
 impl Formed for TradeRow {
-    ghost form = { λ schema tables row. form.trade_form schema tables (of.trade_row_of row) };
+    ghost form = { λ schema tables row. form.is_well_formed_trade_row schema tables (of.abstract_trade_row row) };
 
     // Returns true if the numbers and the stamp are within their limits, the account and the
     // security exist, and it has a price if and only if it has a completion.
     fn is_formed(&self, schema: Schema, sheets: &Sheets) -> bool {
         is_id(self.id)
-            && is_stamp(sheets, self.stamp)
+            && is_stamp_up_to_last(sheets, self.stamp)
             && has_security(sheets, &self.symbol)
-            && is_qty(schema, self.qty)
+            && is_quantity_within_limits(schema, self.qty)
             && is_price(self.bid)
             && has_account(sheets, self.account)
-            && has_its_price(sheets, self)
-            && is_charge(self.charge)
+            && row_has_price_exactly_if_completed(sheets, self)
+            && is_charge_within_limit(self.charge)
             && is_amount(self.commission)
             && is_amount(self.tax)
     }
 }
 
 impl Formed for HistoryRow {
-    ghost form = { λ schema tables row. form.history_form tables (of.history_row_of row) };
+    ghost form = { λ schema tables row. form.is_well_formed_history_row tables (of.abstract_history_row row) };
 
     // Returns true if the trade exists, and the stamp and the due day of a completion are within
     // their limits.
     fn is_formed(&self, _schema: Schema, sheets: &Sheets) -> bool {
         has_trade(sheets, self.trade)
-            && is_stamp(sheets, self.stamp)
-            && settles(sheets.rule, self.status, self.stamp)
+            && is_stamp_up_to_last(sheets, self.stamp)
+            && settles_within_calendar(sheets.rule, self.status, self.stamp)
     }
 }
 
 impl Formed for RequestRow {
-    ghost form = { λ schema tables row. form.request_form schema tables (of.request_row_of row) };
+    ghost form = { λ schema tables row. form.is_well_formed_request_row schema tables (of.abstract_request_row row) };
 
     // Returns true if the quantity and the bid are within their limits, and the trade, the security
     // and the broker exist.
     fn is_formed(&self, schema: Schema, sheets: &Sheets) -> bool {
         has_trade(sheets, self.trade)
             && has_security(sheets, &self.symbol)
-            && is_qty(schema, self.qty)
+            && is_quantity_within_limits(schema, self.qty)
             && is_price(self.bid)
             && has_broker(sheets, self.broker)
     }
 }
 
 impl Formed for HoldingRow {
-    ghost form = { λ schema tables row. form.holding_form tables (of.holding_row_of row) };
+    ghost form = { λ schema tables row. form.is_well_formed_holding_row tables (of.abstract_holding_row row) };
 
     // Returns true if the stamp and the price are within their limits, and the trade, the account
     // and the security exist.
@@ -104,13 +107,13 @@ impl Formed for HoldingRow {
         has_trade(sheets, self.trade)
             && has_account(sheets, self.account)
             && has_security(sheets, &self.symbol)
-            && is_stamp(sheets, self.stamp)
+            && is_stamp_up_to_last(sheets, self.stamp)
             && is_price(self.price)
     }
 }
 
 impl Formed for SummaryRow {
-    ghost form = { λ schema tables row. form.summary_form schema tables (of.summary_row_of row) };
+    ghost form = { λ schema tables row. form.is_well_formed_summary_row schema tables (of.abstract_summary_row row) };
 
     // Returns true if the account and the security exist, and the quantity is within the limit of
     // the schema.
@@ -122,7 +125,7 @@ impl Formed for SummaryRow {
 }
 
 impl Formed for LotChange {
-    ghost form = { λ schema tables row. form.holding_history_form tables (of.lot_change_of row) };
+    ghost form = { λ schema tables row. form.is_well_formed_holding_history_row tables (of.abstract_lot_change_row row) };
 
     // Returns true if the trade of the lot and the trade that changed it exist.
     fn is_formed(&self, _schema: Schema, sheets: &Sheets) -> bool {
@@ -131,7 +134,7 @@ impl Formed for LotChange {
 }
 
 impl Formed for SettlementRow {
-    ghost form = { λ schema tables row. form.settlement_form tables (of.settlement_row_of row) };
+    ghost form = { λ schema tables row. form.is_well_formed_settlement_row tables (of.abstract_settlement_row row) };
 
     // Returns true if the trade exists, the text fits the kind of trade, and the due day and the
     // amount are within their limits.
@@ -139,8 +142,8 @@ impl Formed for SettlementRow {
         let Some(trade) = find_trade(sheets, self.trade) else {
             return false;
         };
-        is_word_of(trade.is_cash, self.cash_type)
+        is_settlement_text_of(trade.is_cash, self.cash_type)
             && self.due_day.get() <= Day::GREATEST
-            && is_balance(self.amount)
+            && is_balance_within_limit(self.amount)
     }
 }

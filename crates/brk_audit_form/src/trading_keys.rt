@@ -9,7 +9,7 @@ use brk_changes::{
 use std::cmp::Ordering;
 
 impl Keyed for TradeRow {
-    ghost key = { λ row. keys.trade_key (of.trade_row_of row) };
+    ghost key = { λ row. keys.trade_key (of.abstract_trade_row row) };
 
     // Compares the rows by number.
     fn compare(&self, other: &TradeRow) -> Ordering {
@@ -18,7 +18,7 @@ impl Keyed for TradeRow {
 }
 
 impl Keyed for HistoryRow {
-    ghost key = { λ row. keys.history_key (of.history_row_of row) };
+    ghost key = { λ row. keys.history_key (of.abstract_history_row row) };
 
     // Compares the rows by trade, then by code of the status.
     fn compare(&self, other: &HistoryRow) -> Ordering {
@@ -27,7 +27,7 @@ impl Keyed for HistoryRow {
 }
 
 impl Keyed for RequestRow {
-    ghost key = { λ row. keys.request_key (of.request_row_of row) };
+    ghost key = { λ row. keys.request_key (of.abstract_request_row row) };
 
     // Compares the rows by trade.
     fn compare(&self, other: &RequestRow) -> Ordering {
@@ -36,7 +36,7 @@ impl Keyed for RequestRow {
 }
 
 impl Keyed for HoldingRow {
-    ghost key = { λ row. keys.holding_key (of.holding_row_of row) };
+    ghost key = { λ row. keys.holding_key (of.abstract_holding_row row) };
 
     // Compares the rows by trade that opened the lot.
     fn compare(&self, other: &HoldingRow) -> Ordering {
@@ -45,7 +45,7 @@ impl Keyed for HoldingRow {
 }
 
 impl Keyed for SummaryRow {
-    ghost key = { λ row. keys.summary_key (of.summary_row_of row) };
+    ghost key = { λ row. keys.summary_key (of.abstract_summary_row row) };
 
     // Compares the rows by account, then by symbol.
     fn compare(&self, other: &SummaryRow) -> Ordering {
@@ -54,7 +54,7 @@ impl Keyed for SummaryRow {
 }
 
 impl Keyed for LotChange {
-    ghost key = { λ row. keys.holding_history_key (of.lot_change_of row) };
+    ghost key = { λ row. keys.holding_history_key (of.abstract_lot_change_row row) };
 
     // Compares the rows by lot, then by trade.
     fn compare(&self, other: &LotChange) -> Ordering {
@@ -63,7 +63,7 @@ impl Keyed for LotChange {
 }
 
 impl Keyed for SettlementRow {
-    ghost key = { λ row. keys.settlement_key (of.settlement_row_of row) };
+    ghost key = { λ row. keys.settlement_key (of.abstract_settlement_row row) };
 
     // Compares the rows by trade.
     fn compare(&self, other: &SettlementRow) -> Ordering {
@@ -72,7 +72,7 @@ impl Keyed for SettlementRow {
 }
 
 impl Keyed for CashRow {
-    ghost key = { λ row. keys.cash_key (of.cash_row_of row) };
+    ghost key = { λ row. keys.cash_key (of.abstract_cash_row row) };
 
     // Compares the rows by trade.
     fn compare(&self, other: &CashRow) -> Ordering {
@@ -81,7 +81,7 @@ impl Keyed for CashRow {
 }
 
 impl Keyed for MoveRow {
-    ghost key = { λ row. keys.move_key (of.move_row_of row) };
+    ghost key = { λ row. keys.move_key (of.abstract_move_row row) };
 
     // Compares the rows by number.
     fn compare(&self, other: &MoveRow) -> Ordering {

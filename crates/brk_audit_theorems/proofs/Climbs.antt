@@ -3,8 +3,8 @@ use Rattle.std.proofs.Common.{◌≡◌, Bool, true, false, cond, List, [], ◌�
 use Rattle.std.specs.Prelude.{⊤, ◌⊎◌}
 use Rattle.std.specs.List.{AllByRecursion, list_all}
 use Rattle.std.proofs.lemmas.Bool.{and_parts}
-use Rattle.brk_model.specs.Keys.{KeyPart, key_before, row_before, by_key}
-use Rattle.brk_model.specs.Form.{rises}
+use Rattle.brk_model.specs.Keys.{KeyPart, is_key_less, is_row_key_less, rows_sorted_by_key}
+use Rattle.brk_model.specs.Form.{is_sorted_by_unique_key}
 use Rattle.brk_book_theorems.proofs.Order.{Sorted, key_one_way, key_splits, sort_sorted}
 use Rattle.brk_book_theorems.proofs.Same.{All-filter, All-map, All-append}
 
@@ -31,42 +31,42 @@ list_all_true p (x ∷ xs) e = let h = and_parts (p x) (list_all p xs) e in (h.0
 
 abbrev pub Climbs : {Row : Type 0} → (Row → List KeyPart) → List Row → Type 0
 Climbs key [] = ⊤
-Climbs key (x ∷ xs) = AllByRecursion (λ y. key_before (key x) (key y) ≡ true) xs × Climbs key xs
+Climbs key (x ∷ xs) = AllByRecursion (λ y. is_key_less (key x) (key y) ≡ true) xs × Climbs key xs
 
 false_true : {A : Type 0} → false ≡ true → A
 false_true e = absurd (cc)
 
-pub key_through : (j k l : List KeyPart) → key_before j k ≡ true → key_before k l ≡ true → key_before j l ≡ true
-key_through j k l e f = by_test (key_before j l) refl
+pub key_through : (j k l : List KeyPart) → is_key_less j k ≡ true → is_key_less k l ≡ true → is_key_less j l ≡ true
+key_through j k l e f = by_test (is_key_less j l) refl
   where
-    by_test : (b : Bool) → key_before j l ≡ b → key_before j l ≡ true
+    by_test : (b : Bool) → is_key_less j l ≡ b → is_key_less j l ≡ true
     by_test true g = g
     by_test false g = false_true (sym (key_one_way k l f) ∙ key_splits k l j e g)
 
 -- no key goes before itself, whatever it is called
-pub not_itself : (j k : List KeyPart) → j ≡ k → key_before j k ≡ true → ⊥
-not_itself j k p e = false_true (sym (key_one_way j k e) ∙ (λ i. key_before (sym p i) (p i)) ∙ e)
+pub not_itself : (j k : List KeyPart) → j ≡ k → is_key_less j k ≡ true → ⊥
+not_itself j k p e = false_true (sym (key_one_way j k e) ∙ (λ i. is_key_less (sym p i) (p i)) ∙ e)
 
-pub climbs : {Row : Type 0} (key : Row → List KeyPart) (xs : List Row) → rises key xs ≡ true → Climbs key xs
+pub climbs : {Row : Type 0} (key : Row → List KeyPart) (xs : List Row) → is_sorted_by_unique_key key xs ≡ true → Climbs key xs
 climbs key [] e = tt
 climbs key (x ∷ []) e = (tt, tt)
 climbs key (x ∷ y ∷ ys) e =
-    let h = and_parts (key_before (key x) (key y)) (rises key (y ∷ ys)) e in
+    let h = and_parts (is_key_less (key x) (key y)) (is_sorted_by_unique_key key (y ∷ ys)) e in
     let c : Climbs key (y ∷ ys) = climbs key (y ∷ ys) h.1 in
     ((h.0, All-map ys (λ z f. key_through (key x) (key y) (key z) h.0 f) c.0), c)
 
-pub climbs_sorted : {Row : Type 0} (key : Row → List KeyPart) (xs : List Row) → Climbs key xs → Sorted (row_before key) xs
+pub climbs_sorted : {Row : Type 0} (key : Row → List KeyPart) (xs : List Row) → Climbs key xs → Sorted (is_row_key_less key) xs
 climbs_sorted key [] c = tt
 climbs_sorted key (x ∷ xs) c = (All-map xs (λ y h. key_one_way (key x) (key y) h) c.0, climbs_sorted key xs c.1)
 
 -- rows by rising key are sorted as they are
-pub stays : {Row : Type 0} (key : Row → List KeyPart) (xs : List Row) → Climbs key xs → by_key key xs ≡ xs
-stays key xs c = sort_sorted (row_before key) xs (climbs_sorted key xs c)
+pub stays : {Row : Type 0} (key : Row → List KeyPart) (xs : List Row) → Climbs key xs → rows_sorted_by_key key xs ≡ xs
+stays key xs c = sort_sorted (is_row_key_less key) xs (climbs_sorted key xs c)
 
 climbs_ahead : {X Y : Type 0} (key : X → List KeyPart) (key' : Y → List KeyPart) (f : X → Y) (x : X) (ys : List X) → ((z : X) → key' (f z) ≡ key z)
-    → AllByRecursion (λ y. key_before (key x) (key y) ≡ true) ys → AllByRecursion (λ y. key_before (key' (f x)) (key' y) ≡ true) (map f ys)
+    → AllByRecursion (λ y. is_key_less (key x) (key y) ≡ true) ys → AllByRecursion (λ y. is_key_less (key' (f x)) (key' y) ≡ true) (map f ys)
 climbs_ahead key key' f x [] e h = tt
-climbs_ahead key key' f x (y ∷ ys) e h = ((λ i. key_before (e x i) (e y i)) ∙ h.0, climbs_ahead key key' f x ys e h.1)
+climbs_ahead key key' f x (y ∷ ys) e h = ((λ i. is_key_less (e x i) (e y i)) ∙ h.0, climbs_ahead key key' f x ys e h.1)
 
 pub climbs_map : {X Y : Type 0} (key : X → List KeyPart) (key' : Y → List KeyPart) (f : X → Y) (xs : List X) → ((x : X) → key' (f x) ≡ key x)
     → Climbs key xs → Climbs key' (map f xs)
@@ -77,31 +77,31 @@ pub climbs_filter : {Row : Type 0} (key : Row → List KeyPart) (p : Row → Boo
 climbs_filter key p [] c = tt
 climbs_filter key p (x ∷ xs) c =
     elim (p x) as (λ b. Climbs key (cond b (x ∷ filter p xs) (filter p xs)))
-    [ true ↦ (All-filter (λ y. key_before (key x) (key y) ≡ true) p xs c.0, climbs_filter key p xs c.1) | false ↦ climbs_filter key p xs c.1 ]
+    [ true ↦ (All-filter (λ y. is_key_less (key x) (key y) ≡ true) p xs c.0, climbs_filter key p xs c.1) | false ↦ climbs_filter key p xs c.1 ]
 
 -- all of the first rows go before all of the others
 abbrev pub AllBefore : {Row : Type 0} → (Row → List KeyPart) → List Row → List Row → Type 0
-AllBefore key xs ys = AllByRecursion (λ x. AllByRecursion (λ y. key_before (key x) (key y) ≡ true) ys) xs
+AllBefore key xs ys = AllByRecursion (λ x. AllByRecursion (λ y. is_key_less (key x) (key y) ≡ true) ys) xs
 
 pub climbs_append : {Row : Type 0} (key : Row → List KeyPart) (xs ys : List Row) → Climbs key xs → Climbs key ys → AllBefore key xs ys → Climbs key (xs ++ ys)
 climbs_append key [] ys c d h = d
 climbs_append key (x ∷ xs) ys c d h =
-    (All-append (λ y. key_before (key x) (key y) ≡ true) xs ys c.0 h.0, climbs_append key xs ys c.1 d h.1)
+    (All-append (λ y. is_key_less (key x) (key y) ≡ true) xs ys c.0 h.0, climbs_append key xs ys c.1 d h.1)
 
 -- ---- two lists with the same rows
 
 heads : {Row : Type 0} (key : Row → List KeyPart) (x y : Row) (xs ys : List Row)
-    → AllByRecursion (λ z. key_before (key x) (key z) ≡ true) xs → AllByRecursion (λ z. key_before (key y) (key z) ≡ true) ys
+    → AllByRecursion (λ z. is_key_less (key x) (key z) ≡ true) xs → AllByRecursion (λ z. is_key_less (key y) (key z) ≡ true) ys
     → In x (y ∷ ys) → In y (x ∷ xs) → x ≡ y
 heads key x y xs ys c d (inl e) n = e
 heads key x y xs ys c d (inr m) (inl e) = sym e
 heads key x y xs ys c d (inr m) (inr n) =
-    let f : key_before (key y) (key x) ≡ true = of_all (λ z. key_before (key y) (key z) ≡ true) ys x d m in
-    let g : key_before (key x) (key y) ≡ true = of_all (λ z. key_before (key x) (key z) ≡ true) xs y c n in
+    let f : is_key_less (key y) (key x) ≡ true = of_all (λ z. is_key_less (key y) (key z) ≡ true) ys x d m in
+    let g : is_key_less (key x) (key y) ≡ true = of_all (λ z. is_key_less (key x) (key z) ≡ true) xs y c n in
     false_true (sym (key_one_way (key y) (key x) f) ∙ g)
 
 tails : {Row : Type 0} (key : Row → List KeyPart) (x y : Row) (ys zs : List Row) → x ≡ y
-    → AllByRecursion (λ z. key_before (key x) (key z) ≡ true) zs → AllByRecursion (λ z. In z (y ∷ ys)) zs → AllByRecursion (λ z. In z ys) zs
+    → AllByRecursion (λ z. is_key_less (key x) (key z) ≡ true) zs → AllByRecursion (λ z. In z (y ∷ ys)) zs → AllByRecursion (λ z. In z ys) zs
 tails key x y ys [] e c h = tt
 tails {Row = Row} key x y ys (z ∷ zs) e c h = (behind h.0, tails key x y ys zs e c.1 h.1)
   where

@@ -3,7 +3,7 @@ use Rattle.std.proofs.Common.{◌≡◌, Bool, true, false, cond, List, [], ◌�
 use Rattle.std.specs.Prelude.{find, is_some, flat_map}
 use Rattle.std.specs.List.{AllByRecursion}
 use Rattle.brk_model.specs.Lists.{sort_by}
-use Rattle.brk_model.specs.Keys.{KeyPart, key_before, by_key, insert_row}
+use Rattle.brk_model.specs.Keys.{KeyPart, is_key_less, rows_sorted_by_key, insert_row_by_key}
 use Rattle.brk_book_theorems.proofs.Same.{All-append}
 use Rattle.brk_book_theorems.proofs.Each.{each}
 use Rattle.brk_audit_theorems.proofs.Climbs.{Climbs, In, not_itself, of_all}
@@ -68,9 +68,9 @@ pub one_of_key : {Row : Type 0} (key : Row → List KeyPart) (xs : List Row) (x 
 one_of_key key [] x y c m n e = absurd m
 one_of_key key (z ∷ xs) x y c (inl f) (inl g) e = f ∙ sym g
 one_of_key key (z ∷ xs) x y c (inl f) (inr n) e =
-    absurd (not_itself (key z) (key y) (ap key (sym f) ∙ e) (of_all (λ w. key_before (key z) (key w) ≡ true) xs y c.0 n))
+    absurd (not_itself (key z) (key y) (ap key (sym f) ∙ e) (of_all (λ w. is_key_less (key z) (key w) ≡ true) xs y c.0 n))
 one_of_key key (z ∷ xs) x y c (inr m) (inl g) e =
-    absurd (not_itself (key z) (key x) (ap key (sym g) ∙ sym e) (of_all (λ w. key_before (key z) (key w) ≡ true) xs x c.0 m))
+    absurd (not_itself (key z) (key x) (ap key (sym g) ∙ sym e) (of_all (λ w. is_key_less (key z) (key w) ≡ true) xs x c.0 m))
 one_of_key key (z ∷ xs) x y c (inr m) (inr n) e = one_of_key key xs x y c.1 m n e
 
 -- ---- maps that change nothing
@@ -93,7 +93,7 @@ pub each-same : {X S : Type 0} (f g : X → S → S) (xs : List X) (s : S) → A
 each-same f g [] s h = refl
 each-same f g (x ∷ xs) s h = λ i. h.0 i (each-same f g xs s h.1 i)
 
-pub sorted_each : {Row : Type 0} (key : Row → List KeyPart) (xs : List Row) → by_key key xs ≡ each (insert_row key) xs []
+pub sorted_each : {Row : Type 0} (key : Row → List KeyPart) (xs : List Row) → rows_sorted_by_key key xs ≡ each (insert_row_by_key key) xs []
 unfolding sort_by
 sorted_each key [] = refl
-sorted_each key (x ∷ xs) = ap (insert_row key x) (sorted_each key xs)
+sorted_each key (x ∷ xs) = ap (insert_row_by_key key x) (sorted_each key xs)

@@ -1,9 +1,9 @@
 -- Tables that have keys climb by them.
 use Rattle.std.proofs.Common.{◌≡◌, true}
 use Rattle.brk_model.specs.Tables.{Tables}
-use Rattle.brk_model.specs.Form.{has_keys}
+use Rattle.brk_model.specs.Form.{tables_are_sorted_by_unique_key}
 use Rattle.brk_model.specs.Keys.{kept_key, broker_key, customer_key, account_key, permission_key, security_key, last_trade_key, charge_key, band_key, tax_rate_key, customer_tax_key, trade_key, history_key, request_key, holding_key, summary_key, holding_history_key, settlement_key, cash_key, move_key}
-use Rattle.brk_model_theorems.specs.FormParts.{KeysRise}
+use Rattle.brk_model_theorems.specs.FormParts.{HasSortedTables}
 use Rattle.brk_model_theorems.proofs.FormParts.{keys_rise}
 use Rattle.brk_audit_theorems.proofs.Climbs.{Climbs, climbs}
 
@@ -30,9 +30,9 @@ pub record KeyParts (t : Tables) : Type 0 where
   pub cash : Climbs cash_key t.cash
   pub moves : Climbs move_key t.moves
 
-pub key_parts : (t : Tables) → has_keys t ≡ true → KeyParts t
+pub key_parts : (t : Tables) → tables_are_sorted_by_unique_key t ≡ true → KeyParts t
 key_parts t h =
-    let r : KeysRise t = keys_rise t h in
+    let r : HasSortedTables t = keys_rise t h in
     record {
       kept = climbs kept_key t.kept r.kept;
       brokers = climbs broker_key t.brokers r.brokers;

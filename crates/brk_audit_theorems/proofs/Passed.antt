@@ -3,22 +3,22 @@ use Rattle.std.proofs.Common.{◌≡◌, true, refl, sym, ◌∙◌, ap, map, in
 use Rattle.brk_model.specs.Base.{Base}
 use Rattle.brk_model.specs.Schemas.{Schema, third_schema}
 use Rattle.brk_model.specs.Tables.{Tables}
-use Rattle.brk_model.specs.Adopted.{base_of}
-use Rattle.brk_model.specs.Form.{has_form}
-use Rattle.brk_model.specs.Ways.{has_status_rows}
-use Rattle.brk_model.specs.Sheets.{sheets, sheets_at}
+use Rattle.brk_model.specs.Adopted.{base_of_tables}
+use Rattle.brk_model.specs.Form.{satisfies_form_condition}
+use Rattle.brk_model.specs.Ways.{satisfies_status_condition}
+use Rattle.brk_model.specs.Sheets.{sheets, sheets_in_schema}
 use Rattle.brk_model.specs.Audit.{ConditionHolds}
 use Rattle.brk_book_theorems.specs.Books.{BooksInvariant}
-use Rattle.brk_audit_theorems.specs.Passing.{Passes}
+use Rattle.brk_audit_theorems.specs.Passing.{PassesAudit}
 use Rattle.brk_audit_theorems.specs.Told.{HasValidHistories}
 use Rattle.brk_audit_theorems.proofs.Sorted.{sorted_tables}
 use Rattle.brk_audit_theorems.proofs.Again.{base_again}
 use Rattle.brk_audit_theorems.proofs.AgainStatus.{status_again}
 
-pub tables_again : (base : Base) → BooksInvariant base → HasValidHistories base → sheets (base_of (sheets base)) ≡ sheets base
+pub tables_again : (base : Base) → BooksInvariant base → HasValidHistories base → sheets (base_of_tables (sheets base)) ≡ sheets base
 tables_again base books told = ap sheets (base_again base books told) ∙ sorted_tables base books
 
-pub same_tables_pass : (schema : Schema) (t : Tables) → has_form schema t ≡ true → has_status_rows t ≡ true → sheets_at schema (base_of t) ≡ t → Passes schema t
+pub same_tables_pass : (schema : Schema) (t : Tables) → satisfies_form_condition schema t ≡ true → satisfies_status_condition t ≡ true → sheets_in_schema schema (base_of_tables t) ≡ t → PassesAudit schema t
 unfolding ConditionHolds
 same_tables_pass schema t f s e =
     inl (
@@ -50,5 +50,5 @@ same_tables_pass schema t f s e =
       ),
     )
 
-pub tables_pass : (base : Base) → BooksInvariant base → HasValidHistories base → has_form third_schema (sheets base) ≡ true → Passes third_schema (sheets base)
+pub tables_pass : (base : Base) → BooksInvariant base → HasValidHistories base → satisfies_form_condition third_schema (sheets base) ≡ true → PassesAudit third_schema (sheets base)
 tables_pass base books told f = same_tables_pass third_schema (sheets base) f (status_again base books told) (tables_again base books told)

@@ -5,11 +5,11 @@ use Rattle.brk_money.specs.declared.fault.Condition.{Condition}
 use Rattle.brk_money.specs.declared.fault.Condition.TheVariants as condition
 use Rattle.brk_model.specs.Schemas.{Schema}
 use Rattle.brk_model.specs.Tables.{Tables}
-use Rattle.brk_model.specs.Adopted.{base_of}
-use Rattle.brk_model.specs.Sheets.{sheets_at}
+use Rattle.brk_model.specs.Adopted.{base_of_tables}
+use Rattle.brk_model.specs.Sheets.{sheets_in_schema}
 use Rattle.brk_model.specs.Audit.{ConditionHolds}
 use Rattle.brk_book_theorems.specs.Books.{BooksInvariant}
-use Rattle.brk_audit_theorems.specs.Passing.{Passes}
+use Rattle.brk_audit_theorems.specs.Passing.{PassesAudit}
 use Rattle.brk_audit_theorems.proofs.AdoptedBooks.{adopted_books}
 use Rattle.brk_audit_theorems.proofs.AdoptedTables.{Derives, adopted_tables}
 
@@ -24,7 +24,7 @@ pub record AllHold (schema : Schema) (t : Tables) : Type 0 where
   pub status : ConditionHolds schema condition.Status t
   pub derives : Derives schema t
 
-pub all_hold : (schema : Schema) (t : Tables) → Passes schema t → AllHold schema t
+pub all_hold : (schema : Schema) (t : Tables) → PassesAudit schema t → AllHold schema t
 all_hold schema t p0 =
     let c = λ (cs : Condition). cs in
     let p1 = first_rest _ _ condition.Form p0 in
@@ -44,10 +44,10 @@ all_hold schema t p0 =
       derives = record { requests = p3.0; lots = p4.0; history = p5.0; summary = p6.0; count = p7.0; commission = p8.0; settlement = p9.0; cash = p10.0; balance = p11.0 };
     }
 
-pub passing_books : (schema : Schema) (t : Tables) → Passes schema t → BooksInvariant (base_of t)
+pub passing_books : (schema : Schema) (t : Tables) → PassesAudit schema t → BooksInvariant (base_of_tables t)
 unfolding ConditionHolds
 passing_books schema t p = let h = all_hold schema t p in adopted_books schema t h.form h.status
 
-pub passing_tables : (schema : Schema) (t : Tables) → Passes schema t → sheets_at schema (base_of t) ≡ t
+pub passing_tables : (schema : Schema) (t : Tables) → PassesAudit schema t → sheets_in_schema schema (base_of_tables t) ≡ t
 unfolding ConditionHolds
 passing_tables schema t p = let h = all_hold schema t p in adopted_tables schema t h.form h.status h.derives

@@ -2,8 +2,8 @@
 use Rattle.std.specs.Prelude.{None}
 use Rattle.brk_model.specs.Schemas.{Schema}
 use Rattle.brk_model.specs.Tables.{Tables}
-use Rattle.brk_model.specs.Audit.{IsAudit}
+use Rattle.brk_model.specs.Audit.{IsAuditResult}
 
 -- The rows pass the audit of the schema: they satisfy each of its conditions.
-abbrev pub Passes : Schema → Tables → Type 0
-Passes schema rows = IsAudit schema rows None
+abbrev pub PassesAudit : Schema → Tables → Type 0
+PassesAudit schema rows = IsAuditResult schema rows None

@@ -3,17 +3,17 @@
 use Rattle.std.specs.Prelude.{◌≡◌, ◌&&◌, true, false, List, [], ◌∷◌, map}
 use Rattle.std.specs.List.{AllByRecursion}
 use Rattle.brk_model.specs.Records.{Account, Broker, Security, Trade}
-use Rattle.brk_model.specs.Keys.{KeyPart, number, word, by_key, band_key, charge_key, customer_key, customer_tax_key, kept_key, permission_key, tax_rate_key}
+use Rattle.brk_model.specs.Keys.{KeyPart, number, word, rows_sorted_by_key, band_key, charge_key, customer_key, customer_tax_key, kept_key, permission_key, tax_rate_key}
 use Rattle.brk_model.specs.Base.{Base, is_completed}
-use Rattle.brk_model.specs.Ways.{is_rising, is_valid_sequence}
+use Rattle.brk_model.specs.Ways.{is_strictly_ascending, is_valid_status_sequence}
 
 -- The stamps of the trade's status changes are in strictly ascending order.
-abbrev pub StampsRise : Trade → Type 0
-StampsRise t = is_rising (map (λ m. m.stamp) t.marks) ≡ true
+abbrev pub HasAscendingStamps : Trade → Type 0
+HasAscendingStamps t = is_strictly_ascending (map (λ m. m.stamp) t.marks) ≡ true
 
 -- The statuses of the trade's history form a valid status sequence.
 abbrev pub HasValidTransitions : Trade → Type 0
-HasValidTransitions t = is_valid_sequence (map (λ m. m.status) t.marks) ≡ true
+HasValidTransitions t = is_valid_status_sequence (map (λ m. m.status) t.marks) ≡ true
 
 -- The trade has no settlement text if it is not completed, and no cash text if it is not a
 -- completed cash trade.
@@ -24,35 +24,35 @@ pub record HasNoStrayTexts (t : Trade) : Type 0 where
 -- Each trade has a valid status sequence in ascending order of stamps and no stray texts, and the
 -- movements are in ascending order of stamps.
 pub record HasValidHistories (base : Base) : Type 0 where
-  pub stamps : AllByRecursion StampsRise base.trades
+  pub stamps : AllByRecursion HasAscendingStamps base.trades
   pub ways : AllByRecursion HasValidTransitions base.trades
   pub words : AllByRecursion HasNoStrayTexts base.trades
-  pub movements : is_rising (map (λ m. m.stamp) base.movements) ≡ true
+  pub movements : is_strictly_ascending (map (λ m. m.stamp) base.movements) ≡ true
 
 -- The sort key of a broker: its id.
-abbrev pub broker_id : Broker → List KeyPart
-broker_id b = number b.id ∷ []
+abbrev pub broker_id_key : Broker → List KeyPart
+broker_id_key b = number b.id ∷ []
 
 -- The sort key of an account: its id.
-abbrev pub account_id : Account → List KeyPart
-account_id a = number a.id ∷ []
+abbrev pub account_id_key : Account → List KeyPart
+account_id_key a = number a.id ∷ []
 
 -- The sort key of a security: its symbol.
-abbrev pub symbol_key : Security → List KeyPart
-symbol_key s = word s.symbol ∷ []
+abbrev pub security_symbol_key : Security → List KeyPart
+security_symbol_key s = word s.symbol ∷ []
 
 -- The base with its reference records and stored replies sorted by key. Its trades and movements
 -- are unchanged.
-abbrev pub sorted : Base → Base
-sorted b = record b {
-  brokers = by_key broker_id b.brokers;
-  customers = by_key customer_key b.customers;
-  accounts = by_key account_id b.accounts;
-  permissions = by_key permission_key b.permissions;
-  securities = by_key symbol_key b.securities;
-  charges = by_key charge_key b.charges;
-  bands = by_key band_key b.bands;
-  tax_rates = by_key tax_rate_key b.tax_rates;
-  customer_taxes = by_key customer_tax_key b.customer_taxes;
-  kept = by_key kept_key b.kept;
+abbrev pub base_sorted_by_keys : Base → Base
+base_sorted_by_keys b = record b {
+  brokers = rows_sorted_by_key broker_id_key b.brokers;
+  customers = rows_sorted_by_key customer_key b.customers;
+  accounts = rows_sorted_by_key account_id_key b.accounts;
+  permissions = rows_sorted_by_key permission_key b.permissions;
+  securities = rows_sorted_by_key security_symbol_key b.securities;
+  charges = rows_sorted_by_key charge_key b.charges;
+  bands = rows_sorted_by_key band_key b.bands;
+  tax_rates = rows_sorted_by_key tax_rate_key b.tax_rates;
+  customer_taxes = rows_sorted_by_key customer_tax_key b.customer_taxes;
+  kept = rows_sorted_by_key kept_key b.kept;
 }

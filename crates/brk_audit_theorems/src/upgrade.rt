@@ -4,24 +4,24 @@
 ghost use Rattle.std.specs.Prelude.{◌≡◌};
 ghost use Rattle.brk_model.specs.Schemas.{Schema, first_schema, second_schema};
 ghost use Rattle.brk_model.specs.Tables.{Tables};
-ghost use Rattle.brk_model.specs.Adopted.{base_of};
-ghost use Rattle.brk_model.specs.Upgraded.{upgraded, upgraded_from};
+ghost use Rattle.brk_model.specs.Adopted.{base_of_tables};
+ghost use Rattle.brk_model.specs.Upgraded.{tables_after_upgrade, tables_upgraded_from_schema};
 ghost use Rattle.brk_model.specs.Sheets.{sheets};
-ghost use Rattle.brk_audit_theorems.specs.Upgrade.{AreUpgradedRows, IsNarrower};
-ghost use Rattle.brk_audit_theorems.specs.Passing.{Passes};
+ghost use Rattle.brk_audit_theorems.specs.Upgrade.{UpgradeMatchesBase, HasNoGreaterLimits};
+ghost use Rattle.brk_audit_theorems.specs.Passing.{PassesAudit};
 
 /// Proves that rows that pass the audit of a schema, whose limits are no greater than those of the
 /// third, are upgraded to the tables of the base that they describe. The upgraded rows pass the
 /// audit of the third schema. The first and the second schema are such schemas.
-pub fn upgraded_rows_are_tables()
-    ensures first { (rows : Tables) → Passes first_schema rows → AreUpgradedRows rows }
-    ensures second { (rows : Tables) → Passes second_schema rows → AreUpgradedRows rows }
-    ensures narrower { (schema : Schema) (rows : Tables) → IsNarrower schema → Passes schema rows → AreUpgradedRows rows }
+pub fn upgraded_rows_are_tables_of_their_base()
+    ensures first { (rows : Tables) → PassesAudit first_schema rows → UpgradeMatchesBase rows }
+    ensures second { (rows : Tables) → PassesAudit second_schema rows → UpgradeMatchesBase rows }
+    ensures narrower { (schema : Schema) (rows : Tables) → HasNoGreaterLimits schema → PassesAudit schema rows → UpgradeMatchesBase rows }
 {}
 
-/// Proves that the upgrade from a schema whose audit the rows pass equals the function `upgraded`
-/// of the rows, and is the tables of the base that the rows describe.
-pub fn rows_upgraded_from_a_schema_are_tables()
-    ensures same { (schema : Schema) (rows : Tables) → Passes schema rows → upgraded_from schema rows ≡ upgraded rows }
-    ensures tables { (schema : Schema) (rows : Tables) → Passes schema rows → upgraded_from schema rows ≡ sheets (base_of rows) }
+/// Proves that the upgrade from a schema whose audit the rows pass equals the function
+/// `tables_after_upgrade` of the rows, and is the tables of the base that the rows describe.
+pub fn upgrade_yields_tables_of_the_base()
+    ensures same { (schema : Schema) (rows : Tables) → PassesAudit schema rows → tables_upgraded_from_schema schema rows ≡ tables_after_upgrade rows }
+    ensures tables { (schema : Schema) (rows : Tables) → PassesAudit schema rows → tables_upgraded_from_schema schema rows ≡ sheets (base_of_tables rows) }
 {}

@@ -12,17 +12,17 @@ use Rattle.brk_money.specs.declared.fault.Fault.TheVariants.{Memory}
 use Rattle.brk_money.specs.declared.refusal.Refusal.TheVariants.{BadText}
 use Rattle.brk_model.specs.Answers.{Fields, RowStep}
 use Rattle.brk_model.specs.Commands.{Answer, Refused}
-use Rattle.brk_model.specs.Forms.{Read}
-use Rattle.brk_model.specs.Input.{AreAll, Begins, IsEnd, IsName, end_of, header_of}
-use Rattle.brk_model.specs.Lines.{answer_line, end_line, lines_from}
-use Rattle.brk_model.specs.Run.{MayFail}
-use Rattle.brk_batch_engine.specs.Answers.{FailedBy}
-use Rattle.brk_batch_engine.specs.Batch.{BatchGives, EndsRight, FailedRow, Faulted, LeavesAt, Stopped}
-use Rattle.brk_batch_engine.specs.Script.{MakesCall}
-use Rattle.brk_io.specs.Span.{IsUntouched, Span}
+use Rattle.brk_model.specs.Forms.{ReadResult}
+use Rattle.brk_model.specs.Input.{HasExactlyRecords, BeginsWithRecords, IsEndRecord, IsBatchName, end_record_after, batch_header}
+use Rattle.brk_model.specs.Lines.{answer_line, batch_end_line, answer_lines_from}
+use Rattle.brk_model.specs.Run.{IsCallFault}
+use Rattle.brk_batch_engine.specs.Answers.{RowFailsWith}
+use Rattle.brk_batch_engine.specs.Batch.{IsBatchResult, BeginsWithWholeBatch, NextRowFails, BatchFailsWith, BoundsBatchCrashStates, BatchProgress}
+use Rattle.brk_batch_engine.specs.Script.{RowCallRelation}
+use Rattle.brk_io.specs.Span.{IsUnchangedEnvironment, EnvironmentChange}
 use Rattle.brk_batch_engine.specs.Counts.{counts_line}
-use Rattle.brk_io.specs.Moments.{AskedOnce}
-use Rattle.brk_batch_engine.specs.Parts.{CutPart, EndPart, HeaderPart, Part}
+use Rattle.brk_io.specs.Moments.{ReadsClockAtMostOnce}
+use Rattle.brk_batch_engine.specs.Parts.{CutRowEndsBatchWith, EndRecordFailsWith, HeaderReadFailsWith, LineWriteFailsWith}
 use Rattle.brk_batch_engine.specs.declared.counts.Counts.{Counts}
 use Rattle.brk_io.specs.declared.batch_fault.FaultKind.{FaultKind}
 use Rattle.brk_io.specs.declared.batch_fault.FaultKind.TheVariants as kinds
@@ -30,16 +30,16 @@ use Rattle.brk_batch_engine.proofs.Progress.{At, Progress, Start, StandsAt, coun
 use Rattle.brk_batch_engine.proofs.Pushes.{lines_push}
 use Rattle.brk_batch_engine.proofs.Reading.{begins_front, begins_more, begins_of}
 
-abbrev pub span_of : {S C R : Type 0} → Start S C R → At S C R → C → Option Text → Span S C
+abbrev pub span_of : {S C R : Type 0} → Start S C R → At S C R → C → Option Text → EnvironmentChange S C
 span_of start now later new = record { base = start.base; after = now.after; clock = start.clock; later = later; old = start.old; new = new }
 
-pub begins_at : {R : Type 0} (rem : R → Option Text) (text : Option Text) (records : List Fields) (reader : Reader R) → StandsAt rem text records reader → Begins text records
+pub begins_at : {R : Type 0} (rem : R → Option Text) (text : Option Text) (records : List Fields) (reader : Reader R) → StandsAt rem text records reader → BeginsWithRecords text records
 begins_at rem text records reader h = begins_of text records reader.state (source_of rem reader) h
 
 -- the rows that were decided, with their answers
-abbrev pub stopped_of : {S X C R : Type 0} (form : Fields → Read X) (step : RowStep S X) (gives : C → ℕ → C → Type 0) (rem : R → Option Text)
+abbrev pub stopped_of : {S X C R : Type 0} (form : Fields → ReadResult X) (step : RowStep S X) (gives : C → ℕ → C → Type 0) (rem : R → Option Text)
     (start : Start S C R) (now : At S C R) (later : C) (new : Option Text) (text : Option Text) → Progress form step gives rem start now
-    → StandsAt rem text (header_of start.name ∷ []) start.reader → Stopped form step gives text (span_of start now later new) now.settled
+    → StandsAt rem text (batch_header start.name ∷ []) start.reader → BatchProgress form step gives text (span_of start now later new) now.settled
 stopped_of form step gives rem start now later new text p h = record {
   name = start.name;
   rows = p.rows;
@@ -49,28 +49,28 @@ stopped_of form step gives rem start now later new text p h = record {
   mid = now.later;
   taken = p.taken;
   settled = p.settled;
-  begins = begins_front text (header_of start.name ∷ p.rows) (now.row ∷ []) (begins_at rem text _ now.reader (p.stands text h));
+  begins = begins_front text (batch_header start.name ∷ p.rows) (now.row ∷ []) (begins_at rem text _ now.reader (p.stands text h));
   next = λ some. (now.row, begins_at rem text _ now.reader (p.stands text h));
   counted = sym p.size ∙ sym p.settled.each;
 }
 
 -- the record that was read is the right end record
-ends_right : {S X C R : Type 0} (form : Fields → Read X) (step : RowStep S X) (gives : C → ℕ → C → Type 0) (rem : R → Option Text)
-    (start : Start S C R) (now : At S C R) (text : Option Text) (p : Progress form step gives rem start now) → now.row ≡ end_of now.settled
-    → StandsAt rem text (header_of start.name ∷ []) start.reader → EndsRight text start.name p.rows
+ends_right : {S X C R : Type 0} (form : Fields → ReadResult X) (step : RowStep S X) (gives : C → ℕ → C → Type 0) (rem : R → Option Text)
+    (start : Start S C R) (now : At S C R) (text : Option Text) (p : Progress form step gives rem start now) → now.row ≡ end_record_after now.settled
+    → StandsAt rem text (batch_header start.name ∷ []) start.reader → BeginsWithWholeBatch text start.name p.rows
 ends_right form step gives rem start now text p right h =
-    let e : now.row ≡ end_of (length p.rows) = right ∙ ap end_of (sym p.size) in
+    let e : now.row ≡ end_record_after (length p.rows) = right ∙ ap end_record_after (sym p.size) in
     rw e at (begins_at rem text _ now.reader (p.stands text h))
 
 -- the batch ended with its right end record
-pub ended_well : {S X C R : Type 0} (form : Fields → Read X) (step : RowStep S X) (gives : C → ℕ → C → Type 0) (rem : R → Option Text)
+pub ended_well : {S X C R : Type 0} (form : Fields → ReadResult X) (step : RowStep S X) (gives : C → ℕ → C → Type 0) (rem : R → Option Text)
     (start : Start S C R) (now : At S C R) (mid new : Option Text) (text : Option Text) (p : Progress form step gives rem start now)
-    → Appends start.old mid (lines_from 1 p.answers) → now.row ≡ end_of now.settled → Appends mid new (counts_line now.counts)
-    → StandsAt rem text (header_of start.name ∷ []) start.reader → BatchGives form step gives text (span_of start now now.later new) (Ok now.counts)
+    → Appends start.old mid (answer_lines_from 1 p.answers) → now.row ≡ end_record_after now.settled → Appends mid new (counts_line now.counts)
+    → StandsAt rem text (batch_header start.name ∷ []) start.reader → IsBatchResult form step gives text (span_of start now now.later new) (Ok now.counts)
 ended_well form step gives rem start now mid new text p wrote right last h = (
   record {
     moments = p.moments;
-    lines = lines_from 1 p.answers ++ end_line p.answers;
+    lines = answer_lines_from 1 p.answers ++ batch_end_line p.answers;
     taken = p.taken;
     answered = record {
       name = start.name;
@@ -87,13 +87,13 @@ ended_well form step gives rem start now mid new text p wrote right last h = (
 )
 
 -- the end record is wrong, or was not answered
-pub end_failed : {S X C R : Type 0} (form : Fields → Read X) (step : RowStep S X) (gives : C → ℕ → C → Type 0) (rem : R → Option Text)
+pub end_failed : {S X C R : Type 0} (form : Fields → ReadResult X) (step : RowStep S X) (gives : C → ℕ → C → Type 0) (rem : R → Option Text)
     (start : Start S C R) (now : At S C R) (mid new : Option Text) (text : Option Text) (p : Progress form step gives rem start now) (kind : FaultKind)
-    → Appends start.old mid (lines_from 1 p.answers) → IsEnd now.row → EndPart mid new now.row now.settled now.counts kind
-    → StandsAt rem text (header_of start.name ∷ []) start.reader → Faulted form step gives text (span_of start now now.later new) now.settled kind
+    → Appends start.old mid (answer_lines_from 1 p.answers) → IsEndRecord now.row → EndRecordFailsWith mid new now.row now.settled now.counts kind
+    → StandsAt rem text (batch_header start.name ∷ []) start.reader → BatchFailsWith form step gives text (span_of start now now.later new) now.settled kind
 end_failed form step gives rem start now mid new text p kinds.BadEnd wrote ends part h = record {
   moments = p.moments;
-  lines = lines_from 1 p.answers;
+  lines = answer_lines_from 1 p.answers;
   taken = p.taken;
   answered = record {
     name = start.name;
@@ -101,7 +101,7 @@ end_failed form step gives rem start now mid new text p kinds.BadEnd wrote ends 
     answers = p.answers;
     told = p.answers;
     settled = p.settled;
-    ends = ((now.row, ends, (λ e. part.0 (e ∙ ap end_of p.size)), begins_at rem text _ now.reader (p.stands text h)), refl, refl);
+    ends = ((now.row, ends, (λ e. part.0 (e ∙ ap end_record_after p.size)), begins_at rem text _ now.reader (p.stands text h)), refl, refl);
     counted = sym p.size ∙ sym p.settled.each;
   };
   written = rw append-nil at (Appends-trans _ _ _ _ _ wrote part.1);
@@ -118,29 +118,29 @@ end_failed form step gives rem start now mid new text p kinds.BadHeader wrote en
 end_failed form step gives rem start now mid new text p kinds.NoEnd wrote ends part h = absurd part
 
 -- the next record was not read
-pub read_failed : {S X C R : Type 0} (form : Fields → Read X) (step : RowStep S X) (gives : C → ℕ → C → Type 0) (rem : R → Option Text)
+pub read_failed : {S X C R : Type 0} (form : Fields → ReadResult X) (step : RowStep S X) (gives : C → ℕ → C → Type 0) (rem : R → Option Text)
     (start : Start S C R) (now : At S C R) (new : Option Text) (text : Option Text) (p : Progress form step gives rem start now) (kind : FaultKind)
-    → Appends start.old new (lines_from 1 p.answers) → (kind ≡ kinds.Read) ⊎ (kind ≡ kinds.Desk Memory)
-    → StandsAt rem text (header_of start.name ∷ []) start.reader → Faulted form step gives text (span_of start now now.later new) now.settled kind
+    → Appends start.old new (answer_lines_from 1 p.answers) → (kind ≡ kinds.Read) ⊎ (kind ≡ kinds.Desk Memory)
+    → StandsAt rem text (batch_header start.name ∷ []) start.reader → BatchFailsWith form step gives text (span_of start now now.later new) now.settled kind
 read_failed form step gives rem start now new text p kind wrote (inl e) h =
     rw e (inr (stopped_of form step gives rem start now now.later new text p h, refl, refl, wrote))
 read_failed form step gives rem start now new text p kind wrote (inr e) h =
     rw e (inr (inr (stopped_of form step gives rem start now now.later new text p h, refl, refl, inl refl, inl wrote)))
 
 -- no call was made and nothing written yet
-pub untouched : {S C : Type 0} (base : S) (clock : C) (old : Option Text) → IsUntouched (record { base = base; after = base; clock = clock; later = clock; old = old; new = old })
+pub untouched : {S C : Type 0} (base : S) (clock : C) (old : Option Text) → IsUnchangedEnvironment (record { base = base; after = base; clock = clock; later = clock; old = old; new = old })
 untouched base clock old = record { base = refl; clock = refl; written = Appends-nil old }
 
 -- the first row or the header was not read
-pub nothing_read : {S X C : Type 0} (form : Fields → Read X) (step : RowStep S X) (gives : C → ℕ → C → Type 0) (text : Option Text)
-    (span : Span S C) (kind : FaultKind) → IsUntouched span → (kind ≡ kinds.Read) ⊎ (kind ≡ kinds.Desk Memory) → Faulted form step gives text span 0 kind
+pub nothing_read : {S X C : Type 0} (form : Fields → ReadResult X) (step : RowStep S X) (gives : C → ℕ → C → Type 0) (text : Option Text)
+    (span : EnvironmentChange S C) (kind : FaultKind) → IsUnchangedEnvironment span → (kind ≡ kinds.Read) ⊎ (kind ≡ kinds.Desk Memory) → BatchFailsWith form step gives text span 0 kind
 nothing_read form step gives text span kind u (inl e) = rw e (inl (refl, u))
 nothing_read form step gives text span kind u (inr e) = rw e (inl (refl, refl, u))
 
 -- the header was not read, or is none
-pub header_failed : {S X C : Type 0} (form : Fields → Read X) (step : RowStep S X) (gives : C → ℕ → C → Type 0) (text : Option Text)
-    (base : S) (clock : C) (old : Option Text) (kind : FaultKind) → HeaderPart text kind
-    → Faulted form step gives text (record { base = base; after = base; clock = clock; later = clock; old = old; new = old }) 0 kind
+pub header_failed : {S X C : Type 0} (form : Fields → ReadResult X) (step : RowStep S X) (gives : C → ℕ → C → Type 0) (text : Option Text)
+    (base : S) (clock : C) (old : Option Text) (kind : FaultKind) → HeaderReadFailsWith text kind
+    → BatchFailsWith form step gives text (record { base = base; after = base; clock = clock; later = clock; old = old; new = old }) 0 kind
 header_failed form step gives text base clock old kinds.BadHeader h =
     (untouched base clock old, record { headless = h; ending = refl; asked = refl; unchanged = refl; told = refl; counted = refl })
 header_failed form step gives text base clock old kinds.Read h = inl (refl, untouched base clock old)
@@ -150,27 +150,27 @@ header_failed form step gives text base clock old kinds.NoEnd h = absurd h
 header_failed form step gives text base clock old kinds.BadEnd h = absurd h
 
 -- the row was not answered
-pub answer_failed : {S X C R : Type 0} (form : Fields → Read X) (step : RowStep S X) (gives : C → ℕ → C → Type 0) (rem : R → Option Text)
+pub answer_failed : {S X C R : Type 0} (form : Fields → ReadResult X) (step : RowStep S X) (gives : C → ℕ → C → Type 0) (rem : R → Option Text)
     (start : Start S C R) (now : At S C R) (later : C) (new : Option Text) (text : Option Text) (p : Progress form step gives rem start now) (f : Fault)
-    → Appends start.old new (lines_from 1 p.answers) → AskedOnce gives now.later later → MayFail f
-    → StandsAt rem text (header_of start.name ∷ []) start.reader → Faulted form step gives text (span_of start now later new) now.settled (kinds.Desk f)
+    → Appends start.old new (answer_lines_from 1 p.answers) → ReadsClockAtMostOnce gives now.later later → IsCallFault f
+    → StandsAt rem text (batch_header start.name ∷ []) start.reader → BatchFailsWith form step gives text (span_of start now later new) now.settled (kinds.Desk f)
 answer_failed form step gives rem start now later new text p f wrote asked may h =
     inr (inl (stopped_of form step gives rem start now later new text p h, asked, may, refl, wrote))
 
 -- the clock was asked at most once for it
-pub failed_asked : {D S X C : Type 0} (honest : D → Type 0) (stands : D → S → Type 0) (leaves : D → S → S → Type 0) (acts : MakesCall D X) (step : RowStep S X) (gives : C → ℕ → C → Type 0)
-    (read : Read X) (batch : Text) (n : ℕ) (f : Fault) (old new : D) (clock later : C)
-    → FailedBy honest stands leaves acts step gives read batch n f old new clock later → AskedOnce gives clock later
+pub failed_asked : {D S X C : Type 0} (honest : D → Type 0) (stands : D → S → Type 0) (leaves : D → S → S → Type 0) (acts : RowCallRelation D X) (step : RowStep S X) (gives : C → ℕ → C → Type 0)
+    (read : ReadResult X) (batch : Text) (n : ℕ) (f : Fault) (old new : D) (clock later : C)
+    → RowFailsWith honest stands leaves acts step gives read batch n f old new clock later → ReadsClockAtMostOnce gives clock later
 failed_asked honest stands leaves acts step gives read batch n f old new clock later (inl same) = inl same.1
 failed_asked honest stands leaves acts step gives read batch n f old new clock later (inr way) = inr (way.0, way.3)
 
 -- its call failed, after the record after it had been read
-abbrev pub failed_row : {S X C R : Type 0} (form : Fields → Read X) (step : RowStep S X) (gives : C → ℕ → C → Type 0) (rem : R → Option Text)
+abbrev pub failed_row : {S X C R : Type 0} (form : Fields → ReadResult X) (step : RowStep S X) (gives : C → ℕ → C → Type 0) (rem : R → Option Text)
     (start : Start S C R) (now : At S C R) (later : C) (new : Option Text) (text : Option Text) (p : Progress form step gives rem start now) (next : Fields) (reader : Reader R) (f : Fault)
-    (moment : ℕ) (command : X) → form now.row ≡ Ok command → gives now.later moment later → MayFail f → Appends start.old new (lines_from 1 p.answers)
+    (moment : ℕ) (command : X) → form now.row ≡ Ok command → gives now.later moment later → IsCallFault f → Appends start.old new (answer_lines_from 1 p.answers)
     → ((text : Option Text) (before : List Fields) → StandsAt rem text before now.reader → StandsAt rem text (before ++ (next ∷ [])) reader)
-    → StandsAt rem text (header_of start.name ∷ []) start.reader
-    → FailedRow form step gives text (span_of start now later new) (record { rows = now.settled; kind = kinds.Desk f })
+    → StandsAt rem text (batch_header start.name ∷ []) start.reader
+    → NextRowFails form step gives text (span_of start now later new) (record { rows = now.settled; kind = kinds.Desk f })
 failed_row form step gives rem start now later new text p next reader f moment command formed given may wrote found h = record {
   cause = f;
   kind = refl;
@@ -188,13 +188,13 @@ failed_row form step gives rem start now later new text p next reader f moment c
 }
 
 -- the states that a crash exposes then
-pub answer_left : {D S X C R : Type 0} (honest : D → Type 0) (stands : D → S → Type 0) (leaves : D → S → S → Type 0) (acts : MakesCall D X)
-    (form : Fields → Read X) (step : RowStep S X) (gives : C → ℕ → C → Type 0) (rem : R → Option Text)
+pub answer_left : {D S X C R : Type 0} (honest : D → Type 0) (stands : D → S → Type 0) (leaves : D → S → S → Type 0) (acts : RowCallRelation D X)
+    (form : Fields → ReadResult X) (step : RowStep S X) (gives : C → ℕ → C → Type 0) (rem : R → Option Text)
     (start : Start S C R) (now : At S C R) (later : C) (new : Option Text) (text : Option Text) (p : Progress form step gives rem start now) (next : Fields) (reader : Reader R) (f : Fault) (desk last : D)
-    → FailedBy honest stands leaves acts step gives (form now.row) start.name (now.settled + 1) f desk last now.later later → MayFail f → Appends start.old new (lines_from 1 p.answers)
+    → RowFailsWith honest stands leaves acts step gives (form now.row) start.name (now.settled + 1) f desk last now.later later → IsCallFault f → Appends start.old new (answer_lines_from 1 p.answers)
     → ((text : Option Text) (before : List Fields) → StandsAt rem text before now.reader → StandsAt rem text (before ++ (next ∷ [])) reader)
-    → StandsAt rem text (header_of start.name ∷ []) start.reader → honest last → stands desk now.after → leaves desk now.after now.after
-    → LeavesAt form step gives leaves text (span_of start now later new) last (Err (record { rows = now.settled; kind = kinds.Desk f }))
+    → StandsAt rem text (batch_header start.name ∷ []) start.reader → honest last → stands desk now.after → leaves desk now.after now.after
+    → BoundsBatchCrashStates form step gives leaves text (span_of start now later new) last (Err (record { rows = now.settled; kind = kinds.Desk f }))
 answer_left honest stands leaves acts form step gives rem start now later new text p next reader f desk last (inl same) may wrote found h good stood alone =
     inl (subst (λ d. leaves d now.after now.after) (sym same.0) alone)
 answer_left honest stands leaves acts form step gives rem start now later new text p next reader f desk last (inr way) may wrote found h good stood alone = inr (record {
@@ -203,11 +203,11 @@ answer_left honest stands leaves acts form step gives rem start now later new te
 })
 
 -- the line of the row that was answered last was not written
-pub tell_failed : {S X C R : Type 0} (form : Fields → Read X) (step : RowStep S X) (gives : C → ℕ → C → Type 0) (rem : R → Option Text)
+pub tell_failed : {S X C R : Type 0} (form : Fields → ReadResult X) (step : RowStep S X) (gives : C → ℕ → C → Type 0) (rem : R → Option Text)
     (start : Start S C R) (now : At S C R) (mid new : Option Text) (text : Option Text) (p : Progress form step gives rem start now)
     (front : List Answer) (answer : Answer) (kind : FaultKind)
-    → p.answers ≡ front ++ (answer ∷ []) → Appends start.old mid (lines_from 1 front) → Part mid new (answer_line now.settled answer) kind
-    → StandsAt rem text (header_of start.name ∷ []) start.reader → Faulted form step gives text (span_of start now now.later new) now.settled kind
+    → p.answers ≡ front ++ (answer ∷ []) → Appends start.old mid (answer_lines_from 1 front) → LineWriteFailsWith mid new (answer_line now.settled answer) kind
+    → StandsAt rem text (batch_header start.name ∷ []) start.reader → BatchFailsWith form step gives text (span_of start now now.later new) now.settled kind
 tell_failed form step gives rem start now mid new text p front answer kinds.Write split wrote part h =
     let many : now.settled ≡ length p.answers = sym p.size ∙ sym p.settled.each in (
       stopped_of form step gives rem start now now.later new text p h,
@@ -228,9 +228,9 @@ tell_failed form step gives rem start now mid new text p front answer kinds.NoEn
 tell_failed form step gives rem start now mid new text p front answer kinds.BadEnd split wrote part h = absurd part
 
 -- the rows that were decided, with the refusal of the row that has no record after it
-abbrev pub cut_stopped : {S X C R : Type 0} (form : Fields → Read X) (step : RowStep S X) (gives : C → ℕ → C → Type 0) (rem : R → Option Text)
+abbrev pub cut_stopped : {S X C R : Type 0} (form : Fields → ReadResult X) (step : RowStep S X) (gives : C → ℕ → C → Type 0) (rem : R → Option Text)
     (start : Start S C R) (now : At S C R) (new : Option Text) (text : Option Text) → Progress form step gives rem start now
-    → StandsAt rem text (header_of start.name ∷ []) start.reader → Stopped form step gives text (span_of start now now.later new) (now.settled + 1)
+    → StandsAt rem text (batch_header start.name ∷ []) start.reader → BatchProgress form step gives text (span_of start now now.later new) (now.settled + 1)
 cut_stopped form step gives rem start now new text p h = record {
   name = start.name;
   rows = p.rows;
@@ -240,22 +240,22 @@ cut_stopped form step gives rem start now new text p h = record {
   mid = now.later;
   taken = p.taken;
   settled = p.settled;
-  begins = begins_front text (header_of start.name ∷ p.rows) (now.row ∷ []) (begins_at rem text _ now.reader (p.stands text h));
+  begins = begins_front text (batch_header start.name ∷ p.rows) (now.row ∷ []) (begins_at rem text _ now.reader (p.stands text h));
   next = λ some. (now.row, begins_at rem text _ now.reader (p.stands text h));
   counted = ap (λ (n : ℕ). n + 1) (sym p.size ∙ sym p.settled.each) ∙ sym (length-append p.answers (Refused BadText ∷ []));
 }
 
 -- the row has no record after it
-pub row_cut_off : {S X C R : Type 0} (form : Fields → Read X) (step : RowStep S X) (gives : C → ℕ → C → Type 0) (rem : R → Option Text)
+pub row_cut_off : {S X C R : Type 0} (form : Fields → ReadResult X) (step : RowStep S X) (gives : C → ℕ → C → Type 0) (rem : R → Option Text)
     (start : Start S C R) (now : At S C R) (mid new : Option Text) (text : Option Text) (p : Progress form step gives rem start now) (kind : FaultKind)
-    → Appends start.old mid (lines_from 1 p.answers) → ¬ (IsEnd now.row) → CutPart mid new (answer_line (now.settled + 1) (Refused BadText)) kind
-    → ((text : Option Text) (before : List Fields) → StandsAt rem text before now.reader → AreAll text before)
-    → StandsAt rem text (header_of start.name ∷ []) start.reader → Faulted form step gives text (span_of start now now.later new) (now.settled + 1) kind
+    → Appends start.old mid (answer_lines_from 1 p.answers) → ¬ (IsEndRecord now.row) → CutRowEndsBatchWith mid new (answer_line (now.settled + 1) (Refused BadText)) kind
+    → ((text : Option Text) (before : List Fields) → StandsAt rem text before now.reader → HasExactlyRecords text before)
+    → StandsAt rem text (batch_header start.name ∷ []) start.reader → BatchFailsWith form step gives text (span_of start now now.later new) (now.settled + 1) kind
 row_cut_off form step gives rem start now mid new text p kinds.NoEnd wrote other part all h =
     let place : now.settled + 1 ≡ 1 + length p.answers = omega (arith, p.size, p.settled.each) in
     record {
       moments = p.moments;
-      lines = lines_from 1 (p.answers ++ (Refused BadText ∷ []));
+      lines = answer_lines_from 1 (p.answers ++ (Refused BadText ∷ []));
       taken = p.taken;
       answered = record {
         name = start.name;
@@ -287,9 +287,9 @@ row_cut_off form step gives rem start now mid new text p kinds.BadHeader wrote o
 row_cut_off form step gives rem start now mid new text p kinds.BadEnd wrote other part all h = absurd part
 
 -- the input ends after its header
-pub no_rows : {S X C : Type 0} (form : Fields → Read X) (step : RowStep S X) (gives : C → ℕ → C → Type 0) (text : Option Text)
-    (name : Text) (base : S) (clock : C) (old : Option Text) → IsName name → AreAll text (header_of name ∷ [])
-    → Faulted form step gives text (record { base = base; after = base; clock = clock; later = clock; old = old; new = old }) 0 kinds.NoEnd
+pub no_rows : {S X C : Type 0} (form : Fields → ReadResult X) (step : RowStep S X) (gives : C → ℕ → C → Type 0) (text : Option Text)
+    (name : Text) (base : S) (clock : C) (old : Option Text) → IsBatchName name → HasExactlyRecords text (batch_header name ∷ [])
+    → BatchFailsWith form step gives text (record { base = base; after = base; clock = clock; later = clock; old = old; new = old }) 0 kinds.NoEnd
 no_rows form step gives text name base clock old named all = record {
   moments = [];
   lines = [];
@@ -312,8 +312,8 @@ no_rows form step gives text name base clock old named all = record {
 }
 
 -- the loop ran out of turns
-pub turns_over : {S X C R : Type 0} (form : Fields → Read X) (step : RowStep S X) (gives : C → ℕ → C → Type 0) (rem : R → Option Text)
+pub turns_over : {S X C R : Type 0} (form : Fields → ReadResult X) (step : RowStep S X) (gives : C → ℕ → C → Type 0) (rem : R → Option Text)
     (start : Start S C R) (now : At S C R) (new : Option Text) (text : Option Text) (count : ℕ) → count ≡ now.settled
-    → (p : Progress form step gives rem start now) → Appends start.old new (lines_from 1 p.answers)
-    → StandsAt rem text (header_of start.name ∷ []) start.reader → Faulted form step gives text (span_of start now now.later new) count (kinds.Desk Memory)
+    → (p : Progress form step gives rem start now) → Appends start.old new (answer_lines_from 1 p.answers)
+    → StandsAt rem text (batch_header start.name ∷ []) start.reader → BatchFailsWith form step gives text (span_of start now now.later new) count (kinds.Desk Memory)
 turns_over form step gives rem start now new text count e p wrote h = rw e (read_failed form step gives rem start now new text p (kinds.Desk Memory) wrote (inr refl) h)

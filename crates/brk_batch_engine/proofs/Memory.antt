@@ -6,15 +6,15 @@ use Rattle.brk_money.specs.declared.fault.Fault.TheVariants.{Memory}
 use Rattle.brk_model.specs.Answers.{Fields}
 use Rattle.brk_io.specs.declared.batch_fault.FaultKind.{FaultKind}
 use Rattle.brk_io.specs.declared.batch_fault.FaultKind.TheVariants as kinds
-use Rattle.brk_batch_engine.specs.Batch.{OnlyMemory}
-use Rattle.brk_batch_engine.specs.Parts.{CutPart, EndPart, HeaderPart, Part}
+use Rattle.brk_batch_engine.specs.Batch.{DeskFaultIsMemory}
+use Rattle.brk_batch_engine.specs.Parts.{CutRowEndsBatchWith, EndRecordFailsWith, HeaderReadFailsWith, LineWriteFailsWith}
 use Rattle.brk_batch_engine.specs.declared.counts.Counts.{Counts}
 
-pub read_memory : (kind : FaultKind) → (kind ≡ kinds.Read) ⊎ (kind ≡ kinds.Desk Memory) → OnlyMemory kind
+pub read_memory : (kind : FaultKind) → (kind ≡ kinds.Read) ⊎ (kind ≡ kinds.Desk Memory) → DeskFaultIsMemory kind
 read_memory kind (inl e) = rw e tt
 read_memory kind (inr e) = rw e refl
 
-pub part_memory : (old new : Option Text) (line : Text) (kind : FaultKind) → Part old new line kind → OnlyMemory kind
+pub part_memory : (old new : Option Text) (line : Text) (kind : FaultKind) → LineWriteFailsWith old new line kind → DeskFaultIsMemory kind
 part_memory old new line kinds.Write part = tt
 part_memory old new line (kinds.Desk fault) part = part.0
 part_memory old new line kinds.Read part = tt
@@ -22,7 +22,7 @@ part_memory old new line kinds.BadHeader part = tt
 part_memory old new line kinds.NoEnd part = tt
 part_memory old new line kinds.BadEnd part = tt
 
-pub cut_memory : (old new : Option Text) (line : Text) (kind : FaultKind) → CutPart old new line kind → OnlyMemory kind
+pub cut_memory : (old new : Option Text) (line : Text) (kind : FaultKind) → CutRowEndsBatchWith old new line kind → DeskFaultIsMemory kind
 cut_memory old new line kinds.NoEnd part = tt
 cut_memory old new line kinds.Write part = tt
 cut_memory old new line (kinds.Desk fault) part = part.0
@@ -30,7 +30,7 @@ cut_memory old new line kinds.Read part = tt
 cut_memory old new line kinds.BadHeader part = tt
 cut_memory old new line kinds.BadEnd part = tt
 
-pub end_memory : (old new : Option Text) (row : Fields) (n : ℕ) (counts : Counts) (kind : FaultKind) → EndPart old new row n counts kind → OnlyMemory kind
+pub end_memory : (old new : Option Text) (row : Fields) (n : ℕ) (counts : Counts) (kind : FaultKind) → EndRecordFailsWith old new row n counts kind → DeskFaultIsMemory kind
 end_memory old new row n counts kinds.BadEnd part = tt
 end_memory old new row n counts kinds.Write part = tt
 end_memory old new row n counts (kinds.Desk fault) part = part.0
@@ -38,7 +38,7 @@ end_memory old new row n counts kinds.Read part = tt
 end_memory old new row n counts kinds.BadHeader part = tt
 end_memory old new row n counts kinds.NoEnd part = tt
 
-pub header_memory : (text : Option Text) (kind : FaultKind) → HeaderPart text kind → OnlyMemory kind
+pub header_memory : (text : Option Text) (kind : FaultKind) → HeaderReadFailsWith text kind → DeskFaultIsMemory kind
 header_memory text kinds.BadHeader part = tt
 header_memory text kinds.Read part = tt
 header_memory text (kinds.Desk fault) part = part

@@ -12,12 +12,12 @@ use Rattle.brk_money.specs.Spelling.{Text}
 use Rattle.brk_model.specs.Answers.{Fields, RowStep}
 use Rattle.brk_model.specs.Batch.{AreDecided}
 use Rattle.brk_model.specs.Commands.{Again, Answer, Done, Refused}
-use Rattle.brk_model.specs.Forms.{Read}
-use Rattle.brk_model.specs.Input.{header_of}
-use Rattle.brk_model.specs.Lines.{answer_line, count_again, count_done, count_refused, is_again, is_done, is_refused, lines_from}
-use Rattle.brk_batch_engine.specs.Counts.{counted, counts_of}
-use Rattle.brk_io.specs.Moments.{Moments}
-use Rattle.brk_batch_engine.specs.Reading.{Stands}
+use Rattle.brk_model.specs.Forms.{ReadResult}
+use Rattle.brk_model.specs.Input.{batch_header}
+use Rattle.brk_model.specs.Lines.{answer_line, repeated_answer_count, done_answer_count, refused_answer_count, is_repeated_answer, is_done_answer, is_refused_answer, answer_lines_from}
+use Rattle.brk_batch_engine.specs.Counts.{counts_with_answer, counts_of_answers}
+use Rattle.brk_io.specs.Moments.{ClockReturnsInOrder}
+use Rattle.brk_batch_engine.specs.Reading.{ReaderIsAfterRecords}
 use Rattle.brk_batch_engine.specs.declared.counts.Counts.{Counts}
 use Rattle.brk_batch_engine.proofs.Pushes.{lines_push}
 
@@ -40,20 +40,20 @@ pub record At (S C R : Type 0) : Type 0 where
 
 -- a reader stands after these records
 abbrev pub StandsAt : {R : Type 0} → (R → Option Text) → Option Text → List Fields → Reader R → Type 0
-StandsAt rem text records reader = Stands text records reader.state (source_of rem reader)
+StandsAt rem text records reader = ReaderIsAfterRecords text records reader.state (source_of rem reader)
 
 -- the rows up to here were answered, as a batch says
-pub record Progress {S X C R : Type 0} (form : Fields → Read X) (step : RowStep S X) (gives : C → ℕ → C → Type 0) (rem : R → Option Text)
+pub record Progress {S X C R : Type 0} (form : Fields → ReadResult X) (step : RowStep S X) (gives : C → ℕ → C → Type 0) (rem : R → Option Text)
     (start : Start S C R) (now : At S C R) : Type 0 where
   pub rows : List Fields
   pub answers : List Answer
   pub moments : List ℕ
-  pub taken : Moments gives start.clock moments now.later
+  pub taken : ClockReturnsInOrder gives start.clock moments now.later
   pub settled : AreDecided form step start.name start.base moments rows answers now.after
   pub size : length rows ≡ now.settled
-  pub counts : now.counts ≡ counts_of answers
-  pub stands : (text : Option Text) → StandsAt rem text (header_of start.name ∷ []) start.reader
-      → StandsAt rem text (header_of start.name ∷ (rows ++ (now.row ∷ []))) now.reader
+  pub counts : now.counts ≡ counts_of_answers answers
+  pub stands : (text : Option Text) → StandsAt rem text (batch_header start.name ∷ []) start.reader
+      → StandsAt rem text (batch_header start.name ∷ (rows ++ (now.row ∷ []))) now.reader
 
 count_push : (test : Answer → Bool) (all : List Answer) (answer : Answer) → count_by test (all ++ (answer ∷ [])) ≡ count_by test all + cond (test answer) 1 0
 count_push test all answer = fold-append (λ (n : ℕ) (x : Answer). n + cond (test x) 1 0) 0 all (answer ∷ [])
@@ -62,26 +62,26 @@ pub all_push : {A : Type 0} (P : A → Type 0) (xs : List A) (x : A) → AllByRe
 all_push P [] x h p = (p, tt)
 all_push P (y ∷ ys) x h p = (h.0, all_push P ys x h.1 p)
 
-pub counts_push : (all : List Answer) (answer : Answer) → counted (counts_of all) answer ≡ counts_of (all ++ (answer ∷ []))
-counts_push all answer = rw (count_push is_done all answer, count_push is_again all answer, count_push is_refused all answer) refl
+pub counts_push : (all : List Answer) (answer : Answer) → counts_with_answer (counts_of_answers all) answer ≡ counts_of_answers (all ++ (answer ∷ []))
+counts_push all answer = rw (count_push is_done_answer all answer, count_push is_repeated_answer all answer, count_push is_refused_answer all answer) refl
 
 -- the next line was written
-pub told_more : (old mid new : Option Text) (answers all : List Answer) (answer : Answer) (n : ℕ) → Appends old mid (lines_from 1 answers) → Appends mid new (answer_line n answer)
-    → n ≡ 1 + length answers → all ≡ answers ++ (answer ∷ []) → Appends old new (lines_from 1 all)
+pub told_more : (old mid new : Option Text) (answers all : List Answer) (answer : Answer) (n : ℕ) → Appends old mid (answer_lines_from 1 answers) → Appends mid new (answer_line n answer)
+    → n ≡ 1 + length answers → all ≡ answers ++ (answer ∷ []) → Appends old new (answer_lines_from 1 all)
 told_more old mid new answers all answer n wrote more place split = rw (split, lines_push 1 answers answer) (Appends-trans _ _ _ _ _ wrote (rw place at more))
 
 count_next : (test : Answer → Bool) (answer : Answer) (all : List Answer) → count_by test (answer ∷ all) ≡ cond (test answer) 1 0 + count_by test all
 count_next test answer all = sum_by-cons (λ (x : Answer). cond (test x) 1 0) answer all
 
 -- the three counts of the answers add up to their number
-pub counts_whole : (all : List Answer) → count_done all + count_again all + count_refused all ≡ length all
+pub counts_whole : (all : List Answer) → done_answer_count all + repeated_answer_count all + refused_answer_count all ≡ length all
 counts_whole [] = refl
 counts_whole (answer ∷ all) =
-    let ones : cond (is_done answer) 1 0 + cond (is_again answer) 1 0 + cond (is_refused answer) 1 0 ≡ 1 = one_word answer in
+    let ones : cond (is_done_answer answer) 1 0 + cond (is_repeated_answer answer) 1 0 + cond (is_refused_answer answer) 1 0 ≡ 1 = one_word answer in
     let more = counts_whole all in
-    omega (arith, count_next is_done answer all, count_next is_again answer all, count_next is_refused answer all)
+    omega (arith, count_next is_done_answer answer all, count_next is_repeated_answer answer all, count_next is_refused_answer answer all)
   where
-    one_word : (answer : Answer) → cond (is_done answer) 1 0 + cond (is_again answer) 1 0 + cond (is_refused answer) 1 0 ≡ 1
+    one_word : (answer : Answer) → cond (is_done_answer answer) 1 0 + cond (is_repeated_answer answer) 1 0 + cond (is_refused_answer answer) 1 0 ≡ 1
     one_word (Done reply) = refl
     one_word (Again line) = refl
     one_word (Refused refusal) = refl

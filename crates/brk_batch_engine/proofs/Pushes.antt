@@ -3,117 +3,117 @@ use Rattle.std.proofs.Common.{◌≡◌, ◌+◌, ◌++◌, ◌∷◌, [], ℕ, 
 use Rattle.std.specs.Prelude.{Bool, Ok, Err}
 use Rattle.std.proofs.lemmas.List.{append-nil, length-append, map-append}
 use Rattle.brk_money.specs.Spelling.{Text}
-use Rattle.brk_model.specs.Answers.{Fields, InTurn, RowCall, RowStep, call_step, calls_of, formed_from, with_formed, woven, woven_one}
+use Rattle.brk_model.specs.Answers.{Fields, CallsHaveAnswers, RowCall, RowStep, answer_to_row_call, calls_of_rows, well_formed_rows_from, with_well_formed_row, answers_interleaved_with_refusals, answers_from_row_on}
 use Rattle.brk_model.specs.Commands.{Answer, Refused}
-use Rattle.brk_model.specs.Forms.{Read}
-use Rattle.brk_model.specs.Lines.{answer_line, lines_from}
+use Rattle.brk_model.specs.Forms.{ReadResult}
+use Rattle.brk_model.specs.Lines.{answer_line, answer_lines_from}
 use Rattle.brk_model.specs.Records.{Key}
 use Rattle.brk_model.specs.Run.{Did}
-use Rattle.brk_batch_engine.specs.Answers.{AnsweredBy}
-use Rattle.brk_batch_engine.specs.Script.{MakesCall, RowCalls, recorded}
+use Rattle.brk_batch_engine.specs.Answers.{RowHasAnswer}
+use Rattle.brk_batch_engine.specs.Script.{RowCallRelation, RowCalls, recording_step}
 use Rattle.brk_io.proofs.Calls.{made_then}
-use Rattle.brk_io.specs.Calls.{AreMade}
-use Rattle.brk_io.specs.Moments.{Moments}
+use Rattle.brk_io.specs.Calls.{IsCallSequence}
+use Rattle.brk_io.specs.Moments.{ClockReturnsInOrder}
 
 pub moments_push : {C : Type 0} (gives : C → ℕ → C → Type 0) (old mid new : C) (ms : List ℕ) (m : ℕ)
-    → Moments gives old ms mid → gives mid m new → Moments gives old (ms ++ (m ∷ [])) new
+    → ClockReturnsInOrder gives old ms mid → gives mid m new → ClockReturnsInOrder gives old (ms ++ (m ∷ [])) new
 moments_push {C} gives old mid new [] m e h = let G : C → Type 0 = λ c. gives c m new in (new, subst G e h, refl)
 moments_push gives old mid new (x ∷ xs) m e h = (e.0, e.1, moments_push gives e.0 mid new xs m e.2 h)
 
 pub run_push : {S X : Type 0} (step : RowStep S X) (base mid after : S) (calls : List (RowCall X)) (answers : List Answer) (call : RowCall X) (answer : Answer)
-    → InTurn step base calls answers mid → call_step step mid call ≡ (answer, after) → InTurn step base (calls ++ (call ∷ [])) (answers ++ (answer ∷ [])) after
+    → CallsHaveAnswers step base calls answers mid → answer_to_row_call step mid call ≡ (answer, after) → CallsHaveAnswers step base (calls ++ (call ∷ [])) (answers ++ (answer ∷ [])) after
 run_push step base mid after [] [] call answer h e = rw (← h, e) (refl, refl)
 run_push step base mid after [] (a ∷ rs) call answer h e = absurd h
 run_push step base mid after (c ∷ cs) [] call answer h e = absurd h
-run_push step base mid after (c ∷ cs) (a ∷ rs) call answer h e = (h.0, run_push step (call_step step base c).1 mid after cs rs call answer h.1 e)
+run_push step base mid after (c ∷ cs) (a ∷ rs) call answer h e = (h.0, run_push step (answer_to_row_call step base c).1 mid after cs rs call answer h.1 e)
 
 pub calls_push : {X : Type 0} (batch : Text) (ms : List ℕ) (fs : List (ℕ × X)) (m : ℕ) (f : ℕ × X) → length ms ≡ length fs
-    → calls_of batch (ms ++ (m ∷ [])) (fs ++ (f ∷ [])) ≡ calls_of batch ms fs ++ (record { key = record { batch = batch; row = f.0 }; now = m; command = f.1 } ∷ [])
+    → calls_of_rows batch (ms ++ (m ∷ [])) (fs ++ (f ∷ [])) ≡ calls_of_rows batch ms fs ++ (record { key = record { batch = batch; row = f.0 }; now = m; command = f.1 } ∷ [])
 calls_push batch [] [] m f e = refl
 calls_push batch [] (g ∷ gs) m f e = absurd (omega arith)
 calls_push batch (x ∷ xs) [] m f e = absurd (omega arith)
 calls_push batch (x ∷ xs) (g ∷ gs) m f e = let more = calls_push batch xs gs m f (omega arith) in cc
 
-pub calls_length : {X : Type 0} (batch : Text) (ms : List ℕ) (fs : List (ℕ × X)) → length ms ≡ length fs → length (calls_of batch ms fs) ≡ length fs
+pub calls_length : {X : Type 0} (batch : Text) (ms : List ℕ) (fs : List (ℕ × X)) → length ms ≡ length fs → length (calls_of_rows batch ms fs) ≡ length fs
 calls_length batch [] [] e = refl
 calls_length batch [] (g ∷ gs) e = absurd (omega arith)
 calls_length batch (x ∷ xs) [] e = absurd (omega arith)
 calls_length batch (x ∷ xs) (g ∷ gs) e = let more = calls_length batch xs gs (omega arith) in omega arith
 
-formed_append : {X : Type 0} (o : Read X) (n : ℕ) (a b : List (ℕ × X)) → with_formed o n (a ++ b) ≡ with_formed o n a ++ b
+formed_append : {X : Type 0} (o : ReadResult X) (n : ℕ) (a b : List (ℕ × X)) → with_well_formed_row o n (a ++ b) ≡ with_well_formed_row o n a ++ b
 formed_append (Ok command) n a b = refl
 formed_append (Err refusal) n a b = refl
 
-pub formed_push : {X : Type 0} (form : Fields → Read X) (n : ℕ) (rows : List Fields) (row : Fields)
-    → formed_from form n (rows ++ (row ∷ [])) ≡ formed_from form n rows ++ with_formed (form row) (n + length rows) []
+pub formed_push : {X : Type 0} (form : Fields → ReadResult X) (n : ℕ) (rows : List Fields) (row : Fields)
+    → well_formed_rows_from form n (rows ++ (row ∷ [])) ≡ well_formed_rows_from form n rows ++ with_well_formed_row (form row) (n + length rows) []
 formed_push form n [] row = rw (add-zero n) refl
 formed_push form n (x ∷ xs) row =
     let place : (n + 1) + length xs ≡ n + length (x ∷ xs) = omega arith in
-    ap (with_formed (form x) n) (formed_push form (n + 1) xs row ∙ ap (λ (k : ℕ). formed_from form (n + 1) xs ++ with_formed (form row) k []) place)
-    ∙ formed_append (form x) n (formed_from form (n + 1) xs) (with_formed (form row) (n + length (x ∷ xs)) [])
+    ap (with_well_formed_row (form x) n) (formed_push form (n + 1) xs row ∙ ap (λ (k : ℕ). well_formed_rows_from form (n + 1) xs ++ with_well_formed_row (form row) k []) place)
+    ∙ formed_append (form x) n (well_formed_rows_from form (n + 1) xs) (with_well_formed_row (form row) (n + length (x ∷ xs)) [])
 
-woven_go : {X : Type 0} (o : Read X) (n : ℕ) (fs : List (ℕ × X)) (rs extra end : List Answer) (more longer : List Answer → List Answer)
-    → length rs ≡ length (with_formed o n fs) → ((bs : List Answer) → length bs ≡ length fs → longer (bs ++ extra) ≡ more bs ++ end)
-    → woven_one o longer (rs ++ extra) ≡ woven_one o more rs ++ end
+woven_go : {X : Type 0} (o : ReadResult X) (n : ℕ) (fs : List (ℕ × X)) (rs extra end : List Answer) (more longer : List Answer → List Answer)
+    → length rs ≡ length (with_well_formed_row o n fs) → ((bs : List Answer) → length bs ≡ length fs → longer (bs ++ extra) ≡ more bs ++ end)
+    → answers_from_row_on o longer (rs ++ extra) ≡ answers_from_row_on o more rs ++ end
 woven_go (Err k) n fs rs extra end more longer e h = ap (λ (l : List Answer). Refused k ∷ l) (h rs e)
 woven_go (Ok c) n fs [] extra end more longer e h = absurd (omega arith)
 woven_go (Ok c) n fs (a ∷ rs) extra end more longer e h = ap (λ (l : List Answer). a ∷ l) (h rs (omega arith))
 
-pub woven_push : {X : Type 0} (form : Fields → Read X) (n : ℕ) (rows : List Fields) (row : Fields) (rs extra : List Answer) → length rs ≡ length (formed_from form n rows)
-    → woven form (rows ++ (row ∷ [])) (rs ++ extra) ≡ woven form rows rs ++ woven_one (form row) (λ _. []) extra
+pub woven_push : {X : Type 0} (form : Fields → ReadResult X) (n : ℕ) (rows : List Fields) (row : Fields) (rs extra : List Answer) → length rs ≡ length (well_formed_rows_from form n rows)
+    → answers_interleaved_with_refusals form (rows ++ (row ∷ [])) (rs ++ extra) ≡ answers_interleaved_with_refusals form rows rs ++ answers_from_row_on (form row) (λ _. []) extra
 woven_push form n [] row [] extra e = refl
 woven_push form n [] row (a ∷ rs) extra e = absurd (omega arith)
 woven_push form n (x ∷ xs) row rs extra e =
-    woven_go (form x) n (formed_from form (n + 1) xs) rs extra (woven_one (form row) (λ _. []) extra) (woven form xs) (woven form (xs ++ (row ∷ []))) e
+    woven_go (form x) n (well_formed_rows_from form (n + 1) xs) rs extra (answers_from_row_on (form row) (λ _. []) extra) (answers_interleaved_with_refusals form xs) (answers_interleaved_with_refusals form (xs ++ (row ∷ []))) e
     (λ bs h. woven_push form (n + 1) xs row bs extra h)
 
-pub lines_push : (n : ℕ) (all : List Answer) (answer : Answer) → lines_from n (all ++ (answer ∷ [])) ≡ lines_from n all ++ answer_line (n + length all) answer
+pub lines_push : (n : ℕ) (all : List Answer) (answer : Answer) → answer_lines_from n (all ++ (answer ∷ [])) ≡ answer_lines_from n all ++ answer_line (n + length all) answer
 lines_push n [] answer = rw (add-zero n) (append-nil (answer_line n answer))
 lines_push n (x ∷ xs) answer =
     let place : (n + 1) + length xs ≡ n + length (x ∷ xs) = omega arith in
-    ap (λ (l : Text). answer_line n x ++ l) (lines_push (n + 1) xs answer ∙ ap (λ (k : ℕ). lines_from (n + 1) xs ++ answer_line k answer) place)
-    ∙ sym (append_assoc (answer_line n x) (lines_from (n + 1) xs) (answer_line (n + length (x ∷ xs)) answer))
+    ap (λ (l : Text). answer_line n x ++ l) (lines_push (n + 1) xs answer ∙ ap (λ (k : ℕ). answer_lines_from (n + 1) xs ++ answer_line k answer) place)
+    ∙ sym (append_assoc (answer_line n x) (answer_lines_from (n + 1) xs) (answer_line (n + length (x ∷ xs)) answer))
 
 -- what is known of a run of calls, from the desk that was first to this one
 abbrev pub Follows : {D S X : Type 0} → (D → Type 0) → (D → S → Type 0) → RowStep S X → D → D → List (RowCall X) → List Answer → Type 0
 Follows {S = S} honest stands step first desk calls replies =
-    honest desk → (base : S) → stands first base → (after : S) × stands desk after × InTurn step base calls replies after
+    honest desk → (base : S) → stands first base → (after : S) × stands desk after × CallsHaveAnswers step base calls replies after
 
 -- a call of a row, as one of a desk
 abbrev pub called_of : {X : Type 0} → RowCall X → ℕ × (X × Key)
 called_of call = (call.now, (call.command, call.key))
 
 -- the calls of rows, with one answer each
-abbrev pub AreCalled : {D X : Type 0} → MakesCall D X → D → List (RowCall X) → List Answer → D → Type 0
-AreCalled acts first calls replies last = AreMade acts first (map called_of calls) (map Did replies) last
+abbrev pub AreCalled : {D X : Type 0} → RowCallRelation D X → D → List (RowCall X) → List Answer → D → Type 0
+AreCalled acts first calls replies last = IsCallSequence acts first (map called_of calls) (map Did replies) last
 
 -- one call more was answered
-called_push : {D X : Type 0} (acts : MakesCall D X) (first mid last : D) (calls : List (RowCall X)) (replies : List Answer) (call : RowCall X) (answer : Answer)
+called_push : {D X : Type 0} (acts : RowCallRelation D X) (first mid last : D) (calls : List (RowCall X)) (replies : List Answer) (call : RowCall X) (answer : Answer)
     → AreCalled acts first calls replies mid → acts mid call.now (call.command, call.key) (Did answer) last → AreCalled acts first (calls ++ (call ∷ [])) (replies ++ (answer ∷ [])) last
 called_push acts first mid last calls replies call answer made acted =
     rw (map-append called_of calls (call ∷ []), map-append Did replies (answer ∷ []))
     (made_then acts first mid last (map called_of calls) (called_of call ∷ []) (map Did replies) (Did answer ∷ []) made (last, acted, refl))
 
 -- these rows took these clock readings and have these answers
-pub record Answered {D S X C : Type 0} (honest : D → Type 0) (stands : Bool → D → S → Type 0) (acts : MakesCall D X) (form : Fields → Read X) (step : RowStep S X) (gives : C → ℕ → C → Type 0)
+pub record Answered {D S X C : Type 0} (honest : D → Type 0) (stands : Bool → D → S → Type 0) (acts : RowCallRelation D X) (form : Fields → ReadResult X) (step : RowStep S X) (gives : C → ℕ → C → Type 0)
     (batch : Text) (first : D) (clock : C) (rows : List Fields) (answers : List Answer) (desk : D) (later : C) : Type 0 where
   pub moments : List ℕ
   pub replies : List Answer
-  pub taken : Moments gives clock moments later
-  pub one_each : length moments ≡ length (formed_from form 1 rows)
-  pub replied : length replies ≡ length (formed_from form 1 rows)
-  pub all : answers ≡ woven form rows replies
-  pub made : AreCalled acts first (calls_of batch moments (formed_from form 1 rows)) replies desk
-  pub follows : (sure : Bool) → Follows honest (stands sure) step first desk (calls_of batch moments (formed_from form 1 rows)) replies
+  pub taken : ClockReturnsInOrder gives clock moments later
+  pub one_each : length moments ≡ length (well_formed_rows_from form 1 rows)
+  pub replied : length replies ≡ length (well_formed_rows_from form 1 rows)
+  pub all : answers ≡ answers_interleaved_with_refusals form rows replies
+  pub made : AreCalled acts first (calls_of_rows batch moments (well_formed_rows_from form 1 rows)) replies desk
+  pub follows : (sure : Bool) → Follows honest (stands sure) step first desk (calls_of_rows batch moments (well_formed_rows_from form 1 rows)) replies
 
 -- one more row, answered as its form says
-pub answered_push : {D S X C : Type 0} (honest : D → Type 0) (stands : Bool → D → S → Type 0) (acts : MakesCall D X) (form : Fields → Read X) (step : RowStep S X) (gives : C → ℕ → C → Type 0)
+pub answered_push : {D S X C : Type 0} (honest : D → Type 0) (stands : Bool → D → S → Type 0) (acts : RowCallRelation D X) (form : Fields → ReadResult X) (step : RowStep S X) (gives : C → ℕ → C → Type 0)
     (batch : Text) (first mid desk : D) (clock c later : C) (rows : List Fields) (answers : List Answer) (row : Fields) (answer : Answer)
     → Answered honest stands acts form step gives batch first clock rows answers mid c → (honest desk → honest mid)
-    → (o : Read X) → form row ≡ o → AnsweredBy honest stands acts step gives o batch (1 + length rows) answer mid desk c later
+    → (o : ReadResult X) → form row ≡ o → RowHasAnswer honest stands acts step gives o batch (1 + length rows) answer mid desk c later
     → Answered honest stands acts form step gives batch first clock (rows ++ (row ∷ [])) (answers ++ (answer ∷ [])) desk later
 answered_push {X = X} honest stands acts form step gives batch first mid desk clock c later rows answers row answer h earlier (Err k) e a =
-    let formed = formed_push form 1 rows row ∙ ap (λ (o : Read X). formed_from form 1 rows ++ with_formed o (1 + length rows) []) e ∙ append-nil (formed_from form 1 rows) in
+    let formed = formed_push form 1 rows row ∙ ap (λ (o : ReadResult X). well_formed_rows_from form 1 rows ++ with_well_formed_row o (1 + length rows) []) e ∙ append-nil (well_formed_rows_from form 1 rows) in
     let wove = rw (append-nil h.replies, e) at (woven_push form 1 rows row h.replies [] h.replied) in
     record {
       moments = h.moments;
@@ -121,15 +121,15 @@ answered_push {X = X} honest stands acts form step gives batch first mid desk cl
       taken = rw a.2 h.taken;
       one_each = rw formed h.one_each;
       replied = rw formed h.replied;
-      all = ap (λ (l : List Answer). l ++ (answer ∷ [])) h.all ∙ ap (λ (t : Answer). woven form rows h.replies ++ (t ∷ [])) a.0 ∙ sym wove;
+      all = ap (λ (l : List Answer). l ++ (answer ∷ [])) h.all ∙ ap (λ (t : Answer). answers_interleaved_with_refusals form rows h.replies ++ (t ∷ [])) a.0 ∙ sym wove;
       made = rw (formed, a.1) h.made;
       follows = rw (formed, a.1) h.follows;
     }
 answered_push {S = S} {X = X} honest stands acts form step gives batch first mid desk clock c later rows answers row answer h earlier (Ok command) e a =
-    let formed = formed_push form 1 rows row ∙ ap (λ (o : Read X). formed_from form 1 rows ++ with_formed o (1 + length rows) []) e in
+    let formed = formed_push form 1 rows row ∙ ap (λ (o : ReadResult X). well_formed_rows_from form 1 rows ++ with_well_formed_row o (1 + length rows) []) e in
     let wove = rw e at (woven_push form 1 rows row h.replies (answer ∷ []) h.replied) in
-    let longer : length (formed_from form 1 (rows ++ (row ∷ []))) ≡ length (formed_from form 1 rows) + 1 =
-    ap length formed ∙ length-append (formed_from form 1 rows) ((1 + length rows, command) ∷ []) in
+    let longer : length (well_formed_rows_from form 1 (rows ++ (row ∷ []))) ≡ length (well_formed_rows_from form 1 rows) + 1 =
+    ap length formed ∙ length-append (well_formed_rows_from form 1 rows) ((1 + length rows, command) ∷ []) in
     record {
       moments = h.moments ++ (a.0 ∷ []);
       replies = h.replies ++ (answer ∷ []);
@@ -137,32 +137,32 @@ answered_push {S = S} {X = X} honest stands acts form step gives batch first mid
       one_each = length-append h.moments (a.0 ∷ []) ∙ ap (λ (n : ℕ). n + 1) h.one_each ∙ sym longer;
       replied = length-append h.replies (answer ∷ []) ∙ ap (λ (n : ℕ). n + 1) h.replied ∙ sym longer;
       all = ap (λ (l : List Answer). l ++ (answer ∷ [])) h.all ∙ sym wove;
-      made = rw (formed, calls_push batch h.moments (formed_from form 1 rows) a.0 (1 + length rows, command) h.one_each)
-          (called_push acts first mid desk (calls_of batch h.moments (formed_from form 1 rows)) h.replies _ answer h.made a.2);
+      made = rw (formed, calls_push batch h.moments (well_formed_rows_from form 1 rows) a.0 (1 + length rows, command) h.one_each)
+          (called_push acts first mid desk (calls_of_rows batch h.moments (well_formed_rows_from form 1 rows)) h.replies _ answer h.made a.2);
       follows = λ sure good base stood.
           let before = h.follows sure (earlier good) base stood in
           let now = a.3 sure good before.0 before.1 in (
             now.0,
             now.1,
-            rw (formed, calls_push batch h.moments (formed_from form 1 rows) a.0 (1 + length rows, command) h.one_each)
+            rw (formed, calls_push batch h.moments (well_formed_rows_from form 1 rows) a.0 (1 + length rows, command) h.one_each)
                 (run_push step base before.0 now.0 _ h.replies _ answer before.2 now.2),
           );
     }
 
 -- a desk that answers by a list of answers, one for each call, gives just these and records just those
 pub recorded_turns : {X : Type 0} (calls : List (RowCall X)) (answers : List Answer) (before : RowCalls X) → length answers ≡ length calls
-    → InTurn recorded (answers, before) calls answers ([], before ++ map called_of calls)
+    → CallsHaveAnswers recording_step (answers, before) calls answers ([], before ++ map called_of calls)
 recorded_turns {X} [] [] before e = ap (λ (l : RowCalls X). let both : List Answer × RowCalls X = ([], l) in both) (append-nil before)
 recorded_turns [] (a ∷ rs) before e = absurd (omega arith)
 recorded_turns (c ∷ cs) [] before e = absurd (omega arith)
 recorded_turns {X} (c ∷ cs) (a ∷ rs) before e = (
   refl,
-  subst (λ (l : RowCalls X). InTurn recorded (rs, before ++ (called_of c ∷ [])) cs rs ([], l)) (append_assoc before (called_of c ∷ []) (map called_of cs))
+  subst (λ (l : RowCalls X). CallsHaveAnswers recording_step (rs, before ++ (called_of c ∷ [])) cs rs ([], l)) (append_assoc before (called_of c ∷ []) (map called_of cs))
       (recorded_turns cs rs (before ++ (called_of c ∷ [])) (omega arith)),
 )
 
 -- the clock readings of the calls are those that they took
-pub calls_taken : {X : Type 0} (batch : Text) (ms : List ℕ) (fs : List (ℕ × X)) → length ms ≡ length fs → map (λ (c : ℕ × (X × Key)). c.0) (map called_of (calls_of batch ms fs)) ≡ ms
+pub calls_taken : {X : Type 0} (batch : Text) (ms : List ℕ) (fs : List (ℕ × X)) → length ms ≡ length fs → map (λ (c : ℕ × (X × Key)). c.0) (map called_of (calls_of_rows batch ms fs)) ≡ ms
 calls_taken batch [] [] e = refl
 calls_taken batch [] (g ∷ gs) e = absurd (omega arith)
 calls_taken batch (x ∷ xs) [] e = absurd (omega arith)

@@ -6,22 +6,22 @@ use Rattle.std.specs.List.{AllByRecursion}
 use Rattle.std.proofs.lemmas.List.{length-append, map-append}
 use Rattle.csv.specs.declared.reader.Reader.{Reader}
 use Rattle.brk_money.specs.Spelling.{Text}
-use Rattle.brk_model.specs.Answers.{Fields, InTurn, RowStep, calls_of, formed_from}
+use Rattle.brk_model.specs.Answers.{Fields, CallsHaveAnswers, RowStep, calls_of_rows, well_formed_rows_from}
 use Rattle.brk_model.specs.Commands.{Answer}
-use Rattle.brk_model.specs.Forms.{Read}
-use Rattle.brk_model.specs.Input.{IsEnd, IsName, header_of}
+use Rattle.brk_model.specs.Forms.{ReadResult}
+use Rattle.brk_model.specs.Input.{IsEndRecord, IsBatchName, batch_header}
 use Rattle.brk_money.specs.declared.fault.Fault.{Fault}
-use Rattle.brk_model.specs.Lines.{lines_from}
+use Rattle.brk_model.specs.Lines.{answer_lines_from}
 use Rattle.brk_model.specs.Records.{Key}
-use Rattle.brk_model.specs.Run.{Did, Failed, MayFail, Outcome}
-use Rattle.brk_batch_engine.specs.Answers.{AnsweredBy, FailedBy, Keeps, RepresentsDurably}
-use Rattle.brk_batch_engine.specs.Batch.{BatchGives, BatchPost, LeavesAt, OnlyMemory, TellsCalls}
-use Rattle.brk_batch_engine.specs.Script.{MakesCall, RowCalls, recorded}
+use Rattle.brk_model.specs.Run.{Did, Failed, IsCallFault, Outcome}
+use Rattle.brk_batch_engine.specs.Answers.{RowHasAnswer, RowFailsWith, PreservesRepresentedBases, RepresentsDurably}
+use Rattle.brk_batch_engine.specs.Batch.{IsBatchResult, BatchPost, BoundsBatchCrashStates, DeskFaultIsMemory, ChangesOnlyByRowCalls}
+use Rattle.brk_batch_engine.specs.Script.{RowCallRelation, RowCalls, recording_step}
 use Rattle.brk_io.proofs.Calls.{made_then}
-use Rattle.brk_io.specs.Moments.{Moments}
+use Rattle.brk_io.specs.Moments.{ClockReturnsInOrder}
 use Rattle.brk_io.specs.declared.batch_fault.FaultKind.TheVariants as kinds
-use Rattle.brk_io.specs.Span.{Outside, Span, with_base}
-use Rattle.brk_batch_engine.specs.Counts.{counted, counts_of}
+use Rattle.brk_io.specs.Span.{ClockAndWriterChange, EnvironmentChange, change_with_bases}
+use Rattle.brk_batch_engine.specs.Counts.{counts_with_answer, counts_of_answers}
 use Rattle.brk_io.specs.declared.batch_fault.BatchFault.{BatchFault}
 use Rattle.brk_batch_engine.specs.declared.counts.Counts.{Counts}
 use Rattle.brk_batch_engine.proofs.Progress.{At, Progress, Start, StandsAt, all_push, counts_push}
@@ -44,22 +44,22 @@ pub record Place (C R : Type 0) : Type 0 where
   pub reader : Reader R
 
 -- the rows up to here were answered, from the desk that was first to this one
-pub record Reached {D S X C R : Type 0} (honest : D → Type 0) (stands : Bool → D → S → Type 0) (acts : MakesCall D X) (form : Fields → Read X) (step : RowStep S X) (gives : C → ℕ → C → Type 0)
+pub record Reached {D S X C R : Type 0} (honest : D → Type 0) (stands : Bool → D → S → Type 0) (acts : RowCallRelation D X) (form : Fields → ReadResult X) (step : RowStep S X) (gives : C → ℕ → C → Type 0)
     (rem : R → Option Text) (first : D) (head : Head C R) (desk : D) (place : Place C R) : Type 0 where
   pub rows : List Fields
   pub answers : List Answer
-  pub named : IsName head.name
-  pub rows_only : AllByRecursion (λ row. ¬ (IsEnd row)) rows
+  pub named : IsBatchName head.name
+  pub rows_only : AllByRecursion (λ row. ¬ (IsEndRecord row)) rows
   pub answered : Answered honest stands acts form step gives head.name first head.clock rows answers desk place.later
   pub each : length answers ≡ length rows
   pub size : length rows ≡ place.settled
-  pub counts : place.counts ≡ counts_of answers
-  pub read : (text : Option Text) → StandsAt rem text (header_of head.name ∷ []) head.reader
-      → StandsAt rem text (header_of head.name ∷ (rows ++ (place.row ∷ []))) place.reader
+  pub counts : place.counts ≡ counts_of_answers answers
+  pub read : (text : Option Text) → StandsAt rem text (batch_header head.name ∷ []) head.reader
+      → StandsAt rem text (batch_header head.name ∷ (rows ++ (place.row ∷ []))) place.reader
 
 -- before the first row
-pub reached_start : {D S X C R : Type 0} (honest : D → Type 0) (stands : Bool → D → S → Type 0) (acts : MakesCall D X) (form : Fields → Read X) (step : RowStep S X) (gives : C → ℕ → C → Type 0)
-    (rem : R → Option Text) (first : D) (head : Head C R) (row : Fields) (reader : Reader R) → IsName head.name
+pub reached_start : {D S X C R : Type 0} (honest : D → Type 0) (stands : Bool → D → S → Type 0) (acts : RowCallRelation D X) (form : Fields → ReadResult X) (step : RowStep S X) (gives : C → ℕ → C → Type 0)
+    (rem : R → Option Text) (first : D) (head : Head C R) (row : Fields) (reader : Reader R) → IsBatchName head.name
     → ((text : Option Text) (before : List Fields) → StandsAt rem text before head.reader → StandsAt rem text (before ++ (row ∷ [])) reader)
     → (r : Reached honest stands acts form step gives rem first head first
     (record { settled = 0; counts = record { ok = 0; again = 0; no = 0 }; row = row; later = head.clock; reader = reader })) × (r.answers ≡ [])
@@ -91,10 +91,10 @@ abbrev pub next_place : {C R : Type 0} → Place C R → Counts → Fields → C
 next_place place counts row later reader = record { settled = place.settled + 1; counts = counts; row = row; later = later; reader = reader }
 
 -- one row more was answered, after the record after it had been read
-pub reached_more : {D S X C R : Type 0} (honest : D → Type 0) (stands : Bool → D → S → Type 0) (acts : MakesCall D X) (form : Fields → Read X) (step : RowStep S X) (gives : C → ℕ → C → Type 0)
+pub reached_more : {D S X C R : Type 0} (honest : D → Type 0) (stands : Bool → D → S → Type 0) (acts : RowCallRelation D X) (form : Fields → ReadResult X) (step : RowStep S X) (gives : C → ℕ → C → Type 0)
     (rem : R → Option Text) (first : D) (head : Head C R) (mid : D) (place : Place C R) (answer : Answer) (counts : Counts) (row : Fields) (desk : D) (later : C) (reader : Reader R)
-    → (r : Reached honest stands acts form step gives rem first head mid place) → ¬ (IsEnd place.row) → counts ≡ counted place.counts answer → (honest desk → honest mid)
-    → AnsweredBy honest stands acts step gives (form place.row) head.name (place.settled + 1) answer mid desk place.later later
+    → (r : Reached honest stands acts form step gives rem first head mid place) → ¬ (IsEndRecord place.row) → counts ≡ counts_with_answer place.counts answer → (honest desk → honest mid)
+    → RowHasAnswer honest stands acts step gives (form place.row) head.name (place.settled + 1) answer mid desk place.later later
     → ((text : Option Text) (before : List Fields) → StandsAt rem text before place.reader → StandsAt rem text (before ++ (row ∷ [])) reader)
     → (q : Reached honest stands acts form step gives rem first head desk (next_place place counts row later reader)) × (q.answers ≡ r.answers ++ (answer ∷ []))
 reached_more honest stands acts form step gives rem first head mid place answer counts row desk later reader r other more earlier given found =
@@ -103,12 +103,12 @@ reached_more honest stands acts form step gives rem first head mid place answer 
         rows = r.rows ++ (place.row ∷ []);
         answers = r.answers ++ (answer ∷ []);
         named = r.named;
-        rows_only = all_push (λ (x : Fields). ¬ (IsEnd x)) r.rows place.row r.rows_only other;
+        rows_only = all_push (λ (x : Fields). ¬ (IsEndRecord x)) r.rows place.row r.rows_only other;
         answered = answered_push honest stands acts form step gives head.name first mid desk head.clock place.later later r.rows r.answers place.row answer r.answered earlier
             (form place.row) refl (rw number at given);
         each = length-append r.answers (answer ∷ []) ∙ ap (λ (n : ℕ). n + 1) r.each ∙ sym (length-append r.rows (place.row ∷ []));
         size = length-append r.rows (place.row ∷ []) ∙ ap (λ (n : ℕ). n + 1) r.size;
-        counts = more ∙ ap (λ (c : Counts). counted c answer) r.counts ∙ counts_push r.answers answer;
+        counts = more ∙ ap (λ (c : Counts). counts_with_answer c answer) r.counts ∙ counts_push r.answers answer;
         read = λ text h. found text _ (r.read text h);
       },
       refl,
@@ -121,9 +121,9 @@ abbrev pub at_of : {S C R : Type 0} → Place C R → S → At S C R
 at_of place after = record { settled = place.settled; counts = place.counts; row = place.row; after = after; later = place.later; reader = place.reader }
 
 -- the progress of a batch by some steps, over some base
-abbrev pub progress_of : {D S T X C R : Type 0} (honest : D → Type 0) (stands : Bool → D → S → Type 0) (acts : MakesCall D X) (form : Fields → Read X) (step : RowStep S X) (gives : C → ℕ → C → Type 0)
+abbrev pub progress_of : {D S T X C R : Type 0} (honest : D → Type 0) (stands : Bool → D → S → Type 0) (acts : RowCallRelation D X) (form : Fields → ReadResult X) (step : RowStep S X) (gives : C → ℕ → C → Type 0)
     (rem : R → Option Text) (first : D) (head : Head C R) (desk : D) (place : Place C R) (r : Reached honest stands acts form step gives rem first head desk place)
-    (other : RowStep T X) (base after : T) → InTurn other base (calls_of head.name r.answered.moments (formed_from form 1 r.rows)) r.answered.replies after
+    (other : RowStep T X) (base after : T) → CallsHaveAnswers other base (calls_of_rows head.name r.answered.moments (well_formed_rows_from form 1 r.rows)) r.answered.replies after
     → Progress form other gives rem (start_of head base) (at_of place after)
 progress_of honest stands acts form step gives rem first head desk place r other base after turns = record {
   rows = r.rows;
@@ -142,61 +142,61 @@ progress_of honest stands acts form step gives rem first head desk place r other
 }
 
 -- a crash exposes only the base after the batch
-pub alone_at : {D S X C : Type 0} (form : Fields → Read X) (step : RowStep S X) (gives : C → ℕ → C → Type 0) (leaves : D → S → S → Type 0) (text : Option Text) (span : Span S C) (last : D)
-    (result : Result Counts BatchFault) → leaves last span.after span.after → LeavesAt form step gives leaves text span last result
+pub alone_at : {D S X C : Type 0} (form : Fields → ReadResult X) (step : RowStep S X) (gives : C → ℕ → C → Type 0) (leaves : D → S → S → Type 0) (text : Option Text) (span : EnvironmentChange S C) (last : D)
+    (result : Result Counts BatchFault) → leaves last span.after span.after → BoundsBatchCrashStates form step gives leaves text span last result
 alone_at form step gives leaves text span last (Ok counts) alone = alone
 alone_at form step gives leaves text span last (Err fault) alone = inl alone
 
 -- if each call was answered, the script has the calls and their answers
-pub tells_all : {D S X C R : Type 0} (honest : D → Type 0) (stands : Bool → D → S → Type 0) (acts : MakesCall D X) (form : Fields → Read X) (step : RowStep S X) (gives : C → ℕ → C → Type 0)
+pub tells_all : {D S X C R : Type 0} (honest : D → Type 0) (stands : Bool → D → S → Type 0) (acts : RowCallRelation D X) (form : Fields → ReadResult X) (step : RowStep S X) (gives : C → ℕ → C → Type 0)
     (rem : R → Option Text) (first : D) (head : Head C R) (desk : D) (place : Place C R) (r : Reached honest stands acts form step gives rem first head desk place)
-    (text : Option Text) (was now : Option Text) (result : Result Counts BatchFault) → IfErr result (λ fault. OnlyMemory fault.kind)
-    → ((T : Type 0) (other : RowStep T X) (base after : T) → InTurn other base (calls_of head.name r.answered.moments (formed_from form 1 r.rows)) r.answered.replies after
-    → BatchGives form other gives text (record { base = base; after = after; clock = head.clock; later = place.later; old = was; new = now }) result)
-    → TellsCalls acts form gives text first desk (record { clock = head.clock; later = place.later; old = was; new = now }) result
+    (text : Option Text) (was now : Option Text) (result : Result Counts BatchFault) → IfErr result (λ fault. DeskFaultIsMemory fault.kind)
+    → ((T : Type 0) (other : RowStep T X) (base after : T) → CallsHaveAnswers other base (calls_of_rows head.name r.answered.moments (well_formed_rows_from form 1 r.rows)) r.answered.replies after
+    → IsBatchResult form other gives text (record { base = base; after = after; clock = head.clock; later = place.later; old = was; new = now }) result)
+    → ChangesOnlyByRowCalls acts form gives text first desk (record { clock = head.clock; later = place.later; old = was; new = now }) result
 tells_all {X = X} honest stands acts form step gives rem first head desk place r text was now result memory so =
-    let calls = calls_of head.name r.answered.moments (formed_from form 1 r.rows) in
-    let each : length r.answered.replies ≡ length calls = r.answered.replied ∙ sym (calls_length head.name r.answered.moments (formed_from form 1 r.rows) r.answered.one_each) in (
+    let calls = calls_of_rows head.name r.answered.moments (well_formed_rows_from form 1 r.rows) in
+    let each : length r.answered.replies ≡ length calls = r.answered.replied ∙ sym (calls_length head.name r.answered.moments (well_formed_rows_from form 1 r.rows) r.answered.one_each) in (
       (map called_of calls, map Did r.answered.replies),
       r.answered.made,
       (
-        subst (λ (ms : List ℕ). Moments gives head.clock ms place.later) (sym (calls_taken head.name r.answered.moments (formed_from form 1 r.rows) r.answered.one_each)) r.answered.taken,
+        subst (λ (ms : List ℕ). ClockReturnsInOrder gives head.clock ms place.later) (sym (calls_taken head.name r.answered.moments (well_formed_rows_from form 1 r.rows) r.answered.one_each)) r.answered.taken,
         inl (
           r.answered.replies,
           refl,
-          so (List Answer × RowCalls X) recorded (r.answered.replies, []) ([], map called_of calls) (recorded_turns calls r.answered.replies [] each),
+          so (List Answer × RowCalls X) recording_step (r.answered.replies, []) ([], map called_of calls) (recorded_turns calls r.answered.replies [] each),
           memory,
         ),
       ),
     )
 
 -- the script has also a call that failed
-pub tells_failed : {D S X C R : Type 0} (honest : D → Type 0) (stands : Bool → D → S → Type 0) (acts : MakesCall D X) (form : Fields → Read X) (step : RowStep S X) (gives : C → ℕ → C → Type 0)
+pub tells_failed : {D S X C R : Type 0} (honest : D → Type 0) (stands : Bool → D → S → Type 0) (acts : RowCallRelation D X) (form : Fields → ReadResult X) (step : RowStep S X) (gives : C → ℕ → C → Type 0)
     (rem : R → Option Text) (first : D) (head : Head C R) (desk : D) (place : Place C R) (r : Reached honest stands acts form step gives rem first head desk place)
     (text : Option Text) (new : Option Text) (later : C) (last : D) (next : Fields) (reader : Reader R) (f : Fault) (moment : ℕ) (command : X)
     → form place.row ≡ Ok command → gives place.later moment later → acts desk moment (command, record { batch = head.name; row = place.settled + 1 }) (Failed f) last
-    → MayFail f → Appends head.old new (lines_from 1 r.answers)
+    → IsCallFault f → Appends head.old new (answer_lines_from 1 r.answers)
     → ((text : Option Text) (before : List Fields) → StandsAt rem text before place.reader → StandsAt rem text (before ++ (next ∷ [])) reader)
-    → StandsAt rem text (header_of head.name ∷ []) head.reader
-    → TellsCalls acts form gives text first last (record { clock = head.clock; later = later; old = head.old; new = new }) (Err (record { rows = place.settled; kind = kinds.Desk f }))
+    → StandsAt rem text (batch_header head.name ∷ []) head.reader
+    → ChangesOnlyByRowCalls acts form gives text first last (record { clock = head.clock; later = later; old = head.old; new = new }) (Err (record { rows = place.settled; kind = kinds.Desk f }))
 tells_failed {D = D} {X = X} honest stands acts form step gives rem first head desk place r text new later last next reader f moment command formed given acted may wrote found h =
-    let calls = calls_of head.name r.answered.moments (formed_from form 1 r.rows) in
-    let each : length r.answered.replies ≡ length calls = r.answered.replied ∙ sym (calls_length head.name r.answered.moments (formed_from form 1 r.rows) r.answered.one_each) in
+    let calls = calls_of_rows head.name r.answered.moments (well_formed_rows_from form 1 r.rows) in
+    let each : length r.answered.replies ≡ length calls = r.answered.replied ∙ sym (calls_length head.name r.answered.moments (well_formed_rows_from form 1 r.rows) r.answered.one_each) in
     let under : ℕ × (X × Key) = (moment, (command, record { batch = head.name; row = place.settled + 1 })) in
-    let taken : Moments gives head.clock (r.answered.moments ++ (moment ∷ [])) later = moments_push gives head.clock place.later later r.answered.moments moment r.answered.taken given in
+    let taken : ClockReturnsInOrder gives head.clock (r.answered.moments ++ (moment ∷ [])) later = moments_push gives head.clock place.later later r.answered.moments moment r.answered.taken given in
     let are : map (λ (c : ℕ × (X × Key)). c.0) (map called_of calls ++ (under ∷ [])) ≡ r.answered.moments ++ (moment ∷ []) =
     map-append (λ (c : ℕ × (X × Key)). c.0) (map called_of calls) (under ∷ [])
-    ∙ ap (λ (ms : List ℕ). ms ++ (moment ∷ [])) (calls_taken head.name r.answered.moments (formed_from form 1 r.rows) r.answered.one_each) in
-    let turns : InTurn recorded (r.answered.replies, []) calls r.answered.replies ([], map called_of calls) = recorded_turns calls r.answered.replies [] each in (
+    ∙ ap (λ (ms : List ℕ). ms ++ (moment ∷ [])) (calls_taken head.name r.answered.moments (well_formed_rows_from form 1 r.rows) r.answered.one_each) in
+    let turns : CallsHaveAnswers recording_step (r.answered.replies, []) calls r.answered.replies ([], map called_of calls) = recorded_turns calls r.answered.replies [] each in (
       (map called_of calls ++ (under ∷ []), map Did r.answered.replies ++ (Failed f ∷ [])),
       made_then acts first desk last (map called_of calls) (under ∷ []) (map Did r.answered.replies) (Failed f ∷ []) r.answered.made (last, acted, refl),
       (
-        subst (λ (ms : List ℕ). Moments gives head.clock ms later) (sym are) taken,
+        subst (λ (ms : List ℕ). ClockReturnsInOrder gives head.clock ms later) (sym are) taken,
         inr (
           r.answered.replies,
           map called_of calls,
-          failed_row form recorded gives rem (start_of head (r.answered.replies, [])) (at_of place ([], map called_of calls)) later new text
-              (progress_of honest stands acts form step gives rem first head desk place r recorded (r.answered.replies, []) ([], map called_of calls) turns) next reader f moment command
+          failed_row form recording_step gives rem (start_of head (r.answered.replies, [])) (at_of place ([], map called_of calls)) later new text
+              (progress_of honest stands acts form step gives rem first head desk place r recording_step (r.answered.replies, []) ([], map called_of calls) turns) next reader f moment command
               formed given may wrote found h,
           refl,
           refl,
@@ -205,32 +205,32 @@ tells_failed {D = D} {X = X} honest stands acts form step gives rem first head d
     )
 
 -- whatever failed, the script has the calls
-pub tells_fault : {D S X C R : Type 0} (honest : D → Type 0) (stands : D → S → Type 0) (leaves : D → S → S → Type 0) (acts : MakesCall D X) (form : Fields → Read X) (step : RowStep S X)
+pub tells_fault : {D S X C R : Type 0} (honest : D → Type 0) (stands : D → S → Type 0) (leaves : D → S → S → Type 0) (acts : RowCallRelation D X) (form : Fields → ReadResult X) (step : RowStep S X)
     (gives : C → ℕ → C → Type 0) (rem : R → Option Text) (first : D) (head : Head C R) (desk : D) (place : Place C R)
     (r : Reached honest (RepresentsDurably stands leaves) acts form step gives rem first head desk place)
     (text : Option Text) (new : Option Text) (later : C) (last : D) (next : Fields) (reader : Reader R) (f : Fault)
-    → FailedBy honest stands leaves acts step gives (form place.row) head.name (place.settled + 1) f desk last place.later later
-    → MayFail f → Appends head.old new (lines_from 1 r.answers)
+    → RowFailsWith honest stands leaves acts step gives (form place.row) head.name (place.settled + 1) f desk last place.later later
+    → IsCallFault f → Appends head.old new (answer_lines_from 1 r.answers)
     → ((text : Option Text) (before : List Fields) → StandsAt rem text before place.reader → StandsAt rem text (before ++ (next ∷ [])) reader)
-    → StandsAt rem text (header_of head.name ∷ []) head.reader
-    → ((T : Type 0) (other : RowStep T X) (base after : T) → InTurn other base (calls_of head.name r.answered.moments (formed_from form 1 r.rows)) r.answered.replies after
-    → BatchGives form other gives text (record { base = base; after = after; clock = head.clock; later = later; old = head.old; new = new }) (Err (record { rows = place.settled; kind = kinds.Desk f })))
-    → TellsCalls acts form gives text first last (record { clock = head.clock; later = later; old = head.old; new = new }) (Err (record { rows = place.settled; kind = kinds.Desk f }))
+    → StandsAt rem text (batch_header head.name ∷ []) head.reader
+    → ((T : Type 0) (other : RowStep T X) (base after : T) → CallsHaveAnswers other base (calls_of_rows head.name r.answered.moments (well_formed_rows_from form 1 r.rows)) r.answered.replies after
+    → IsBatchResult form other gives text (record { base = base; after = after; clock = head.clock; later = later; old = head.old; new = new }) (Err (record { rows = place.settled; kind = kinds.Desk f })))
+    → ChangesOnlyByRowCalls acts form gives text first last (record { clock = head.clock; later = later; old = head.old; new = new }) (Err (record { rows = place.settled; kind = kinds.Desk f }))
 tells_fault honest stands leaves acts form step gives rem first head desk place r text new later last next reader f (inl same) may wrote found h so =
     rw (same.0, same.1) (tells_all honest (RepresentsDurably stands leaves) acts form step gives rem first head desk place r text head.old new (Err (record { rows = place.settled; kind = kinds.Desk f })) same.2 (rw same.1 at so))
 tells_fault honest stands leaves acts form step gives rem first head desk place r text new later last next reader f (inr way) may wrote found h so =
     tells_failed honest (RepresentsDurably stands leaves) acts form step gives rem first head desk place r text new later last next reader f way.0 way.1 way.2 way.3 way.4 may wrote found h
 
 -- what holds by all steps, over all bases that they lead from and to, is the postcondition of the batch
-pub comes : {D S X C R : Type 0} (honest : D → Type 0) (stands : D → S → Type 0) (leaves : D → S → S → Type 0) (acts : MakesCall D X) (form : Fields → Read X) (step : RowStep S X)
+pub comes : {D S X C R : Type 0} (honest : D → Type 0) (stands : D → S → Type 0) (leaves : D → S → S → Type 0) (acts : RowCallRelation D X) (form : Fields → ReadResult X) (step : RowStep S X)
     (gives : C → ℕ → C → Type 0) (rem : R → Option Text) (first : D) (head : Head C R) (desk : D) (place : Place C R)
     (r : Reached honest (RepresentsDurably stands leaves) acts form step gives rem first head desk place)
-    (last : D) (text : Option Text) (outside : Outside C) (result : Result Counts BatchFault) → (honest last → honest desk) → Keeps honest stands desk last
-    → ((T : Type 0) (other : RowStep T X) (base after : T) → InTurn other base (calls_of head.name r.answered.moments (formed_from form 1 r.rows)) r.answered.replies after
-    → BatchGives form other gives text (with_base base after outside) result)
-    → TellsCalls acts form gives text first last outside result
-    → (honest last → (base after : S) → InTurn step base (calls_of head.name r.answered.moments (formed_from form 1 r.rows)) r.answered.replies after → stands desk after → leaves desk after after
-    → LeavesAt form step gives leaves text (with_base base after outside) last result)
+    (last : D) (text : Option Text) (outside : ClockAndWriterChange C) (result : Result Counts BatchFault) → (honest last → honest desk) → PreservesRepresentedBases honest stands desk last
+    → ((T : Type 0) (other : RowStep T X) (base after : T) → CallsHaveAnswers other base (calls_of_rows head.name r.answered.moments (well_formed_rows_from form 1 r.rows)) r.answered.replies after
+    → IsBatchResult form other gives text (change_with_bases base after outside) result)
+    → ChangesOnlyByRowCalls acts form gives text first last outside result
+    → (honest last → (base after : S) → CallsHaveAnswers step base (calls_of_rows head.name r.answered.moments (well_formed_rows_from form 1 r.rows)) r.answered.replies after → stands desk after → leaves desk after after
+    → BoundsBatchCrashStates form step gives leaves text (change_with_bases base after outside) last result)
     → BatchPost honest stands leaves acts form step gives text first last outside result
 comes {S = S} honest stands leaves acts form step gives rem first head desk place r last text outside result earlier keeps so told stops = record {
   told = told;
@@ -243,12 +243,12 @@ comes {S = S} honest stands leaves acts form step gives rem first head desk plac
 }
 
 -- the postcondition, if each call was answered
-pub comes_answered : {D S X C R : Type 0} (honest : D → Type 0) (stands : D → S → Type 0) (leaves : D → S → S → Type 0) (acts : MakesCall D X) (form : Fields → Read X) (step : RowStep S X)
+pub comes_answered : {D S X C R : Type 0} (honest : D → Type 0) (stands : D → S → Type 0) (leaves : D → S → S → Type 0) (acts : RowCallRelation D X) (form : Fields → ReadResult X) (step : RowStep S X)
     (gives : C → ℕ → C → Type 0) (rem : R → Option Text) (first : D) (head : Head C R) (desk : D) (place : Place C R)
     (r : Reached honest (RepresentsDurably stands leaves) acts form step gives rem first head desk place)
-    (text : Option Text) (was now : Option Text) (result : Result Counts BatchFault) → IfErr result (λ fault. OnlyMemory fault.kind)
-    → ((T : Type 0) (other : RowStep T X) (base after : T) → InTurn other base (calls_of head.name r.answered.moments (formed_from form 1 r.rows)) r.answered.replies after
-    → BatchGives form other gives text (record { base = base; after = after; clock = head.clock; later = place.later; old = was; new = now }) result)
+    (text : Option Text) (was now : Option Text) (result : Result Counts BatchFault) → IfErr result (λ fault. DeskFaultIsMemory fault.kind)
+    → ((T : Type 0) (other : RowStep T X) (base after : T) → CallsHaveAnswers other base (calls_of_rows head.name r.answered.moments (well_formed_rows_from form 1 r.rows)) r.answered.replies after
+    → IsBatchResult form other gives text (record { base = base; after = after; clock = head.clock; later = place.later; old = was; new = now }) result)
     → BatchPost honest stands leaves acts form step gives text first desk (record { clock = head.clock; later = place.later; old = was; new = now }) result
 comes_answered honest stands leaves acts form step gives rem first head desk place r text was now result memory so =
     comes honest stands leaves acts form step gives rem first head desk place r desk text (record { clock = head.clock; later = place.later; old = was; new = now }) result
@@ -257,12 +257,12 @@ comes_answered honest stands leaves acts form step gives rem first head desk pla
     alone_at form step gives leaves text (record { base = base; after = after; clock = head.clock; later = place.later; old = was; new = now }) desk result alone)
 
 -- the postcondition, if the desk was not called
-pub comes_at_once : {D S X C : Type 0} (honest : D → Type 0) (stands : D → S → Type 0) (leaves : D → S → S → Type 0) (acts : MakesCall D X) (form : Fields → Read X) (step : RowStep S X)
-    (gives : C → ℕ → C → Type 0) (desk : D) (text : Option Text) (clock : C) (was now : Option Text) (result : Result Counts BatchFault) → IfErr result (λ fault. OnlyMemory fault.kind)
-    → ((T : Type 0) (other : RowStep T X) (base : T) → BatchGives form other gives text (record { base = base; after = base; clock = clock; later = clock; old = was; new = now }) result)
+pub comes_at_once : {D S X C : Type 0} (honest : D → Type 0) (stands : D → S → Type 0) (leaves : D → S → S → Type 0) (acts : RowCallRelation D X) (form : Fields → ReadResult X) (step : RowStep S X)
+    (gives : C → ℕ → C → Type 0) (desk : D) (text : Option Text) (clock : C) (was now : Option Text) (result : Result Counts BatchFault) → IfErr result (λ fault. DeskFaultIsMemory fault.kind)
+    → ((T : Type 0) (other : RowStep T X) (base : T) → IsBatchResult form other gives text (record { base = base; after = base; clock = clock; later = clock; old = was; new = now }) result)
     → BatchPost honest stands leaves acts form step gives text desk desk (record { clock = clock; later = clock; old = was; new = now }) result
 comes_at_once {S = S} {X = X} honest stands leaves acts form step gives desk text clock was now result memory so = record {
-  told = (([], []), refl, (refl, inl ([], refl, so (List Answer × RowCalls X) recorded ([], []), memory)));
+  told = (([], []), refl, (refl, inl ([], refl, so (List Answer × RowCalls X) recording_step ([], []), memory)));
   kept = λ good base stood. (base, stood, so S step base);
   left = λ good base stood alone.
       (base, stood, so S step base, alone_at form step gives leaves text (record { base = base; after = base; clock = clock; later = clock; old = was; new = now }) desk result alone);

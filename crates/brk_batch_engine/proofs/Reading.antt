@@ -9,12 +9,12 @@ use Rattle.csv.specs.declared.parser.State.TheVariants as st
 use Rattle.csv.proofs.ReadFacts.{rows-end, rows-more}
 use Rattle.brk_model.specs.Answers.{Fields}
 use Rattle.brk_batch_engine.proofs.Turns.{reached_all, reached_begin}
-use Rattle.brk_model.specs.Input.{AreAll, Begins, header_of, most_bytes, text_of}
-use Rattle.brk_batch_engine.specs.Reading.{Stands}
+use Rattle.brk_model.specs.Input.{HasExactlyRecords, BeginsWithRecords, batch_header, most_input_bytes, input_text}
+use Rattle.brk_batch_engine.specs.Reading.{ReaderIsAfterRecords}
 
 -- a reader that has read nothing stands at the start
-pub stands_start : (known src : Option (List ℕ)) (n : ℕ) (s : State) → n ≡ most_bytes → s ≡ st.StartRecord
-    → src ≡ option_map strip_bom (option_map (take n) known) → Stands (option_map text_of known) [] s src
+pub stands_start : (known src : Option (List ℕ)) (n : ℕ) (s : State) → n ≡ most_input_bytes → s ≡ st.StartRecord
+    → src ≡ option_map strip_bom (option_map (take n) known) → ReaderIsAfterRecords (option_map input_text known) [] s src
 unfolding Reached
 stands_start None src n s en es e = tt
 stands_start (Some xs) src n s en es e = rw (e, en, es) (refl, refl)
@@ -22,7 +22,7 @@ stands_start (Some xs) src n s en es e = rw (e, en, es) (refl, refl)
 -- a record that was read stands after those before it
 pub stands_more : {R : Type 0} (rem : R → Option (List ℕ)) (a b : Reader R) (f : Fields) (text : Option (List ℕ)) (before : List Fields)
     → a.config ≡ default_config → ReadRecord rem a b true f
-    → (src : Option (List ℕ)) → source_of rem a ≡ src → Stands text before a.state src → Stands text (before ++ (f ∷ [])) b.state (source_of rem b)
+    → (src : Option (List ℕ)) → source_of rem a ≡ src → ReaderIsAfterRecords text before a.state src → ReaderIsAfterRecords text (before ++ (f ∷ [])) b.state (source_of rem b)
 stands_more rem a b f None before ec r src e h = tt
 stands_more rem a b f (Some t) before ec r None e h = absurd h
 stands_more rem a b f (Some t) before ec r (Some y) e h =
@@ -32,14 +32,14 @@ stands_more rem a b f (Some t) before ec r (Some y) e h =
 -- where no record was found, those before are all
 pub stands_end : {R : Type 0} (rem : R → Option (List ℕ)) (a b : Reader R) (f : Fields) (text : Option (List ℕ)) (before : List Fields)
     → a.config ≡ default_config → ReadRecord rem a b false f
-    → (src : Option (List ℕ)) → source_of rem a ≡ src → Stands text before a.state src → AreAll text before
+    → (src : Option (List ℕ)) → source_of rem a ≡ src → ReaderIsAfterRecords text before a.state src → HasExactlyRecords text before
 stands_end rem a b f None before ec r src e h = tt
 stands_end rem a b f (Some t) before ec r None e h = absurd h
 stands_end rem a b f (Some t) before ec r (Some y) e h = reached_all default_config t before a.state y h (rows-end rem a b f default_config y ec e r)
 
 pub stands_read : {R : Type 0} (rem : R → Option (List ℕ)) (a b : Reader R) (found : Bool) (f : Fields) (text : Option (List ℕ)) (before : List Fields)
-    → a.config ≡ default_config → ReadRecord rem a b found f → Stands text before a.state (source_of rem a)
-    → MatchBool found (Stands text (before ++ (f ∷ [])) b.state (source_of rem b)) (AreAll text before)
+    → a.config ≡ default_config → ReadRecord rem a b found f → ReaderIsAfterRecords text before a.state (source_of rem a)
+    → MatchBool found (ReaderIsAfterRecords text (before ++ (f ∷ [])) b.state (source_of rem b)) (HasExactlyRecords text before)
 stands_read rem a b true f text before ec r h = stands_more rem a b f text before ec r (source_of rem a) refl h
 stands_read rem a b false f text before ec r h = stands_end rem a b f text before ec r (source_of rem a) refl h
 
@@ -56,29 +56,29 @@ unfolding field_at
 pair_fields fs a b e = rw e (refl, refl, refl)
 
 -- the name of a header is its second field
-pub header_name_is : (fs : Fields) (name : List ℕ) → fs ≡ header_of name → field_at fs 1 ≡ Some name
+pub header_name_is : (fs : Fields) (name : List ℕ) → fs ≡ batch_header name → field_at fs 1 ≡ Some name
 unfolding field_at
 header_name_is fs name e = rw e refl
 
 -- records that stand at the front begin the text
-pub begins_of : (text : Option (List ℕ)) (records : List Fields) (s : State) (src : Option (List ℕ)) → Stands text records s src → Begins text records
+pub begins_of : (text : Option (List ℕ)) (records : List Fields) (s : State) (src : Option (List ℕ)) → ReaderIsAfterRecords text records s src → BeginsWithRecords text records
 begins_of None records s src h = tt
 begins_of (Some t) records s None h = absurd h
 begins_of (Some t) records s (Some y) h = reached_begin default_config t records s y h
 
 -- a text begins with the front of what it begins with
-pub begins_front : (text : Option (List ℕ)) (front back : List Fields) → Begins text (front ++ back) → Begins text front
+pub begins_front : (text : Option (List ℕ)) (front back : List Fields) → BeginsWithRecords text (front ++ back) → BeginsWithRecords text front
 begins_front None front back h = tt
 begins_front (Some t) front back h = (back ++ h.0, h.1 ∙ append_assoc front back h.0)
 
 -- one record more behind the last row
-pub begins_more : (text : Option (List ℕ)) (name : List ℕ) (rows : List Fields) (row next : Fields) → Begins text ((header_of name ∷ (rows ++ (row ∷ []))) ++ (next ∷ []))
-    → Begins text (header_of name ∷ (rows ++ (row ∷ next ∷ [])))
-begins_more text name rows row next h = subst (λ (l : List Fields). Begins text (header_of name ∷ l)) (append_assoc rows (row ∷ []) (next ∷ [])) h
+pub begins_more : (text : Option (List ℕ)) (name : List ℕ) (rows : List Fields) (row next : Fields) → BeginsWithRecords text ((batch_header name ∷ (rows ++ (row ∷ []))) ++ (next ∷ []))
+    → BeginsWithRecords text (batch_header name ∷ (rows ++ (row ∷ next ∷ [])))
+begins_more text name rows row next h = subst (λ (l : List Fields). BeginsWithRecords text (batch_header name ∷ l)) (append_assoc rows (row ∷ []) (next ∷ [])) h
 
 -- and one less
-pub begins_less : (text : Option (List ℕ)) (name : List ℕ) (rows : List Fields) (row next : Fields) → Begins text (header_of name ∷ (rows ++ (row ∷ next ∷ [])))
-    → Begins text (header_of name ∷ (rows ++ (row ∷ [])))
+pub begins_less : (text : Option (List ℕ)) (name : List ℕ) (rows : List Fields) (row next : Fields) → BeginsWithRecords text (batch_header name ∷ (rows ++ (row ∷ next ∷ [])))
+    → BeginsWithRecords text (batch_header name ∷ (rows ++ (row ∷ [])))
 begins_less text name rows row next h =
-    begins_front text (header_of name ∷ (rows ++ (row ∷ []))) (next ∷ [])
-    (subst (λ (l : List Fields). Begins text (header_of name ∷ l)) (sym (append_assoc rows (row ∷ []) (next ∷ []))) h)
+    begins_front text (batch_header name ∷ (rows ++ (row ∷ []))) (next ∷ [])
+    (subst (λ (l : List Fields). BeginsWithRecords text (batch_header name ∷ l)) (sym (append_assoc rows (row ∷ []) (next ∷ []))) h)

@@ -5,10 +5,10 @@ use Rattle.brk_money.specs.declared.fault.Fault.{Fault}
 use Rattle.brk_money.specs.declared.fault.Fault.TheVariants.{Memory}
 use Rattle.brk_model.specs.Answers.{RowStep}
 use Rattle.brk_model.specs.Commands.{Again, Answer, Done, Refused, Reply}
-use Rattle.brk_model.specs.Forms.{Read}
+use Rattle.brk_model.specs.Forms.{ReadResult}
 use Rattle.brk_model.specs.Records.{Key}
 use Rattle.brk_model.specs.Run.{Did, Failed, Outcome}
-use Rattle.brk_batch_engine.specs.Script.{MakesCall}
+use Rattle.brk_batch_engine.specs.Script.{RowCallRelation}
 use Rattle.brk_batch_engine.specs.declared.answer.RowAnswer.{RowAnswer}
 use Rattle.brk_batch_engine.specs.declared.answer.RowAnswer.TheVariants as given
 
@@ -27,14 +27,14 @@ outcome_in_model reply (Err fault) = Failed fault
 -- The call with `command` under `key` refines `step`: for every base that the desk represented
 -- before, `step` from this base has this answer, and the desk represents the base after it. Vacuous
 -- if the disk assumption (`honest`) fails.
-abbrev pub Acts : {D S X : Type 0} → (D → Type 0) → (D → S → Type 0) → RowStep S X → D → D → ℕ → X → Key → Answer → Type 0
-Acts {S = S} honest stands step old new now command key answer =
+abbrev pub CallRefinesStep : {D S X : Type 0} → (D → Type 0) → (D → S → Type 0) → RowStep S X → D → D → ℕ → X → Key → Answer → Type 0
+CallRefinesStep {S = S} honest stands step old new now command key answer =
     honest new → (base : S) → stands old base → (after : S) × stands new after × (step base now command key ≡ (answer, after))
 
 -- The desk still represents every base that it represented before. Vacuous if the disk assumption
 -- (`honest`) fails.
-abbrev pub Keeps : {D S : Type 0} → (D → Type 0) → (D → S → Type 0) → D → D → Type 0
-Keeps {S = S} honest stands old new = honest new → (base : S) → stands old base → stands new base
+abbrev pub PreservesRepresentedBases : {D S : Type 0} → (D → Type 0) → (D → S → Type 0) → D → D → Type 0
+PreservesRepresentedBases {S = S} honest stands old new = honest new → (base : S) → stands old base → stands new base
 
 -- The desk represents `base`, and, if the flag is true, a crash exposes only this base.
 abbrev pub RepresentsDurably : {D S : Type 0} → (D → S → Type 0) → (D → S → S → Type 0) → Bool → D → S → Type 0
@@ -44,24 +44,24 @@ RepresentsDurably stands leaves true desk base = stands desk base × leaves desk
 -- Crash safety of a failed call: for every base that the desk represented before, if a crash before
 -- the call exposed only this base, a crash after it exposes this base or the one after `command`.
 -- Vacuous if the disk assumption (`honest`) fails.
-abbrev pub MayAct : {D S X : Type 0} → (D → Type 0) → (D → S → Type 0) → (D → S → S → Type 0) → RowStep S X → D → D → ℕ → X → Key → Type 0
-MayAct {S = S} honest stands leaves step old new now command key =
+abbrev pub IsFailedCallCrashSafe : {D S X : Type 0} → (D → Type 0) → (D → S → Type 0) → (D → S → S → Type 0) → RowStep S X → D → D → ℕ → X → Key → Type 0
+IsFailedCallCrashSafe {S = S} honest stands leaves step old new now command key =
     honest new → (base : S) → stands old base → leaves old base base → leaves new base (step base now command key).1
 
 -- Row `n` of `batch` has this answer. A malformed row is refused with its refusal, and the desk and
 -- the clock are unchanged. A command reads the clock once and is one call of the desk, under the
 -- key of the row, which refines `step`.
-abbrev pub AnsweredBy : {D S X C : Type 0} → (D → Type 0) → (Bool → D → S → Type 0) → MakesCall D X → RowStep S X → (C → ℕ → C → Type 0) → Read X → Text → ℕ → Answer → D → D → C → C → Type 0
-AnsweredBy honest stands acts step gives (Err refusal) batch n answer old new clock later = (answer ≡ Refused refusal) × (new ≡ old) × (later ≡ clock)
-AnsweredBy honest stands acts step gives (Ok command) batch n answer old new clock later =
+abbrev pub RowHasAnswer : {D S X C : Type 0} → (D → Type 0) → (Bool → D → S → Type 0) → RowCallRelation D X → RowStep S X → (C → ℕ → C → Type 0) → ReadResult X → Text → ℕ → Answer → D → D → C → C → Type 0
+RowHasAnswer honest stands acts step gives (Err refusal) batch n answer old new clock later = (answer ≡ Refused refusal) × (new ≡ old) × (later ≡ clock)
+RowHasAnswer honest stands acts step gives (Ok command) batch n answer old new clock later =
     (moment : ℕ) × gives clock moment later × acts old moment (command, record { batch = batch; row = n }) (Did answer) new
-    × ((sure : Bool) → Acts honest (stands sure) step old new moment command (record { batch = batch; row = n }) answer)
+    × ((sure : Bool) → CallRefinesStep honest (stands sure) step old new moment command (record { batch = batch; row = n }) answer)
 
 -- Row `n` of `batch` failed with this fault. Either the fault is `Memory`, and the desk and the
 -- clock are unchanged; or the row is a command that read the clock once and was one call of the
--- desk, under the key of the row, which failed, with the crash safety of `MayAct`.
-abbrev pub FailedBy : {D S X C : Type 0} → (D → Type 0) → (D → S → Type 0) → (D → S → S → Type 0) → MakesCall D X → RowStep S X → (C → ℕ → C → Type 0) → Read X → Text → ℕ → Fault → D → D → C → C → Type 0
-FailedBy {X = X} honest stands leaves acts step gives read batch n fault old new clock later =
+-- desk, under the key of the row, which failed, with the crash safety of `IsFailedCallCrashSafe`.
+abbrev pub RowFailsWith : {D S X C : Type 0} → (D → Type 0) → (D → S → Type 0) → (D → S → S → Type 0) → RowCallRelation D X → RowStep S X → (C → ℕ → C → Type 0) → ReadResult X → Text → ℕ → Fault → D → D → C → C → Type 0
+RowFailsWith {X = X} honest stands leaves acts step gives read batch n fault old new clock later =
     ((new ≡ old) × (later ≡ clock) × (fault ≡ Memory))
     ⊎ ((moment : ℕ) × (command : X) × (read ≡ Ok command) × gives clock moment later × acts old moment (command, record { batch = batch; row = n }) (Failed fault) new
-    × MayAct honest stands leaves step old new moment command (record { batch = batch; row = n }))
+    × IsFailedCallCrashSafe honest stands leaves step old new moment command (record { batch = batch; row = n }))

@@ -5,7 +5,7 @@ use Rattle.brk_money.specs.Spelling.{Text}
 use Rattle.brk_money.specs.declared.fault.Fault.TheVariants.{Memory}
 use Rattle.brk_model.specs.Answers.{Fields}
 use Rattle.brk_model.specs.Batch.{HasNoHeader}
-use Rattle.brk_model.specs.Input.{end_of}
+use Rattle.brk_model.specs.Input.{end_record_after}
 use Rattle.brk_batch_engine.specs.Counts.{counts_line}
 use Rattle.brk_io.specs.declared.batch_fault.FaultKind.{FaultKind}
 use Rattle.brk_io.specs.declared.batch_fault.FaultKind.TheVariants as kinds
@@ -13,42 +13,42 @@ use Rattle.brk_batch_engine.specs.declared.counts.Counts.{Counts}
 
 -- Writing the line `text` failed with this fault. `Write`: the writer got a prefix of the line,
 -- perhaps all of it. `Desk`: memory ran out, and nothing was written. No other fault is possible.
-abbrev pub Part : Option Text → Option Text → Text → FaultKind → Type 0
-Part old new text kinds.Write = (k : ℕ) × Appends old new (take k text)
-Part old new text (kinds.Desk fault) = (fault ≡ Memory) × Appends old new []
-Part old new text kinds.Read = ⊥
-Part old new text kinds.BadHeader = ⊥
-Part old new text kinds.NoEnd = ⊥
-Part old new text kinds.BadEnd = ⊥
+abbrev pub LineWriteFailsWith : Option Text → Option Text → Text → FaultKind → Type 0
+LineWriteFailsWith old new text kinds.Write = (k : ℕ) × Appends old new (take k text)
+LineWriteFailsWith old new text (kinds.Desk fault) = (fault ≡ Memory) × Appends old new []
+LineWriteFailsWith old new text kinds.Read = ⊥
+LineWriteFailsWith old new text kinds.BadHeader = ⊥
+LineWriteFailsWith old new text kinds.NoEnd = ⊥
+LineWriteFailsWith old new text kinds.BadEnd = ⊥
 
 -- The end record `row` after `n` rows failed with this fault. `BadEnd`: the record is wrong, and
 -- nothing was written. `Write`: the record is correct, and the writer got a prefix of the end line,
 -- perhaps all of it. `Desk`: memory ran out, and nothing was written. No other fault is possible.
-abbrev pub EndPart : Option Text → Option Text → Fields → ℕ → Counts → FaultKind → Type 0
-EndPart old new row n counts kinds.BadEnd = (row ≡ end_of n → ⊥) × Appends old new []
-EndPart old new row n counts kinds.Write = (row ≡ end_of n) × ((k : ℕ) × Appends old new (take k (counts_line counts)))
-EndPart old new row n counts (kinds.Desk fault) = (fault ≡ Memory) × Appends old new []
-EndPart old new row n counts kinds.Read = ⊥
-EndPart old new row n counts kinds.BadHeader = ⊥
-EndPart old new row n counts kinds.NoEnd = ⊥
+abbrev pub EndRecordFailsWith : Option Text → Option Text → Fields → ℕ → Counts → FaultKind → Type 0
+EndRecordFailsWith old new row n counts kinds.BadEnd = (row ≡ end_record_after n → ⊥) × Appends old new []
+EndRecordFailsWith old new row n counts kinds.Write = (row ≡ end_record_after n) × ((k : ℕ) × Appends old new (take k (counts_line counts)))
+EndRecordFailsWith old new row n counts (kinds.Desk fault) = (fault ≡ Memory) × Appends old new []
+EndRecordFailsWith old new row n counts kinds.Read = ⊥
+EndRecordFailsWith old new row n counts kinds.BadHeader = ⊥
+EndRecordFailsWith old new row n counts kinds.NoEnd = ⊥
 
 -- A row without a record after it ended the batch with this fault. `NoEnd`: its line `text` was
 -- written. `Write`: the writer got a prefix of the line, perhaps all of it. `Desk`: memory ran out,
 -- and nothing was written. No other fault is possible.
-abbrev pub CutPart : Option Text → Option Text → Text → FaultKind → Type 0
-CutPart old new text kinds.NoEnd = Appends old new text
-CutPart old new text kinds.Write = (k : ℕ) × Appends old new (take k text)
-CutPart old new text (kinds.Desk fault) = (fault ≡ Memory) × Appends old new []
-CutPart old new text kinds.Read = ⊥
-CutPart old new text kinds.BadHeader = ⊥
-CutPart old new text kinds.BadEnd = ⊥
+abbrev pub CutRowEndsBatchWith : Option Text → Option Text → Text → FaultKind → Type 0
+CutRowEndsBatchWith old new text kinds.NoEnd = Appends old new text
+CutRowEndsBatchWith old new text kinds.Write = (k : ℕ) × Appends old new (take k text)
+CutRowEndsBatchWith old new text (kinds.Desk fault) = (fault ≡ Memory) × Appends old new []
+CutRowEndsBatchWith old new text kinds.Read = ⊥
+CutRowEndsBatchWith old new text kinds.BadHeader = ⊥
+CutRowEndsBatchWith old new text kinds.BadEnd = ⊥
 
 -- Reading the header failed with this fault. `BadHeader`: the text has no header. `Desk`: memory
 -- ran out. `Read`: nothing is known of the text. No other fault is possible.
-abbrev pub HeaderPart : Option Text → FaultKind → Type 0
-HeaderPart text kinds.BadHeader = HasNoHeader text
-HeaderPart text kinds.Read = Unit {0}
-HeaderPart text (kinds.Desk fault) = fault ≡ Memory
-HeaderPart text kinds.Write = ⊥
-HeaderPart text kinds.NoEnd = ⊥
-HeaderPart text kinds.BadEnd = ⊥
+abbrev pub HeaderReadFailsWith : Option Text → FaultKind → Type 0
+HeaderReadFailsWith text kinds.BadHeader = HasNoHeader text
+HeaderReadFailsWith text kinds.Read = Unit {0}
+HeaderReadFailsWith text (kinds.Desk fault) = fault ≡ Memory
+HeaderReadFailsWith text kinds.Write = ⊥
+HeaderReadFailsWith text kinds.NoEnd = ⊥
+HeaderReadFailsWith text kinds.BadEnd = ⊥

@@ -10,12 +10,12 @@ use Rattle.brk_model.specs.Answers.{Fields}
 
 -- The reader is set up for a batch and is before a record: it does not trim, uses the default CSV
 -- format, and accepts records of any number of fields.
-abbrev pub ReadsBatch : {R : Type 0} → Reader R → Type 0
-ReadsBatch reader = (reader_trim reader ≡ trim.None) × Ready reader × (reader_config reader ≡ default_config) × (is_flexible reader ≡ true)
+abbrev pub IsBatchReader : {R : Type 0} → Reader R → Type 0
+IsBatchReader reader = (reader_trim reader ≡ trim.None) × Ready reader × (reader_config reader ≡ default_config) × (is_flexible reader ≡ true)
 
 -- The text begins with the records `front`, and a reader in `state` still has the bytes `left` of
 -- it to read. Vacuous if the text is unknown.
-abbrev pub Stands : Option Text → List Fields → State → Option Text → Type 0
-Stands None front state left = Unit {0}
-Stands (Some text) front state None = ⊥
-Stands (Some text) front state (Some left) = Reached default_config st.StartRecord text front state left
+abbrev pub ReaderIsAfterRecords : Option Text → List Fields → State → Option Text → Type 0
+ReaderIsAfterRecords None front state left = Unit {0}
+ReaderIsAfterRecords (Some text) front state None = ⊥
+ReaderIsAfterRecords (Some text) front state (Some left) = Reached default_config st.StartRecord text front state left

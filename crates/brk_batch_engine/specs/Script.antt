@@ -8,20 +8,20 @@ use Rattle.brk_model.specs.Run.{Outcome}
 
 -- The type of a relation of calls between two desks: at a clock reading, a command under its key
 -- may turn the first desk into the second, with this outcome.
-abbrev pub MakesCall : Type 0 → Type 0 → Type 1
-MakesCall D X = D → ℕ → X × Key → Outcome → D → Type 0
+abbrev pub RowCallRelation : Type 0 → Type 0 → Type 1
+RowCallRelation D X = D → ℕ → X × Key → Outcome → D → Type 0
 
 -- The type of a list of calls: each has a clock reading, a command and its key.
 abbrev pub RowCalls : Type 0 → Type 0
 RowCalls X = List (ℕ × (X × Key))
 
 -- The type of a list of calls together with the list of their outcomes.
-abbrev pub Script : Type 0 → Type 0
-Script X = RowCalls X × List Outcome
+abbrev pub RowCallScript : Type 0 → Type 0
+RowCallScript X = RowCalls X × List Outcome
 
 -- The step of a desk that records its calls and has its answers in a list: each call returns the
 -- next answer and is added to the recorded calls. After the last answer every command is refused
 -- with `BadText`.
-abbrev pub recorded : {X : Type 0} → RowStep (List Answer × RowCalls X) X
-recorded ([], calls) now command key = (Refused BadText, ([], calls ++ ((now, (command, key)) ∷ [])))
-recorded (answer ∷ answers, calls) now command key = (answer, (answers, calls ++ ((now, (command, key)) ∷ [])))
+abbrev pub recording_step : {X : Type 0} → RowStep (List Answer × RowCalls X) X
+recording_step ([], calls) now command key = (Refused BadText, ([], calls ++ ((now, (command, key)) ∷ [])))
+recording_step (answer ∷ answers, calls) now command key = (answer, (answers, calls ++ ((now, (command, key)) ∷ [])))

@@ -1,11 +1,11 @@
 ghost use Rattle.std.specs.Prelude.{◌≡◌, ◌≤◌, Err, IfErr, IfOk, OnErr};
 ghost use Rattle.csv.specs.Records.{fields_of};
 ghost use Rattle.brk_money.specs.declared.fault.Fault.TheVariants.{Memory};
-ghost use Rattle.brk_model.specs.Run.{MayFail};
-ghost use Rattle.brk_ref.specs.Records.{key_of};
-ghost use Rattle.brk_batch_engine.specs.Answers.{AnsweredBy, FailedBy, Keeps, RepresentsDurably, answer_in_model};
+ghost use Rattle.brk_model.specs.Run.{IsCallFault};
+ghost use Rattle.brk_ref.specs.Records.{abstract_key};
+ghost use Rattle.brk_batch_engine.specs.Answers.{RowHasAnswer, RowFailsWith, PreservesRepresentedBases, RepresentsDurably, answer_in_model};
 
-use crate::records::fields_list;
+use crate::records::record_fields;
 use crate::rows::Rows;
 use brk_io::Clock;
 use brk_money::{Fault, Refusal};
@@ -28,7 +28,7 @@ pub enum RowAnswer<R> {
 fn row_key(batch: &BatchName, n: u64) -> Result<Key, Fault>
     requires first { 1 ≤ n }
     requires last { n ≤ 67108864 }
-    ensures key { IfOk result (λ key. key_of key ≡ record { batch = batch.now; row = n }) }
+    ensures key { IfOk result (λ key. abstract_key key ≡ record { batch = batch.now; row = n }) }
     ensures fault { OnErr result (result ≡ Err Memory) }
 {
     let batch = batch.clone()?;
@@ -52,14 +52,14 @@ pub fn answer_row<C: Clock, D: Rows>(
     requires first { 1 ≤ n }
     requires last { n ≤ 67108864 }
     ensures earlier { D.honest desk.new → D.honest desk.old }
-    ensures ok { IfOk result (λ answer. AnsweredBy D.honest (RepresentsDurably D.stands D.leaves) D.acts D.step C.gives (D.form (fields_of row.now)) batch.now n
+    ensures ok { IfOk result (λ answer. RowHasAnswer D.honest (RepresentsDurably D.stands D.leaves) D.acts D.step C.gives (D.form (fields_of row.now)) batch.now n
         (answer_in_model D.told answer) desk.old desk.new clock.old clock.new) }
-    ensures kept { OnErr result (Keeps D.honest D.stands desk.old desk.new) }
-    ensures failed { IfErr result (λ fault. FailedBy D.honest D.stands D.leaves D.acts D.step C.gives (D.form (fields_of row.now)) batch.now n fault
+    ensures kept { OnErr result (PreservesRepresentedBases D.honest D.stands desk.old desk.new) }
+    ensures failed { IfErr result (λ fault. RowFailsWith D.honest D.stands D.leaves D.acts D.step C.gives (D.form (fields_of row.now)) batch.now n fault
         desk.old desk.new clock.old clock.new) }
-    ensures fault { IfErr result MayFail }
+    ensures fault { IfErr result IsCallFault }
 {
-    let Ok(fields) = fields_list(alloc, row) else {
+    let Ok(fields) = record_fields(alloc, row) else {
         return Err(Fault::Memory);
     };
     match D::parse(alloc, fields.as_slice())? {

@@ -1,7 +1,7 @@
 ghost use Rattle.std.specs.Prelude.{◌≡◌, ◌+◌, ◌<◌, ◌^◌};
 ghost use Rattle.brk_model.specs.Commands.{Reply};
 ghost use Rattle.brk_batch_engine.specs.Answers.{answer_in_model};
-ghost use Rattle.brk_batch_engine.specs.Counts.{counted};
+ghost use Rattle.brk_batch_engine.specs.Counts.{counts_with_answer};
 
 use crate::answer::RowAnswer;
 
@@ -25,11 +25,11 @@ impl Counts {
     };
 
     // Returns the counts with 1 added to that of the answer's kind.
-    pub(crate) fn with<R>(self, answer: &RowAnswer<R>) -> Counts
+    pub(crate) fn with_answer<R>(self, answer: &RowAnswer<R>) -> Counts
         requires ok { self.ok + 1 < 2 ^ 64 }
         requires again { self.again + 1 < 2 ^ 64 }
         requires no { self.no + 1 < 2 ^ 64 }
-        ensures { (reply : R → Reply) → result ≡ counted self (answer_in_model reply answer.now) }
+        ensures { (reply : R → Reply) → result ≡ counts_with_answer self (answer_in_model reply answer.now) }
     {
         let mut counts = self;
         match answer {

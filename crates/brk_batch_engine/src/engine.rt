@@ -4,20 +4,22 @@ ghost use Rattle.csv.specs.Reading.{reader_state, source_of};
 ghost use Rattle.csv.specs.Records.{fields_of};
 ghost use Rattle.brk_money.specs.declared.refusal.Refusal.TheVariants.{BadText};
 ghost use Rattle.brk_model.specs.Commands.{Refused};
-ghost use Rattle.brk_model.specs.Input.{IsName, end_of, header_of, text_of};
+ghost use Rattle.brk_model.specs.Input.{IsBatchName, end_record_after, batch_header, input_text};
 ghost use Rattle.brk_model.specs.Lines.{answer_line};
 ghost use Rattle.brk_batch_engine.specs.Answers.{answer_in_model};
-ghost use Rattle.brk_batch_engine.specs.Batch.{BatchPost, RefinesModel, CrashStates, TellsCalls};
+ghost use Rattle.brk_batch_engine.specs.Batch.{BatchPost, BatchRefinesModel, IsBatchCrashSafe, ChangesOnlyByRowCalls};
 ghost use Rattle.brk_batch_engine.specs.Counts.{counts_line};
-ghost use Rattle.brk_batch_engine.specs.Parts.{CutPart, EndPart, HeaderPart, Part};
-ghost use Rattle.brk_batch_engine.specs.Reading.{ReadsBatch, Stands};
+ghost use Rattle.brk_batch_engine.specs.Parts.{CutRowEndsBatchWith, EndRecordFailsWith, HeaderReadFailsWith, LineWriteFailsWith};
+ghost use Rattle.brk_batch_engine.specs.Reading.{IsBatchReader, ReaderIsAfterRecords};
 
 use crate::answer::{RowAnswer, answer_row};
 use crate::counts::Counts;
-use crate::lines::{last_line, line_of};
-use crate::records::{MOST_BYTES, header_name, is_end, is_end_of, open_records, read_record};
+use crate::lines::{end_line_of_counts, row_answer_line};
+use crate::records::{
+    MOST_BYTES, has_end_marker, header_name, is_correct_end_record, open_records, read_record,
+};
 use crate::rows::Rows;
-use brk_io::{BatchFault, Clock, FaultKind, write_out};
+use brk_io::{BatchFault, Clock, FaultKind, write_all_bytes};
 use brk_money::{Fault, Refusal};
 use brk_ref::BatchName;
 use csv::{ByteRecord, Reader};
@@ -28,19 +30,19 @@ use std::mem;
 // Writes the line of the answer to row `n`.
 //
 // Fails with `Write`, after a prefix of the line, or with `Desk(Memory)` and nothing written.
-fn tell<W: Write, D: Rows>(
+fn write_answer_line<W: Write, D: Rows>(
     alloc: Global,
     writer: &mut W,
     n: u64,
     answer: &RowAnswer<D::Reply>,
 ) -> Result<(), FaultKind>
     ensures ok { OnOk result (Appends (W.contents writer.old) (W.contents writer.new) (answer_line n (answer_in_model D.told answer.now))) }
-    ensures err { IfErr result (λ kind. Part (W.contents writer.old) (W.contents writer.new) (answer_line n (answer_in_model D.told answer.now)) kind) }
+    ensures err { IfErr result (λ kind. LineWriteFailsWith (W.contents writer.old) (W.contents writer.new) (answer_line n (answer_in_model D.told answer.now)) kind) }
 {
-    let Ok(text) = line_of::<D>(alloc, n, answer) else {
+    let Ok(text) = row_answer_line::<D>(alloc, n, answer) else {
         return Err(FaultKind::Desk(Fault::Memory));
     };
-    match write_out(writer, text.as_slice()) {
+    match write_all_bytes(writer, text.as_slice()) {
         Ok(()) => Ok(()),
         Err(_) => Err(FaultKind::Write),
     }
@@ -48,10 +50,10 @@ fn tell<W: Write, D: Rows>(
 
 // Writes the refusal of row `n`, which has no record after it. Returns `NoEnd`, or the fault of
 // writing the line.
-fn cut_off<W: Write, D: Rows>(alloc: Global, writer: &mut W, n: u64) -> FaultKind
-    ensures { CutPart (W.contents writer.old) (W.contents writer.new) (answer_line n (Refused BadText)) result }
+fn refuse_cut_row<W: Write, D: Rows>(alloc: Global, writer: &mut W, n: u64) -> FaultKind
+    ensures { CutRowEndsBatchWith (W.contents writer.old) (W.contents writer.new) (answer_line n (Refused BadText)) result }
 {
-    match tell::<W, D>(alloc, writer, n, &RowAnswer::Refused(Refusal::BadText)) {
+    match write_answer_line::<W, D>(alloc, writer, n, &RowAnswer::Refused(Refusal::BadText)) {
         Ok(()) => FaultKind::NoEnd,
         Err(kind) => kind,
     }
@@ -61,24 +63,24 @@ fn cut_off<W: Write, D: Rows>(alloc: Global, writer: &mut W, n: u64) -> FaultKin
 //
 // Fails with `BadEnd` or `Desk(Memory)` and nothing written, or with `Write` after a prefix of the
 // line.
-fn finish<W: Write>(
+fn check_end_and_write_line<W: Write>(
     alloc: Global,
     writer: &mut W,
     row: &ByteRecord,
     n: u64,
     counts: Counts,
 ) -> Result<(), FaultKind>
-    ensures right { OnOk result (fields_of row.now ≡ end_of n) }
+    ensures right { OnOk result (fields_of row.now ≡ end_record_after n) }
     ensures ok { OnOk result (Appends (W.contents writer.old) (W.contents writer.new) (counts_line counts)) }
-    ensures err { IfErr result (λ kind. EndPart (W.contents writer.old) (W.contents writer.new) (fields_of row.now) n counts kind) }
+    ensures err { IfErr result (λ kind. EndRecordFailsWith (W.contents writer.old) (W.contents writer.new) (fields_of row.now) n counts kind) }
 {
-    if !is_end_of(row, n) {
+    if !is_correct_end_record(row, n) {
         return Err(FaultKind::BadEnd);
     }
-    let Ok(text) = last_line(alloc, counts) else {
+    let Ok(text) = end_line_of_counts(alloc, counts) else {
         return Err(FaultKind::Desk(Fault::Memory));
     };
-    match write_out(writer, text.as_slice()) {
+    match write_all_bytes(writer, text.as_slice()) {
         Ok(()) => Ok(()),
         Err(_) => Err(FaultKind::Write),
     }
@@ -88,13 +90,13 @@ fn finish<W: Write>(
 //
 // Fails with `BadHeader`, `Read` or `Desk(Memory)`.
 fn read_header<R: Read>(alloc: Global, records: &mut Reader<R>) -> Result<BatchName, FaultKind>
-    requires { ReadsBatch records.old }
-    ensures setup { OnOk result (ReadsBatch records.new) }
-    ensures named { IfOk result (λ name. IsName name) }
-    ensures ok { IfOk result (λ name. (text : Option (List ℕ)) → Stands text [] (reader_state records.old) (source_of R.remaining records.old)
-        → Stands text (header_of name ∷ []) (reader_state records.new) (source_of R.remaining records.new)) }
-    ensures err { IfErr result (λ kind. (text : Option (List ℕ)) → Stands text [] (reader_state records.old) (source_of R.remaining records.old)
-        → HeaderPart text kind) }
+    requires { IsBatchReader records.old }
+    ensures setup { OnOk result (IsBatchReader records.new) }
+    ensures named { IfOk result (λ name. IsBatchName name) }
+    ensures ok { IfOk result (λ name. (text : Option (List ℕ)) → ReaderIsAfterRecords text [] (reader_state records.old) (source_of R.remaining records.old)
+        → ReaderIsAfterRecords text (batch_header name ∷ []) (reader_state records.new) (source_of R.remaining records.new)) }
+    ensures err { IfErr result (λ kind. (text : Option (List ℕ)) → ReaderIsAfterRecords text [] (reader_state records.old) (source_of R.remaining records.old)
+        → HeaderReadFailsWith text kind) }
 {
     let mut header = ByteRecord::new(alloc);
     if !read_record(records, &mut header)? {
@@ -118,9 +120,9 @@ fn run_rows<R: Read, W: Write, C: Clock, D: Rows>(
     clock: &mut C,
     desk: &mut D::Desk,
 ) -> Result<Counts, BatchFault>
-    requires setup { ReadsBatch records.old }
-    requires named { IsName name.now }
-    ensures { (text : Option (List ℕ)) → Stands text (header_of name.now ∷ []) (reader_state records.old) (source_of R.remaining records.old)
+    requires setup { IsBatchReader records.old }
+    requires named { IsBatchName name.now }
+    ensures { (text : Option (List ℕ)) → ReaderIsAfterRecords text (batch_header name.now ∷ []) (reader_state records.old) (source_of R.remaining records.old)
         → BatchPost D.honest D.stands D.leaves D.acts D.form D.step C.gives text desk.old desk.new
         (record { clock = clock.old; later = clock.new; old = W.contents writer.old; new = W.contents writer.new }) result }
 {
@@ -138,8 +140,8 @@ fn run_rows<R: Read, W: Write, C: Clock, D: Rows>(
         });
     }
     for settled in 0..MOST_BYTES {
-        if is_end(&row) {
-            if let Err(kind) = finish(alloc, writer, &row, settled, counts) {
+        if has_end_marker(&row) {
+            if let Err(kind) = check_end_and_write_line(alloc, writer, &row, settled, counts) {
                 return Err(BatchFault {
                     rows: settled,
                     kind,
@@ -158,7 +160,7 @@ fn run_rows<R: Read, W: Write, C: Clock, D: Rows>(
         };
         let n = settled + 1;
         if !has_next {
-            let kind = cut_off::<W, D>(alloc, writer, n);
+            let kind = refuse_cut_row::<W, D>(alloc, writer, n);
             return Err(BatchFault { rows: n, kind });
         }
         let told = match answer_row::<C, D>(alloc, desk, clock, name, n, &row) {
@@ -170,8 +172,8 @@ fn run_rows<R: Read, W: Write, C: Clock, D: Rows>(
                 });
             }
         };
-        counts = counts.with(&told);
-        if let Err(kind) = tell::<W, D>(alloc, writer, n, &told) {
+        counts = counts.with_answer(&told);
+        if let Err(kind) = write_answer_line::<W, D>(alloc, writer, n, &told) {
             return Err(BatchFault { rows: n, kind });
         }
         mem::swap(&mut row, &mut after);
@@ -194,11 +196,11 @@ pub fn run<R: Read + Drop, W: Write, C: Clock, D: Rows>(
     clock: &mut C,
     desk: &mut D::Desk,
 ) -> Result<Counts, BatchFault>
-    ensures told { TellsCalls D.acts D.form C.gives (option_map text_of (R.remaining reader)) desk.old desk.new
+    ensures told { ChangesOnlyByRowCalls D.acts D.form C.gives (option_map input_text (R.remaining reader)) desk.old desk.new
         (record { clock = clock.old; later = clock.new; old = W.contents writer.old; new = W.contents writer.new }) result }
-    ensures kept { RefinesModel D.honest D.stands D.form D.step C.gives (option_map text_of (R.remaining reader)) desk.old desk.new
+    ensures kept { BatchRefinesModel D.honest D.stands D.form D.step C.gives (option_map input_text (R.remaining reader)) desk.old desk.new
         (record { clock = clock.old; later = clock.new; old = W.contents writer.old; new = W.contents writer.new }) result }
-    ensures left { CrashStates D.honest D.stands D.leaves D.form D.step C.gives (option_map text_of (R.remaining reader)) desk.old desk.new
+    ensures left { IsBatchCrashSafe D.honest D.stands D.leaves D.form D.step C.gives (option_map input_text (R.remaining reader)) desk.old desk.new
         (record { clock = clock.old; later = clock.new; old = W.contents writer.old; new = W.contents writer.new }) result }
 {
     let mut records = open_records(alloc, reader);

@@ -25,7 +25,7 @@ fn answer_text<D: Rows>(alloc: Global, answer: &RowAnswer<D::Reply>) -> Result<S
 }
 
 /// Returns the line of row `n` with this answer, with its line feed.
-pub fn line_of<D: Rows>(
+pub fn row_answer_line<D: Rows>(
     alloc: Global,
     n: u64,
     answer: &RowAnswer<D::Reply>,
@@ -42,7 +42,7 @@ pub fn line_of<D: Rows>(
 }
 
 /// Returns the end line of a batch with these counts, with its line feed.
-pub fn last_line(alloc: Global, counts: Counts) -> Result<Vec<u8>, AllocError>
+pub fn end_line_of_counts(alloc: Global, counts: Counts) -> Result<Vec<u8>, AllocError>
     ensures { IfOk result (λ line. line.items ≡ counts_line counts) }
 {
     let mut line = Vec::from_slice(alloc, b"end,")?;

@@ -4,9 +4,9 @@ ghost use Rattle.csv.specs.Reading.{reader_state, source_of};
 ghost use Rattle.csv.specs.Records.{field_at, fields_of};
 ghost use Rattle.brk_model.specs.Answers.{Fields};
 ghost use Rattle.brk_money.specs.declared.fault.Fault.TheVariants.{Memory};
-ghost use Rattle.brk_model.specs.Input.{AreAll, IsEnd, IsName, end_of, header_of, text_of};
-ghost use Rattle.brk_ref.specs.Fields.{texts};
-ghost use Rattle.brk_batch_engine.specs.Reading.{ReadsBatch, Stands};
+ghost use Rattle.brk_model.specs.Input.{HasExactlyRecords, IsEndRecord, IsBatchName, end_record_after, batch_header, input_text};
+ghost use Rattle.brk_ref.specs.Fields.{texts_of_fields};
+ghost use Rattle.brk_batch_engine.specs.Reading.{IsBatchReader, ReaderIsAfterRecords};
 
 use brk_io::FaultKind;
 use brk_money::Fault;
@@ -22,8 +22,8 @@ pub const MOST_BYTES: u64 = 67_108_864;
 /// Returns a reader of the records in the first `MOST_BYTES` bytes of an input. Records are
 /// comma-separated, have any number of fields, and none of them is a header row.
 pub fn open_records<R: Read + Drop>(alloc: Global, reader: R) -> Reader<Take<R>>
-    ensures setup { ReadsBatch result }
-    ensures start { Stands (option_map text_of (R.remaining reader)) [] (reader_state result) (source_of (take_remaining R.remaining) result) }
+    ensures setup { IsBatchReader result }
+    ensures start { ReaderIsAfterRecords (option_map input_text (R.remaining reader)) [] (reader_state result) (source_of (take_remaining R.remaining) result) }
 {
     ReaderBuilder::new()
         .has_headers(false)
@@ -38,13 +38,13 @@ pub fn read_record<R: Read>(
     records: &mut Reader<R>,
     row: &mut ByteRecord,
 ) -> Result<bool, FaultKind>
-    requires { ReadsBatch records.old }
-    ensures setup { OnOk result (ReadsBatch records.new) }
+    requires { IsBatchReader records.old }
+    ensures setup { OnOk result (IsBatchReader records.new) }
     ensures found { IfOk result (λ found. (text : Option (List ℕ)) (before : List Fields)
-        → Stands text before (reader_state records.old) (source_of R.remaining records.old)
+        → ReaderIsAfterRecords text before (reader_state records.old) (source_of R.remaining records.old)
         → MatchBool found
-        (Stands text (before ++ (fields_of row.new ∷ [])) (reader_state records.new) (source_of R.remaining records.new))
-        (AreAll text before)) }
+        (ReaderIsAfterRecords text (before ++ (fields_of row.new ∷ [])) (reader_state records.new) (source_of R.remaining records.new))
+        (HasExactlyRecords text before)) }
     ensures kind { IfErr result (λ kind. (kind ≡ FaultKind.Read) ⊎ (kind ≡ FaultKind.Desk Fault.Memory)) }
 {
     match records.read_byte_record(row) {
@@ -60,8 +60,8 @@ pub fn read_record<R: Read>(
 }
 
 /// Returns the fields of a record, in order.
-pub fn fields_list(alloc: Global, row: &ByteRecord) -> Result<Vec<&[u8]>, AllocError>
-    ensures { IfOk result (λ all. texts all.items ≡ fields_of row.now) }
+pub fn record_fields(alloc: Global, row: &ByteRecord) -> Result<Vec<&[u8]>, AllocError>
+    ensures { IfOk result (λ all. texts_of_fields all.items ≡ fields_of row.now) }
 {
     let mut all = Vec::new(alloc);
     while let Some(field) = row.get(all.len()) {
@@ -71,7 +71,7 @@ pub fn fields_list(alloc: Global, row: &ByteRecord) -> Result<Vec<&[u8]>, AllocE
 }
 
 // Returns true if the field at index `i` exists and equals `text`.
-fn field_is(row: &ByteRecord, i: usize, text: &[u8]) -> bool
+fn field_equals(row: &ByteRecord, i: usize, text: &[u8]) -> bool
     ensures { IsTrue result ↔ (field_at (fields_of row.now) i ≡ Some text.now) }
 {
     match row.get(i) {
@@ -82,31 +82,31 @@ fn field_is(row: &ByteRecord, i: usize, text: &[u8]) -> bool
 
 // Returns true if a record has exactly two fields, `first` and `second`.
 #[tactic(auto, using(crate::proofs::Reading::pair_found, crate::proofs::Reading::pair_fields))]
-fn is_pair(row: &ByteRecord, first: &[u8], second: &[u8]) -> bool
+fn has_exactly_two_fields(row: &ByteRecord, first: &[u8], second: &[u8]) -> bool
     ensures { IsTrue result ↔ (fields_of row.now ≡ first.now ∷ second.now ∷ []) }
 {
     if row.len() != 2 {
         return false;
     }
-    if !field_is(row, 0, first) {
+    if !field_equals(row, 0, first) {
         return false;
     }
-    field_is(row, 1, second)
+    field_equals(row, 1, second)
 }
 
 /// Returns true if the first field of a record is `end`, whether or not the rest is correct.
-pub fn is_end(row: &ByteRecord) -> bool
-    ensures { IsTrue result ↔ IsEnd (fields_of row.now) }
+pub fn has_end_marker(row: &ByteRecord) -> bool
+    ensures { IsTrue result ↔ IsEndRecord (fields_of row.now) }
 {
-    field_is(row, 0, b"end")
+    field_equals(row, 0, b"end")
 }
 
 /// Returns true if a record is the correct end record after `n` rows.
-pub fn is_end_of(row: &ByteRecord, n: u64) -> bool
-    ensures { IsTrue result ↔ (fields_of row.now ≡ end_of n) }
+pub fn is_correct_end_record(row: &ByteRecord, n: u64) -> bool
+    ensures { IsTrue result ↔ (fields_of row.now ≡ end_record_after n) }
 {
     let mut buffer = Buffer::new();
-    is_pair(row, b"end", buffer.format(n).as_bytes())
+    has_exactly_two_fields(row, b"end", buffer.format(n).as_bytes())
 }
 
 /// Returns the name of the batch if the record is a header, otherwise `None`. Fails with `Memory`
@@ -114,14 +114,14 @@ pub fn is_end_of(row: &ByteRecord, n: u64) -> bool
 #[tactic(auto, using(crate::proofs::Reading::header_name_is))]
 pub fn header_name(alloc: Global, row: &ByteRecord) -> Result<Option<BatchName>, Fault>
     ensures header { IfOk result (λ found. MatchOption found
-        ((name : List ℕ) → IsName name → fields_of row.now ≡ header_of name → ⊥)
-        (λ name. IsName name × (fields_of row.now ≡ header_of name))) }
+        ((name : List ℕ) → IsBatchName name → fields_of row.now ≡ batch_header name → ⊥)
+        (λ name. IsBatchName name × (fields_of row.now ≡ batch_header name))) }
     ensures fault { OnErr result (result ≡ Err Memory) }
 {
     let Some(name) = row.get(1) else {
         return Ok(None);
     };
-    if !is_pair(row, b"batch", name) {
+    if !has_exactly_two_fields(row, b"batch", name) {
         return Ok(None);
     }
     BatchName::parse(alloc, name)

@@ -2,13 +2,13 @@ ghost use Rattle.std.specs.Prelude.{◌≡◌, Bool, Err, IfErr, IfOk, OnErr, st
 ghost use Rattle.brk_money.specs.declared.fault.Fault.TheVariants.{Memory};
 ghost use Rattle.brk_model.specs.Answers.{Fields, RowStep};
 ghost use Rattle.brk_model.specs.Commands.{Reply};
-ghost use Rattle.brk_model.specs.Forms.{Read};
+ghost use Rattle.brk_model.specs.Forms.{ReadResult};
 ghost use Rattle.brk_model.specs.Rows.{line_text};
-ghost use Rattle.brk_model.specs.Run.{MayFail};
-ghost use Rattle.brk_ref.specs.Fields.{ParsesAs, texts};
-ghost use Rattle.brk_ref.specs.Records.{key_of};
-ghost use Rattle.brk_batch_engine.specs.Answers.{Acts, Keeps, MayAct, RepresentsDurably, answer_in_model, outcome_in_model};
-ghost use Rattle.brk_batch_engine.specs.Script.{MakesCall};
+ghost use Rattle.brk_model.specs.Run.{IsCallFault};
+ghost use Rattle.brk_ref.specs.Fields.{ParsesAs, texts_of_fields};
+ghost use Rattle.brk_ref.specs.Records.{abstract_key};
+ghost use Rattle.brk_batch_engine.specs.Answers.{CallRefinesStep, PreservesRepresentedBases, IsFailedCallCrashSafe, RepresentsDurably, answer_in_model, outcome_in_model};
+ghost use Rattle.brk_batch_engine.specs.Script.{RowCallRelation};
 
 use crate::answer::RowAnswer;
 use brk_money::{Fault, Planned, Stamp};
@@ -41,9 +41,9 @@ pub trait Rows {
     /// After a crash the state is one of these two bases.
     ghost leaves: { Self.Desk → Base → Base → Type 0 };
 
-    /// A call at a timestamp, with a command under its key, may turn the first desk into the second,
-    /// with this outcome.
-    ghost acts: { MakesCall Self.Desk Asked };
+    /// A call at a timestamp, with a command under its key, may turn the first desk into the
+    /// second, with this outcome.
+    ghost acts: { RowCallRelation Self.Desk Asked };
 
     /// The abstract command of a command.
     ghost asked: { Self.Command → Asked };
@@ -52,7 +52,7 @@ pub trait Rows {
     ghost told: { Self.Reply → Reply };
 
     /// The abstract command of a row's fields, or the refusal of a malformed row.
-    ghost form: { Fields → Read Asked };
+    ghost form: { Fields → ReadResult Asked };
 
     /// The answer to a command with a key at a timestamp, and the base after it.
     ghost step: { RowStep Base Asked };
@@ -60,7 +60,7 @@ pub trait Rows {
     /// Parses the fields of a row: returns a command, or the refusal of a malformed row. Fails with
     /// `Memory` only.
     fn parse(alloc: Global, row: &[&[u8]]) -> Planned<Self::Command>
-        ensures read { IfOk result (λ read. ParsesAs asked read (form (texts row.now))) }
+        ensures read { IfOk result (λ read. ParsesAs asked read (form (texts_of_fields row.now))) }
         ensures fault { OnErr result (result ≡ Err Memory) };
 
     /// Executes a command under its key at the clock reading `now`, and returns its answer.
@@ -74,13 +74,13 @@ pub trait Rows {
         command: &Self::Command,
         key: &Key,
     ) -> Result<RowAnswer<Self::Reply>, Fault>
-        ensures called { acts desk.old now (asked command.now, key_of key.now) (outcome_in_model told result) desk.new }
+        ensures called { acts desk.old now (asked command.now, abstract_key key.now) (outcome_in_model told result) desk.new }
         ensures earlier { honest desk.new → honest desk.old }
         ensures ok { IfOk result (λ answer. (sure : Bool) →
-            Acts honest (RepresentsDurably stands leaves sure) step desk.old desk.new now (asked command.now) (key_of key.now) (answer_in_model told answer)) }
-        ensures err { OnErr result (Keeps honest stands desk.old desk.new) }
-        ensures stop { OnErr result (MayAct honest stands leaves step desk.old desk.new now (asked command.now) (key_of key.now)) }
-        ensures fault { IfErr result MayFail };
+            CallRefinesStep honest (RepresentsDurably stands leaves sure) step desk.old desk.new now (asked command.now) (abstract_key key.now) (answer_in_model told answer)) }
+        ensures err { OnErr result (PreservesRepresentedBases honest stands desk.old desk.new) }
+        ensures stop { OnErr result (IsFailedCallCrashSafe honest stands leaves step desk.old desk.new now (asked command.now) (abstract_key key.now)) }
+        ensures fault { IfErr result IsCallFault };
 
     /// Returns the fields of a reply, joined by commas.
     fn reply_line(alloc: Global, reply: &Self::Reply) -> Result<String, AllocError>

@@ -5,23 +5,23 @@ use Rattle.std.specs.Option.{option_map_or}
 use Rattle.std.specs.List.{AllByRecursion}
 use Rattle.std.proofs.lemmas.Bool.{eq-eqb}
 use Rattle.std.proofs.lemmas.Int.{ints}
-use Rattle.brk_lots.specs.Books.{lots_total}
+use Rattle.brk_lots.specs.Books.{lot_quantity_sum}
 use Rattle.brk_lots.specs.Lots.{side_of_qty}
 use Rattle.brk_lots.specs.Position.{IsPosition}
 use Rattle.brk_lots.specs.declared.lot.Lot.{Lot}
 use Rattle.brk_money.specs.Spelling.{Text}
 use Rattle.brk_money.specs.declared.side.Side.TheVariants.{Buy, Sell}
-use Rattle.brk_model.specs.Base.{Base, account_with, completed, is_completed, security_with}
-use Rattle.brk_model.specs.Derived.{balance_of, commissions_of, of_broker, postings_of, summary_of, trade_count_of}
-use Rattle.brk_model.specs.Keys.{account_key, broker_key, number, row_before, summary_key}
+use Rattle.brk_model.specs.Base.{Base, account_with_id, completed_trades, is_completed, security_with_symbol}
+use Rattle.brk_model.specs.Derived.{balance_of_account, commission_total_of_broker, trades_of_broker, postings_of_base, holding_summary_quantity, trade_count_of_broker}
+use Rattle.brk_model.specs.Keys.{account_key, broker_key, number, is_row_key_less, summary_key}
 use Rattle.brk_model.specs.Lists.{insert_by, is_zero, sort_by, total_by}
-use Rattle.brk_model.specs.Names.{AccountExists, SecurityExists}
+use Rattle.brk_model.specs.Names.{AccountOfTradeExists, SecurityOfTradeExists}
 use Rattle.brk_model.specs.Records.{Account, Broker}
-use Rattle.brk_model.specs.Sheets.{sheets, sheets_of}
-use Rattle.brk_model.specs.Tables.{AccountRow, BrokerRow, HoldingRow, SummaryRow, account_row, broker_row, holding_row, summary_rows, tables_at, trade_row}
-use Rattle.brk_book_theorems.specs.Books.{DistinctAccounts, BooksInvariant}
-use Rattle.brk_book_theorems.specs.Sums.{SumsMatch, IsBalance, IsBrokerSum, IsSummary, IsSummed, held_in, is_lot_of}
-use Rattle.brk_book_theorems.specs.TradeReads.{lots_of_position, position_in, row_lot}
+use Rattle.brk_model.specs.Sheets.{sheets, tables_sorted_by_key}
+use Rattle.brk_model.specs.Tables.{AccountRow, BrokerRow, HoldingRow, SummaryRow, account_row, broker_row, holding_row, summary_rows, tables_of_base_in_schema, trade_row}
+use Rattle.brk_book_theorems.specs.Books.{HasDistinctAccountIds, BooksInvariant}
+use Rattle.brk_book_theorems.specs.Sums.{SumsMatch, BalanceMatchesCashRows, BrokerTotalsMatch, SummaryMatchesLots, LotHasSummary, lot_sum_of_position, is_lot_of_position}
+use Rattle.brk_book_theorems.specs.TradeReads.{holding_rows_of_position, position_lots, lot_of_row}
 use Rattle.brk_book_theorems.proofs.Bools.{numbers_back}
 use Rattle.brk_book_theorems.proofs.Holding.{total_is}
 use Rattle.brk_book_theorems.proofs.LotLives.{lots_live_on}
@@ -36,28 +36,28 @@ use Rattle.brk_book_theorems.proofs.Worth.{total-sorted}
 
 -- ---- brokers
 
-broker_adds : (base : Base) → BooksInvariant base → (b : Broker) → IsBrokerSum (sheets base) (broker_row base.accounts (completed base) b)
-unfolding trade_count_of commissions_of
+broker_adds : (base : Base) → BooksInvariant base → (b : Broker) → BrokerTotalsMatch (sheets base) (broker_row base.accounts (completed_trades base) b)
+unfolding trade_count_of_broker commission_total_of_broker
 broker_adds base books b = record {
-  trades = ap pos (sym (ap length (broker_trades base b.id books) ∙ length-map trade_row (of_broker base.accounts (completed base) b.id)));
-  commissions = sym (ap (sum_by (λ t. t.commission)) (broker_trades base b.id books) ∙ sum-map (λ t. t.commission) trade_row (of_broker base.accounts (completed base) b.id));
+  trades = ap pos (sym (ap length (broker_trades base b.id books) ∙ length-map trade_row (trades_of_broker base.accounts (completed_trades base) b.id)));
+  commissions = sym (ap (sum_by (λ t. t.commission)) (broker_trades base b.id books) ∙ sum-map (λ t. t.commission) trade_row (trades_of_broker base.accounts (completed_trades base) b.id));
 }
 
-brokers_are : (base : Base) → (sheets base).brokers ≡ sort_by (row_before broker_key) (map (broker_row base.accounts (completed base)) base.brokers)
-unfolding tables_at sheets_of
+brokers_are : (base : Base) → (sheets base).brokers ≡ sort_by (is_row_key_less broker_key) (map (broker_row base.accounts (completed_trades base)) base.brokers)
+unfolding tables_of_base_in_schema tables_sorted_by_key
 brokers_are base = refl
 
-brokers_add : (base : Base) → BooksInvariant base → AllByRecursion (IsBrokerSum (sheets base)) (sheets base).brokers
+brokers_add : (base : Base) → BooksInvariant base → AllByRecursion (BrokerTotalsMatch (sheets base)) (sheets base).brokers
 brokers_add base books =
-    let rows : List BrokerRow = map (broker_row base.accounts (completed base)) base.brokers in
-    subst (AllByRecursion (IsBrokerSum (sheets base))) (sym (brokers_are base))
-    (All-sort (IsBrokerSum (sheets base)) (row_before broker_key) rows
-    (All-mapped (IsBrokerSum (sheets base)) (broker_row base.accounts (completed base)) base.brokers (All-of base.brokers (broker_adds base books))))
+    let rows : List BrokerRow = map (broker_row base.accounts (completed_trades base)) base.brokers in
+    subst (AllByRecursion (BrokerTotalsMatch (sheets base))) (sym (brokers_are base))
+    (All-sort (BrokerTotalsMatch (sheets base)) (is_row_key_less broker_key) rows
+    (All-mapped (BrokerTotalsMatch (sheets base)) (broker_row base.accounts (completed_trades base)) base.brokers (All-of base.brokers (broker_adds base books))))
 
 -- ---- balances
 
 -- each account is found by its id
-accounts_found : (accounts : List Account) → DistinctAccounts accounts → AllByRecursion (λ a. find (λ b. b.id == a.id) accounts ≡ Some a) accounts
+accounts_found : (accounts : List Account) → HasDistinctAccountIds accounts → AllByRecursion (λ a. find (λ b. b.id == a.id) accounts ≡ Some a) accounts
 accounts_found [] d = tt
 accounts_found (a ∷ accounts) d = (
   ap (λ b. cond b (Some a) (find (λ b. b.id == a.id) accounts)) (eq-eqb a.id a.id refl),
@@ -69,31 +69,31 @@ accounts_found (a ∷ accounts) d = (
     behind [] h k = tt
     behind (b ∷ bs) h k = (ap (λ x. cond x (Some a) (find (λ c. c.id == b.id) accounts)) (numbers_back a.id b.id ∙ h.0) ∙ k.0, behind bs h.1 k.1)
 
-balance_adds : (base : Base) → BooksInvariant base → (a : Account) → account_with base a.id ≡ Some a → IsBalance (sheets base) (account_row base.accounts (postings_of base) a)
-unfolding balance_of
+balance_adds : (base : Base) → BooksInvariant base → (a : Account) → account_with_id base a.id ≡ Some a → BalanceMatchesCashRows (sheets base) (account_row base.accounts (postings_of_base base) a)
+unfolding balance_of_account
 balance_adds base books a e = λ i. option_map_or (λ a. a.opening) (e i) (pos 0) +ℤ sym (cash_moves base a.id) i
 
-accounts_are : (base : Base) → (sheets base).accounts ≡ sort_by (row_before account_key) (map (account_row base.accounts (postings_of base)) base.accounts)
-unfolding tables_at sheets_of
+accounts_are : (base : Base) → (sheets base).accounts ≡ sort_by (is_row_key_less account_key) (map (account_row base.accounts (postings_of_base base)) base.accounts)
+unfolding tables_of_base_in_schema tables_sorted_by_key
 accounts_are base = refl
 
-balances_add : (base : Base) → BooksInvariant base → AllByRecursion (IsBalance (sheets base)) (sheets base).accounts
+balances_add : (base : Base) → BooksInvariant base → AllByRecursion (BalanceMatchesCashRows (sheets base)) (sheets base).accounts
 balances_add base books =
-    let rows : List AccountRow = map (account_row base.accounts (postings_of base)) base.accounts in
-    subst (AllByRecursion (IsBalance (sheets base))) (sym (accounts_are base))
-    (All-sort (IsBalance (sheets base)) (row_before account_key) rows
-    (All-mapped (IsBalance (sheets base)) (account_row base.accounts (postings_of base)) base.accounts
+    let rows : List AccountRow = map (account_row base.accounts (postings_of_base base)) base.accounts in
+    subst (AllByRecursion (BalanceMatchesCashRows (sheets base))) (sym (accounts_are base))
+    (All-sort (BalanceMatchesCashRows (sheets base)) (is_row_key_less account_key) rows
+    (All-mapped (BalanceMatchesCashRows (sheets base)) (account_row base.accounts (postings_of_base base)) base.accounts
     (All-map base.accounts (balance_adds base books) (accounts_found base.accounts books.owners))))
 
 -- ---- what is held
 
-lots_held : (base : Base) (account : ℕ) (symbol : Text) → lots_total (position_in (sheets base) account symbol) ≡ held_in (sheets base) account symbol
+lots_held : (base : Base) (account : ℕ) (symbol : Text) → lot_quantity_sum (position_lots (sheets base) account symbol) ≡ lot_sum_of_position (sheets base) account symbol
 lots_held base account symbol =
-    let own : List HoldingRow = filter (is_lot_of account symbol) (sheets base).holdings in
-    total-map (λ l. l.qty) row_lot (lots_of_position (sheets base) account symbol)
+    let own : List HoldingRow = filter (is_lot_of_position account symbol) (sheets base).holdings in
+    total-map (λ l. l.qty) lot_of_row (holding_rows_of_position (sheets base) account symbol)
     ∙ total-sorted (λ r. number r.stamp ∷ number r.trade ∷ []) (λ h. h.qty) own
 
-pub held_is : (base : Base) (account : ℕ) (symbol : Text) → BooksInvariant base → held_in (sheets base) account symbol ≡ summary_of (completed base) account symbol
+pub held_is : (base : Base) (account : ℕ) (symbol : Text) → BooksInvariant base → lot_sum_of_position (sheets base) account symbol ≡ holding_summary_quantity (completed_trades base) account symbol
 held_is base account symbol books =
     sym (lots_held base account symbol) ∙ total_is base account symbol books
 
@@ -102,52 +102,52 @@ held_is base account symbol books =
 not_zero : (q : ℤ) → is_zero q ≡ false → q ≢ pos 0
 not_zero q e k = let h : true ≡ false = sym (ap is_zero k) ∙ e in absurd (cc)
 
-summary_adds : (base : Base) → BooksInvariant base → (account : ℕ) (symbol : Text) → AllByRecursion (IsSummary (sheets base)) (summary_rows (completed base) account symbol)
-summary_adds base books account symbol = by_test (is_zero (summary_of (completed base) account symbol)) refl
+summary_adds : (base : Base) → BooksInvariant base → (account : ℕ) (symbol : Text) → AllByRecursion (SummaryMatchesLots (sheets base)) (summary_rows (completed_trades base) account symbol)
+summary_adds base books account symbol = by_test (is_zero (holding_summary_quantity (completed_trades base) account symbol)) refl
   where
     row : SummaryRow
-    row = record { account = account; symbol = symbol; qty = summary_of (completed base) account symbol }
+    row = record { account = account; symbol = symbol; qty = holding_summary_quantity (completed_trades base) account symbol }
 
-    by_test : (b : Bool) → is_zero (summary_of (completed base) account symbol) ≡ b → AllByRecursion (IsSummary (sheets base)) (cond (not b) (row ∷ []) [])
+    by_test : (b : Bool) → is_zero (holding_summary_quantity (completed_trades base) account symbol) ≡ b → AllByRecursion (SummaryMatchesLots (sheets base)) (cond (not b) (row ∷ []) [])
     by_test true e = tt
-    by_test false e = (record { sum = sym (held_is base account symbol books); some = not_zero (summary_of (completed base) account symbol) e }, tt)
+    by_test false e = (record { sum = sym (held_is base account symbol books); some = not_zero (holding_summary_quantity (completed_trades base) account symbol) e }, tt)
 
 All-flat : {X Y : Type 0} (P : Y → Type 0) (f : X → List Y) (xs : List X) → ((x : X) → AllByRecursion P (f x)) → AllByRecursion P (flat_map f xs)
 All-flat P f [] h = tt
 All-flat P f (x ∷ xs) h = All-append P (f x) (flat_map f xs) (h x) (All-flat P f xs h)
 
-summaries_are : (base : Base) → (sheets base).summaries ≡ sort_by (row_before summary_key) (all_summaries base (completed base))
-unfolding tables_at sheets_of
+summaries_are : (base : Base) → (sheets base).summaries ≡ sort_by (is_row_key_less summary_key) (all_summaries base (completed_trades base))
+unfolding tables_of_base_in_schema tables_sorted_by_key
 summaries_are base = refl
 
-summaries_add : (base : Base) → BooksInvariant base → AllByRecursion (IsSummary (sheets base)) (sheets base).summaries
+summaries_add : (base : Base) → BooksInvariant base → AllByRecursion (SummaryMatchesLots (sheets base)) (sheets base).summaries
 summaries_add base books =
-    let P : SummaryRow → Type 0 = IsSummary (sheets base) in
+    let P : SummaryRow → Type 0 = SummaryMatchesLots (sheets base) in
     subst (AllByRecursion P) (sym (summaries_are base))
-    (All-sort P (row_before summary_key) (all_summaries base (completed base))
+    (All-sort P (is_row_key_less summary_key) (all_summaries base (completed_trades base))
     (All-flat P _ base.accounts (λ a. All-flat P _ base.securities (λ s. summary_adds base books a.id s.symbol))))
 
 -- ---- lots of one side add up to something
 
-bought : (ls : List Lot) → AllByRecursion (λ m. side_of_qty m.qty ≡ Buy) ls → (n : ℕ) × (lots_total ls ≡ pos n)
+bought : (ls : List Lot) → AllByRecursion (λ m. side_of_qty m.qty ≡ Buy) ls → (n : ℕ) × (lot_quantity_sum ls ≡ pos n)
 unfolding total_by
 bought [] h = (0, refl)
 bought (m ∷ ls) h = by_qty m.qty refl (bought ls h.1)
   where
-    by_qty : (q : ℤ) → m.qty ≡ q → (n : ℕ) × (lots_total ls ≡ pos n) → (n : ℕ) × (m.qty +ℤ lots_total ls ≡ pos n)
+    by_qty : (q : ℤ) → m.qty ≡ q → (n : ℕ) × (lot_quantity_sum ls ≡ pos n) → (n : ℕ) × (m.qty +ℤ lot_quantity_sum ls ≡ pos n)
     by_qty (pos k) e r = (k + r.0, let t = r.1 in omega (arith, ints, e, t))
     by_qty (negsuc k) e r = let j : Sell ≡ Buy = sym (ap side_of_qty e) ∙ h.0 in absurd (cc)
 
-sold : (ls : List Lot) → AllByRecursion (λ m. side_of_qty m.qty ≡ Sell) ls → (n : ℕ) × (lots_total ls ≡ neg_ℤ (pos n))
+sold : (ls : List Lot) → AllByRecursion (λ m. side_of_qty m.qty ≡ Sell) ls → (n : ℕ) × (lot_quantity_sum ls ≡ neg_ℤ (pos n))
 unfolding total_by
 sold [] h = (0, refl)
 sold (m ∷ ls) h = by_qty m.qty refl (sold ls h.1)
   where
-    by_qty : (q : ℤ) → m.qty ≡ q → (n : ℕ) × (lots_total ls ≡ neg_ℤ (pos n)) → (n : ℕ) × (m.qty +ℤ lots_total ls ≡ neg_ℤ (pos n))
+    by_qty : (q : ℤ) → m.qty ≡ q → (n : ℕ) × (lot_quantity_sum ls ≡ neg_ℤ (pos n)) → (n : ℕ) × (m.qty +ℤ lot_quantity_sum ls ≡ neg_ℤ (pos n))
     by_qty (pos k) e r = let j : Buy ≡ Sell = sym (ap side_of_qty e) ∙ h.0 in absurd (cc)
     by_qty (negsuc k) e r = (suc k + r.0, let t = r.1 in omega (arith, ints, e, t))
 
-no_lots : (ls : List Lot) → IsPosition ls → lots_total ls ≡ pos 0 → ls ≡ []
+no_lots : (ls : List Lot) → IsPosition ls → lot_quantity_sum ls ≡ pos 0 → ls ≡ []
 unfolding total_by
 no_lots [] p e = refl
 no_lots (l ∷ ls) p e = by_qty l.qty refl
@@ -197,49 +197,49 @@ each_left {X = X} p own (x ∷ xs) = (
         by_test true e = absurd (cc)
         by_test false e = h e
 
-of_itself : (h : HoldingRow) → is_lot_of h.account h.symbol h ≡ true
+of_itself : (h : HoldingRow) → is_lot_of_position h.account h.symbol h ≡ true
 of_itself h = and_both (h.account == h.account) (bytes_eq h.symbol h.symbol) (eq-eqb h.account h.account refl) (same_bytes h.symbol h.symbol refl)
 
 -- the account and the security of a lot are there
 abbrev IsKnown : Base → HoldingRow → Type 0
-IsKnown base h = (is_some (account_with base h.account) ≡ true) × (is_some (security_with base h.symbol) ≡ true)
+IsKnown base h = (is_some (account_with_id base h.account) ≡ true) × (is_some (security_with_symbol base h.symbol) ≡ true)
 
 lots_known : (base : Base) → BooksInvariant base → AllByRecursion (IsKnown base) (sheets base).holdings
 lots_known base books =
     subst (AllByRecursion (IsKnown base)) (sym (holdings_in_order base books.numbered))
-    (All-filter (IsKnown base) is_left (map (holding_row (completed base)) (completed base))
-    (All-mapped (IsKnown base) (holding_row (completed base)) (completed base)
-    (All-filter (λ t. AccountExists base t × SecurityExists base t) is_completed base.trades
-    (All-both (AccountExists base) (SecurityExists base) base.trades books.accounts books.securities))))
+    (All-filter (IsKnown base) is_left (map (holding_row (completed_trades base)) (completed_trades base))
+    (All-mapped (IsKnown base) (holding_row (completed_trades base)) (completed_trades base)
+    (All-filter (λ t. AccountOfTradeExists base t × SecurityOfTradeExists base t) is_completed base.trades
+    (All-both (AccountOfTradeExists base) (SecurityOfTradeExists base) base.trades books.accounts books.securities))))
 
-nothing_held : (base : Base) (account : ℕ) (symbol : Text) → BooksInvariant base → held_in (sheets base) account symbol ≡ pos 0 → filter (is_lot_of account symbol) (sheets base).holdings ≡ []
+nothing_held : (base : Base) (account : ℕ) (symbol : Text) → BooksInvariant base → lot_sum_of_position (sheets base) account symbol ≡ pos 0 → filter (is_lot_of_position account symbol) (sheets base).holdings ≡ []
 nothing_held base account symbol books e =
-    let position : position_in (sheets base) account symbol ≡ [] =
-    no_lots (position_in (sheets base) account symbol) (position_read base account symbol books) (lots_held base account symbol ∙ e) in
-    none_sorted _ (filter (is_lot_of account symbol) (sheets base).holdings) (none_mapped row_lot (lots_of_position (sheets base) account symbol) position)
+    let position : position_lots (sheets base) account symbol ≡ [] =
+    no_lots (position_lots (sheets base) account symbol) (position_read base account symbol books) (lots_held base account symbol ∙ e) in
+    none_sorted _ (filter (is_lot_of_position account symbol) (sheets base).holdings) (none_mapped lot_of_row (holding_rows_of_position (sheets base) account symbol) position)
 
 zero_is : (q : ℤ) → is_zero q ≡ true → q ≡ pos 0
 zero_is (pos zero) e = refl
 zero_is (pos (suc n)) e = absurd (cc)
 zero_is (negsuc n) e = absurd (cc)
 
-lot_summed : (base : Base) → BooksInvariant base → (h : HoldingRow) → IsKnown base h × (filter (is_lot_of h.account h.symbol) (sheets base).holdings ≡ [] → ⊥) → IsSummed (sheets base) h
-lot_summed base books h k = by_test (is_zero (summary_of (completed base) h.account h.symbol)) refl
+lot_summed : (base : Base) → BooksInvariant base → (h : HoldingRow) → IsKnown base h × (filter (is_lot_of_position h.account h.symbol) (sheets base).holdings ≡ [] → ⊥) → LotHasSummary (sheets base) h
+lot_summed base books h k = by_test (is_zero (holding_summary_quantity (completed_trades base) h.account h.symbol)) refl
   where
-    by_test : (b : Bool) → is_zero (summary_of (completed base) h.account h.symbol) ≡ b → IsSummed (sheets base) h
+    by_test : (b : Bool) → is_zero (holding_summary_quantity (completed_trades base) h.account h.symbol) ≡ b → LotHasSummary (sheets base) h
     by_test true e =
         absurd (k.1 (nothing_held base h.account h.symbol books
-        (held_is base h.account h.symbol books ∙ zero_is (summary_of (completed base) h.account h.symbol) e)))
+        (held_is base h.account h.symbol books ∙ zero_is (holding_summary_quantity (completed_trades base) h.account h.symbol) e)))
     by_test false e =
         ap is_some (reads_summary_row base h.account h.symbol books k.0.0 k.0.1)
-        ∙ ap (λ b. is_some (cond b None (Some (let row : SummaryRow = record { account = h.account; symbol = h.symbol; qty = summary_of (completed base) h.account h.symbol } in row)))) e
+        ∙ ap (λ b. is_some (cond b None (Some (let row : SummaryRow = record { account = h.account; symbol = h.symbol; qty = holding_summary_quantity (completed_trades base) h.account h.symbol } in row)))) e
 
-all_summed : (base : Base) → BooksInvariant base → AllByRecursion (IsSummed (sheets base)) (sheets base).holdings
+all_summed : (base : Base) → BooksInvariant base → AllByRecursion (LotHasSummary (sheets base)) (sheets base).holdings
 all_summed base books =
     let rows : List HoldingRow = (sheets base).holdings in
     All-map rows (lot_summed base books)
-    (All-both (IsKnown base) (λ h. filter (is_lot_of h.account h.symbol) (sheets base).holdings ≡ [] → ⊥) rows (lots_known base books)
-    (each_left (λ h. is_lot_of h.account h.symbol) of_itself rows))
+    (All-both (IsKnown base) (λ h. filter (is_lot_of_position h.account h.symbol) (sheets base).holdings ≡ [] → ⊥) rows (lots_known base books)
+    (each_left (λ h. is_lot_of_position h.account h.symbol) of_itself rows))
 
 -- ---- all of it
 

@@ -6,17 +6,17 @@ use Rattle.std.proofs.lemmas.Bool.{eqb-true, eq-eqb}
 use Rattle.std.proofs.lemmas.Bool.Decides.{nat_tests}
 use Rattle.std.proofs.lemmas.Slice.Eq.{bytes_eq-Decides}
 use Rattle.brk_money.specs.Spelling.{Text}
-use Rattle.brk_money.specs.Kinds.{same_type}
+use Rattle.brk_money.specs.Kinds.{is_same_trade_type}
 use Rattle.brk_money.specs.declared.trade_type.TradeType.{TradeType}
 use Rattle.brk_model.specs.Lists.{insert_by, sort_by}
 use Rattle.brk_model.specs.Records.{Band}
-use Rattle.brk_model.specs.Base.{Base, band_with}
-use Rattle.brk_model.specs.Keys.{KeyPart, row_before, by_key, band_key}
-use Rattle.brk_model.specs.Sheets.{sheets, sheets_of}
-use Rattle.brk_model.specs.Tables.{tables_at}
-use Rattle.brk_model.specs.Tests.{bands_meet}
-use Rattle.brk_book_theorems.specs.Books.{BooksInvariant, BandsApart}
-use Rattle.brk_book_theorems.specs.TradeReads.{band_in}
+use Rattle.brk_model.specs.Base.{Base, commission_band_for}
+use Rattle.brk_model.specs.Keys.{KeyPart, is_row_key_less, rows_sorted_by_key, band_key}
+use Rattle.brk_model.specs.Sheets.{sheets, tables_sorted_by_key}
+use Rattle.brk_model.specs.Tables.{tables_of_base_in_schema}
+use Rattle.brk_model.specs.Tests.{bands_overlap}
+use Rattle.brk_book_theorems.specs.Books.{BooksInvariant, HasDisjointBands}
+use Rattle.brk_book_theorems.specs.TradeReads.{band_of_quantity}
 use Rattle.brk_book_theorems.proofs.Same.{NonePass, All-map, any-none}
 use Rattle.brk_book_theorems.proofs.Reading.{any-sorted}
 use Rattle.brk_book_theorems.proofs.NewKeys.{both, and_both, not_both, same_bytes, same_codes, code_same}
@@ -47,15 +47,15 @@ find-past before p x (y ∷ ys) e = by_test (find-past before p x ys e) (before 
     by_test ih true = ap (λ o. cond (p y) (Some y) o) ih
     by_test ih false = rw e refl
 
-find-only : {Row : Type 0} (key : Row → List KeyPart) (p : Row → Bool) (xs : List Row) → OnlyOne p xs → find p (by_key key xs) ≡ find p xs
+find-only : {Row : Type 0} (key : Row → List KeyPart) (p : Row → Bool) (xs : List Row) → OnlyOne p xs → find p (rows_sorted_by_key key xs) ≡ find p xs
 unfolding sort_by OnlyOne
 find-only key p [] h = refl
 find-only {Row = Row} key p (x ∷ xs) h = by_test (find-only key p xs h.1) (p x) refl
   where
-    by_test : find p (by_key key xs) ≡ find p xs → (b : Bool) → p x ≡ b → find p (insert_by (row_before key) x (by_key key xs)) ≡ find p (x ∷ xs)
+    by_test : find p (rows_sorted_by_key key xs) ≡ find p xs → (b : Bool) → p x ≡ b → find p (insert_by (is_row_key_less key) x (rows_sorted_by_key key xs)) ≡ find p (x ∷ xs)
     by_test ih true e =
-        find-first (row_before key) p x (by_key key xs) e (any-none p (by_key key xs) (any-sorted key p xs ∙ none-any p xs (h.0 e))) ∙ sym (ap (λ b. cond b (Some x) (find p xs)) e)
-    by_test ih false e = find-past (row_before key) p x (by_key key xs) e ∙ ih ∙ sym (ap (λ b. cond b (Some x) (find p xs)) e)
+        find-first (is_row_key_less key) p x (rows_sorted_by_key key xs) e (any-none p (rows_sorted_by_key key xs) (any-sorted key p xs ∙ none-any p xs (h.0 e))) ∙ sym (ap (λ b. cond b (Some x) (find p xs)) e)
+    by_test ih false e = find-past (is_row_key_less key) p x (rows_sorted_by_key key xs) e ∙ ih ∙ sym (ap (λ b. cond b (Some x) (find p xs)) e)
 
 find-filter : {X : Type 0} (q p : X → Bool) (xs : List X) → find p (filter q xs) ≡ find (λ x. q x && p x) xs
 find-filter q p [] = refl
@@ -78,22 +78,22 @@ and_assoc false b c = refl
 
 -- whether a band is of a tier, a type, an exchange and a quantity
 abbrev fits : ℕ → TradeType → Text → ℕ → Band → Bool
-fits tier kind exchange qty b = (b.tier == tier) && same_type b.kind kind && bytes_eq b.exchange exchange && nat_le b.from_qty qty && nat_le qty b.to_qty
+fits tier kind exchange qty b = (b.tier == tier) && is_same_trade_type b.kind kind && bytes_eq b.exchange exchange && nat_le b.from_qty qty && nat_le qty b.to_qty
 
 le_through : (m n k : ℕ) → nat_le m n ≡ true → nat_le n k ≡ true → nat_le m k ≡ true
 le_through m n k g h = grind (arith, nat_tests)
 
 -- two bands of one quantity share it
-both_meet : (tier : ℕ) (kind : TradeType) (exchange : Text) (qty : ℕ) (b c : Band) → fits tier kind exchange qty b ≡ true → fits tier kind exchange qty c ≡ true → bands_meet b c ≡ true
+both_meet : (tier : ℕ) (kind : TradeType) (exchange : Text) (qty : ℕ) (b c : Band) → fits tier kind exchange qty b ≡ true → fits tier kind exchange qty c ≡ true → bands_overlap b c ≡ true
 both_meet tier kind exchange qty b c e f =
     let e1 = both _ (nat_le qty b.to_qty) e in
     let e2 = both _ (nat_le b.from_qty qty) e1.0 in
     let e3 = both _ (bytes_eq b.exchange exchange) e2.0 in
-    let e4 = both (b.tier == tier) (same_type b.kind kind) e3.0 in
+    let e4 = both (b.tier == tier) (is_same_trade_type b.kind kind) e3.0 in
     let f1 = both _ (nat_le qty c.to_qty) f in
     let f2 = both _ (nat_le c.from_qty qty) f1.0 in
     let f3 = both _ (bytes_eq c.exchange exchange) f2.0 in
-    let f4 = both (c.tier == tier) (same_type c.kind kind) f3.0 in
+    let f4 = both (c.tier == tier) (is_same_trade_type c.kind kind) f3.0 in
     and_both _ _ (and_both _ _ (and_both _ _ (and_both _ _
     (eq-eqb b.tier c.tier (eqb-true b.tier tier e4.0 ∙ sym (eqb-true c.tier tier f4.0)))
     (code_same b.kind c.kind (same_codes b.kind kind e4.1 ∙ sym (same_codes c.kind kind f4.1))))
@@ -101,7 +101,7 @@ both_meet tier kind exchange qty b c e f =
     (le_through b.from_qty qty c.to_qty e2.1 f1.1))
     (le_through c.from_qty qty b.to_qty f2.1 e1.1)
 
-only_band : (tier : ℕ) (kind : TradeType) (exchange : Text) (qty : ℕ) (bs : List Band) → BandsApart bs → OnlyOne (fits tier kind exchange qty) bs
+only_band : (tier : ℕ) (kind : TradeType) (exchange : Text) (qty : ℕ) (bs : List Band) → HasDisjointBands bs → OnlyOne (fits tier kind exchange qty) bs
 unfolding OnlyOne
 only_band tier kind exchange qty [] h = tt
 only_band tier kind exchange qty (b ∷ bs) h = (
@@ -109,14 +109,14 @@ only_band tier kind exchange qty (b ∷ bs) h = (
   only_band tier kind exchange qty bs h.1,
 )
   where
-    other : (c : Band) → bands_meet b c ≡ false → fits tier kind exchange qty b ≡ true → (f : Bool) → fits tier kind exchange qty c ≡ f → fits tier kind exchange qty c ≡ false
+    other : (c : Band) → bands_overlap b c ≡ false → fits tier kind exchange qty b ≡ true → (f : Bool) → fits tier kind exchange qty c ≡ f → fits tier kind exchange qty c ≡ false
     other c apart e false g = g
-    other c apart e true g = absurd (not_both (bands_meet b c) (both_meet tier kind exchange qty b c e g) apart)
+    other c apart e true g = absurd (not_both (bands_overlap b c) (both_meet tier kind exchange qty b c e g) apart)
 
-pub reads_band : (base : Base) (tier : ℕ) (kind : TradeType) (exchange : Text) (qty : ℕ) → BooksInvariant base → band_in (sheets base) tier kind exchange qty ≡ band_with base tier kind exchange qty
-unfolding tables_at sheets_of
+pub reads_band : (base : Base) (tier : ℕ) (kind : TradeType) (exchange : Text) (qty : ℕ) → BooksInvariant base → band_of_quantity (sheets base) tier kind exchange qty ≡ commission_band_for base tier kind exchange qty
+unfolding tables_of_base_in_schema tables_sorted_by_key
 reads_band base tier kind exchange qty books =
-    find-filter (λ r. (r.tier == tier) && same_type r.kind kind && bytes_eq r.exchange exchange) (λ r. nat_le r.from_qty qty && nat_le qty r.to_qty) (by_key band_key base.bands)
-    ∙ find-same _ (fits tier kind exchange qty) (by_key band_key base.bands)
-    (λ b. and_assoc ((b.tier == tier) && same_type b.kind kind && bytes_eq b.exchange exchange) (nat_le b.from_qty qty) (nat_le qty b.to_qty))
+    find-filter (λ r. (r.tier == tier) && is_same_trade_type r.kind kind && bytes_eq r.exchange exchange) (λ r. nat_le r.from_qty qty && nat_le qty r.to_qty) (rows_sorted_by_key band_key base.bands)
+    ∙ find-same _ (fits tier kind exchange qty) (rows_sorted_by_key band_key base.bands)
+    (λ b. and_assoc ((b.tier == tier) && is_same_trade_type b.kind kind && bytes_eq b.exchange exchange) (nat_le b.from_qty qty) (nat_le qty b.to_qty))
     ∙ find-only band_key (fits tier kind exchange qty) base.bands (only_band tier kind exchange qty base.bands books.apart)

@@ -6,9 +6,9 @@ use Rattle.std.proofs.lemmas.Bool.{eqb-true, eq-eqb}
 use Rattle.std.proofs.lemmas.Slice.Eq.{bytes_eq-Decides}
 use Rattle.brk_model.specs.Lists.{insert_by, sort_by}
 use Rattle.brk_model.specs.Records.{Trade}
-use Rattle.brk_model.specs.Base.{Base, completed}
-use Rattle.brk_model.specs.Derived.{deal_of, deals_in, of_position, shares_in}
-use Rattle.brk_model.specs.Shares.{Share, shares_after}
+use Rattle.brk_model.specs.Base.{Base, completed_trades}
+use Rattle.brk_model.specs.Derived.{deal_of_trade, deals_of_position, trades_of_position, shares_of_position}
+use Rattle.brk_model.specs.Shares.{Share, shares_after_deal}
 use Rattle.brk_book_theorems.specs.Books.{BooksInvariant}
 use Rattle.brk_book_theorems.proofs.Bools.{numbers_back, same_text, texts_back}
 use Rattle.brk_book_theorems.proofs.NewKeys.{and_both, both}
@@ -19,9 +19,9 @@ use Rattle.brk_book_theorems.proofs.LotReading.{IdsApart, filter-both}
 -- a trade is completed among those that are, and after all of them
 pub record Completes (base : Base) (xs : List Trade) (t : Trade) (ys : List Trade) : Type 0 where
   pub books : BooksInvariant base
-  pub split : completed base ≡ xs ++ ys
-  pub last : IsLast t (completed base)
-  pub fresh : NonePass (λ u. u.id == t.id) (completed base)
+  pub split : completed_trades base ≡ xs ++ ys
+  pub last : IsLast t (completed_trades base)
+  pub fresh : NonePass (λ u. u.id == t.id) (completed_trades base)
 
 -- whether a trade is of the same position
 abbrev pub is_here : Trade → Trade → Bool
@@ -34,48 +34,48 @@ pub other_way : (t u : Trade) → is_here t u ≡ false → (t.account == u.acco
 other_way t u e = (λ i. numbers_back t.account u.account i && texts_back t.symbol u.symbol i) ∙ e
 
 -- the trades of its position
-pub of_here : (t : Trade) (ts : List Trade) → filter (is_here t) ts ≡ of_position ts t.account t.symbol
+pub of_here : (t : Trade) (ts : List Trade) → filter (is_here t) ts ≡ trades_of_position ts t.account t.symbol
 of_here t ts = filter-both (λ u. u.account == t.account) (λ u. bytes_eq u.symbol t.symbol) ts
 
 -- the shares of its position before it
 abbrev pub shares_before : Base → Trade → List Share
-shares_before base t = shares_in (completed base) t.account t.symbol
+shares_before base t = shares_of_position (completed_trades base) t.account t.symbol
 
 -- and after it
 abbrev pub shares_then : Base → Trade → List Share
-shares_then base t = shares_after (shares_before base t) (deal_of t)
+shares_then base t = shares_after_deal (shares_before base t) (deal_of_trade t)
 
-pub here_shares : (done : List Trade) (t u : Trade) → is_here t u ≡ true → shares_in done u.account u.symbol ≡ shares_in done t.account t.symbol
+pub here_shares : (done : List Trade) (t u : Trade) → is_here t u ≡ true → shares_of_position done u.account u.symbol ≡ shares_of_position done t.account t.symbol
 here_shares done t u e =
     let k = both (u.account == t.account) (bytes_eq u.symbol t.symbol) e in
-    λ i. shares_in done (eqb-true u.account t.account k.0 i) (same_text u.symbol t.symbol k.1 i)
+    λ i. shares_of_position done (eqb-true u.account t.account k.0 i) (same_text u.symbol t.symbol k.1 i)
 
-pub here_deals : (done : List Trade) (t u : Trade) → is_here t u ≡ true → deals_in done u.account u.symbol ≡ deals_in done t.account t.symbol
+pub here_deals : (done : List Trade) (t u : Trade) → is_here t u ≡ true → deals_of_position done u.account u.symbol ≡ deals_of_position done t.account t.symbol
 here_deals done t u e =
     let k = both (u.account == t.account) (bytes_eq u.symbol t.symbol) e in
-    λ i. deals_in done (eqb-true u.account t.account k.0 i) (same_text u.symbol t.symbol k.1 i)
+    λ i. deals_of_position done (eqb-true u.account t.account k.0 i) (same_text u.symbol t.symbol k.1 i)
 
 pub shares_here : (base : Base) (xs : List Trade) (t : Trade) (ys : List Trade) → Completes base xs t ys → (u : Trade) → is_here t u ≡ true
-    → shares_in (xs ++ t ∷ ys) u.account u.symbol ≡ shares_then base t
+    → shares_of_position (xs ++ t ∷ ys) u.account u.symbol ≡ shares_then base t
 shares_here base xs t ys c u e =
     here_shares (xs ++ t ∷ ys) t u e ∙ shares_own xs t ys (subst (IsLast t) c.split c.last)
-    ∙ ap (λ ts. shares_after (shares_in ts t.account t.symbol) (deal_of t)) (sym c.split)
+    ∙ ap (λ ts. shares_after_deal (shares_of_position ts t.account t.symbol) (deal_of_trade t)) (sym c.split)
 
 pub shares_elsewhere : (base : Base) (xs : List Trade) (t : Trade) (ys : List Trade) → Completes base xs t ys → (u : Trade) → is_here t u ≡ false
-    → shares_in (xs ++ t ∷ ys) u.account u.symbol ≡ shares_in (completed base) u.account u.symbol
+    → shares_of_position (xs ++ t ∷ ys) u.account u.symbol ≡ shares_of_position (completed_trades base) u.account u.symbol
 shares_elsewhere base xs t ys c u e =
-    shares_other xs t ys u.account u.symbol (other_way t u e) ∙ ap (λ ts. shares_in ts u.account u.symbol) (sym c.split)
+    shares_other xs t ys u.account u.symbol (other_way t u e) ∙ ap (λ ts. shares_of_position ts u.account u.symbol) (sym c.split)
 
 pub deals_here : (base : Base) (xs : List Trade) (t : Trade) (ys : List Trade) → Completes base xs t ys → (u : Trade) → is_here t u ≡ true
-    → deals_in (xs ++ t ∷ ys) u.account u.symbol ≡ deals_in (completed base) t.account t.symbol ++ deal_of t ∷ []
+    → deals_of_position (xs ++ t ∷ ys) u.account u.symbol ≡ deals_of_position (completed_trades base) t.account t.symbol ++ deal_of_trade t ∷ []
 deals_here base xs t ys c u e =
     here_deals (xs ++ t ∷ ys) t u e ∙ deals_own xs t ys (subst (IsLast t) c.split c.last)
-    ∙ ap (λ ts. deals_in ts t.account t.symbol ++ deal_of t ∷ []) (sym c.split)
+    ∙ ap (λ ts. deals_of_position ts t.account t.symbol ++ deal_of_trade t ∷ []) (sym c.split)
 
 pub deals_elsewhere : (base : Base) (xs : List Trade) (t : Trade) (ys : List Trade) → Completes base xs t ys → (u : Trade) → is_here t u ≡ false
-    → deals_in (xs ++ t ∷ ys) u.account u.symbol ≡ deals_in (completed base) u.account u.symbol
+    → deals_of_position (xs ++ t ∷ ys) u.account u.symbol ≡ deals_of_position (completed_trades base) u.account u.symbol
 deals_elsewhere base xs t ys c u e =
-    deals_other xs t ys u.account u.symbol (other_way t u e) ∙ ap (λ ts. deals_in ts u.account u.symbol) (sym c.split)
+    deals_other xs t ys u.account u.symbol (other_way t u e) ∙ ap (λ ts. deals_of_position ts u.account u.symbol) (sym c.split)
 
 -- ---- trades of different ids
 

@@ -4,19 +4,19 @@ use Rattle.std.specs.Prelude.{◌&&◌, bytes_eq}
 use Rattle.std.specs.List.{AllByRecursion}
 use Rattle.std.specs.Option.{option_map_or}
 use Rattle.std.proofs.lemmas.Bool.{eqb-true}
-use Rattle.brk_money.specs.Kinds.{same_status}
-use Rattle.brk_money.specs.Moments.{last_stamp}
+use Rattle.brk_money.specs.Kinds.{is_same_trade_status}
+use Rattle.brk_money.specs.Moments.{greatest_stamp}
 use Rattle.brk_money.specs.declared.status.Status.{Status}
 use Rattle.brk_money.specs.declared.status.Status.TheVariants.{Completed, Active, Submitted, Pending, Canceled}
 use Rattle.brk_model.specs.Lists.{update_where}
 use Rattle.brk_model.specs.Records.{StatusChange, Trade}
-use Rattle.brk_model.specs.Base.{Base, completed, has_status, is_completed, marked, trade_with}
+use Rattle.brk_model.specs.Base.{Base, completed_trades, has_status, is_completed, trade_with_status_change, trade_with_id}
 use Rattle.brk_model.specs.Commands.{Tick}
-use Rattle.brk_model.specs.Feed.{is_triggered, triggers, with_tick, with_ticks}
-use Rattle.brk_model.specs.Tests.{next_stamp, wrong_status}
+use Rattle.brk_model.specs.Feed.{is_triggered_by_tick, is_triggering_price, base_after_tick, base_after_ticks}
+use Rattle.brk_model.specs.Tests.{stamp_of_next_command, status_check}
 use Rattle.brk_money.specs.declared.refusal.Refusal.TheVariants.{NoTrade}
-use Rattle.brk_model.specs.Names.{NumberedFrom}
-use Rattle.brk_book_theorems.specs.Books.{AreMomentsInOrder, CompletesFirst, IsEarly, IsNoCompletion, IsOne, WaitsFirst}
+use Rattle.brk_model.specs.Names.{AreNumberedFrom}
+use Rattle.brk_book_theorems.specs.Books.{CompletionBooksInvariant, HasNoCompletionIfSubmitted, IsTradeUpToLastStamp, IsNotCompletion, HasOneStatusChange, HasOneChangeIfPending}
 use Rattle.brk_book_theorems.proofs.Same.{All-append, All-map, All-of}
 use Rattle.brk_book_theorems.proofs.Places.{FoundAt, find-at}
 use Rattle.brk_book_theorems.proofs.Numbering.{numbered_after, pending_not_completed, status_of_marked}
@@ -24,15 +24,15 @@ use Rattle.brk_book_theorems.proofs.Tested.{not_not}
 
 -- ---- the last stamp moves on
 
-early_then : (last : Option ℕ) (now : ℕ) (t : Trade) → IsEarly last t → IsEarly (Some (option_map_or (λ l. max now (l + 1)) last now)) t
+early_then : (last : Option ℕ) (now : ℕ) (t : Trade) → IsTradeUpToLastStamp last t → IsTradeUpToLastStamp (Some (option_map_or (λ l. max now (l + 1)) last now)) t
 early_then None now t e = absurd e
 early_then (Some l) now t e = omega arith
 
-pub later : (base : Base) (now : ℕ) → AllByRecursion (IsEarly base.last) (completed base) → AllByRecursion (IsEarly (Some (next_stamp base now))) (completed base)
-later base now h = All-map (completed base) (λ t e. early_then base.last now t e) h
+pub later : (base : Base) (now : ℕ) → AllByRecursion (IsTradeUpToLastStamp base.last) (completed_trades base) → AllByRecursion (IsTradeUpToLastStamp (Some (stamp_of_next_command base now))) (completed_trades base)
+later base now h = All-map (completed_trades base) (λ t e. early_then base.last now t e) h
 
 -- moments stay in order where a stamp comes and no completion
-pub later_times : (base : Base) (now : ℕ) → next_stamp base now ≤ last_stamp → AreMomentsInOrder base.last (completed base) → AreMomentsInOrder (Some (next_stamp base now)) (completed base)
+pub later_times : (base : Base) (now : ℕ) → stamp_of_next_command base now ≤ greatest_stamp → CompletionBooksInvariant base.last (completed_trades base) → CompletionBooksInvariant (Some (stamp_of_next_command base now)) (completed_trades base)
 later_times base now h k = record { early = later base now k.early; moments = k.moments; clock = h }
 
 -- ---- trades that came to another status, and were not completed before or after
@@ -52,10 +52,10 @@ completed_unseen p f (t ∷ ts) g h = by_test (p t) refl ∙ ap (λ us. cond (is
 -- ---- a trade at the market was never completed
 
 -- one that comes to another status than the market's is not there
-pub moved_elsewhere : (stamp : ℕ) (status : Status) (t : Trade) → same_status status Submitted ≡ false → CompletesFirst (marked stamp status t)
-moved_elsewhere stamp status t s p = let k : has_status Submitted (marked stamp status t) ≡ false = status_of_marked stamp status Submitted t ∙ s in absurd (cc)
+pub moved_elsewhere : (stamp : ℕ) (status : Status) (t : Trade) → is_same_trade_status status Submitted ≡ false → HasNoCompletionIfSubmitted (trade_with_status_change stamp status t)
+moved_elsewhere stamp status t s p = let k : has_status Submitted (trade_with_status_change stamp status t) ≡ false = status_of_marked stamp status Submitted t ∙ s in absurd (cc)
 
-waiting_mark : (status : Status) → same_status status Pending ≡ true → same_status status Completed ≡ false
+waiting_mark : (status : Status) → is_same_trade_status status Pending ≡ true → is_same_trade_status status Completed ≡ false
 waiting_mark Completed e = cc
 waiting_mark Active e = refl
 waiting_mark Submitted e = refl
@@ -63,29 +63,29 @@ waiting_mark Pending e = refl
 waiting_mark Canceled e = refl
 
 -- nor was one that waited
-pub moved_to_market : (stamp : ℕ) (t : Trade) → WaitsFirst t → has_status Pending t ≡ true → CompletesFirst (marked stamp Submitted t)
-moved_to_market stamp t w p s = All-append IsNoCompletion t.marks (record { stamp = stamp; status = Submitted } ∷ []) (one t.marks refl (w p)) (refl, tt)
+pub moved_to_market : (stamp : ℕ) (t : Trade) → HasOneChangeIfPending t → has_status Pending t ≡ true → HasNoCompletionIfSubmitted (trade_with_status_change stamp Submitted t)
+moved_to_market stamp t w p s = All-append IsNotCompletion t.marks (record { stamp = stamp; status = Submitted } ∷ []) (one t.marks refl (w p)) (refl, tt)
   where
-    one : (marks : List StatusChange) → t.marks ≡ marks → IsOne marks → AllByRecursion IsNoCompletion t.marks
+    one : (marks : List StatusChange) → t.marks ≡ marks → HasOneStatusChange marks → AllByRecursion IsNotCompletion t.marks
     one [] e o = absurd o
     one (m ∷ n ∷ ms) e o = absurd o
     one (m ∷ []) e o =
-        let q : same_status m.status Pending ≡ true = rw e at p in
+        let q : is_same_trade_status m.status Pending ≡ true = rw e at p in
         rw e (waiting_mark m.status q, tt)
 
 -- a new trade, with one status
-pub first_mark : (t : Trade) (m : StatusChange) → t.marks ≡ m ∷ [] → same_status m.status Completed ≡ false → CompletesFirst t
+pub first_mark : (t : Trade) (m : StatusChange) → t.marks ≡ m ∷ [] → is_same_trade_status m.status Completed ≡ false → HasNoCompletionIfSubmitted t
 first_mark t m e s p = rw e (s, tt)
 
 -- ---- a cancel
 
 -- an id of a trade that is not completed is of no completed one
-pub named_open : (base : Base) (id : ℕ) (t : Trade) → NumberedFrom 1 base.trades → trade_with base id ≡ Some t → is_completed t ≡ false
+pub named_open : (base : Base) (id : ℕ) (t : Trade) → AreNumberedFrom 1 base.trades → trade_with_id base id ≡ Some t → is_completed t ≡ false
     → AllByRecursion (λ u. (u.id == id) ≡ true → is_completed u ≡ false) base.trades
 named_open base id t n e w =
     let f : FoundAt Trade (λ u. u.id == id) t base.trades = find-at (λ u. u.id == id) base.trades t e in
     let same : t.id ≡ id = eqb-true t.id id f.passes in
-    let behind = subst (λ m. AllByRecursion (λ u. (u.id == m) ≡ false) f.after) same (numbered_after 1 f.before t f.after (subst (NumberedFrom 1) f.stands n)) in
+    let behind = subst (λ m. AllByRecursion (λ u. (u.id == m) ≡ false) f.after) same (numbered_after 1 f.before t f.after (subst (AreNumberedFrom 1) f.stands n)) in
     let others : (us : List Trade) → AllByRecursion (λ u. (u.id == id) ≡ false) us → AllByRecursion (λ u. (u.id == id) ≡ true → is_completed u ≡ false) us =
     λ us h. All-map us (λ u other same. false_true (u.id == id) other same) h in
     subst (AllByRecursion (λ u. (u.id == id) ≡ true → is_completed u ≡ false)) (sym f.stands)
@@ -95,36 +95,36 @@ named_open base id t n e w =
     false_true b other same = absurd (cc)
 
 -- the trade that a cancel names waits
-pub named_waits : (base : Base) (id : ℕ) (o : Option Trade) → NumberedFrom 1 base.trades → trade_with base id ≡ o
-    → AllByRecursion (λ test. test.0 ≡ false) (option_map_or (λ t. wrong_status (has_status Pending t) t ∷ []) o ((true, NoTrade) ∷ []))
+pub named_waits : (base : Base) (id : ℕ) (o : Option Trade) → AreNumberedFrom 1 base.trades → trade_with_id base id ≡ o
+    → AllByRecursion (λ test. test.0 ≡ false) (option_map_or (λ t. status_check (has_status Pending t) t ∷ []) o ((true, NoTrade) ∷ []))
     → AllByRecursion (λ t. (t.id == id) ≡ true → is_completed t ≡ false) base.trades
 named_waits base id None n e k = let h : true ≡ false = k.0 in absurd (cc)
 named_waits base id (Some t) n e k = named_open base id t n e (pending_not_completed t (not_not (has_status Pending t) k.0))
 
 -- ---- a feed
 
-pub triggered_waits : (tick : Tick) (t : Trade) → is_triggered tick t ≡ true → has_status Pending t ≡ true
-triggered_waits tick t e = first (has_status Pending t) (bytes_eq t.symbol tick.symbol) (triggers t.kind t.bid tick.price) e
+pub triggered_waits : (tick : Tick) (t : Trade) → is_triggered_by_tick tick t ≡ true → has_status Pending t ≡ true
+triggered_waits tick t e = first (has_status Pending t) (bytes_eq t.symbol tick.symbol) (is_triggering_price t.kind t.bid tick.price) e
   where
     first : (a b c : Bool) → a && b && c ≡ true → a ≡ true
     first true b c e = refl
     first false b c e = e
 
-pub completed_tick : (base : Base) (stamp : ℕ) (tick : Tick) → completed (with_tick stamp base tick) ≡ completed base
+pub completed_tick : (base : Base) (stamp : ℕ) (tick : Tick) → completed_trades (base_after_tick stamp base tick) ≡ completed_trades base
 completed_tick base stamp tick =
-    completed_unseen (is_triggered tick) (marked stamp Submitted) base.trades (λ t. status_of_marked stamp Submitted Completed t)
+    completed_unseen (is_triggered_by_tick tick) (trade_with_status_change stamp Submitted) base.trades (λ t. status_of_marked stamp Submitted Completed t)
     (All-of base.trades (λ t k. pending_not_completed t (triggered_waits tick t k)))
 
-pub completed_ticks : (base : Base) (stamp : ℕ) (ticks : List Tick) → completed (with_ticks stamp base ticks) ≡ completed base
-unfolding with_ticks
+pub completed_ticks : (base : Base) (stamp : ℕ) (ticks : List Tick) → completed_trades (base_after_ticks stamp base ticks) ≡ completed_trades base
+unfolding base_after_ticks
 completed_ticks base stamp [] = refl
-completed_ticks base stamp (tick ∷ ticks) = completed_ticks (with_tick stamp base tick) stamp ticks ∙ completed_tick base stamp tick
+completed_ticks base stamp (tick ∷ ticks) = completed_ticks (base_after_tick stamp base tick) stamp ticks ∙ completed_tick base stamp tick
 
-pub completions_tick : (stamp : ℕ) (tick : Tick) (ts : List Trade) → AllByRecursion WaitsFirst ts → AllByRecursion CompletesFirst ts
-    → AllByRecursion CompletesFirst (update_where (is_triggered tick) (marked stamp Submitted) ts)
+pub completions_tick : (stamp : ℕ) (tick : Tick) (ts : List Trade) → AllByRecursion HasOneChangeIfPending ts → AllByRecursion HasNoCompletionIfSubmitted ts
+    → AllByRecursion HasNoCompletionIfSubmitted (update_where (is_triggered_by_tick tick) (trade_with_status_change stamp Submitted) ts)
 completions_tick stamp tick [] w h = tt
-completions_tick stamp tick (t ∷ ts) w h = (by_test (is_triggered tick t) refl, completions_tick stamp tick ts w.1 h.1)
+completions_tick stamp tick (t ∷ ts) w h = (by_test (is_triggered_by_tick tick t) refl, completions_tick stamp tick ts w.1 h.1)
   where
-    by_test : (b : Bool) → is_triggered tick t ≡ b → CompletesFirst (cond b (marked stamp Submitted t) t)
+    by_test : (b : Bool) → is_triggered_by_tick tick t ≡ b → HasNoCompletionIfSubmitted (cond b (trade_with_status_change stamp Submitted t) t)
     by_test true e = moved_to_market stamp t w.0 (triggered_waits tick t e)
     by_test false e = h.0

@@ -3,8 +3,8 @@ use Rattle.std.proofs.Common.{◌≡◌, Bool, true, false, not, cond, List, [],
 use Rattle.std.specs.Prelude.{⊤, fold}
 use Rattle.std.specs.List.{AllByRecursion}
 use Rattle.brk_model.specs.Lists.{insert_by, sort_by}
-use Rattle.brk_model.specs.Keys.{KeyPart, by_key, insert_row}
-use Rattle.brk_lots.specs.Lots.{from_end}
+use Rattle.brk_model.specs.Keys.{KeyPart, rows_sorted_by_key, insert_row_by_key}
+use Rattle.brk_lots.specs.Lots.{list_in_closing_order}
 use Rattle.brk_lots.proofs.Ends.{reverse_first}
 use Rattle.brk_book_theorems.proofs.Order.{rows_commute}
 use Rattle.brk_book_theorems.proofs.LotReading.{All-sort, all_pass}
@@ -55,7 +55,7 @@ fold_back f [] s = refl
 fold_back f (x ∷ xs) s = ap (fold (λ s x. f x s) s) (reverse_first x xs) ∙ fold_more f (reverse xs) x s ∙ ap (f x) (fold_back f xs s)
 
 -- from either end
-pub fold_end : {X S : Type 0} (f : X → S → S) (from_back : Bool) (xs : List X) (s : S) → AllCommute f xs → fold (λ s x. f x s) s (from_end from_back xs) ≡ each f xs s
+pub fold_end : {X S : Type 0} (f : X → S → S) (from_back : Bool) (xs : List X) (s : S) → AllCommute f xs → fold (λ s x. f x s) s (list_in_closing_order from_back xs) ≡ each f xs s
 fold_end f true xs s h = fold_back f xs s
 fold_end f false xs s h = fold_front f xs s h
 
@@ -89,10 +89,10 @@ each_middle f (y ∷ xs) x ys s h = ap (f y) (each_middle f xs x ys s h.1) ∙ s
 
 -- rows that pass a test are put in after the others, where they differ from them in their keys
 pub by_key-parts : {Row : Type 0} (key : Row → List KeyPart) (p : Row → Bool) (xs : List Row) → ((x y : Row) → p x ≡ false → p y ≡ true → key x ≡ key y → ⊥)
-    → by_key key xs ≡ each (insert_row key) (filter p xs) (by_key key (filter (λ x. not (p x)) xs))
+    → rows_sorted_by_key key xs ≡ each (insert_row_by_key key) (filter p xs) (rows_sorted_by_key key (filter (λ x. not (p x)) xs))
 unfolding sort_by
 by_key-parts key p [] h = refl
-by_key-parts {Row = Row} key p (x ∷ xs) h = ap (insert_row key x) (by_key-parts key p xs h) ∙ by_test (p x) refl
+by_key-parts {Row = Row} key p (x ∷ xs) h = ap (insert_row_by_key key x) (by_key-parts key p xs h) ∙ by_test (p x) refl
   where
     P : List Row
     P = filter p xs
@@ -100,10 +100,10 @@ by_key-parts {Row = Row} key p (x ∷ xs) h = ap (insert_row key x) (by_key-part
     N : List Row
     N = filter (λ x. not (p x)) xs
 
-    others : p x ≡ false → (ys : List Row) → AllByRecursion (λ y. p y ≡ true) ys → AllByRecursion (Commute (insert_row key) x) ys
+    others : p x ≡ false → (ys : List Row) → AllByRecursion (λ y. p y ≡ true) ys → AllByRecursion (Commute (insert_row_by_key key) x) ys
     others e [] k = tt
     others e (y ∷ ys) k = ((λ s. rows_commute key x y s (h x y e k.0)), others e ys k.1)
 
-    by_test : (b : Bool) → p x ≡ b → insert_row key x (each (insert_row key) P (by_key key N)) ≡ each (insert_row key) (cond b (x ∷ P) P) (by_key key (cond (not b) (x ∷ N) N))
+    by_test : (b : Bool) → p x ≡ b → insert_row_by_key key x (each (insert_row_by_key key) P (rows_sorted_by_key key N)) ≡ each (insert_row_by_key key) (cond b (x ∷ P) P) (rows_sorted_by_key key (cond (not b) (x ∷ N) N))
     by_test true e = refl
-    by_test false e = past_all (insert_row key) x P (by_key key N) (others e P (all_pass p xs))
+    by_test false e = past_all (insert_row_by_key key) x P (rows_sorted_by_key key N) (others e P (all_pass p xs))

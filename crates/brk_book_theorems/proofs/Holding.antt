@@ -1,32 +1,32 @@
 -- The lots that are given of an account in a symbol are those of a position, and the summary is all that they have.
 use Rattle.std.proofs.Common.{◌≡◌, ℕ, Bool, List, [], ◌∷◌, refl, ap, map, ◌∙◌, ℤ, pos, ◌+ℤ◌}
 use Rattle.std.specs.Prelude.{Option, Some, None, is_some, option_map, true, unwrap_or}
-use Rattle.brk_lots.specs.Books.{lots_total}
-use Rattle.brk_lots.specs.Lots.{shares_of}
-use Rattle.brk_lots.specs.Sources.{AreGiven}
+use Rattle.brk_lots.specs.Books.{lot_quantity_sum}
+use Rattle.brk_lots.specs.Lots.{shares_of_lots}
+use Rattle.brk_lots.specs.Sources.{YieldsPosition}
 use Rattle.brk_lots.specs.declared.lot.Lot.{Lot}
 use Rattle.brk_lots.proofs.Books.{quantities_add_up}
 use Rattle.brk_lots.proofs.Ends.{walk_of}
-use Rattle.brk_model.specs.Base.{Base, account_with, completed, moment_of, security_with}
-use Rattle.brk_model.specs.Derived.{deal_of, deals_in, of_position, shares_in, summary_of}
+use Rattle.brk_model.specs.Base.{Base, account_with_id, completed_trades, last_status_stamp_of_trade, security_with_symbol}
+use Rattle.brk_model.specs.Derived.{deal_of_trade, deals_of_position, trades_of_position, shares_of_position, holding_summary_quantity}
 use Rattle.brk_model.specs.Lists.{sort_by, sort_by_key, total_by}
 use Rattle.brk_model.specs.Records.{Trade}
-use Rattle.brk_model.specs.Shares.{replay, signed}
+use Rattle.brk_model.specs.Shares.{replay, signed_by_side}
 use Rattle.brk_model.specs.Sheets.{sheets}
 use Rattle.brk_model.specs.Tables.{SummaryRow}
-use Rattle.brk_money.specs.Kinds.{side_of}
+use Rattle.brk_money.specs.Kinds.{side_of_trade_type}
 use Rattle.brk_money.specs.Spelling.{Text}
 use Rattle.brk_book_theorems.specs.Books.{BooksInvariant}
-use Rattle.brk_book_theorems.specs.OrderReads.{GivesLots}
-use Rattle.brk_book_theorems.specs.TradeReads.{position_in, summary_held, summary_in}
+use Rattle.brk_book_theorems.specs.OrderReads.{PositionLotsSatisfy}
+use Rattle.brk_book_theorems.specs.TradeReads.{position_lots, summary_quantity, summary_row_of_position}
 use Rattle.brk_book_theorems.proofs.LotOrder.{position_read, shares_read}
 use Rattle.brk_book_theorems.proofs.SumReading.{total-map}
 use Rattle.brk_book_theorems.proofs.Summaries.{reads_held}
 use Rattle.brk_book_theorems.proofs.Worth.{total-insert}
 
-pub lots_given : (base : Base) (account : ℕ) (symbol : Text) (lifo : Bool) (given : List Lot → Type 0) → BooksInvariant base → GivesLots (sheets base) account symbol lifo given
-    → AreGiven given lifo (position_in (sheets base) account symbol)
-lots_given base account symbol lifo given books k = (k, walk_of (position_in (sheets base) account symbol) (position_read base account symbol books))
+pub lots_given : (base : Base) (account : ℕ) (symbol : Text) (lifo : Bool) (given : List Lot → Type 0) → BooksInvariant base → PositionLotsSatisfy (sheets base) account symbol lifo given
+    → YieldsPosition given lifo (position_lots (sheets base) account symbol)
+lots_given base account symbol lifo given books k = (k, walk_of (position_lots (sheets base) account symbol) (position_read base account symbol books))
 
 -- ---- in all
 
@@ -36,28 +36,28 @@ total-sort f before [] = refl
 total-sort f before (x ∷ xs) = total-insert f before x (sort_by before xs) ∙ ap (λ n. f x +ℤ n) (total-sort f before xs)
 
 deals_summed : (done : List Trade) (account : ℕ) (symbol : Text)
-    → total_by (λ d. signed d.side d.qty) (map deal_of (sort_by_key moment_of (of_position done account symbol))) ≡ summary_of done account symbol
-unfolding summary_of
+    → total_by (λ d. signed_by_side d.side d.qty) (map deal_of_trade (sort_by_key last_status_stamp_of_trade (trades_of_position done account symbol))) ≡ holding_summary_quantity done account symbol
+unfolding holding_summary_quantity
 deals_summed done account symbol =
-    total-map (λ d. signed d.side d.qty) deal_of (sort_by_key moment_of (of_position done account symbol))
-    ∙ total-sort (λ t. signed (side_of t.kind) t.qty) _ (of_position done account symbol)
+    total-map (λ d. signed_by_side d.side d.qty) deal_of_trade (sort_by_key last_status_stamp_of_trade (trades_of_position done account symbol))
+    ∙ total-sort (λ t. signed_by_side (side_of_trade_type t.kind) t.qty) _ (trades_of_position done account symbol)
 
-shares_spelled : (base : Base) (account : ℕ) (symbol : Text) → BooksInvariant base → shares_of (position_in (sheets base) account symbol) ≡ replay (deals_in (completed base) account symbol)
-unfolding shares_in
+shares_spelled : (base : Base) (account : ℕ) (symbol : Text) → BooksInvariant base → shares_of_lots (position_lots (sheets base) account symbol) ≡ replay (deals_of_position (completed_trades base) account symbol)
+unfolding shares_of_position
 shares_spelled base account symbol books = shares_read base account symbol books
 
 -- the lots add up to the trades
-pub total_is : (base : Base) (account : ℕ) (symbol : Text) → BooksInvariant base → lots_total (position_in (sheets base) account symbol) ≡ summary_of (completed base) account symbol
+pub total_is : (base : Base) (account : ℕ) (symbol : Text) → BooksInvariant base → lot_quantity_sum (position_lots (sheets base) account symbol) ≡ holding_summary_quantity (completed_trades base) account symbol
 total_is base account symbol books =
-    quantities_add_up (deals_in (completed base) account symbol) (position_in (sheets base) account symbol) (shares_spelled base account symbol books)
-    ∙ deals_summed (completed base) account symbol
+    quantities_add_up (deals_of_position (completed_trades base) account symbol) (position_lots (sheets base) account symbol) (shares_spelled base account symbol books)
+    ∙ deals_summed (completed_trades base) account symbol
 
 -- the number of a summary, or 0 where there is none
-number_or : (o : Option SummaryRow) → unwrap_or (option_map (λ r. r.qty) o) (pos 0) ≡ summary_held o
+number_or : (o : Option SummaryRow) → unwrap_or (option_map (λ r. r.qty) o) (pos 0) ≡ summary_quantity o
 number_or None = refl
 number_or (Some r) = refl
 
-pub held_read : (base : Base) (account : ℕ) (symbol : Text) (held : Option ℤ) → BooksInvariant base → is_some (account_with base account) ≡ true → is_some (security_with base symbol) ≡ true
-    → held ≡ option_map (λ r. r.qty) (summary_in (sheets base) account symbol) → unwrap_or held (pos 0) ≡ summary_of (completed base) account symbol
+pub held_read : (base : Base) (account : ℕ) (symbol : Text) (held : Option ℤ) → BooksInvariant base → is_some (account_with_id base account) ≡ true → is_some (security_with_symbol base symbol) ≡ true
+    → held ≡ option_map (λ r. r.qty) (summary_row_of_position (sheets base) account symbol) → unwrap_or held (pos 0) ≡ holding_summary_quantity (completed_trades base) account symbol
 held_read base account symbol held books a s e =
-    ap (λ o. unwrap_or o (pos 0)) e ∙ number_or (summary_in (sheets base) account symbol) ∙ reads_held base account symbol books a s
+    ap (λ o. unwrap_or o (pos 0)) e ∙ number_or (summary_row_of_position (sheets base) account symbol) ∙ reads_held base account symbol books a s

@@ -8,21 +8,21 @@ use Rattle.brk_money.specs.declared.side.Side.{Side}
 use Rattle.brk_money.specs.declared.side.Side.TheVariants.{Buy, Sell}
 use Rattle.brk_model.specs.Lists.{is_zero}
 use Rattle.brk_model.specs.Records.{Trade}
-use Rattle.brk_model.specs.Base.{Base, completed, is_completed}
-use Rattle.brk_model.specs.Derived.{deal_of, of_position, shares_in}
+use Rattle.brk_model.specs.Base.{Base, completed_trades, is_completed}
+use Rattle.brk_model.specs.Derived.{deal_of_trade, trades_of_position, shares_of_position}
 use Rattle.brk_model.specs.Shares as model
-use Rattle.brk_model.specs.Shares.{Deal, Touch, closed_count, is_change, lot_qty, lots, opened_share, opened_shares, signed, touches, touch_by}
-use Rattle.brk_model.specs.Keys.{number, by_key, holding_key, insert_row, row_before}
+use Rattle.brk_model.specs.Shares.{Deal, Touch, closed_share_count_of_deal, changes_lot_quantity, lot_quantity, lots_of_shares, opened_share, opened_shares, signed_by_side, touches_of_existing_lots, touch_of_lot}
+use Rattle.brk_model.specs.Keys.{number, rows_sorted_by_key, holding_key, insert_row_by_key, is_row_key_less}
 use Rattle.brk_model.specs.Sheets.{sheets}
 use Rattle.brk_model.specs.Tables.{HoldingRow, holding_row, trade_row}
-use Rattle.brk_lots.specs.Lots.{from_end}
+use Rattle.brk_lots.specs.Lots.{list_in_closing_order}
 use Rattle.brk_lots.proofs.Counts.{all_shares}
 use Rattle.brk_lots.proofs.Ends.{all_back, all_end}
 use Rattle.brk_lots.proofs.History.{opened_qty}
 use Rattle.brk_lots.proofs.Plain.{lots_alike, lots_some}
 use Rattle.brk_book_theorems.specs.Books.{BooksInvariant}
-use Rattle.brk_book_theorems.specs.Results.{row_of_lot}
-use Rattle.brk_book_theorems.specs.TradeReads.{position_in}
+use Rattle.brk_book_theorems.specs.Results.{holding_row_of_lot}
+use Rattle.brk_book_theorems.specs.TradeReads.{position_lots}
 use Rattle.brk_book_theorems.proofs.Bools.{numbers_back}
 use Rattle.brk_book_theorems.proofs.Order.{NewKey, Sorted, by_key-filter, by_key-map, by_key-middle, sort_sorted, sorted_filter}
 use Rattle.brk_book_theorems.proofs.Same.{NonePass, All-filter, All-map, All-mapped}
@@ -39,86 +39,86 @@ use Rattle.brk_book_theorems.proofs.LotSetting.{Between, Fits, Settled, Untouche
 
 -- what is left of each lot before a trade is completed, and after
 abbrev pub qty_before : Base → Trade → ℤ
-qty_before base v = lot_qty (shares_in (completed base) v.account v.symbol) v.id
+qty_before base v = lot_quantity (shares_of_position (completed_trades base) v.account v.symbol) v.id
 
 abbrev pub qty_after : List Trade → Trade → ℤ
-qty_after done v = lot_qty (shares_in done v.account v.symbol) v.id
+qty_after done v = lot_quantity (shares_of_position done v.account v.symbol) v.id
 
 abbrev pub touch_at : Base → Trade → Trade → Touch
-touch_at base t v = touch_by v.id (deal_of t) (shares_before base t)
+touch_at base t v = touch_of_lot v.id (deal_of_trade t) (shares_before base t)
 
-pub apart_done : (base : Base) → BooksInvariant base → IdsApart (completed base)
-apart_done base books = rise_apart (completed base) (rise_filter is_completed base.trades (numbered_rise 1 base.trades books.numbered))
+pub apart_done : (base : Base) → BooksInvariant base → IdsApart (completed_trades base)
+apart_done base books = rise_apart (completed_trades base) (rise_filter is_completed base.trades (numbered_rise 1 base.trades books.numbered))
 
 pub fresh_held : (base : Base) (xs : List Trade) (t : Trade) (ys : List Trade) → Completes base xs t ys → AllByRecursion (λ u. (t.id == u.id) ≡ false) (trades_held base t.account t.symbol)
-fresh_held base xs t ys c = of_held (λ u. (t.id == u.id) ≡ false) base t.account t.symbol (All-map (completed base) (λ u e. numbers_back t.id u.id ∙ e) c.fresh)
+fresh_held base xs t ys c = of_held (λ u. (t.id == u.id) ≡ false) base t.account t.symbol (All-map (completed_trades base) (λ u e. numbers_back t.id u.id ∙ e) c.fresh)
 
 pub touched_are : (base : Base) (xs : List Trade) (t : Trade) (ys : List Trade) → Completes base xs t ys
-    → touches (deal_of t) (shares_before base t) ≡ filter is_change (map (touch_at base t) (trades_held base t.account t.symbol))
-touched_are base xs t ys c = touches_read base t.account t.symbol (deal_of t) c.books (fresh_held base xs t ys c)
+    → touches_of_existing_lots (deal_of_trade t) (shares_before base t) ≡ filter changes_lot_quantity (map (touch_at base t) (trades_held base t.account t.symbol))
+touched_are base xs t ys c = touches_read base t.account t.symbol (deal_of_trade t) c.books (fresh_held base xs t ys c)
 
 -- the trades that are held are of the trade's position
 here_held : (base : Base) (t : Trade) → AllByRecursion (λ u. is_here t u ≡ true) (trades_held base t.account t.symbol)
 here_held base t =
     All-map (trades_held base t.account t.symbol) (λ u k. two (u.account == t.account) (bytes_eq u.symbol t.symbol) k.0 k.1)
     (both_hold (λ u. (u.account == t.account) ≡ true) (λ u. bytes_eq u.symbol t.symbol ≡ true) (trades_held base t.account t.symbol)
-    (All-sort (λ u. (u.account == t.account) ≡ true) _ (of_position (completed base) t.account t.symbol) (of_its_account (completed base) t.account t.symbol))
-    (All-sort (λ u. bytes_eq u.symbol t.symbol ≡ true) _ (of_position (completed base) t.account t.symbol) (of_its_symbol (completed base) t.account t.symbol)))
+    (All-sort (λ u. (u.account == t.account) ≡ true) _ (trades_of_position (completed_trades base) t.account t.symbol) (of_its_account (completed_trades base) t.account t.symbol))
+    (All-sort (λ u. bytes_eq u.symbol t.symbol ≡ true) _ (trades_of_position (completed_trades base) t.account t.symbol) (of_its_symbol (completed_trades base) t.account t.symbol)))
   where
     two : (a b : Bool) → a ≡ true → b ≡ true → a && b ≡ true
     two a b e f = rw (e, f) refl
 
 touch_fits : (base : Base) (xs : List Trade) (t : Trade) (ys : List Trade) → Completes base xs t ys
-    → AllByRecursion (Fits (qty_before base) (qty_after (xs ++ t ∷ ys)) (completed base)) (touches (deal_of t) (shares_before base t))
+    → AllByRecursion (Fits (qty_before base) (qty_after (xs ++ t ∷ ys)) (completed_trades base)) (touches_of_existing_lots (deal_of_trade t) (shares_before base t))
 touch_fits base xs t ys c =
-    let F : Touch → Type 0 = Fits (qty_before base) (qty_after (xs ++ t ∷ ys)) (completed base) in
+    let F : Touch → Type 0 = Fits (qty_before base) (qty_after (xs ++ t ∷ ys)) (completed_trades base) in
     let H : List Trade = trades_held base t.account t.symbol in
-    let one : AllByRecursion (λ w. AllByRecursion (λ v. (v.id == w.id) ≡ true → v ≡ w) (completed base)) H =
-    of_held (λ w. AllByRecursion (λ v. (v.id == w.id) ≡ true → v ≡ w) (completed base)) base t.account t.symbol (one_of_id (completed base) (apart_done base c.books)) in
+    let one : AllByRecursion (λ w. AllByRecursion (λ v. (v.id == w.id) ≡ true → v ≡ w) (completed_trades base)) H =
+    of_held (λ w. AllByRecursion (λ v. (v.id == w.id) ≡ true → v ≡ w) (completed_trades base)) base t.account t.symbol (one_of_id (completed_trades base) (apart_done base c.books)) in
     subst (AllByRecursion F) (sym (touched_are base xs t ys c))
-    (All-passing F is_change (map (touch_at base t) H) (All-mapped (λ touch. is_change touch ≡ true → F touch) (touch_at base t) H
+    (All-passing F changes_lot_quantity (map (touch_at base t) H) (All-mapped (λ touch. changes_lot_quantity touch ≡ true → F touch) (touch_at base t) H
     (fit H one (both_hold (λ w. is_here t w ≡ true) (λ w. (t.id == w.id) ≡ false) H (here_held base t) (fresh_held base xs t ys c)))))
   where
-    there : (w : Trade) → is_here t w ≡ true → (t.id == w.id) ≡ false → is_change (touch_at base t w) ≡ true → (b : Bool) → is_zero (qty_before base w) ≡ b → is_zero (qty_before base w) ≡ false
+    there : (w : Trade) → is_here t w ≡ true → (t.id == w.id) ≡ false → changes_lot_quantity (touch_at base t w) ≡ true → (b : Bool) → is_zero (qty_before base w) ≡ b → is_zero (qty_before base w) ≡ false
     there w here other changes false e = e
     there w here other changes true e =
-        let z : is_zero (lot_qty (shares_before base t) w.id) ≡ true = ap (λ shares. is_zero (lot_qty shares w.id)) (sym (here_shares (completed base) t w here)) ∙ e in
-        let k : true ≡ false = sym changes ∙ zero_unchanged base t.account t.symbol (deal_of t) w.id other z in absurd (cc)
+        let z : is_zero (lot_quantity (shares_before base t) w.id) ≡ true = ap (λ shares. is_zero (lot_quantity shares w.id)) (sym (here_shares (completed_trades base) t w here)) ∙ e in
+        let k : true ≡ false = sym changes ∙ zero_unchanged base t.account t.symbol (deal_of_trade t) w.id other z in absurd (cc)
 
-    fits_itself : (w : Trade) → is_here t w ≡ true → (t.id == w.id) ≡ false → is_change (touch_at base t w) ≡ true
+    fits_itself : (w : Trade) → is_here t w ≡ true → (t.id == w.id) ≡ false → changes_lot_quantity (touch_at base t w) ≡ true
         → ((touch_at base t w).after ≡ qty_after (xs ++ t ∷ ys) w) × (is_zero (qty_before base w) ≡ false)
     fits_itself w here other changes = (
-      ap (λ shares. lot_qty shares w.id) (sym (shares_here base xs t ys c w here)),
+      ap (λ shares. lot_quantity shares w.id) (sym (shares_here base xs t ys c w here)),
       there w here other changes (is_zero (qty_before base w)) refl,
     )
 
-    fit : (ws : List Trade) → AllByRecursion (λ w. AllByRecursion (λ v. (v.id == w.id) ≡ true → v ≡ w) (completed base)) ws
+    fit : (ws : List Trade) → AllByRecursion (λ w. AllByRecursion (λ v. (v.id == w.id) ≡ true → v ≡ w) (completed_trades base)) ws
         → AllByRecursion (λ w. (is_here t w ≡ true) × ((t.id == w.id) ≡ false)) ws
-        → AllByRecursion (λ w. is_change (touch_at base t w) ≡ true → Fits (qty_before base) (qty_after (xs ++ t ∷ ys)) (completed base) (touch_at base t w)) ws
+        → AllByRecursion (λ w. changes_lot_quantity (touch_at base t w) ≡ true → Fits (qty_before base) (qty_after (xs ++ t ∷ ys)) (completed_trades base) (touch_at base t w)) ws
     fit [] one h = tt
     fit (w ∷ ws) one h = (
-      (λ changes. All-map (completed base) (λ v same e. subst (λ u. ((touch_at base t w).after ≡ qty_after (xs ++ t ∷ ys) u) × (is_zero (qty_before base u) ≡ false)) (sym (same e)) (fits_itself w h.0.0 h.0.1 changes)) one.0),
+      (λ changes. All-map (completed_trades base) (λ v same e. subst (λ u. ((touch_at base t w).after ≡ qty_after (xs ++ t ∷ ys) u) × (is_zero (qty_before base u) ≡ false)) (sym (same e)) (fits_itself w h.0.0 h.0.1 changes)) one.0),
       fit ws one.1 h.1,
     )
 
 -- a lot that is not touched stays as it was
-stays : (base : Base) (t : Trade) (ws : List Trade) → AllByRecursion (λ w. Untouched (filter is_change (map (touch_at base t) ws)) w.id → is_change (touch_at base t w) ≡ false) ws
+stays : (base : Base) (t : Trade) (ws : List Trade) → AllByRecursion (λ w. Untouched (filter changes_lot_quantity (map (touch_at base t) ws)) w.id → changes_lot_quantity (touch_at base t w) ≡ false) ws
 stays base t [] = tt
-stays base t (w ∷ ws) = by_test (is_change (touch_at base t w)) refl (stays base t ws)
+stays base t (w ∷ ws) = by_test (changes_lot_quantity (touch_at base t w)) refl (stays base t ws)
   where
     T : Trade → Touch
     T = touch_at base t
 
     Q : List Touch → Trade → Type 0
-    Q touched v = Untouched touched v.id → is_change (T v) ≡ false
+    Q touched v = Untouched touched v.id → changes_lot_quantity (T v) ≡ false
 
-    by_test : (b : Bool) → is_change (T w) ≡ b → AllByRecursion (Q (filter is_change (map T ws))) ws
-        → AllByRecursion (Q (cond b (T w ∷ filter is_change (map T ws)) (filter is_change (map T ws)))) (w ∷ ws)
+    by_test : (b : Bool) → changes_lot_quantity (T w) ≡ b → AllByRecursion (Q (filter changes_lot_quantity (map T ws))) ws
+        → AllByRecursion (Q (cond b (T w ∷ filter changes_lot_quantity (map T ws)) (filter changes_lot_quantity (map T ws)))) (w ∷ ws)
     by_test true e ih = ((λ k. let j : true ≡ false = sym (eq-eqb w.id w.id refl) ∙ k.0 in absurd (cc)), All-map ws (λ v f k. f k.1) ih)
     by_test false e ih = ((λ k. e), ih)
 
-same_qty : (base : Base) (t v : Trade) → is_change (touch_at base t v) ≡ false → lot_qty (shares_then base t) v.id ≡ lot_qty (shares_before base t) v.id
-same_qty base t v e = sym (no_difference (lot_qty (shares_before base t) v.id) (lot_qty (shares_then base t) v.id) e)
+same_qty : (base : Base) (t v : Trade) → changes_lot_quantity (touch_at base t v) ≡ false → lot_quantity (shares_then base t) v.id ≡ lot_quantity (shares_before base t) v.id
+same_qty base t v e = sym (no_difference (lot_quantity (shares_before base t) v.id) (lot_quantity (shares_then base t) v.id) e)
   where
     equal : (m n d : ℤ) → m -ℤ n ≡ d → not (is_zero d) ≡ false → m ≡ n
     equal m n (pos zero) e f = omega (arith, ints, e)
@@ -129,35 +129,35 @@ same_qty base t v e = sym (no_difference (lot_qty (shares_before base t) v.id) (
     no_difference m n e = equal m n (m -ℤ n) refl e
 
 settled_first : (base : Base) (xs : List Trade) (t : Trade) (ys : List Trade) → Completes base xs t ys
-    → Settled (qty_after (xs ++ t ∷ ys)) (qty_before base) (completed base) (from_end t.is_lifo (touches (deal_of t) (shares_before base t)))
+    → Settled (qty_after (xs ++ t ∷ ys)) (qty_before base) (completed_trades base) (list_in_closing_order t.is_lifo (touches_of_existing_lots (deal_of_trade t) (shares_before base t)))
 settled_first base xs t ys c =
     let H : List Trade = trades_held base t.account t.symbol in
-    let T : List Touch = touches (deal_of t) (shares_before base t) in
-    let Q : Trade → Type 0 = λ v. Untouched T v.id → is_change (touch_at base t v) ≡ false in
-    let held : AllByRecursion Q H = subst (λ ts. AllByRecursion (λ v. Untouched ts v.id → is_change (touch_at base t v) ≡ false) H) (sym (touched_are base xs t ys c)) (stays base t H) in
-    let here : AllByRecursion (λ v. is_here t v ≡ true → Q v) (completed base) =
-    All-unfilter Q (is_here t) (completed base) (subst (AllByRecursion Q) (sym (of_here t (completed base))) (All-unsort Q _ (of_position (completed base) t.account t.symbol) held)) in
-    All-map (completed base) (λ v q w. same v (is_here t v) refl q (all_back (λ touch. (v.id == touch.lot) ≡ false) t.is_lifo T w)) here
+    let T : List Touch = touches_of_existing_lots (deal_of_trade t) (shares_before base t) in
+    let Q : Trade → Type 0 = λ v. Untouched T v.id → changes_lot_quantity (touch_at base t v) ≡ false in
+    let held : AllByRecursion Q H = subst (λ ts. AllByRecursion (λ v. Untouched ts v.id → changes_lot_quantity (touch_at base t v) ≡ false) H) (sym (touched_are base xs t ys c)) (stays base t H) in
+    let here : AllByRecursion (λ v. is_here t v ≡ true → Q v) (completed_trades base) =
+    All-unfilter Q (is_here t) (completed_trades base) (subst (AllByRecursion Q) (sym (of_here t (completed_trades base))) (All-unsort Q _ (trades_of_position (completed_trades base) t.account t.symbol) held)) in
+    All-map (completed_trades base) (λ v q w. same v (is_here t v) refl q (all_back (λ touch. (v.id == touch.lot) ≡ false) t.is_lifo T w)) here
   where
-    same : (v : Trade) (b : Bool) → is_here t v ≡ b → (is_here t v ≡ true → Untouched (touches (deal_of t) (shares_before base t)) v.id → is_change (touch_at base t v) ≡ false)
-        → Untouched (touches (deal_of t) (shares_before base t)) v.id → qty_before base v ≡ qty_after (xs ++ t ∷ ys) v
+    same : (v : Trade) (b : Bool) → is_here t v ≡ b → (is_here t v ≡ true → Untouched (touches_of_existing_lots (deal_of_trade t) (shares_before base t)) v.id → changes_lot_quantity (touch_at base t v) ≡ false)
+        → Untouched (touches_of_existing_lots (deal_of_trade t) (shares_before base t)) v.id → qty_before base v ≡ qty_after (xs ++ t ∷ ys) v
     same v true e q w =
-        ap (λ shares. lot_qty shares v.id) (here_shares (completed base) t v e) ∙ sym (same_qty base t v (q e w))
-        ∙ ap (λ shares. lot_qty shares v.id) (sym (shares_here base xs t ys c v e))
-    same v false e q w = ap (λ shares. lot_qty shares v.id) (sym (shares_elsewhere base xs t ys c v e))
+        ap (λ shares. lot_quantity shares v.id) (here_shares (completed_trades base) t v e) ∙ sym (same_qty base t v (q e w))
+        ∙ ap (λ shares. lot_quantity shares v.id) (sym (shares_here base xs t ys c v e))
+    same v false e q w = ap (λ shares. lot_quantity shares v.id) (sym (shares_elsewhere base xs t ys c v e))
 
 between_first : (before after : Trade → ℤ) (ts : List Trade) → Between before after before ts
 between_first before after [] = tt
 between_first before after (v ∷ ts) = (inl refl, between_first before after ts)
 
 pub touched_set : (base : Base) (xs : List Trade) (t : Trade) (ys : List Trade) → Completes base xs t ys
-    → set_lots (from_end t.is_lifo (touches (deal_of t) (shares_before base t))) (sheets base).holdings ≡ rows_with (qty_after (xs ++ t ∷ ys)) (completed base)
+    → set_lots (list_in_closing_order t.is_lifo (touches_of_existing_lots (deal_of_trade t) (shares_before base t))) (sheets base).holdings ≡ rows_with (qty_after (xs ++ t ∷ ys)) (completed_trades base)
 touched_set base xs t ys c =
-    let ends : List Touch = from_end t.is_lifo (touches (deal_of t) (shares_before base t)) in
+    let ends : List Touch = list_in_closing_order t.is_lifo (touches_of_existing_lots (deal_of_trade t) (shares_before base t)) in
     ap (set_lots ends) (holdings_in_order base c.books.numbered)
-    ∙ all_set (qty_before base) (qty_after (xs ++ t ∷ ys)) ends (qty_before base) (completed base)
-    (all_end (Fits (qty_before base) (qty_after (xs ++ t ∷ ys)) (completed base)) t.is_lifo (touches (deal_of t) (shares_before base t)) (touch_fits base xs t ys c))
-    (between_first (qty_before base) (qty_after (xs ++ t ∷ ys)) (completed base))
+    ∙ all_set (qty_before base) (qty_after (xs ++ t ∷ ys)) ends (qty_before base) (completed_trades base)
+    (all_end (Fits (qty_before base) (qty_after (xs ++ t ∷ ys)) (completed_trades base)) t.is_lifo (touches_of_existing_lots (deal_of_trade t) (shares_before base t)) (touch_fits base xs t ys c))
+    (between_first (qty_before base) (qty_after (xs ++ t ∷ ys)) (completed_trades base))
     (settled_first base xs t ys c)
 
 -- ---- the lot that it opens
@@ -166,45 +166,45 @@ touched_set base xs t ys c =
 pub fresh_shares : (base : Base) (xs : List Trade) (t : Trade) (ys : List Trade) → Completes base xs t ys → AllByRecursion (λ u. u.trade ≢ t.id) (shares_before base t)
 fresh_shares base xs t ys c =
     subst (AllByRecursion (λ u. u.trade ≢ t.id)) (shares_read base t.account t.symbol c.books)
-    (all_shares (λ u. u.trade ≢ t.id) (position_in (sheets base) t.account t.symbol) (new_read base t.account t.symbol t.id c.books c.fresh))
+    (all_shares (λ u. u.trade ≢ t.id) (position_lots (sheets base) t.account t.symbol) (new_read base t.account t.symbol t.id c.books c.fresh))
 
 pub opened_is : (base : Base) (xs : List Trade) (t : Trade) (ys : List Trade) → Completes base xs t ys
-    → lot_qty (shares_then base t) t.id ≡ signed (deal_of t).side ((deal_of t).qty - closed_count (deal_of t) (shares_before base t))
-opened_is base xs t ys c = opened_qty (deal_of t) (shares_before base t) (fresh_shares base xs t ys c)
+    → lot_quantity (shares_then base t) t.id ≡ signed_by_side (deal_of_trade t).side ((deal_of_trade t).qty - closed_share_count_of_deal (deal_of_trade t) (shares_before base t))
+opened_is base xs t ys c = opened_qty (deal_of_trade t) (shares_before base t) (fresh_shares base xs t ys c)
 
-pub signed_some : (side : Side) (n : ℕ) → is_zero (signed side (suc n)) ≡ false
+pub signed_some : (side : Side) (n : ℕ) → is_zero (signed_by_side side (suc n)) ≡ false
 signed_some Buy n = refl
 signed_some Sell n = refl
 
-pub signed_none : (side : Side) → signed side 0 ≡ pos 0
+pub signed_none : (side : Side) → signed_by_side side 0 ≡ pos 0
 signed_none Buy = refl
 signed_none Sell = refl
 
 -- one lot or none, by the number of shares that it opens
-pub opened_lots : (d : Deal) (n : ℕ) → lots (replicate n (opened_share d)) ≡ cond (is_zero (signed d.side n)) [] (record { trade = d.trade; price = d.price; stamp = d.stamp; qty = signed d.side n } ∷ [])
-opened_lots d zero = lots_alike 0 (opened_share d) ∙ sym (ap (λ q. cond (is_zero q) [] (record { trade = d.trade; price = d.price; stamp = d.stamp; qty = signed d.side 0 } ∷ [])) (signed_none d.side))
+pub opened_lots : (d : Deal) (n : ℕ) → lots_of_shares (replicate n (opened_share d)) ≡ cond (is_zero (signed_by_side d.side n)) [] (record { trade = d.trade; price = d.price; stamp = d.stamp; qty = signed_by_side d.side n } ∷ [])
+opened_lots d zero = lots_alike 0 (opened_share d) ∙ sym (ap (λ q. cond (is_zero q) [] (record { trade = d.trade; price = d.price; stamp = d.stamp; qty = signed_by_side d.side 0 } ∷ [])) (signed_none d.side))
 opened_lots d (suc n) =
     lots_some (suc n) (opened_share d) (omega arith)
-    ∙ sym (ap (λ b. cond {A = List model.Lot} b [] (record { trade = d.trade; price = d.price; stamp = d.stamp; qty = signed d.side (suc n) } ∷ [])) (signed_some d.side n))
+    ∙ sym (ap (λ b. cond {A = List model.Lot} b [] (record { trade = d.trade; price = d.price; stamp = d.stamp; qty = signed_by_side d.side (suc n) } ∷ [])) (signed_some d.side n))
 
 -- ---- all lots
 
-rows_in_order : (g : Trade → ℤ) (ts : List Trade) → Sorted (row_before (λ t. number t.id ∷ [])) ts → by_key holding_key (rows_with g ts) ≡ rows_with g ts
+rows_in_order : (g : Trade → ℤ) (ts : List Trade) → Sorted (is_row_key_less (λ t. number t.id ∷ [])) ts → rows_sorted_by_key holding_key (rows_with g ts) ≡ rows_with g ts
 rows_in_order g ts s =
     by_key-filter holding_key is_left (map (row_with g) ts)
     ∙ ap (filter is_left) (by_key-map (λ t. number t.id ∷ []) holding_key (row_with g) ts (λ t. refl)
-    ∙ ap (map (row_with g)) (sort_sorted (row_before (λ t. number t.id ∷ [])) ts s))
+    ∙ ap (map (row_with g)) (sort_sorted (is_row_key_less (λ t. number t.id ∷ [])) ts s))
 
-pub done_in_order : (base : Base) → BooksInvariant base → Sorted (row_before (λ t. number t.id ∷ [])) (completed base)
-done_in_order base books = sorted_filter (row_before (λ t. number t.id ∷ [])) is_completed base.trades (trades_stand 1 base.trades books.numbered)
+pub done_in_order : (base : Base) → BooksInvariant base → Sorted (is_row_key_less (λ t. number t.id ∷ [])) (completed_trades base)
+done_in_order base books = sorted_filter (is_row_key_less (λ t. number t.id ∷ [])) is_completed base.trades (trades_stand 1 base.trades books.numbered)
 
 abbrev pub open_lots : Trade → List model.Lot → List HoldingRow → List HoldingRow
-open_lots t opened rows = fold (λ rows lot. insert_row holding_key (row_of_lot (trade_row t) lot) rows) rows opened
+open_lots t opened rows = fold (λ rows lot. insert_row_by_key holding_key (holding_row_of_lot (trade_row t) lot) rows) rows opened
 
 -- one row more, or none
 with_own : (g : Trade → ℤ) (xs : List Trade) (t : Trade) (ys : List Trade) → NonePass (λ u. u.id == t.id) xs → (b : Bool) → is_zero (g t) ≡ b
-    → by_key holding_key (rows_with g (xs ++ t ∷ ys)) ≡ cond b (by_key holding_key (rows_with g (xs ++ ys))) (insert_row holding_key (row_with g t) (by_key holding_key (rows_with g (xs ++ ys))))
-with_own g xs t ys h b e = ap (by_key holding_key) (parts b e) ∙ by_test b
+    → rows_sorted_by_key holding_key (rows_with g (xs ++ t ∷ ys)) ≡ cond b (rows_sorted_by_key holding_key (rows_with g (xs ++ ys))) (insert_row_by_key holding_key (row_with g t) (rows_sorted_by_key holding_key (rows_with g (xs ++ ys))))
+with_own g xs t ys h b e = ap (rows_sorted_by_key holding_key) (parts b e) ∙ by_test b
   where
     R : List Trade → List HoldingRow
     R = rows_with g
@@ -221,18 +221,18 @@ with_own g xs t ys h b e = ap (by_key holding_key) (parts b e) ∙ by_test b
         number_of : (m n : ℕ) → number m ∷ [] ≡ number n ∷ [] → m ≡ n
         number_of m n e = cc
 
-    by_test : (b : Bool) → by_key holding_key (R xs ++ cond (not b) (row_with g t ∷ R ys) (R ys)) ≡ cond b (by_key holding_key (R (xs ++ ys))) (insert_row holding_key (row_with g t) (by_key holding_key (R (xs ++ ys))))
-    by_test true = ap (by_key holding_key) (sym (append xs ys))
+    by_test : (b : Bool) → rows_sorted_by_key holding_key (R xs ++ cond (not b) (row_with g t ∷ R ys) (R ys)) ≡ cond b (rows_sorted_by_key holding_key (R (xs ++ ys))) (insert_row_by_key holding_key (row_with g t) (rows_sorted_by_key holding_key (R (xs ++ ys))))
+    by_test true = ap (rows_sorted_by_key holding_key) (sym (append xs ys))
     by_test false =
         by_key-middle holding_key (R xs) (row_with g t) (R ys) (All-filter _ is_left (map (row_with g) xs) (other_key xs h))
-        ∙ ap (λ rows. insert_row holding_key (row_with g t) (by_key holding_key rows)) (sym (append xs ys))
+        ∙ ap (λ rows. insert_row_by_key holding_key (row_with g t) (rows_sorted_by_key holding_key rows)) (sym (append xs ys))
 
 pub holdings_after : (base : Base) (xs : List Trade) (t : Trade) (ys : List Trade) → Completes base xs t ys
-    → by_key holding_key (filter is_left (map (holding_row (xs ++ t ∷ ys)) (xs ++ t ∷ ys)))
-    ≡ open_lots t (lots (opened_shares (deal_of t) (shares_before base t))) (set_lots (from_end t.is_lifo (touches (deal_of t) (shares_before base t))) (sheets base).holdings)
+    → rows_sorted_by_key holding_key (filter is_left (map (holding_row (xs ++ t ∷ ys)) (xs ++ t ∷ ys)))
+    ≡ open_lots t (lots_of_shares (opened_shares (deal_of_trade t) (shares_before base t))) (set_lots (list_in_closing_order t.is_lifo (touches_of_existing_lots (deal_of_trade t) (shares_before base t))) (sheets base).holdings)
 holdings_after base xs t ys c =
     with_own g xs t ys (All-front (λ u. (u.id == t.id) ≡ false) xs ys (subst (NonePass (λ u. u.id == t.id)) c.split c.fresh)) (is_zero (g t)) refl
-    ∙ (λ i. cond (is_zero (own i)) (others i) (insert_row holding_key (record (row_with g t) { qty = own i }) (others i)))
+    ∙ (λ i. cond (is_zero (own i)) (others i) (insert_row_by_key holding_key (record (row_with g t) { qty = own i }) (others i)))
     ∙ by_test (is_zero q)
     ∙ ap (λ ls. open_lots t ls rows) (sym (opened_lots d n))
   where
@@ -240,26 +240,26 @@ holdings_after base xs t ys c =
     g = qty_after (xs ++ t ∷ ys)
 
     d : Deal
-    d = deal_of t
+    d = deal_of_trade t
 
     n : ℕ
-    n = d.qty - closed_count d (shares_before base t)
+    n = d.qty - closed_share_count_of_deal d (shares_before base t)
 
     q : ℤ
-    q = signed d.side n
+    q = signed_by_side d.side n
 
     rows : List HoldingRow
-    rows = set_lots (from_end t.is_lifo (touches d (shares_before base t))) (sheets base).holdings
+    rows = set_lots (list_in_closing_order t.is_lifo (touches_of_existing_lots d (shares_before base t))) (sheets base).holdings
 
     own : g t ≡ q
-    own = ap (λ shares. lot_qty shares t.id) (shares_here base xs t ys c t (here_itself t)) ∙ opened_is base xs t ys c
+    own = ap (λ shares. lot_quantity shares t.id) (shares_here base xs t ys c t (here_itself t)) ∙ opened_is base xs t ys c
 
-    others : by_key holding_key (rows_with g (xs ++ ys)) ≡ rows
-    others = ap (λ ts. by_key holding_key (rows_with g ts)) (sym c.split) ∙ rows_in_order g (completed base) (done_in_order base c.books) ∙ sym (touched_set base xs t ys c)
+    others : rows_sorted_by_key holding_key (rows_with g (xs ++ ys)) ≡ rows
+    others = ap (λ ts. rows_sorted_by_key holding_key (rows_with g ts)) (sym c.split) ∙ rows_in_order g (completed_trades base) (done_in_order base c.books) ∙ sym (touched_set base xs t ys c)
 
     lot : model.Lot
     lot = record { trade = d.trade; price = d.price; stamp = d.stamp; qty = q }
 
-    by_test : (b : Bool) → cond b rows (insert_row holding_key (record (row_with g t) { qty = q }) rows) ≡ open_lots t (cond b [] (lot ∷ [])) rows
+    by_test : (b : Bool) → cond b rows (insert_row_by_key holding_key (record (row_with g t) { qty = q }) rows) ≡ open_lots t (cond b [] (lot ∷ [])) rows
     by_test true = refl
     by_test false = refl

@@ -3,18 +3,18 @@ use Rattle.std.proofs.Common.{◌≡◌, ◌≤◌, ℕ, ◌==◌, ◌&&◌, Boo
 use Rattle.std.specs.Prelude.{is_some, find, nat_le, bytes_eq}
 use Rattle.std.proofs.lemmas.Bool.{eqb-true, eq-eqb}
 use Rattle.std.proofs.lemmas.Slice.Eq.{bytes_eq-Decides}
-use Rattle.brk_money.specs.Kinds.{same_type}
-use Rattle.brk_money.specs.Moments.{last_stamp}
+use Rattle.brk_money.specs.Kinds.{is_same_trade_type}
+use Rattle.brk_money.specs.Moments.{greatest_stamp}
 use Rattle.brk_model.specs.Limits.{greatest_amount}
 use Rattle.brk_model.specs.Records.{Broker, Customer, Account, Permission, Security, Charge, Band, TaxRate, CustomerTax, Kept, Key}
-use Rattle.brk_model.specs.Base.{Base, broker_with, customer_with}
+use Rattle.brk_model.specs.Base.{Base, broker_with_id, customer_with_id}
 use Rattle.brk_model.specs.Commands.{Command, Listing, Reply, AddBroker, AddCustomer, AddAccount, AddPermission, AddSecurity, AddCharge, AddBand, AddTaxRate, AddCustomerTax}
-use Rattle.brk_model.specs.Keyed.{keeping}
-use Rattle.brk_model.specs.Tests.{tests, next_stamp, bands_meet}
-use Rattle.brk_model.specs.Step.{listed, records_after}
-use Rattle.brk_model.specs.Names.{BrokerExists, CustomerExists}
-use Rattle.brk_book_theorems.specs.Books.{BooksInvariant, HasVolume, HasBounds, DistinctAccounts, DistinctSymbols, DistinctPermissions, BandsApart}
-use Rattle.brk_book_theorems.specs.Steps.{LeavesBooks}
+use Rattle.brk_model.specs.Keyed.{base_with_stored_reply}
+use Rattle.brk_model.specs.Tests.{checks_of_command, stamp_of_next_command, bands_overlap}
+use Rattle.brk_model.specs.Step.{security_of_listing, base_after_command_unstamped}
+use Rattle.brk_model.specs.Names.{BrokerOfAccountExists, CustomerOfAccountExists}
+use Rattle.brk_book_theorems.specs.Books.{BooksInvariant, HasVolumeWithinLimit, HasOrderedBounds, HasDistinctAccountIds, HasDistinctSymbols, HasDistinctPermissions, HasDisjointBands}
+use Rattle.brk_book_theorems.specs.Steps.{PreservesBooksInvariant}
 use Rattle.brk_book_theorems.proofs.Bools.{numbers_back, texts_back}
 use Rattle.brk_book_theorems.proofs.Same.{NonePass, All-map, All-append, any-none, find-more, find-none}
 use Rattle.brk_book_theorems.proofs.NewKeys.{both, and_both, not_both, same_bytes, same_codes, code_same}
@@ -28,7 +28,7 @@ found_more p xs ys h = ap is_some (find-more p xs ys h) ∙ h
 
 -- ---- kinds that the order does not speak of
 
-pub books_last : (base : Base) (now : ℕ) → next_stamp base now ≤ last_stamp → BooksInvariant base → BooksInvariant (record base { last = Some (next_stamp base now) })
+pub books_last : (base : Base) (now : ℕ) → stamp_of_next_command base now ≤ greatest_stamp → BooksInvariant base → BooksInvariant (record base { last = Some (stamp_of_next_command base now) })
 books_last base now h k = record {
   parties = k.parties;
   market = k.market;
@@ -47,32 +47,32 @@ books_terms base charges tax_rates customer_taxes kept k = record {
   movements = k.movements;
 }
 
-pub books_kept : (base : Base) (key : Option Key) (command : Command) (reply : Reply) → BooksInvariant base → BooksInvariant (keeping key command reply base)
+pub books_kept : (base : Base) (key : Option Key) (command : Command) (reply : Reply) → BooksInvariant base → BooksInvariant (base_with_stored_reply key command reply base)
 books_kept base None command reply k = k
 books_kept base (Some key) command reply k =
-    books_terms base base.charges base.tax_rates base.customer_taxes (keeping (Some key) command reply base).kept k
+    books_terms base base.charges base.tax_rates base.customer_taxes (base_with_stored_reply (Some key) command reply base).kept k
 
-pub books_charge : (base : Base) (now : ℕ) (c : Charge) → LeavesBooks base now (AddCharge c)
-unfolding records_after
+pub books_charge : (base : Base) (now : ℕ) (c : Charge) → PreservesBooksInvariant base now (AddCharge c)
+unfolding base_after_command_unstamped
 books_charge base now c k e =
     books_last _ now (in_time base now (AddCharge c) e)
     (books_terms base (base.charges ++ c ∷ []) base.tax_rates base.customer_taxes base.kept k)
 
-pub books_tax_rate : (base : Base) (now : ℕ) (r : TaxRate) → LeavesBooks base now (AddTaxRate r)
-unfolding records_after
+pub books_tax_rate : (base : Base) (now : ℕ) (r : TaxRate) → PreservesBooksInvariant base now (AddTaxRate r)
+unfolding base_after_command_unstamped
 books_tax_rate base now r k e =
     books_last _ now (in_time base now (AddTaxRate r) e)
     (books_terms base base.charges (base.tax_rates ++ r ∷ []) base.customer_taxes base.kept k)
 
-pub books_customer_tax : (base : Base) (now : ℕ) (x : CustomerTax) → LeavesBooks base now (AddCustomerTax x)
-unfolding records_after
+pub books_customer_tax : (base : Base) (now : ℕ) (x : CustomerTax) → PreservesBooksInvariant base now (AddCustomerTax x)
+unfolding base_after_command_unstamped
 books_customer_tax base now x k e =
     books_last _ now (in_time base now (AddCustomerTax x) e)
     (books_terms base base.charges base.tax_rates (base.customer_taxes ++ x ∷ []) base.kept k)
 
 -- ---- permissions
 
-permissions_more : (ps : List Permission) (p : Permission) → NonePass (λ q. (q.account == p.account) && bytes_eq q.tax_id p.tax_id) ps → DistinctPermissions ps → DistinctPermissions (ps ++ p ∷ [])
+permissions_more : (ps : List Permission) (p : Permission) → NonePass (λ q. (q.account == p.account) && bytes_eq q.tax_id p.tax_id) ps → HasDistinctPermissions ps → HasDistinctPermissions (ps ++ p ∷ [])
 permissions_more [] p h d = (tt, tt)
 permissions_more (q ∷ ps) p h d = (
   All-append (λ r. ((r.account == q.account) && bytes_eq r.tax_id q.tax_id) ≡ false) ps (p ∷ []) d.0
@@ -80,8 +80,8 @@ permissions_more (q ∷ ps) p h d = (
   permissions_more ps p h.1 d.1,
 )
 
-pub books_permission : (base : Base) (now : ℕ) (p : Permission) → LeavesBooks base now (AddPermission p)
-unfolding records_after tests
+pub books_permission : (base : Base) (now : ℕ) (p : Permission) → PreservesBooksInvariant base now (AddPermission p)
+unfolding base_after_command_unstamped checks_of_command
 books_permission base now p k e =
     let f = passed base now (AddPermission p) e in
     record {
@@ -100,8 +100,8 @@ books_permission base now p k e =
 -- ---- brokers, customers and accounts
 
 -- the lists that accounts and trades name may have more
-pub books_broker : (base : Base) (now : ℕ) (b : Broker) → LeavesBooks base now (AddBroker b)
-unfolding records_after
+pub books_broker : (base : Base) (now : ℕ) (b : Broker) → PreservesBooksInvariant base now (AddBroker b)
+unfolding base_after_command_unstamped
 books_broker base now b k e = record {
   parties = record {
     brokers = All-map base.accounts (λ a h. found_more (λ x. x.id == a.broker) base.brokers (b ∷ []) h) k.brokers;
@@ -115,8 +115,8 @@ books_broker base now b k e = record {
   movements = movements_later base now k.movements;
 }
 
-pub books_customer : (base : Base) (now : ℕ) (c : Customer) → LeavesBooks base now (AddCustomer c)
-unfolding records_after
+pub books_customer : (base : Base) (now : ℕ) (c : Customer) → PreservesBooksInvariant base now (AddCustomer c)
+unfolding base_after_command_unstamped
 books_customer base now c k e = record {
   parties = record {
     brokers = k.brokers;
@@ -130,21 +130,21 @@ books_customer base now c k e = record {
   movements = movements_later base now k.movements;
 }
 
-owners_more : (bs : List Account) (a : Account) → NonePass (λ b. b.id == a.id) bs → DistinctAccounts bs → DistinctAccounts (bs ++ a ∷ [])
+owners_more : (bs : List Account) (a : Account) → NonePass (λ b. b.id == a.id) bs → HasDistinctAccountIds bs → HasDistinctAccountIds (bs ++ a ∷ [])
 owners_more [] a h d = (tt, tt)
 owners_more (b ∷ bs) a h d = (
   All-append (λ c. (c.id == b.id) ≡ false) bs (a ∷ []) d.0 (numbers_back a.id b.id ∙ h.0, tt),
   owners_more bs a h.1 d.1,
 )
 
-pub books_account : (base : Base) (now : ℕ) (a : Account) → LeavesBooks base now (AddAccount a)
-unfolding records_after tests
+pub books_account : (base : Base) (now : ℕ) (a : Account) → PreservesBooksInvariant base now (AddAccount a)
+unfolding base_after_command_unstamped checks_of_command
 books_account base now a k e =
     let p = passed base now (AddAccount a) e in
     record {
       parties = record {
-        brokers = All-append (BrokerExists base) base.accounts (a ∷ []) k.brokers (not_not (is_some (broker_with base a.broker)) p.1.0, tt);
-        customers = All-append (CustomerExists base) base.accounts (a ∷ []) k.customers (not_not (is_some (customer_with base a.customer)) p.0, tt);
+        brokers = All-append (BrokerOfAccountExists base) base.accounts (a ∷ []) k.brokers (not_not (is_some (broker_with_id base a.broker)) p.1.0, tt);
+        customers = All-append (CustomerOfAccountExists base) base.accounts (a ∷ []) k.customers (not_not (is_some (customer_with_id base a.customer)) p.0, tt);
         owners = owners_more base.accounts a (find-none (λ x. x.id == a.id) base.accounts p.1.1.0) k.owners;
         permissions = k.permissions;
       };
@@ -162,7 +162,7 @@ books_account base now a k e =
 
 -- ---- securities
 
-symbols_more : (ss : List Security) (s : Security) → NonePass (λ u. bytes_eq u.symbol s.symbol) ss → DistinctSymbols ss → DistinctSymbols (ss ++ s ∷ [])
+symbols_more : (ss : List Security) (s : Security) → NonePass (λ u. bytes_eq u.symbol s.symbol) ss → HasDistinctSymbols ss → HasDistinctSymbols (ss ++ s ∷ [])
 symbols_more [] s h d = (tt, tt)
 symbols_more (u ∷ ss) s h d = (
   All-append (λ v. bytes_eq v.symbol u.symbol ≡ false) ss (s ∷ []) d.0 (texts_back s.symbol u.symbol ∙ h.0, tt),
@@ -172,16 +172,16 @@ symbols_more (u ∷ ss) s h d = (
 no_volume : 0 ≤ greatest_amount
 no_volume = omega arith
 
-pub books_security : (base : Base) (now : ℕ) (l : Listing) → LeavesBooks base now (AddSecurity l)
-unfolding records_after tests
+pub books_security : (base : Base) (now : ℕ) (l : Listing) → PreservesBooksInvariant base now (AddSecurity l)
+unfolding base_after_command_unstamped checks_of_command
 books_security base now l k e =
     let p = passed base now (AddSecurity l) e in
-    let s : Security = listed (next_stamp base now) l in
+    let s : Security = security_of_listing (stamp_of_next_command base now) l in
     record {
       parties = k.parties;
       market = record {
         symbols = symbols_more base.securities s (find-none (λ s. bytes_eq s.symbol l.symbol) base.securities p.0) k.symbols;
-        volumes = All-append HasVolume base.securities (s ∷ []) k.volumes (no_volume, tt);
+        volumes = All-append HasVolumeWithinLimit base.securities (s ∷ []) k.volumes (no_volume, tt);
         bands = k.bands;
         apart = k.apart;
       };
@@ -199,27 +199,27 @@ books_security base now l k e =
 -- ---- bands
 
 -- two bands meet either way round
-pub meet_back : (b c : Band) (m : Bool) → bands_meet c b ≡ m → bands_meet b c ≡ false → bands_meet c b ≡ false
+pub meet_back : (b c : Band) (m : Bool) → bands_overlap c b ≡ m → bands_overlap b c ≡ false → bands_overlap c b ≡ false
 meet_back b c false e h = e
 meet_back b c true e h =
     let one = both _ (nat_le b.from_qty c.to_qty) e in
     let two = both _ (nat_le c.from_qty b.to_qty) one.0 in
     let three = both _ (bytes_eq c.exchange b.exchange) two.0 in
-    let four = both (c.tier == b.tier) (same_type c.kind b.kind) three.0 in
-    let k : bands_meet b c ≡ true = and_both _ _ (and_both _ _ (and_both _ _ (and_both _ _
+    let four = both (c.tier == b.tier) (is_same_trade_type c.kind b.kind) three.0 in
+    let k : bands_overlap b c ≡ true = and_both _ _ (and_both _ _ (and_both _ _ (and_both _ _
     (eq-eqb b.tier c.tier (sym (eqb-true c.tier b.tier four.0))) (code_same b.kind c.kind (sym (same_codes c.kind b.kind four.1))))
     (same_bytes b.exchange c.exchange (sym ((bytes_eq-Decides c.exchange b.exchange).0 three.1)))) one.1) two.1 in
-    absurd (not_both (bands_meet b c) k h)
+    absurd (not_both (bands_overlap b c) k h)
 
-apart_more : (bs : List Band) (b : Band) → NonePass (bands_meet b) bs → BandsApart bs → BandsApart (bs ++ b ∷ [])
+apart_more : (bs : List Band) (b : Band) → NonePass (bands_overlap b) bs → HasDisjointBands bs → HasDisjointBands (bs ++ b ∷ [])
 apart_more [] b h d = (tt, tt)
 apart_more (c ∷ bs) b h d = (
-  All-append (λ x. bands_meet c x ≡ false) bs (b ∷ []) d.0 (meet_back b c (bands_meet c b) refl h.0, tt),
+  All-append (λ x. bands_overlap c x ≡ false) bs (b ∷ []) d.0 (meet_back b c (bands_overlap c b) refl h.0, tt),
   apart_more bs b h.1 d.1,
 )
 
-pub books_band : (base : Base) (now : ℕ) (b : Band) → LeavesBooks base now (AddBand b)
-unfolding records_after tests
+pub books_band : (base : Base) (now : ℕ) (b : Band) → PreservesBooksInvariant base now (AddBand b)
+unfolding base_after_command_unstamped checks_of_command
 books_band base now b k e =
     let p = passed base now (AddBand b) e in
     record {
@@ -227,8 +227,8 @@ books_band base now b k e =
       market = record {
         symbols = k.symbols;
         volumes = k.volumes;
-        bands = All-append HasBounds base.bands (b ∷ []) k.bands (in_order b.from_qty b.to_qty p.0, tt);
-        apart = apart_more base.bands b (any-none (bands_meet b) base.bands p.1.0) k.apart;
+        bands = All-append HasOrderedBounds base.bands (b ∷ []) k.bands (in_order b.from_qty b.to_qty p.0, tt);
+        apart = apart_more base.bands b (any-none (bands_overlap b) base.bands p.1.0) k.apart;
       };
       trades = k.trades;
       times = later_times base now (in_time base now (AddBand b) e) k.times;

@@ -6,14 +6,14 @@ use Rattle.std.proofs.lemmas.Slice.Eq.{bytes_eq-Decides}
 use Rattle.brk_money.specs.Spelling.{Text}
 use Rattle.brk_model.specs.Records.{Key, Kept}
 use Rattle.brk_model.specs.Base.{Base}
-use Rattle.brk_model.specs.Derived.{shares_in, summary_of, balance_of, trade_count_of, commissions_of}
-use Rattle.brk_model.specs.Tables.{tables_at}
-use Rattle.brk_model.specs.Keys.{KeyPart, number, word, key_before, kept_key}
-use Rattle.brk_model.specs.Sheets.{sheets, sheets_of}
+use Rattle.brk_model.specs.Derived.{shares_of_position, holding_summary_quantity, balance_of_account, trade_count_of_broker, commission_total_of_broker}
+use Rattle.brk_model.specs.Tables.{tables_of_base_in_schema}
+use Rattle.brk_model.specs.Keys.{KeyPart, number, word, is_key_less, kept_key}
+use Rattle.brk_model.specs.Sheets.{sheets, tables_sorted_by_key}
 use Rattle.brk_model.specs.Commands.{Command, Reply}
-use Rattle.brk_model.specs.Keyed.{kept_under, keeping}
-use Rattle.brk_changes.specs.Changes.{with_kept}
-use Rattle.brk_book_theorems.specs.Steps.{kept_row}
+use Rattle.brk_model.specs.Keyed.{stored_row_with_key, base_with_stored_reply}
+use Rattle.brk_changes.specs.Changes.{tables_with_stored_reply}
+use Rattle.brk_book_theorems.specs.Steps.{stored_reply_row}
 use Rattle.brk_book_theorems.proofs.Order.{NewKey, key_one_way, by_key-append}
 use Rattle.brk_book_theorems.proofs.Same.{NonePass, All-map, find-none}
 use Rattle.brk_book_theorems.proofs.Reading.{find-sorted}
@@ -53,14 +53,14 @@ true_false : true ≡ false → ⊥
 true_false e = absurd (cc)
 
 -- a key doesn't go before itself
-not_itself : (j k : List KeyPart) → j ≡ k → key_before j k ≡ true → ⊥
-not_itself j k p e = true_false (sym e ∙ (λ i. key_before (p i) (sym p i)) ∙ key_one_way j k e)
+not_itself : (j k : List KeyPart) → j ≡ k → is_key_less j k ≡ true → ⊥
+not_itself j k p e = true_false (sym e ∙ (λ i. is_key_less (p i) (sym p i)) ∙ key_one_way j k e)
 
-pub reads_kept : (base : Base) (key : Key) → find (has_key key) (sheets base).kept ≡ kept_under base key
-unfolding tables_at sheets_of
+pub reads_kept : (base : Base) (key : Key) → find (has_key key) (sheets base).kept ≡ stored_row_with_key base key
+unfolding tables_of_base_in_schema tables_sorted_by_key
 reads_kept base key = find-sorted kept_key (has_key key) base.kept (λ x y e f. other x y (has_key key y) refl e f)
   where
-    other : (x y : Kept) (b : Bool) → has_key key y ≡ b → has_key key x ≡ true → key_before (kept_key y) (kept_key x) ≡ true → has_key key y ≡ false
+    other : (x y : Kept) (b : Bool) → has_key key y ≡ b → has_key key x ≡ true → is_key_less (kept_key y) (kept_key x) ≡ true → has_key key y ≡ false
     other x y false g e f = g
     other x y true g e f = absurd (not_itself (kept_key y) (kept_key x) (key_is key y g ∙ sym (key_is key x e)) f)
 
@@ -71,10 +71,10 @@ none_found (Some k) e = absurd (cc)
 new_kept : (key : Key) (k : Kept) (ks : List Kept) → kept_key k ≡ parts_of key → NonePass (has_key key) ks → NewKey kept_key k ks
 new_kept key k ks s h = All-map ks (λ j n e. true_false (sym (is_key key j (e ∙ s)) ∙ n)) h
 
-pub kept_rows : (base : Base) (key : Key) (command : Command) (reply : Reply) → kept_under base key ≡ None
-    → sheets (keeping (Some key) command reply base) ≡ with_kept (kept_row key command reply) (sheets base)
-unfolding tables_at sheets_of shares_in summary_of balance_of trade_count_of commissions_of parts_of
+pub kept_rows : (base : Base) (key : Key) (command : Command) (reply : Reply) → stored_row_with_key base key ≡ None
+    → sheets (base_with_stored_reply (Some key) command reply base) ≡ tables_with_stored_reply (stored_reply_row key command reply) (sheets base)
+unfolding tables_of_base_in_schema tables_sorted_by_key shares_of_position holding_summary_quantity balance_of_account trade_count_of_broker commission_total_of_broker parts_of
 kept_rows base key command reply n =
     ap (λ rows. record (sheets base) { kept = rows })
-    (by_key-append kept_key base.kept (kept_row key command reply)
-    (new_kept key (kept_row key command reply) base.kept refl (find-none (has_key key) base.kept (none_found (kept_under base key) n))))
+    (by_key-append kept_key base.kept (stored_reply_row key command reply)
+    (new_kept key (stored_reply_row key command reply) base.kept refl (find-none (has_key key) base.kept (none_found (stored_row_with_key base key) n))))

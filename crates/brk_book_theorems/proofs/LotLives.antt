@@ -8,23 +8,23 @@ use Rattle.std.proofs.lemmas.Bool.Decides.{nat_tests}
 use Rattle.std.proofs.lemmas.Int.{ints}
 use Rattle.brk_money.specs.declared.side.Side.{Side}
 use Rattle.brk_money.specs.declared.side.Side.TheVariants.{Buy}
-use Rattle.brk_lots.specs.Chains.{IsLife, changes_of_lot}
-use Rattle.brk_lots.specs.Deals.{AreDeals}
+use Rattle.brk_lots.specs.Chains.{IsLotHistory, changes_of_lot}
+use Rattle.brk_lots.specs.Deals.{AreAscendingDeals}
 use Rattle.brk_lots.proofs.Books.{side_after}
 use Rattle.brk_lots.proofs.Counts.{OneSide}
 use Rattle.brk_lots.proofs.Deals.{all_after}
-use Rattle.brk_model.specs.Base.{Base, completed, is_completed, moment_of, trade_with}
-use Rattle.brk_model.specs.Derived.{deal_of, deals_in, shares_in}
-use Rattle.brk_model.specs.Joins.{trade_in}
-use Rattle.brk_model.specs.Keys.{by_key, holding_history_key, row_before}
+use Rattle.brk_model.specs.Base.{Base, completed_trades, is_completed, last_status_stamp_of_trade, trade_with_id}
+use Rattle.brk_model.specs.Derived.{deal_of_trade, deals_of_position, shares_of_position}
+use Rattle.brk_model.specs.Joins.{trade_row_with_id}
+use Rattle.brk_model.specs.Keys.{rows_sorted_by_key, holding_history_key, is_row_key_less}
 use Rattle.brk_model.specs.Lists.{insert_by, is_zero, sort_by}
-use Rattle.brk_model.specs.LookupView.{touch_stamp}
+use Rattle.brk_model.specs.LookupView.{stamp_of_touching_trade}
 use Rattle.brk_model.specs.Records.{Trade}
-use Rattle.brk_model.specs.Shares.{Deal, Share, lot_qty, shares_after}
-use Rattle.brk_model.specs.Sheets.{sheets, sheets_of}
-use Rattle.brk_model.specs.Tables.{HoldingHistoryRow, HoldingRow, holding_row, is_moved, lot_history, lot_rows, tables_at, touch_of_row, trade_row}
+use Rattle.brk_model.specs.Shares.{Deal, Share, lot_quantity, shares_after_deal}
+use Rattle.brk_model.specs.Sheets.{sheets, tables_sorted_by_key}
+use Rattle.brk_model.specs.Tables.{HoldingHistoryRow, HoldingRow, holding_row, row_changes_quantity, holding_history_rows_of_lot, lot_rows_of_deals, tables_of_base_in_schema, touch_of_row, trade_row}
 use Rattle.brk_book_theorems.specs.Books.{BooksInvariant}
-use Rattle.brk_book_theorems.specs.Lives.{IsLotLife, IsOpened, LotsLive, changes_in, left_in}
+use Rattle.brk_book_theorems.specs.Lives.{LotChangesFormChain, BeginsWithOwnTrade, AllLotChangesFormChains, lot_changes_by_stamp, remaining_lot_quantity}
 use Rattle.brk_book_theorems.proofs.Histories.{Others, filter-flat_map, no_rows}
 use Rattle.brk_book_theorems.proofs.LotOrder.{Follows, InOrder, held_in_order, of_held, trades_held}
 use Rattle.brk_book_theorems.proofs.LotReading.{All-sort, IdsApart, holdings_in_order, is_left, numbered_rise, rise_apart, rise_filter}
@@ -88,9 +88,9 @@ sort_any m before (x ∷ xs) r =
 
 -- ---- the changes of one lot
 
-lots_same : (lot : ℕ) (shares : List Share) (deals : List Deal) → AllByRecursion (λ r. r.lot ≡ lot) (lot_rows lot shares deals)
+lots_same : (lot : ℕ) (shares : List Share) (deals : List Deal) → AllByRecursion (λ r. r.lot ≡ lot) (lot_rows_of_deals lot shares deals)
 lots_same lot shares [] = tt
-lots_same lot shares (d ∷ deals) = (refl, lots_same lot (shares_after shares d) deals)
+lots_same lot shares (d ∷ deals) = (refl, lots_same lot (shares_after_deal shares d) deals)
 
 zero_is : (z : ℤ) → is_zero z ≡ true → z ≡ pos 0
 zero_is (pos zero) e = refl
@@ -106,67 +106,67 @@ zero_left a b e f = let d : a -ℤ b ≡ pos 0 = zero_is (a -ℤ b) (is_true (is
     is_true false f = absurd (cc)
 
 -- the first deal that changes the lot of a trade is that trade's
-opened_first : (id : ℕ) (side : Side) (shares : List Share) (deals : List Deal) → OneSide side shares → Without id shares → AreDeals deals → IsOpened id (filter is_moved (lot_rows id shares deals))
+opened_first : (id : ℕ) (side : Side) (shares : List Share) (deals : List Deal) → OneSide side shares → Without id shares → AreAscendingDeals deals → BeginsWithOwnTrade id (filter row_changes_quantity (lot_rows_of_deals id shares deals))
 opened_first id side shares [] one w a = tt
 opened_first id side shares (d ∷ deals) one w a = by_trade (d.trade == id) refl (opened_first id next.0 after deals next.1)
   where
     after : List Share
-    after = shares_after shares d
+    after = shares_after_deal shares d
 
     next : (s : Side) × OneSide s after
     next = side_after side d shares one
 
     row : HoldingHistoryRow
-    row = record { lot = id; trade = d.trade; before = lot_qty shares id; after = lot_qty after id }
+    row = record { lot = id; trade = d.trade; before = lot_quantity shares id; after = lot_quantity after id }
 
     rest : List HoldingHistoryRow
-    rest = filter is_moved (lot_rows id after deals)
+    rest = filter row_changes_quantity (lot_rows_of_deals id after deals)
 
     others : d.trade ≡ id → Others id deals
     others own = All-map deals (λ e l. ne_eqb e.trade id (λ same. l.0 (own ∙ sym same))) a.0
 
-    by_own : (b : Bool) → is_moved row ≡ b → d.trade ≡ id → IsOpened id (cond b (row ∷ rest) rest)
+    by_own : (b : Bool) → row_changes_quantity row ≡ b → d.trade ≡ id → BeginsWithOwnTrade id (cond b (row ∷ rest) rest)
     by_own true e own = own
     by_own false e own =
-        let none : Without id after = without_of next.0 id after next.1 (zero_left (lot_qty shares id) (lot_qty after id) (lot_without id shares w) e) in
-        subst (IsOpened id) (sym (no_rows id after deals none (others own))) tt
+        let none : Without id after = without_of next.0 id after next.1 (zero_left (lot_quantity shares id) (lot_quantity after id) (lot_without id shares w) e) in
+        subst (BeginsWithOwnTrade id) (sym (no_rows id after deals none (others own))) tt
 
-    by_trade : (b : Bool) → (d.trade == id) ≡ b → (Without id after → AreDeals deals → IsOpened id rest) → IsOpened id (cond (is_moved row) (row ∷ rest) rest)
-    by_trade true e again = by_own (is_moved row) refl (eqb-true d.trade id e)
+    by_trade : (b : Bool) → (d.trade == id) ≡ b → (Without id after → AreAscendingDeals deals → BeginsWithOwnTrade id rest) → BeginsWithOwnTrade id (cond (row_changes_quantity row) (row ∷ rest) rest)
+    by_trade true e again = by_own (row_changes_quantity row) refl (eqb-true d.trade id e)
     by_trade false e again =
-        subst (λ c. IsOpened id (cond c (row ∷ rest) rest)) (sym (unchanged id d shares e w)) (again (all_after (λ s. (s.trade == id) ≡ false) d shares e w) a.1)
+        subst (λ c. BeginsWithOwnTrade id (cond c (row ∷ rest) rest)) (sym (unchanged id d shares e w)) (again (all_after (λ s. (s.trade == id) ≡ false) d shares e w) a.1)
 
 -- the stamp of a trade, as the tables tell it
 abbrev stamp_in : Base → ℕ → ℕ
-stamp_in base id = option_map_or (λ t. t.stamp) (trade_in (sheets base) id) 0
+stamp_in base id = option_map_or (λ t. t.stamp) (trade_row_with_id (sheets base) id) 0
 
-stamp_is : (base : Base) (t : Trade) → trade_with base t.id ≡ Some t → stamp_in base t.id ≡ moment_of t
+stamp_is : (base : Base) (t : Trade) → trade_with_id base t.id ≡ Some t → stamp_in base t.id ≡ last_status_stamp_of_trade t
 stamp_is base t e = ap (λ o. option_map_or (λ t. t.stamp) o 0) (reads_trade base t.id ∙ ap (option_map trade_row) e)
 
-changes_rise : (base : Base) (lot : ℕ) (shares : List Share) (ts : List Trade) → InOrder ts → AllByRecursion (λ u. stamp_in base u.id ≡ moment_of u) ts
-    → Rise (touch_stamp (sheets base)) (lot_rows lot shares (map deal_of ts))
+changes_rise : (base : Base) (lot : ℕ) (shares : List Share) (ts : List Trade) → InOrder ts → AllByRecursion (λ u. stamp_in base u.id ≡ last_status_stamp_of_trade u) ts
+    → Rise (stamp_of_touching_trade (sheets base)) (lot_rows_of_deals lot shares (map deal_of_trade ts))
 changes_rise base lot shares [] o h = tt
 changes_rise base lot shares (u ∷ ts) o h =
-    (behind (shares_after shares (deal_of u)) ts o.0 h.1, changes_rise base lot (shares_after shares (deal_of u)) ts o.1 h.1)
+    (behind (shares_after_deal shares (deal_of_trade u)) ts o.0 h.1, changes_rise base lot (shares_after_deal shares (deal_of_trade u)) ts o.1 h.1)
   where
-    behind : (left : List Share) (vs : List Trade) → AllByRecursion (Follows u) vs → AllByRecursion (λ v. stamp_in base v.id ≡ moment_of v) vs
-        → AllByRecursion (λ r. stamp_in base u.id < touch_stamp (sheets base) r) (lot_rows lot left (map deal_of vs))
+    behind : (left : List Share) (vs : List Trade) → AllByRecursion (Follows u) vs → AllByRecursion (λ v. stamp_in base v.id ≡ last_status_stamp_of_trade v) vs
+        → AllByRecursion (λ r. stamp_in base u.id < stamp_of_touching_trade (sheets base) r) (lot_rows_of_deals lot left (map deal_of_trade vs))
     behind left [] f k = tt
     behind left (v ∷ vs) f k =
-        let lt : moment_of u < moment_of v = f.0.1 in (
-          subst (λ (n : ℕ). n < stamp_in base v.id) (sym h.0) (subst (λ (n : ℕ). moment_of u < n) (sym k.0) lt),
-          behind (shares_after left (deal_of v)) vs f.1 k.1,
+        let lt : last_status_stamp_of_trade u < last_status_stamp_of_trade v = f.0.1 in (
+          subst (λ (n : ℕ). n < stamp_in base v.id) (sym h.0) (subst (λ (n : ℕ). last_status_stamp_of_trade u < n) (sym k.0) lt),
+          behind (shares_after_deal left (deal_of_trade v)) vs f.1 k.1,
         )
 
-done_found : (base : Base) → BooksInvariant base → AllByRecursion (λ t. trade_with base t.id ≡ Some t) (completed base)
+done_found : (base : Base) → BooksInvariant base → AllByRecursion (λ t. trade_with_id base t.id ≡ Some t) (completed_trades base)
 done_found base books =
-    All-filter (λ t. trade_with base t.id ≡ Some t) is_completed base.trades (found_each base.trades (rise_apart base.trades (numbered_rise 1 base.trades books.numbered)))
+    All-filter (λ t. trade_with_id base t.id ≡ Some t) is_completed base.trades (found_each base.trades (rise_apart base.trades (numbered_rise 1 base.trades books.numbered)))
 
-history_rises : (base : Base) (t : Trade) → BooksInvariant base → Rise (touch_stamp (sheets base)) (lot_history (completed base) t)
+history_rises : (base : Base) (t : Trade) → BooksInvariant base → Rise (stamp_of_touching_trade (sheets base)) (holding_history_rows_of_lot (completed_trades base) t)
 history_rises base t books =
-    rise_left (touch_stamp (sheets base)) is_moved (lot_rows t.id [] (deals_in (completed base) t.account t.symbol))
+    rise_left (stamp_of_touching_trade (sheets base)) row_changes_quantity (lot_rows_of_deals t.id [] (deals_of_position (completed_trades base) t.account t.symbol))
     (changes_rise base t.id [] (trades_held base t.account t.symbol) (held_in_order base t.account t.symbol books)
-    (of_held (λ u. stamp_in base u.id ≡ moment_of u) base t.account t.symbol (All-map (completed base) (λ u e. stamp_is base u e) (done_found base books))))
+    (of_held (λ u. stamp_in base u.id ≡ last_status_stamp_of_trade u) base t.account t.symbol (All-map (completed_trades base) (λ u e. stamp_is base u e) (done_found base books))))
 
 -- ---- among the changes of all lots
 
@@ -174,43 +174,43 @@ ids_after : (xs : List Trade) (t : Trade) (ys : List Trade) → IdsApart (xs ++ 
 ids_after [] t ys d = d.0
 ids_after (x ∷ xs) t ys d = ids_after xs t ys d.1
 
-done_apart : (base : Base) → BooksInvariant base → IdsApart (completed base)
-done_apart base books = rise_apart (completed base) (rise_filter is_completed base.trades (numbered_rise 1 base.trades books.numbered))
+done_apart : (base : Base) → BooksInvariant base → IdsApart (completed_trades base)
+done_apart base books = rise_apart (completed_trades base) (rise_filter is_completed base.trades (numbered_rise 1 base.trades books.numbered))
 
 abbrev of_lot : ℕ → HoldingHistoryRow → Bool
 of_lot lot h = h.lot == lot
 
-own_lots : (done : List Trade) (t : Trade) → AllByRecursion (λ r. r.lot ≡ t.id) (lot_history done t)
-own_lots done t = All-filter (λ r. r.lot ≡ t.id) is_moved (lot_rows t.id [] (deals_in done t.account t.symbol)) (lots_same t.id [] (deals_in done t.account t.symbol))
+own_lots : (done : List Trade) (t : Trade) → AllByRecursion (λ r. r.lot ≡ t.id) (holding_history_rows_of_lot done t)
+own_lots done t = All-filter (λ r. r.lot ≡ t.id) row_changes_quantity (lot_rows_of_deals t.id [] (deals_of_position done t.account t.symbol)) (lots_same t.id [] (deals_of_position done t.account t.symbol))
 
-none_other : (done : List Trade) (lot : ℕ) (ts : List Trade) → NonePass (λ u. u.id == lot) ts → flat_map (λ u. filter (of_lot lot) (lot_history done u)) ts ≡ []
+none_other : (done : List Trade) (lot : ℕ) (ts : List Trade) → NonePass (λ u. u.id == lot) ts → flat_map (λ u. filter (of_lot lot) (holding_history_rows_of_lot done u)) ts ≡ []
 none_other done lot ts h =
-    flat_map-empty (λ u. filter (of_lot lot) (lot_history done u)) ts
-    (All-map ts (λ u e. filter-none (of_lot lot) (lot_history done u) (All-map (lot_history done u) (λ r same. ap (λ (n : ℕ). n == lot) same ∙ e) (own_lots done u))) h)
+    flat_map-empty (λ u. filter (of_lot lot) (holding_history_rows_of_lot done u)) ts
+    (All-map ts (λ u e. filter-none (of_lot lot) (holding_history_rows_of_lot done u) (All-map (holding_history_rows_of_lot done u) (λ r same. ap (λ (n : ℕ). n == lot) same ∙ e) (own_lots done u))) h)
 
 own_changes : (done : List Trade) (lot : ℕ) (t : Trade) → IdsApart done → (f : FoundAt Trade (λ u. u.id == lot) t done)
-    → filter (of_lot lot) (flat_map (lot_history done) done) ≡ lot_history done t
+    → filter (of_lot lot) (flat_map (holding_history_rows_of_lot done) done) ≡ holding_history_rows_of_lot done t
 own_changes done lot t d f =
-    let F : Trade → List HoldingHistoryRow = λ u. filter (of_lot lot) (lot_history done u) in
+    let F : Trade → List HoldingHistoryRow = λ u. filter (of_lot lot) (holding_history_rows_of_lot done u) in
     let same : t.id ≡ lot = eqb-true t.id lot f.passes in
     let after : NonePass (λ u. u.id == lot) f.after = subst (λ (n : ℕ). NonePass (λ u. u.id == n) f.after) same (ids_after f.before t f.after (subst IdsApart f.stands d)) in
-    filter-flat_map (of_lot lot) (lot_history done) done
+    filter-flat_map (of_lot lot) (holding_history_rows_of_lot done) done
     ∙ ap (flat_map F) f.stands ∙ flat_map-append F f.before (t ∷ f.after)
     ∙ (λ i. none_other done lot f.before f.others i ++ (F t ++ none_other done lot f.after after i))
     ∙ append_nil (F t)
-    ∙ filter-all (of_lot lot) (lot_history done t) (All-map (lot_history done t) (λ r e. ap (λ (n : ℕ). n == lot) e ∙ f.passes) (own_lots done t))
+    ∙ filter-all (of_lot lot) (holding_history_rows_of_lot done t) (All-map (holding_history_rows_of_lot done t) (λ r e. ap (λ (n : ℕ). n == lot) e ∙ f.passes) (own_lots done t))
 
-history_is : (base : Base) → (sheets base).holding_history ≡ by_key holding_history_key (flat_map (lot_history (completed base)) (completed base))
-unfolding tables_at sheets_of
+history_is : (base : Base) → (sheets base).holding_history ≡ rows_sorted_by_key holding_history_key (flat_map (holding_history_rows_of_lot (completed_trades base)) (completed_trades base))
+unfolding tables_of_base_in_schema tables_sorted_by_key
 history_is base = refl
 
-changes_of : (base : Base) (lot : ℕ) (rows : List HoldingHistoryRow) → filter (of_lot lot) (flat_map (lot_history (completed base)) (completed base)) ≡ rows
-    → Rise (touch_stamp (sheets base)) rows → changes_in (sheets base) lot ≡ rows
+changes_of : (base : Base) (lot : ℕ) (rows : List HoldingHistoryRow) → filter (of_lot lot) (flat_map (holding_history_rows_of_lot (completed_trades base)) (completed_trades base)) ≡ rows
+    → Rise (stamp_of_touching_trade (sheets base)) rows → lot_changes_by_stamp (sheets base) lot ≡ rows
 changes_of base lot rows e r =
-    let S : HoldingHistoryRow → HoldingHistoryRow → Bool = by (touch_stamp (sheets base)) in
+    let S : HoldingHistoryRow → HoldingHistoryRow → Bool = by (stamp_of_touching_trade (sheets base)) in
     ap (λ rs. sort_by S (filter (of_lot lot) rs)) (history_is base)
-    ∙ ap (sort_by S) (sym (by_key-filter holding_history_key (of_lot lot) (flat_map (lot_history (completed base)) (completed base))) ∙ ap (by_key holding_history_key) e)
-    ∙ sort_any (touch_stamp (sheets base)) (row_before holding_history_key) rows r
+    ∙ ap (sort_by S) (sym (by_key-filter holding_history_key (of_lot lot) (flat_map (holding_history_rows_of_lot (completed_trades base)) (completed_trades base))) ∙ ap (rows_sorted_by_key holding_history_key) e)
+    ∙ sort_any (stamp_of_touching_trade (sheets base)) (is_row_key_less holding_history_key) rows r
 
 -- ---- what is left
 
@@ -240,9 +240,9 @@ left_or row (negsuc n) e = e
 abbrev opened : ℕ → HoldingRow → Bool
 opened lot h = h.trade == lot
 
-left_is : (base : Base) (lot : ℕ) (t : Trade) → BooksInvariant base → (f : FoundAt Trade (λ u. u.id == lot) t (completed base)) → left_in (sheets base) lot ≡ (holding_row (completed base) t).qty
+left_is : (base : Base) (lot : ℕ) (t : Trade) → BooksInvariant base → (f : FoundAt Trade (λ u. u.id == lot) t (completed_trades base)) → remaining_lot_quantity (sheets base) lot ≡ (holding_row (completed_trades base) t).qty
 left_is base lot t books f =
-    let done : List Trade = completed base in
+    let done : List Trade = completed_trades base in
     let row : Trade → HoldingRow = holding_row done in
     let same : t.id ≡ lot = eqb-true t.id lot f.passes in
     let after : NonePass (λ u. u.id == lot) f.after =
@@ -256,37 +256,37 @@ left_is base lot t books f =
 
 -- ---- each lot
 
-of_done : (base : Base) (lot : ℕ) (t : Trade) → BooksInvariant base → find (λ u. u.id == lot) (completed base) ≡ Some t → IsLotLife (sheets base) lot
-unfolding shares_in
+of_done : (base : Base) (lot : ℕ) (t : Trade) → BooksInvariant base → find (λ u. u.id == lot) (completed_trades base) ≡ Some t → LotChangesFormChain (sheets base) lot
+unfolding shares_of_position
 of_done base lot t books e =
-    let f : FoundAt Trade (λ u. u.id == lot) t (completed base) = find-at (λ u. u.id == lot) (completed base) t e in
-    let deals : List Deal = deals_in (completed base) t.account t.symbol in
+    let f : FoundAt Trade (λ u. u.id == lot) t (completed_trades base) = find-at (λ u. u.id == lot) (completed_trades base) t e in
+    let deals : List Deal = deals_of_position (completed_trades base) t.account t.symbol in
     let same : t.id ≡ lot = eqb-true t.id lot f.passes in
-    let changes : changes_in (sheets base) lot ≡ lot_history (completed base) t =
-    changes_of base lot (lot_history (completed base) t) (own_changes (completed base) lot t (done_apart base books) f) (history_rises base t books) in
-    let rows : map touch_of_row (changes_in (sheets base) lot) ≡ changes_of_lot t.id deals [] = ap (map touch_of_row) changes in
+    let changes : lot_changes_by_stamp (sheets base) lot ≡ holding_history_rows_of_lot (completed_trades base) t =
+    changes_of base lot (holding_history_rows_of_lot (completed_trades base) t) (own_changes (completed_trades base) lot t (done_apart base books) f) (history_rises base t books) in
+    let rows : map touch_of_row (lot_changes_by_stamp (sheets base) lot) ≡ changes_of_lot t.id deals [] = ap (map touch_of_row) changes in
     record {
-      opened = subst (IsOpened lot) (sym changes) (subst (λ (n : ℕ). IsOpened n (lot_history (completed base) t)) same (opened_first t.id Buy [] deals tt tt (deals_are base t.account t.symbol books)));
-      life = subst (λ rs. IsLife rs (left_in (sheets base) lot)) (sym rows)
-          (subst (λ q. IsLife (changes_of_lot t.id deals []) q) (sym (left_is base lot t books f)) (lot_lives base t.account t.symbol t.id books));
+      opened = subst (BeginsWithOwnTrade lot) (sym changes) (subst (λ (n : ℕ). BeginsWithOwnTrade n (holding_history_rows_of_lot (completed_trades base) t)) same (opened_first t.id Buy [] deals tt tt (deals_are base t.account t.symbol books)));
+      life = subst (λ rs. IsLotHistory rs (remaining_lot_quantity (sheets base) lot)) (sym rows)
+          (subst (λ q. IsLotHistory (changes_of_lot t.id deals []) q) (sym (left_is base lot t books f)) (lot_lives base t.account t.symbol t.id books));
     }
 
-of_none : (base : Base) (lot : ℕ) → BooksInvariant base → find (λ u. u.id == lot) (completed base) ≡ None → IsLotLife (sheets base) lot
+of_none : (base : Base) (lot : ℕ) → BooksInvariant base → find (λ u. u.id == lot) (completed_trades base) ≡ None → LotChangesFormChain (sheets base) lot
 of_none base lot books e =
-    let none : NonePass (λ u. u.id == lot) (completed base) = find-none (λ u. u.id == lot) (completed base) (ap is_some e) in
-    let rows : changes_in (sheets base) lot ≡ [] =
-    changes_of base lot [] (filter-flat_map (of_lot lot) (lot_history (completed base)) (completed base) ∙ none_other (completed base) lot (completed base) none) tt in
-    let left : left_in (sheets base) lot ≡ pos 0 =
+    let none : NonePass (λ u. u.id == lot) (completed_trades base) = find-none (λ u. u.id == lot) (completed_trades base) (ap is_some e) in
+    let rows : lot_changes_by_stamp (sheets base) lot ≡ [] =
+    changes_of base lot [] (filter-flat_map (of_lot lot) (holding_history_rows_of_lot (completed_trades base)) (completed_trades base) ∙ none_other (completed_trades base) lot (completed_trades base) none) tt in
+    let left : remaining_lot_quantity (sheets base) lot ≡ pos 0 =
     ap (λ o. option_map_or (λ h. h.qty) o (pos 0))
     (ap (find (opened lot)) (holdings_in_order base books.numbered)
-    ∙ none_found (opened lot) (filter is_left (map (holding_row (completed base)) (completed base)))
-    (All-filter (λ h. opened lot h ≡ false) is_left (map (holding_row (completed base)) (completed base))
-    (All-mapped (λ h. opened lot h ≡ false) (holding_row (completed base)) (completed base) none))) in
-    record { opened = subst (IsOpened lot) (sym rows) tt; life = subst (λ rs. IsLife (map touch_of_row rs) (left_in (sheets base) lot)) (sym rows) (sym left) }
+    ∙ none_found (opened lot) (filter is_left (map (holding_row (completed_trades base)) (completed_trades base)))
+    (All-filter (λ h. opened lot h ≡ false) is_left (map (holding_row (completed_trades base)) (completed_trades base))
+    (All-mapped (λ h. opened lot h ≡ false) (holding_row (completed_trades base)) (completed_trades base) none))) in
+    record { opened = subst (BeginsWithOwnTrade lot) (sym rows) tt; life = subst (λ rs. IsLotHistory (map touch_of_row rs) (remaining_lot_quantity (sheets base) lot)) (sym rows) (sym left) }
 
-pub lots_live_on : (base : Base) → BooksInvariant base → LotsLive (sheets base)
-lots_live_on base books lot = by_trade (find (λ u. u.id == lot) (completed base)) refl
+pub lots_live_on : (base : Base) → BooksInvariant base → AllLotChangesFormChains (sheets base)
+lots_live_on base books lot = by_trade (find (λ u. u.id == lot) (completed_trades base)) refl
   where
-    by_trade : (o : Option Trade) → find (λ u. u.id == lot) (completed base) ≡ o → IsLotLife (sheets base) lot
+    by_trade : (o : Option Trade) → find (λ u. u.id == lot) (completed_trades base) ≡ o → LotChangesFormChain (sheets base) lot
     by_trade (Some t) e = of_done base lot t books e
     by_trade None e = of_none base lot books e

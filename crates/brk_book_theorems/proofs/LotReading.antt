@@ -7,19 +7,19 @@ use Rattle.std.proofs.lemmas.Bool.{eqb-true}
 use Rattle.std.proofs.lemmas.Bool.Decides.{nat_tests}
 use lib.IntN.{+ℤ_idr}
 use Rattle.brk_money.specs.Spelling.{Text}
-use Rattle.brk_money.specs.Kinds.{side_of}
+use Rattle.brk_money.specs.Kinds.{side_of_trade_type}
 use Rattle.brk_model.specs.Lists.{insert_by, is_zero, sort_by, sort_by_key}
 use Rattle.brk_model.specs.Records.{Trade}
-use Rattle.brk_model.specs.Base.{Base, completed, is_completed, moment_of, price_of}
-use Rattle.brk_model.specs.Derived.{deal_of, of_account, of_position, shares_in}
-use Rattle.brk_model.specs.Keys.{KeyPart, number, by_key, key_before, row_before, holding_key}
-use Rattle.brk_model.specs.Shares.{Share, lot_qty, opened_share, signed}
-use Rattle.brk_model.specs.Sheets.{sheets, sheets_of}
-use Rattle.brk_model.specs.Tables.{HoldingRow, tables_at, holding_row}
-use Rattle.brk_model.specs.Names.{NumberedFrom}
+use Rattle.brk_model.specs.Base.{Base, completed_trades, is_completed, last_status_stamp_of_trade, completion_price}
+use Rattle.brk_model.specs.Derived.{deal_of_trade, trades_of_account, trades_of_position, shares_of_position}
+use Rattle.brk_model.specs.Keys.{KeyPart, number, rows_sorted_by_key, is_key_less, is_row_key_less, holding_key}
+use Rattle.brk_model.specs.Shares.{Share, lot_quantity, opened_share, signed_by_side}
+use Rattle.brk_model.specs.Sheets.{sheets, tables_sorted_by_key}
+use Rattle.brk_model.specs.Tables.{HoldingRow, tables_of_base_in_schema, holding_row}
+use Rattle.brk_model.specs.Names.{AreNumberedFrom}
 use Rattle.brk_book_theorems.specs.Books.{BooksInvariant}
 use Rattle.brk_lots.specs.Lots.{side_of_qty}
-use Rattle.brk_book_theorems.specs.TradeReads.{lot_shares, lots_of_position}
+use Rattle.brk_book_theorems.specs.TradeReads.{shares_of_lot_row, holding_rows_of_position}
 use Rattle.brk_book_theorems.proofs.Bools.{numbers_back, same_text}
 use Rattle.brk_book_theorems.proofs.Order.{All-insert, by_key-filter, by_key-map, sort_sorted, sorted_filter}
 use Rattle.brk_book_theorems.proofs.Same.{NonePass, All-filter, All-map}
@@ -60,7 +60,7 @@ rise_apart (t ∷ ts) r = (All-map ts (λ u h. other t.id u.id h) r.0, rise_apar
     other : (m n : ℕ) → nat_lt m n ≡ true → (n == m) ≡ false
     other m n h = grind (arith, nat_tests)
 
-pub numbered_rise : (n : ℕ) (ts : List Trade) → NumberedFrom n ts → IdsRise ts
+pub numbered_rise : (n : ℕ) (ts : List Trade) → AreNumberedFrom n ts → IdsRise ts
 numbered_rise n [] k = tt
 numbered_rise n (t ∷ ts) k = (ids_rise t.id (n + 1) ts (omega (arith, k.0)) k.1, numbered_rise (n + 1) ts k.1)
 
@@ -73,49 +73,49 @@ rise_filter p (t ∷ ts) r =
 -- ---- by age, and by completion
 
 abbrev age_of : Trade → List KeyPart
-age_of t = number (moment_of t) ∷ number t.id ∷ []
+age_of t = number (last_status_stamp_of_trade t) ∷ number t.id ∷ []
 
-age_before : (my mx iy ix : ℕ) → nat_lt ix iy ≡ true → key_before (number my ∷ number iy ∷ []) (number mx ∷ number ix ∷ []) ≡ nat_lt my mx
+age_before : (my mx iy ix : ℕ) → nat_lt ix iy ≡ true → is_key_less (number my ∷ number iy ∷ []) (number mx ∷ number ix ∷ []) ≡ nat_lt my mx
 age_before my mx iy ix h = grind (arith, nat_tests)
 
 insert_same : {X : Type 0} (b c : X → X → Bool) (x : X) (ys : List X) → AllByRecursion (λ y. b y x ≡ c y x) ys → insert_by b x ys ≡ insert_by c x ys
 insert_same b c x [] h = refl
 insert_same b c x (y ∷ ys) h = λ i. cond (h.0 i) (y ∷ insert_same b c x ys h.1 i) (x ∷ y ∷ ys)
 
-sort_same : (ts : List Trade) → IdsRise ts → by_key age_of ts ≡ sort_by_key moment_of ts
+sort_same : (ts : List Trade) → IdsRise ts → rows_sorted_by_key age_of ts ≡ sort_by_key last_status_stamp_of_trade ts
 unfolding sort_by
 sort_same [] r = refl
 sort_same (t ∷ ts) r =
-    insert_same (row_before age_of) (λ u v. nat_lt (moment_of u) (moment_of v)) t (by_key age_of ts)
-    (All-map (by_key age_of ts) (λ u h. age_before (moment_of u) (moment_of t) u.id t.id h) (All-sort (λ u. nat_lt t.id u.id ≡ true) (row_before age_of) ts r.0))
-    ∙ ap (insert_by (λ u v. nat_lt (moment_of u) (moment_of v)) t) (sort_same ts r.1)
+    insert_same (is_row_key_less age_of) (λ u v. nat_lt (last_status_stamp_of_trade u) (last_status_stamp_of_trade v)) t (rows_sorted_by_key age_of ts)
+    (All-map (rows_sorted_by_key age_of ts) (λ u h. age_before (last_status_stamp_of_trade u) (last_status_stamp_of_trade t) u.id t.id h) (All-sort (λ u. nat_lt t.id u.id ≡ true) (is_row_key_less age_of) ts r.0))
+    ∙ ap (insert_by (λ u v. nat_lt (last_status_stamp_of_trade u) (last_status_stamp_of_trade v)) t) (sort_same ts r.1)
 
 -- ---- the shares of rows
 
 -- the row of a trade's lot, upon some shares
 abbrev row_upon : List Share → Trade → HoldingRow
-row_upon shares t = record { trade = t.id; account = t.account; symbol = t.symbol; stamp = moment_of t; price = price_of t; qty = lot_qty shares t.id }
+row_upon shares t = record { trade = t.id; account = t.account; symbol = t.symbol; stamp = last_status_stamp_of_trade t; price = completion_price t; qty = lot_quantity shares t.id }
 
-opened_by_deals : (id : ℕ) (ts : List Trade) → NonePass (λ u. u.id == id) ts → AllByRecursion (λ d. (d.trade == id) ≡ false) (map deal_of ts)
+opened_by_deals : (id : ℕ) (ts : List Trade) → NonePass (λ u. u.id == id) ts → AllByRecursion (λ d. (d.trade == id) ≡ false) (map deal_of_trade ts)
 opened_by_deals id [] h = tt
 opened_by_deals id (t ∷ ts) h = (h.0, opened_by_deals id ts h.1)
 
 -- shares that are runs of the trades' deals are those of the trades' lots
-rows_told : (whole : List Share) (ts : List Trade) (shares : List Share) → IdsApart ts → AreRuns (map deal_of ts) shares
-    → AllByRecursion (λ t. lot_qty whole t.id ≡ lot_qty shares t.id) ts → flat_map (λ t. lot_shares (row_upon whole t)) ts ≡ shares
+rows_told : (whole : List Share) (ts : List Trade) (shares : List Share) → IdsApart ts → AreRuns (map deal_of_trade ts) shares
+    → AllByRecursion (λ t. lot_quantity whole t.id ≡ lot_quantity shares t.id) ts → flat_map (λ t. shares_of_lot_row (row_upon whole t)) ts ≡ shares
 rows_told whole [] shares d r h = sym r
 rows_told whole (t ∷ ts) shares d r h =
-    let none : lot_qty r.1 t.id ≡ pos 0 = no_lot t.id (map deal_of ts) r.1 (opened_by_deals t.id ts d.0) r.3 in
-    let qty : lot_qty whole t.id ≡ signed (side_of t.kind) r.0 =
-    h.0 ∙ ap (λ xs. lot_qty xs t.id) r.2 ∙ lot_own (opened_share (deal_of t)) r.0 r.1 ∙ ap (λ z. signed (side_of t.kind) r.0 +ℤ z) none ∙ +ℤ_idr (signed (side_of t.kind) r.0) in
-    let run : lot_shares (row_upon whole t) ≡ replicate r.0 (opened_share (deal_of t)) =
-    ap (λ q. lot_shares (record (row_upon whole t) { qty = q })) qty ∙ run_told (side_of t.kind) r.0 t.id (price_of t) (moment_of t) in
-    let others : AllByRecursion (λ u. lot_qty whole u.id ≡ lot_qty r.1 u.id) ts = left ts h.1 d.0 in
+    let none : lot_quantity r.1 t.id ≡ pos 0 = no_lot t.id (map deal_of_trade ts) r.1 (opened_by_deals t.id ts d.0) r.3 in
+    let qty : lot_quantity whole t.id ≡ signed_by_side (side_of_trade_type t.kind) r.0 =
+    h.0 ∙ ap (λ xs. lot_quantity xs t.id) r.2 ∙ lot_own (opened_share (deal_of_trade t)) r.0 r.1 ∙ ap (λ z. signed_by_side (side_of_trade_type t.kind) r.0 +ℤ z) none ∙ +ℤ_idr (signed_by_side (side_of_trade_type t.kind) r.0) in
+    let run : shares_of_lot_row (row_upon whole t) ≡ replicate r.0 (opened_share (deal_of_trade t)) =
+    ap (λ q. shares_of_lot_row (record (row_upon whole t) { qty = q })) qty ∙ run_told (side_of_trade_type t.kind) r.0 t.id (completion_price t) (last_status_stamp_of_trade t) in
+    let others : AllByRecursion (λ u. lot_quantity whole u.id ≡ lot_quantity r.1 u.id) ts = left ts h.1 d.0 in
     (λ i. run i ++ rows_told whole ts r.1 d.1 r.3 others i) ∙ sym r.2
   where
-    left : (us : List Trade) → AllByRecursion (λ u. lot_qty whole u.id ≡ lot_qty shares u.id) us → NonePass (λ u. u.id == t.id) us → AllByRecursion (λ u. lot_qty whole u.id ≡ lot_qty r.1 u.id) us
+    left : (us : List Trade) → AllByRecursion (λ u. lot_quantity whole u.id ≡ lot_quantity shares u.id) us → NonePass (λ u. u.id == t.id) us → AllByRecursion (λ u. lot_quantity whole u.id ≡ lot_quantity r.1 u.id) us
     left [] h n = tt
-    left (u ∷ us) h n = (h.0 ∙ ap (λ xs. lot_qty xs u.id) r.2 ∙ lot_other u.id (opened_share (deal_of t)) r.0 r.1 (numbers_back t.id u.id ∙ n.0), left us h.1 n.1)
+    left (u ∷ us) h n = (h.0 ∙ ap (λ xs. lot_quantity xs u.id) r.2 ∙ lot_other u.id (opened_share (deal_of_trade t)) r.0 r.1 (numbers_back t.id u.id ∙ n.0), left us h.1 n.1)
 
 -- ---- the rows of a position
 
@@ -165,31 +165,31 @@ all_pass p (x ∷ xs) = by_test (p x) refl (all_pass p xs)
 abbrev pub is_left : HoldingRow → Bool
 is_left r = not (is_zero r.qty)
 
-pub holdings_in_order : (base : Base) → NumberedFrom 1 base.trades → (sheets base).holdings ≡ filter is_left (map (holding_row (completed base)) (completed base))
-unfolding tables_at sheets_of
+pub holdings_in_order : (base : Base) → AreNumberedFrom 1 base.trades → (sheets base).holdings ≡ filter is_left (map (holding_row (completed_trades base)) (completed_trades base))
+unfolding tables_of_base_in_schema tables_sorted_by_key
 holdings_in_order base n =
-    by_key-filter holding_key is_left (map (holding_row (completed base)) (completed base))
-    ∙ ap (filter is_left) (by_key-map (λ t. number t.id ∷ []) holding_key (holding_row (completed base)) (completed base) (λ t. refl)
-    ∙ ap (map (holding_row (completed base))) (sort_sorted (row_before (λ t. number t.id ∷ [])) (completed base)
-    (sorted_filter (row_before (λ t. number t.id ∷ [])) is_completed base.trades (trades_stand 1 base.trades n))))
+    by_key-filter holding_key is_left (map (holding_row (completed_trades base)) (completed_trades base))
+    ∙ ap (filter is_left) (by_key-map (λ t. number t.id ∷ []) holding_key (holding_row (completed_trades base)) (completed_trades base) (λ t. refl)
+    ∙ ap (map (holding_row (completed_trades base))) (sort_sorted (is_row_key_less (λ t. number t.id ∷ [])) (completed_trades base)
+    (sorted_filter (is_row_key_less (λ t. number t.id ∷ [])) is_completed base.trades (trades_stand 1 base.trades n))))
 
 abbrev age_row : HoldingRow → List KeyPart
 age_row r = number r.stamp ∷ number r.trade ∷ []
 
-pub position_rise : (base : Base) (account : ℕ) (symbol : Text) → NumberedFrom 1 base.trades → IdsRise (of_position (completed base) account symbol)
+pub position_rise : (base : Base) (account : ℕ) (symbol : Text) → AreNumberedFrom 1 base.trades → IdsRise (trades_of_position (completed_trades base) account symbol)
 position_rise base account symbol n =
-    rise_filter (λ t. bytes_eq t.symbol symbol) (of_account (completed base) account)
-    (rise_filter (λ t. t.account == account) (completed base) (rise_filter is_completed base.trades (numbered_rise 1 base.trades n)))
+    rise_filter (λ t. bytes_eq t.symbol symbol) (trades_of_account (completed_trades base) account)
+    (rise_filter (λ t. t.account == account) (completed_trades base) (rise_filter is_completed base.trades (numbered_rise 1 base.trades n)))
 
-pub lots_are : (base : Base) (account : ℕ) (symbol : Text) → NumberedFrom 1 base.trades
-    → lots_of_position (sheets base) account symbol ≡ filter is_left (map (holding_row (completed base)) (sort_by_key moment_of (of_position (completed base) account symbol)))
+pub lots_are : (base : Base) (account : ℕ) (symbol : Text) → AreNumberedFrom 1 base.trades
+    → holding_rows_of_position (sheets base) account symbol ≡ filter is_left (map (holding_row (completed_trades base)) (sort_by_key last_status_stamp_of_trade (trades_of_position (completed_trades base) account symbol)))
 lots_are base account symbol n =
-    let done : List Trade = completed base in
+    let done : List Trade = completed_trades base in
     let row : Trade → HoldingRow = holding_row done in
     let p : HoldingRow → Bool = λ r. (r.account == account) && bytes_eq r.symbol symbol in
-    let P : List Trade = of_position done account symbol in
-    ap (λ rows. by_key age_row (filter p rows)) (holdings_in_order base n)
-    ∙ ap (by_key age_row) (filter-swap p is_left (map row done)
+    let P : List Trade = trades_of_position done account symbol in
+    ap (λ rows. rows_sorted_by_key age_row (filter p rows)) (holdings_in_order base n)
+    ∙ ap (rows_sorted_by_key age_row) (filter-swap p is_left (map row done)
     ∙ ap (filter is_left) (filter-map p row done ∙ ap (map row) (filter-both (λ t. t.account == account) (λ t. bytes_eq t.symbol symbol) done)))
     ∙ by_key-filter age_row is_left (map row P)
     ∙ ap (filter is_left) (by_key-map age_of age_row row P (λ t. refl) ∙ ap (map row) (sort_same P (position_rise base account symbol n)))
@@ -201,41 +201,41 @@ no_shares (pos zero) s e = refl
 no_shares (pos (suc n)) s e = absurd (cc)
 no_shares (negsuc n) s e = absurd (cc)
 
-shares_left : (rows : List HoldingRow) → flat_map lot_shares (filter is_left rows) ≡ flat_map lot_shares rows
+shares_left : (rows : List HoldingRow) → flat_map shares_of_lot_row (filter is_left rows) ≡ flat_map shares_of_lot_row rows
 shares_left [] = refl
 shares_left (r ∷ rows) = by_test (is_zero r.qty) refl (shares_left rows)
   where
-    by_test : (b : Bool) → is_zero r.qty ≡ b → flat_map lot_shares (filter is_left rows) ≡ flat_map lot_shares rows
-        → flat_map lot_shares (cond (not b) (r ∷ filter is_left rows) (filter is_left rows)) ≡ lot_shares r ++ flat_map lot_shares rows
-    by_test true e h = h ∙ ap (λ xs. xs ++ flat_map lot_shares rows) (sym (no_shares r.qty (record { side = side_of_qty r.qty; trade = r.trade; price = r.price; stamp = r.stamp }) e))
-    by_test false e h = ap (λ xs. lot_shares r ++ xs) h
+    by_test : (b : Bool) → is_zero r.qty ≡ b → flat_map shares_of_lot_row (filter is_left rows) ≡ flat_map shares_of_lot_row rows
+        → flat_map shares_of_lot_row (cond (not b) (r ∷ filter is_left rows) (filter is_left rows)) ≡ shares_of_lot_row r ++ flat_map shares_of_lot_row rows
+    by_test true e h = h ∙ ap (λ xs. xs ++ flat_map shares_of_lot_row rows) (sym (no_shares r.qty (record { side = side_of_qty r.qty; trade = r.trade; price = r.price; stamp = r.stamp }) e))
+    by_test false e h = ap (λ xs. shares_of_lot_row r ++ xs) h
 
 -- the rows of a position are upon its shares
 rows_upon : (done : List Trade) (account : ℕ) (symbol : Text) (ts : List Trade) → AllByRecursion (λ t. (t.account == account) ≡ true) ts → AllByRecursion (λ t. bytes_eq t.symbol symbol ≡ true) ts
-    → flat_map lot_shares (map (holding_row done) ts) ≡ flat_map (λ t. lot_shares (row_upon (shares_in done account symbol) t)) ts
+    → flat_map shares_of_lot_row (map (holding_row done) ts) ≡ flat_map (λ t. shares_of_lot_row (row_upon (shares_of_position done account symbol) t)) ts
 rows_upon done account symbol [] g h = refl
 rows_upon done account symbol (t ∷ ts) g h =
     let a : t.account ≡ account = eqb-true t.account account g.0 in
     let s : t.symbol ≡ symbol = same_text t.symbol symbol h.0 in
-    λ i. lot_shares (record (holding_row done t) { qty = lot_qty (shares_in done (a i) (s i)) t.id }) ++ rows_upon done account symbol ts g.1 h.1 i
+    λ i. shares_of_lot_row (record (holding_row done t) { qty = lot_quantity (shares_of_position done (a i) (s i)) t.id }) ++ rows_upon done account symbol ts g.1 h.1 i
 
-pub reads_lots : (base : Base) (account : ℕ) (symbol : Text) → BooksInvariant base → flat_map lot_shares (lots_of_position (sheets base) account symbol) ≡ shares_in (completed base) account symbol
-unfolding shares_in
+pub reads_lots : (base : Base) (account : ℕ) (symbol : Text) → BooksInvariant base → flat_map shares_of_lot_row (holding_rows_of_position (sheets base) account symbol) ≡ shares_of_position (completed_trades base) account symbol
+unfolding shares_of_position
 reads_lots base account symbol books =
-    let done : List Trade = completed base in
-    let P : List Trade = of_position done account symbol in
-    let before : Trade → Trade → Bool = λ t u. nat_lt (moment_of t) (moment_of u) in
+    let done : List Trade = completed_trades base in
+    let P : List Trade = trades_of_position done account symbol in
+    let before : Trade → Trade → Bool = λ t u. nat_lt (last_status_stamp_of_trade t) (last_status_stamp_of_trade u) in
     let ts : List Trade = sort_by before P in
     let accounts : AllByRecursion (λ t. (t.account == account) ≡ true) ts =
-    All-sort (λ t. (t.account == account) ≡ true) before P (All-filter (λ t. (t.account == account) ≡ true) (λ t. bytes_eq t.symbol symbol) (of_account done account) (all_pass (λ t. t.account == account) done)) in
+    All-sort (λ t. (t.account == account) ≡ true) before P (All-filter (λ t. (t.account == account) ≡ true) (λ t. bytes_eq t.symbol symbol) (trades_of_account done account) (all_pass (λ t. t.account == account) done)) in
     let symbols : AllByRecursion (λ t. bytes_eq t.symbol symbol ≡ true) ts =
-    All-sort (λ t. bytes_eq t.symbol symbol ≡ true) before P (all_pass (λ t. bytes_eq t.symbol symbol) (of_account done account)) in
+    All-sort (λ t. bytes_eq t.symbol symbol ≡ true) before P (all_pass (λ t. bytes_eq t.symbol symbol) (trades_of_account done account)) in
     let apart : IdsApart ts = apart_sort before P (rise_apart P (position_rise base account symbol books.numbered)) in
-    ap (flat_map lot_shares) (lots_are base account symbol books.numbered)
+    ap (flat_map shares_of_lot_row) (lots_are base account symbol books.numbered)
     ∙ shares_left (map (holding_row done) ts)
     ∙ rows_upon done account symbol ts accounts symbols
-    ∙ rows_told (shares_in done account symbol) ts (shares_in done account symbol) apart (runs_of (map deal_of ts)) (same ts)
+    ∙ rows_told (shares_of_position done account symbol) ts (shares_of_position done account symbol) apart (runs_of (map deal_of_trade ts)) (same ts)
   where
-    same : (us : List Trade) → AllByRecursion (λ t. lot_qty (shares_in (completed base) account symbol) t.id ≡ lot_qty (shares_in (completed base) account symbol) t.id) us
+    same : (us : List Trade) → AllByRecursion (λ t. lot_quantity (shares_of_position (completed_trades base) account symbol) t.id ≡ lot_quantity (shares_of_position (completed_trades base) account symbol) t.id) us
     same [] = tt
     same (u ∷ us) = (refl, same us)

@@ -4,7 +4,7 @@ use Rattle.std.specs.Prelude.{fold}
 use Rattle.std.specs.List.{AllByRecursion}
 use Rattle.brk_model.specs.Lists.{is_zero, update_where}
 use Rattle.brk_model.specs.Records.{Trade}
-use Rattle.brk_model.specs.Base.{moment_of, price_of}
+use Rattle.brk_model.specs.Base.{last_status_stamp_of_trade, completion_price}
 use Rattle.brk_model.specs.Shares.{Touch}
 use Rattle.brk_model.specs.Tables.{HoldingRow}
 use Rattle.brk_book_theorems.proofs.Same.{All-map}
@@ -15,7 +15,7 @@ use Rattle.brk_book_theorems.proofs.LotOrder.{both_hold}
 
 -- the lot of a trade, with a quantity
 abbrev pub row_with : (Trade → ℤ) → Trade → HoldingRow
-row_with g v = record { trade = v.id; account = v.account; symbol = v.symbol; stamp = moment_of v; price = price_of v; qty = g v }
+row_with g v = record { trade = v.id; account = v.account; symbol = v.symbol; stamp = last_status_stamp_of_trade v; price = completion_price v; qty = g v }
 
 abbrev pub rows_with : (Trade → ℤ) → List Trade → List HoldingRow
 rows_with g ts = filter is_left (map (row_with g) ts)

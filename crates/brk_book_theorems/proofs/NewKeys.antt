@@ -5,15 +5,15 @@ use Rattle.std.specs.List.{AllByRecursion}
 use Rattle.std.proofs.lemmas.Bool.{eq-eqb}
 use Rattle.std.proofs.lemmas.Slice.Eq.{bytes_eq-Decides}
 use Rattle.brk_money.specs.Spelling.{Text}
-use Rattle.brk_money.specs.Kinds.{type_code, same_type}
+use Rattle.brk_money.specs.Kinds.{trade_type_code, is_same_trade_type}
 use Rattle.brk_money.specs.declared.trade_type.TradeType.{TradeType}
 use Rattle.brk_money.specs.declared.trade_type.TradeType.TheVariants.{MarketBuy, MarketSell, StopLoss, LimitSell, LimitBuy}
 use Rattle.brk_model.specs.Records.{Permission, Security, Charge, Band, CustomerTax, Trade}
-use Rattle.brk_model.specs.Base.{Base, security_with}
-use Rattle.brk_model.specs.Tests.{bands_meet}
+use Rattle.brk_model.specs.Base.{Base, security_with_symbol}
+use Rattle.brk_model.specs.Tests.{bands_overlap}
 use Rattle.brk_model.specs.Keys.{KeyPart, number, word, permission_key, charge_key, band_key, customer_tax_key}
-use Rattle.brk_model.specs.Names.{SecurityExists}
-use Rattle.brk_book_theorems.specs.Books.{HasBounds}
+use Rattle.brk_model.specs.Names.{SecurityOfTradeExists}
+use Rattle.brk_book_theorems.specs.Books.{HasOrderedBounds}
 use Rattle.brk_book_theorems.proofs.Order.{NewKey}
 use Rattle.brk_book_theorems.proofs.Same.{NonePass, All-map}
 
@@ -23,7 +23,7 @@ pub same_bytes : (s t : Text) → s ≡ t → bytes_eq s t ≡ true
 same_bytes s t e = (bytes_eq-Decides s t).1 e
 
 -- two types are the same where their codes are
-same_code : (a b : TradeType) → bytes_eq (type_code a) (type_code b) ≡ same_type a b
+same_code : (a b : TradeType) → bytes_eq (trade_type_code a) (trade_type_code b) ≡ is_same_trade_type a b
 same_code MarketBuy MarketBuy = refl
 same_code MarketBuy MarketSell = refl
 same_code MarketBuy StopLoss = refl
@@ -50,11 +50,11 @@ same_code LimitBuy StopLoss = refl
 same_code LimitBuy LimitSell = refl
 same_code LimitBuy LimitBuy = refl
 
-pub code_same : (a b : TradeType) → type_code a ≡ type_code b → same_type a b ≡ true
-code_same a b e = sym (same_code a b) ∙ same_bytes (type_code a) (type_code b) e
+pub code_same : (a b : TradeType) → trade_type_code a ≡ trade_type_code b → is_same_trade_type a b ≡ true
+code_same a b e = sym (same_code a b) ∙ same_bytes (trade_type_code a) (trade_type_code b) e
 
-pub same_codes : (a b : TradeType) → same_type a b ≡ true → type_code a ≡ type_code b
-same_codes a b e = (bytes_eq-Decides (type_code a) (type_code b)).0 (same_code a b ∙ e)
+pub same_codes : (a b : TradeType) → is_same_trade_type a b ≡ true → trade_type_code a ≡ trade_type_code b
+same_codes a b e = (bytes_eq-Decides (trade_type_code a) (trade_type_code b)).0 (same_code a b ∙ e)
 
 pub both : (a b : Bool) → a && b ≡ true → (a ≡ true) × (b ≡ true)
 both true b e = (refl, e)
@@ -80,9 +80,9 @@ permission_new p ps h = All-map ps (λ q k e.
     let f = new_word q.tax_id p.tax_id _ _ d.1 in
     not_both _ (and_both _ _ (eq-eqb q.account p.account d.0) (same_bytes q.tax_id p.tax_id f.0)) k) h
 
-pub charge_new : (c : Charge) (cs : List Charge) → NonePass (λ d. same_type d.kind c.kind && (d.tier == c.tier)) cs → NewKey charge_key c cs
+pub charge_new : (c : Charge) (cs : List Charge) → NonePass (λ d. is_same_trade_type d.kind c.kind && (d.tier == c.tier)) cs → NewKey charge_key c cs
 charge_new c cs h = All-map cs (λ d k e.
-    let f = new_word (type_code d.kind) (type_code c.kind) _ _ e in
+    let f = new_word (trade_type_code d.kind) (trade_type_code c.kind) _ _ e in
     let g = new_pair d.tier c.tier _ _ f.1 in
     not_both _ (and_both _ _ (code_same d.kind c.kind f.0) (eq-eqb d.tier c.tier g.0)) k) h
 
@@ -99,15 +99,15 @@ nat_le-same : (m n k : ℕ) → m ≡ n → nat_le n k ≡ true → nat_le m k �
 nat_le-same m n k e h = rw e h
 
 -- bands whose bounds are in order and that begin at one quantity share it
-pub band_new : (b : Band) (bs : List Band) → HasBounds b → AllByRecursion HasBounds bs → NonePass (bands_meet b) bs → NewKey band_key b bs
+pub band_new : (b : Band) (bs : List Band) → HasOrderedBounds b → AllByRecursion HasOrderedBounds bs → NonePass (bands_overlap b) bs → NewKey band_key b bs
 band_new b [] f g h = tt
 band_new b (c ∷ bs) f g h = (
   (λ e.
       let d = new_pair c.tier b.tier _ _ e in
-      let i = new_word (type_code c.kind) (type_code b.kind) _ _ d.1 in
+      let i = new_word (trade_type_code c.kind) (trade_type_code b.kind) _ _ d.1 in
       let j = new_word c.exchange b.exchange _ _ i.1 in
       let k = new_pair c.from_qty b.from_qty _ _ j.1 in
-      let t : bands_meet b c ≡ true = and_both _ _ (and_both _ _ (and_both _ _ (and_both _ _
+      let t : bands_overlap b c ≡ true = and_both _ _ (and_both _ _ (and_both _ _ (and_both _ _
       (eq-eqb b.tier c.tier (sym d.0)) (code_same b.kind c.kind (sym i.0))) (same_bytes b.exchange c.exchange (sym j.0)))
       (nat_le-same b.from_qty c.from_qty c.to_qty (sym k.0) g.0)) (nat_le-same c.from_qty b.from_qty b.to_qty k.0 f) in
       not_both _ t h.0),
@@ -115,13 +115,13 @@ band_new b (c ∷ bs) f g h = (
 )
 
 -- no trade names a symbol that is not listed
-pub unused : (base : Base) (symbol : Text) (ts : List Trade) → is_some (security_with base symbol) ≡ false → AllByRecursion (SecurityExists base) ts
+pub unused : (base : Base) (symbol : Text) (ts : List Trade) → is_some (security_with_symbol base symbol) ≡ false → AllByRecursion (SecurityOfTradeExists base) ts
     → NonePass (λ t. bytes_eq t.symbol symbol) ts
 unused base symbol ts h k = All-map ts (λ t known. by_test t known (bytes_eq t.symbol symbol) refl) k
   where
-    by_test : (t : Trade) → SecurityExists base t → (b : Bool) → bytes_eq t.symbol symbol ≡ b → bytes_eq t.symbol symbol ≡ false
+    by_test : (t : Trade) → SecurityOfTradeExists base t → (b : Bool) → bytes_eq t.symbol symbol ≡ b → bytes_eq t.symbol symbol ≡ false
     by_test t known false e = e
     by_test t known true e =
         let same : t.symbol ≡ symbol = (bytes_eq-Decides t.symbol symbol).0 e in
-        let found : is_some (security_with base symbol) ≡ true = subst (λ s. is_some (security_with base s) ≡ true) same known in
+        let found : is_some (security_with_symbol base symbol) ≡ true = subst (λ s. is_some (security_with_symbol base s) ≡ true) same known in
         absurd (not_both _ found h)

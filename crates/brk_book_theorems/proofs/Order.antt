@@ -3,8 +3,8 @@ use Rattle.std.proofs.Common.{◌≡◌, Bool, true, false, not, cond, List, [],
 use Rattle.std.specs.Prelude.{⊤, ◌&&◌, ◌||◌, nat_lt}
 use Rattle.std.specs.List.{AllByRecursion}
 use Rattle.std.proofs.lemmas.Bool.Decides.{nat_tests}
-use Rattle.brk_model.specs.Lists.{insert_by, sort_by, text_before}
-use Rattle.brk_model.specs.Keys.{KeyPart, number, word, part_before, key_before, row_before, by_key}
+use Rattle.brk_model.specs.Lists.{insert_by, sort_by, is_text_less}
+use Rattle.brk_model.specs.Keys.{KeyPart, number, word, is_key_part_less, is_key_less, is_row_key_less, rows_sorted_by_key}
 
 -- what is before x is before y, or y is before x
 abbrev pub Splits : {X : Type 0} → (X → X → Bool) → Type 0
@@ -45,35 +45,35 @@ rest_total true ba p q g h = cc
 rest_total false true p q g h = cc
 rest_total false false p q g h = (refl, refl, g, h)
 
-text_splits : Splits text_before
+text_splits : Splits is_text_less
 text_splits [] y [] g h = cc
 text_splits [] y (c ∷ z) g h = cc
 text_splits (a ∷ x) [] z g h = refl
 text_splits (a ∷ x) (b ∷ y) [] g h = cc
 text_splits (a ∷ x) (b ∷ y) (c ∷ z) g h =
     rest_splits (nat_lt c a) (nat_lt c b) (nat_lt a c) (nat_lt a b) (nat_lt b a) (nat_lt b c)
-    (text_before z x) (text_before z y) (text_before y x)
+    (is_text_less z x) (is_text_less z y) (is_text_less y x)
     (nat_splits a b c) (nat_splits b c a) (λ u v. nat_splits c a b u v) (text_splits x y z) g h
 
-text_one_way : OneWay text_before
+text_one_way : OneWay is_text_less
 text_one_way [] [] g = cc
 text_one_way [] (b ∷ y) g = refl
 text_one_way (a ∷ x) [] g = cc
 text_one_way (a ∷ x) (b ∷ y) g =
-    rest_one_way (nat_lt a b) (nat_lt b a) (text_before x y) (text_before y x) (nat_one_way a b) (text_one_way x y) g
+    rest_one_way (nat_lt a b) (nat_lt b a) (is_text_less x y) (is_text_less y x) (nat_one_way a b) (text_one_way x y) g
 
-text_total : Total text_before
+text_total : Total is_text_less
 text_total [] [] g h = refl
 text_total [] (b ∷ y) g h = cc
 text_total (a ∷ x) [] g h = cc
 text_total (a ∷ x) (b ∷ y) g h =
-    let k : (nat_lt a b ≡ false) × (nat_lt b a ≡ false) × (text_before x y ≡ false) × (text_before y x ≡ false) =
-    rest_total (nat_lt a b) (nat_lt b a) (text_before x y) (text_before y x) g h in
+    let k : (nat_lt a b ≡ false) × (nat_lt b a ≡ false) × (is_text_less x y ≡ false) × (is_text_less y x ≡ false) =
+    rest_total (nat_lt a b) (nat_lt b a) (is_text_less x y) (is_text_less y x) g h in
     let d : a ≡ b = nat_total a b k.0 k.1 in
     let e : x ≡ y = text_total x y k.2 k.3 in
     cc
 
-part_splits : Splits part_before
+part_splits : Splits is_key_part_less
 part_splits (number a) (number b) (number c) g h = nat_splits a b c g h
 part_splits (number a) (number b) (word c) g h = cc
 part_splits (number a) (word b) (number c) g h = cc
@@ -83,42 +83,42 @@ part_splits (word a) (number b) (word c) g h = refl
 part_splits (word a) (word b) (number c) g h = cc
 part_splits (word a) (word b) (word c) g h = text_splits a b c g h
 
-part_one_way : OneWay part_before
+part_one_way : OneWay is_key_part_less
 part_one_way (number a) (number b) g = nat_one_way a b g
 part_one_way (number a) (word b) g = refl
 part_one_way (word a) (number b) g = cc
 part_one_way (word a) (word b) g = text_one_way a b g
 
-part_total : Total part_before
+part_total : Total is_key_part_less
 part_total (number a) (number b) g h = ap number (nat_total a b g h)
 part_total (number a) (word b) g h = cc
 part_total (word a) (number b) g h = cc
 part_total (word a) (word b) g h = ap word (text_total a b g h)
 
-pub key_splits : Splits key_before
+pub key_splits : Splits is_key_less
 key_splits [] y [] g h = cc
 key_splits [] y (c ∷ z) g h = cc
 key_splits (a ∷ x) [] z g h = refl
 key_splits (a ∷ x) (b ∷ y) [] g h = cc
 key_splits (a ∷ x) (b ∷ y) (c ∷ z) g h =
-    rest_splits (part_before c a) (part_before c b) (part_before a c) (part_before a b) (part_before b a) (part_before b c)
-    (key_before z x) (key_before z y) (key_before y x)
+    rest_splits (is_key_part_less c a) (is_key_part_less c b) (is_key_part_less a c) (is_key_part_less a b) (is_key_part_less b a) (is_key_part_less b c)
+    (is_key_less z x) (is_key_less z y) (is_key_less y x)
     (part_splits a b c) (part_splits b c a) (λ u v. part_splits c a b u v) (key_splits x y z) g h
 
-pub key_one_way : OneWay key_before
+pub key_one_way : OneWay is_key_less
 key_one_way [] [] g = cc
 key_one_way [] (b ∷ y) g = refl
 key_one_way (a ∷ x) [] g = cc
 key_one_way (a ∷ x) (b ∷ y) g =
-    rest_one_way (part_before a b) (part_before b a) (key_before x y) (key_before y x) (part_one_way a b) (key_one_way x y) g
+    rest_one_way (is_key_part_less a b) (is_key_part_less b a) (is_key_less x y) (is_key_less y x) (part_one_way a b) (key_one_way x y) g
 
-pub key_total : Total key_before
+pub key_total : Total is_key_less
 key_total [] [] g h = refl
 key_total [] (b ∷ y) g h = cc
 key_total (a ∷ x) [] g h = cc
 key_total (a ∷ x) (b ∷ y) g h =
-    let k : (part_before a b ≡ false) × (part_before b a ≡ false) × (key_before x y ≡ false) × (key_before y x ≡ false) =
-    rest_total (part_before a b) (part_before b a) (key_before x y) (key_before y x) g h in
+    let k : (is_key_part_less a b ≡ false) × (is_key_part_less b a ≡ false) × (is_key_less x y ≡ false) × (is_key_less y x ≡ false) =
+    rest_total (is_key_part_less a b) (is_key_part_less b a) (is_key_less x y) (is_key_less y x) g h in
     let d : a ≡ b = part_total a b k.0 k.1 in
     let e : x ≡ y = key_total x y k.2 k.3 in
     cc
@@ -130,7 +130,7 @@ abbrev pub NewKey : {Row : Type 0} → (Row → List KeyPart) → Row → List R
 NewKey key x ys = AllByRecursion (λ y. key y ≡ key x → ⊥) ys
 
 -- of two different keys one is first
-first_of_two : (j k : List KeyPart) → (j ≡ k → ⊥) → (b c : Bool) → key_before j k ≡ b → key_before k j ≡ c → b ≡ not c
+first_of_two : (j k : List KeyPart) → (j ≡ k → ⊥) → (b c : Bool) → is_key_less j k ≡ b → is_key_less k j ≡ c → b ≡ not c
 first_of_two j k h true true g i = absurd (cc (key_one_way j k g))
 first_of_two j k h true false g i = refl
 first_of_two j k h false true g i = refl
@@ -194,28 +194,28 @@ insert_commute before x y (z ∷ zs) s n =
 
 -- a row whose key is new stands in the sorted rows as it is put into the sorted others
 pub by_key-middle : {Row : Type 0} (key : Row → List KeyPart) (xs : List Row) (x : Row) (ys : List Row) → NewKey key x xs
-    → by_key key (xs ++ x ∷ ys) ≡ insert_by (row_before key) x (by_key key (xs ++ ys))
+    → rows_sorted_by_key key (xs ++ x ∷ ys) ≡ insert_by (is_row_key_less key) x (rows_sorted_by_key key (xs ++ ys))
 unfolding sort_by
 by_key-middle key [] x ys h = refl
 by_key-middle key (y ∷ xs) x ys h =
-    ap (insert_by (row_before key) y) (by_key-middle key xs x ys h.1)
-    ∙ insert_commute (row_before key) x y (by_key key (xs ++ ys)) (λ a b c. key_splits (key a) (key b) (key c))
-    (first_of_two (key y) (key x) h.0 (key_before (key y) (key x)) (key_before (key x) (key y)) refl refl)
+    ap (insert_by (is_row_key_less key) y) (by_key-middle key xs x ys h.1)
+    ∙ insert_commute (is_row_key_less key) x y (rows_sorted_by_key key (xs ++ ys)) (λ a b c. key_splits (key a) (key b) (key c))
+    (first_of_two (key y) (key x) h.0 (is_key_less (key y) (key x)) (is_key_less (key x) (key y)) refl refl)
 
 -- two rows of different keys can be put in either way round
 pub rows_commute : {Row : Type 0} (key : Row → List KeyPart) (x y : Row) (rows : List Row) → (key x ≡ key y → ⊥)
-    → insert_by (row_before key) x (insert_by (row_before key) y rows) ≡ insert_by (row_before key) y (insert_by (row_before key) x rows)
+    → insert_by (is_row_key_less key) x (insert_by (is_row_key_less key) y rows) ≡ insert_by (is_row_key_less key) y (insert_by (is_row_key_less key) x rows)
 rows_commute key x y rows h =
-    insert_commute (row_before key) y x rows (λ a b c. key_splits (key a) (key b) (key c))
-    (first_of_two (key x) (key y) h (key_before (key x) (key y)) (key_before (key y) (key x)) refl refl)
+    insert_commute (is_row_key_less key) y x rows (λ a b c. key_splits (key a) (key b) (key c))
+    (first_of_two (key x) (key y) h (is_key_less (key x) (key y)) (is_key_less (key y) (key x)) refl refl)
 
 pub append_nil : {X : Type 0} (xs : List X) → xs ++ [] ≡ xs
 append_nil [] = refl
 append_nil (x ∷ xs) = ap (λ ys. x ∷ ys) (append_nil xs)
 
 pub by_key-append : {Row : Type 0} (key : Row → List KeyPart) (xs : List Row) (x : Row) → NewKey key x xs
-    → by_key key (xs ++ x ∷ []) ≡ insert_by (row_before key) x (by_key key xs)
-by_key-append key xs x h = by_key-middle key xs x [] h ∙ ap (λ ys. insert_by (row_before key) x (by_key key ys)) (append_nil xs)
+    → rows_sorted_by_key key (xs ++ x ∷ []) ≡ insert_by (is_row_key_less key) x (rows_sorted_by_key key xs)
+by_key-append key xs x h = by_key-middle key xs x [] h ∙ ap (λ ys. insert_by (is_row_key_less key) x (rows_sorted_by_key key ys)) (append_nil xs)
 
 -- ---- rows changed, and rows left out
 
@@ -228,12 +228,12 @@ map-insert_by before before' f x (y ∷ ys) h =
     [ true ↦ ap (λ zs. f y ∷ zs) (map-insert_by before before' f x ys h) | false ↦ refl ])
 
 pub by_key-map : {X Y : Type 0} (key : X → List KeyPart) (key' : Y → List KeyPart) (f : X → Y) (xs : List X)
-    → ((x : X) → key' (f x) ≡ key x) → by_key key' (map f xs) ≡ map f (by_key key xs)
+    → ((x : X) → key' (f x) ≡ key x) → rows_sorted_by_key key' (map f xs) ≡ map f (rows_sorted_by_key key xs)
 unfolding sort_by
 by_key-map key key' f [] h = refl
 by_key-map key key' f (x ∷ xs) h =
-    ap (insert_by (row_before key') (f x)) (by_key-map key key' f xs h)
-    ∙ sym (map-insert_by (row_before key) (row_before key') f x (by_key key xs) (λ a b. ap (λ k. key_before k (key' (f b))) (h a) ∙ ap (key_before (key a)) (h b)))
+    ap (insert_by (is_row_key_less key') (f x)) (by_key-map key key' f xs h)
+    ∙ sym (map-insert_by (is_row_key_less key) (is_row_key_less key') f x (rows_sorted_by_key key xs) (λ a b. ap (λ k. is_key_less k (key' (f b))) (h a) ∙ ap (is_key_less (key a)) (h b)))
 
 -- each goes no later than those after it
 abbrev pub NoneBefore : {X : Type 0} → (X → X → Bool) → X → List X → Type 0
@@ -314,8 +314,8 @@ sort_filter before p (x ∷ xs) s o = put (sort_filter before p xs s o) (p x) re
     put ih true e = rw e (ap (insert_by before x) ih)
     put ih false e = rw e ih
 
-pub by_key-filter : {Row : Type 0} (key : Row → List KeyPart) (p : Row → Bool) (xs : List Row) → by_key key (filter p xs) ≡ filter p (by_key key xs)
-by_key-filter key p xs = sort_filter (row_before key) p xs (λ a b c. key_splits (key a) (key b) (key c)) (λ a b. key_one_way (key a) (key b))
+pub by_key-filter : {Row : Type 0} (key : Row → List KeyPart) (p : Row → Bool) (xs : List Row) → rows_sorted_by_key key (filter p xs) ≡ filter p (rows_sorted_by_key key xs)
+by_key-filter key p xs = sort_filter (is_row_key_less key) p xs (λ a b c. key_splits (key a) (key b) (key c)) (λ a b. key_one_way (key a) (key b))
 
 -- what stands in order stays as it is
 pub sort_sorted : {X : Type 0} (before : X → X → Bool) (xs : List X) → Sorted before xs → sort_by before xs ≡ xs

@@ -5,11 +5,11 @@ use Rattle.std.specs.List.{AllByRecursion, list_any}
 use Rattle.std.proofs.lemmas.Bool.{eqb-true, eq-eqb}
 use Rattle.brk_money.specs.Spelling.{Text}
 use Rattle.brk_model.specs.Base.{Base}
-use Rattle.brk_model.specs.Orders.{is_person, permitted}
+use Rattle.brk_model.specs.Orders.{executor_has_identity, permitted}
 use Rattle.brk_model.specs.Records.{Customer, Executor, Permission}
 use Rattle.brk_model.specs.Sheets.{sheets}
-use Rattle.brk_book_theorems.specs.Books.{BooksInvariant, DistinctPermissions}
-use Rattle.brk_book_theorems.specs.TradeReads.{permission_in}
+use Rattle.brk_book_theorems.specs.Books.{BooksInvariant, HasDistinctPermissions}
+use Rattle.brk_book_theorems.specs.TradeReads.{permission_for_tax_id}
 use Rattle.brk_book_theorems.proofs.Bools.{same_text, texts_back}
 use Rattle.brk_book_theorems.proofs.NewKeys.{and_both, both, not_both, same_bytes}
 use Rattle.brk_book_theorems.proofs.Same.{NonePass, All-map}
@@ -21,7 +21,7 @@ is_for account tax_id p = (p.account == account) && bytes_eq p.tax_id tax_id
 
 -- a permission names an executor
 abbrev names : Executor → Permission → Bool
-names e p = is_person e p.first_name p.last_name p.tax_id
+names e p = executor_has_identity e p.first_name p.last_name p.tax_id
 
 -- ---- there is one of them
 
@@ -63,7 +63,7 @@ none_named account e (p ∷ ps) h = by_account (none_named account e ps h.1) (p.
     by_account ih true g = ap (λ b. b || list_any (names e) rest) (other_tax account e p g h.0) ∙ ih
     by_account ih false g = ih
 
-named_by_one : (account : ℕ) (e : Executor) (ps : List Permission) → DistinctPermissions ps
+named_by_one : (account : ℕ) (e : Executor) (ps : List Permission) → HasDistinctPermissions ps
     → list_any (names e) (option_to_list (find (is_for account e.tax_id) ps)) ≡ list_any (names e) (filter (λ p. p.account == account) ps)
 named_by_one account e [] h = refl
 named_by_one account e (p ∷ ps) h = by_test (named_by_one account e ps h.1) (is_for account e.tax_id p) refl
@@ -87,8 +87,8 @@ named_by_one account e (p ∷ ps) h = by_test (named_by_one account e ps h.1) (i
     by_test ih false k = past ih (p.account == account) refl k
 
 pub reads_named : (base : Base) (account : ℕ) (c : Customer) (e : Executor) → BooksInvariant base
-    → permitted c (permission_in (sheets base) account e.tax_id) e ≡ permitted c (filter (λ p. p.account == account) base.permissions) e
+    → permitted c (permission_for_tax_id (sheets base) account e.tax_id) e ≡ permitted c (filter (λ p. p.account == account) base.permissions) e
 reads_named base account c e books =
-    ap (λ b. is_person e c.first_name c.last_name c.tax_id || b)
+    ap (λ b. executor_has_identity e c.first_name c.last_name c.tax_id || b)
     (ap (λ o. list_any (names e) (option_to_list o)) (reads_permission base account e.tax_id)
     ∙ named_by_one account e base.permissions books.permissions)

@@ -7,12 +7,12 @@ use Rattle.std.proofs.lemmas.Bool.Decides.{nat_tests}
 use Rattle.std.proofs.lemmas.Slice.Eq.{bytes_eq-Decides}
 use lib.IntN.{+ℤ_assoc, +ℤ_comm}
 use Rattle.brk_money.specs.Spelling.{Text}
-use Rattle.brk_money.specs.Kinds.{side_of}
+use Rattle.brk_money.specs.Kinds.{side_of_trade_type}
 use Rattle.brk_model.specs.Lists.{insert_by, sort_by, sort_by_key, total_by}
 use Rattle.brk_model.specs.Records.{Trade}
-use Rattle.brk_model.specs.Base.{moment_of}
-use Rattle.brk_model.specs.Derived.{deal_of, deals_in, of_account, of_position, shares_in, summary_of}
-use Rattle.brk_model.specs.Shares.{shares_after, signed}
+use Rattle.brk_model.specs.Base.{last_status_stamp_of_trade}
+use Rattle.brk_model.specs.Derived.{deal_of_trade, deals_of_position, trades_of_account, trades_of_position, shares_of_position, holding_summary_quantity}
+use Rattle.brk_model.specs.Shares.{shares_after_deal, signed_by_side}
 use Rattle.brk_book_theorems.proofs.Same.{All-map, All-filter, map-last}
 use Rattle.brk_book_theorems.proofs.Places.{filter-append, filter-not_one, filter-one}
 use Rattle.brk_book_theorems.proofs.Tested.{All-back, All-front}
@@ -46,18 +46,18 @@ sort_last before (x ∷ xs) t ys g h =
 same_bytes : (s : Text) → bytes_eq s s ≡ true
 same_bytes s = (bytes_eq-Decides s s).1 refl
 
-pub position_both : (xs ys : List Trade) (account : ℕ) (symbol : Text) → of_position (xs ++ ys) account symbol ≡ of_position xs account symbol ++ of_position ys account symbol
+pub position_both : (xs ys : List Trade) (account : ℕ) (symbol : Text) → trades_of_position (xs ++ ys) account symbol ≡ trades_of_position xs account symbol ++ trades_of_position ys account symbol
 position_both xs ys account symbol =
     ap (filter (λ t. bytes_eq t.symbol symbol)) (filter-append (λ t. t.account == account) xs ys)
-    ∙ filter-append (λ t. bytes_eq t.symbol symbol) (of_account xs account) (of_account ys account)
+    ∙ filter-append (λ t. bytes_eq t.symbol symbol) (trades_of_account xs account) (trades_of_account ys account)
 
-pub position_own : (xs : List Trade) (t : Trade) (ys : List Trade) → of_position (xs ++ t ∷ ys) t.account t.symbol ≡ of_position xs t.account t.symbol ++ t ∷ of_position ys t.account t.symbol
+pub position_own : (xs : List Trade) (t : Trade) (ys : List Trade) → trades_of_position (xs ++ t ∷ ys) t.account t.symbol ≡ trades_of_position xs t.account t.symbol ++ t ∷ trades_of_position ys t.account t.symbol
 position_own xs t ys =
     ap (filter (λ u. bytes_eq u.symbol t.symbol)) (filter-one (λ u. u.account == t.account) xs t ys (eq-eqb t.account t.account refl))
-    ∙ filter-one (λ u. bytes_eq u.symbol t.symbol) (of_account xs t.account) t (of_account ys t.account) (same_bytes t.symbol)
+    ∙ filter-one (λ u. bytes_eq u.symbol t.symbol) (trades_of_account xs t.account) t (trades_of_account ys t.account) (same_bytes t.symbol)
 
 pub position_other : (xs : List Trade) (t : Trade) (ys : List Trade) (account : ℕ) (symbol : Text) → (t.account == account) && bytes_eq t.symbol symbol ≡ false
-    → of_position (xs ++ t ∷ ys) account symbol ≡ of_position (xs ++ ys) account symbol
+    → trades_of_position (xs ++ t ∷ ys) account symbol ≡ trades_of_position (xs ++ ys) account symbol
 position_other xs t ys account symbol e = by_test (t.account == account) refl
   where
     A : Trade → Bool
@@ -77,7 +77,7 @@ position_other xs t ys account symbol e = by_test (t.account == account) refl
 
 -- all others were completed before it
 abbrev pub IsLast : Trade → List Trade → Type 0
-IsLast t others = AllByRecursion (λ u. moment_of u < moment_of t) others
+IsLast t others = AllByRecursion (λ u. last_status_stamp_of_trade u < last_status_stamp_of_trade t) others
 
 goes_before : (m n : ℕ) → m < n → nat_lt m n ≡ true
 goes_before m n h = grind (arith, nat_tests)
@@ -86,51 +86,51 @@ goes_not : (m n : ℕ) → m < n → nat_lt n m ≡ false
 goes_not m n h = grind (arith, nat_tests)
 
 pub deals_own : (xs : List Trade) (t : Trade) (ys : List Trade) → IsLast t (xs ++ ys)
-    → deals_in (xs ++ t ∷ ys) t.account t.symbol ≡ deals_in (xs ++ ys) t.account t.symbol ++ deal_of t ∷ []
+    → deals_of_position (xs ++ t ∷ ys) t.account t.symbol ≡ deals_of_position (xs ++ ys) t.account t.symbol ++ deal_of_trade t ∷ []
 deals_own xs t ys h =
-    let P : List Trade → List Trade = λ ts. of_position ts t.account t.symbol in
-    let before : Trade → Trade → Bool = λ u v. nat_lt (moment_of u) (moment_of v) in
-    let L : Trade → Type 0 = λ u. moment_of u < moment_of t in
+    let P : List Trade → List Trade = λ ts. trades_of_position ts t.account t.symbol in
+    let before : Trade → Trade → Bool = λ u v. nat_lt (last_status_stamp_of_trade u) (last_status_stamp_of_trade v) in
+    let L : Trade → Type 0 = λ u. last_status_stamp_of_trade u < last_status_stamp_of_trade t in
     let within : (ts : List Trade) → AllByRecursion L ts → AllByRecursion L (P ts) = λ ts k.
-    All-filter L (λ u. bytes_eq u.symbol t.symbol) (of_account ts t.account) (All-filter L (λ u. u.account == t.account) ts k) in
-    let front = All-map (P xs) (λ u k. goes_not (moment_of u) (moment_of t) k) (within xs (All-front L xs ys h)) in
-    let back = All-map (P ys) (λ u k. goes_before (moment_of u) (moment_of t) k) (within ys (All-back L xs ys h)) in
-    ap (λ ts. map deal_of (sort_by before ts)) (position_own xs t ys)
-    ∙ ap (map deal_of) (sort_last before (P xs) t (P ys) front back)
-    ∙ map-last deal_of (sort_by before (P xs ++ P ys)) t
-    ∙ ap (λ ts. map deal_of (sort_by before ts) ++ deal_of t ∷ []) (sym (position_both xs ys t.account t.symbol))
+    All-filter L (λ u. bytes_eq u.symbol t.symbol) (trades_of_account ts t.account) (All-filter L (λ u. u.account == t.account) ts k) in
+    let front = All-map (P xs) (λ u k. goes_not (last_status_stamp_of_trade u) (last_status_stamp_of_trade t) k) (within xs (All-front L xs ys h)) in
+    let back = All-map (P ys) (λ u k. goes_before (last_status_stamp_of_trade u) (last_status_stamp_of_trade t) k) (within ys (All-back L xs ys h)) in
+    ap (λ ts. map deal_of_trade (sort_by before ts)) (position_own xs t ys)
+    ∙ ap (map deal_of_trade) (sort_last before (P xs) t (P ys) front back)
+    ∙ map-last deal_of_trade (sort_by before (P xs ++ P ys)) t
+    ∙ ap (λ ts. map deal_of_trade (sort_by before ts) ++ deal_of_trade t ∷ []) (sym (position_both xs ys t.account t.symbol))
 
 pub deals_other : (xs : List Trade) (t : Trade) (ys : List Trade) (account : ℕ) (symbol : Text) → (t.account == account) && bytes_eq t.symbol symbol ≡ false
-    → deals_in (xs ++ t ∷ ys) account symbol ≡ deals_in (xs ++ ys) account symbol
-deals_other xs t ys account symbol e = ap (λ ts. map deal_of (sort_by_key moment_of ts)) (position_other xs t ys account symbol e)
+    → deals_of_position (xs ++ t ∷ ys) account symbol ≡ deals_of_position (xs ++ ys) account symbol
+deals_other xs t ys account symbol e = ap (λ ts. map deal_of_trade (sort_by_key last_status_stamp_of_trade ts)) (position_other xs t ys account symbol e)
 
 fold_last : {S X : Type 0} (f : S → X → S) (s : S) (xs : List X) (x : X) → fold f s (xs ++ x ∷ []) ≡ f (fold f s xs) x
 fold_last f s [] x = refl
 fold_last f s (y ∷ xs) x = fold_last f (f s y) xs x
 
 pub shares_own : (xs : List Trade) (t : Trade) (ys : List Trade) → IsLast t (xs ++ ys)
-    → shares_in (xs ++ t ∷ ys) t.account t.symbol ≡ shares_after (shares_in (xs ++ ys) t.account t.symbol) (deal_of t)
-unfolding shares_in
-shares_own xs t ys h = ap (fold shares_after []) (deals_own xs t ys h) ∙ fold_last shares_after [] (deals_in (xs ++ ys) t.account t.symbol) (deal_of t)
+    → shares_of_position (xs ++ t ∷ ys) t.account t.symbol ≡ shares_after_deal (shares_of_position (xs ++ ys) t.account t.symbol) (deal_of_trade t)
+unfolding shares_of_position
+shares_own xs t ys h = ap (fold shares_after_deal []) (deals_own xs t ys h) ∙ fold_last shares_after_deal [] (deals_of_position (xs ++ ys) t.account t.symbol) (deal_of_trade t)
 
 pub shares_other : (xs : List Trade) (t : Trade) (ys : List Trade) (account : ℕ) (symbol : Text) → (t.account == account) && bytes_eq t.symbol symbol ≡ false
-    → shares_in (xs ++ t ∷ ys) account symbol ≡ shares_in (xs ++ ys) account symbol
-unfolding shares_in
-shares_other xs t ys account symbol e = ap (fold shares_after []) (deals_other xs t ys account symbol e)
+    → shares_of_position (xs ++ t ∷ ys) account symbol ≡ shares_of_position (xs ++ ys) account symbol
+unfolding shares_of_position
+shares_other xs t ys account symbol e = ap (fold shares_after_deal []) (deals_other xs t ys account symbol e)
 
 -- ---- its summary
 
-pub summary_own : (xs : List Trade) (t : Trade) (ys : List Trade) → summary_of (xs ++ t ∷ ys) t.account t.symbol ≡ summary_of (xs ++ ys) t.account t.symbol +ℤ signed (side_of t.kind) t.qty
-unfolding summary_of total_by
+pub summary_own : (xs : List Trade) (t : Trade) (ys : List Trade) → holding_summary_quantity (xs ++ t ∷ ys) t.account t.symbol ≡ holding_summary_quantity (xs ++ ys) t.account t.symbol +ℤ signed_by_side (side_of_trade_type t.kind) t.qty
+unfolding holding_summary_quantity total_by
 summary_own xs t ys =
-    let f = λ (u : Trade). signed (side_of u.kind) u.qty in
-    let P : List Trade → List Trade = λ ts. of_position ts t.account t.symbol in
+    let f = λ (u : Trade). signed_by_side (side_of_trade_type u.kind) u.qty in
+    let P : List Trade → List Trade = λ ts. trades_of_position ts t.account t.symbol in
     ap (total_by f) (position_own xs t ys) ∙ total-append f (P xs) (t ∷ P ys)
     ∙ ap (λ n. total_by f (P xs) +ℤ n) (+ℤ_comm (f t) (total_by f (P ys)))
     ∙ sym (+ℤ_assoc (total_by f (P xs)) (total_by f (P ys)) (f t))
     ∙ ap (λ n. n +ℤ f t) (sym (total-append f (P xs) (P ys)) ∙ ap (total_by f) (sym (position_both xs ys t.account t.symbol)))
 
 pub summary_other : (xs : List Trade) (t : Trade) (ys : List Trade) (account : ℕ) (symbol : Text) → (t.account == account) && bytes_eq t.symbol symbol ≡ false
-    → summary_of (xs ++ t ∷ ys) account symbol ≡ summary_of (xs ++ ys) account symbol
-unfolding summary_of
-summary_other xs t ys account symbol e = ap (total_by (λ u. signed (side_of u.kind) u.qty)) (position_other xs t ys account symbol e)
+    → holding_summary_quantity (xs ++ t ∷ ys) account symbol ≡ holding_summary_quantity (xs ++ ys) account symbol
+unfolding holding_summary_quantity
+summary_other xs t ys account symbol e = ap (total_by (λ u. signed_by_side (side_of_trade_type u.kind) u.qty)) (position_other xs t ys account symbol e)

@@ -7,10 +7,10 @@ use Rattle.std.proofs.lemmas.Bool.Decides.{nat_tests}
 use lib.IntN.{+ℤ_assoc, +ℤ_comm}
 use Rattle.brk_model.specs.Lists.{insert_by, sort_by, sort_by_key, total_by}
 use Rattle.brk_model.specs.Records.{Account, Movement, Trade}
-use Rattle.brk_model.specs.Base.{moment_of, opening_in}
-use Rattle.brk_model.specs.Derived.{Posting, amount_of, balance_of, cash_trades, in_turn, posting_of_movement, posted_to, posting_of_trade, postings}
-use Rattle.brk_model.specs.Keys.{KeyPart, number, by_key, insert_row, key_before, move_key, row_before}
-use Rattle.brk_model.specs.Tables.{MoveRow, move_row, numbered}
+use Rattle.brk_model.specs.Base.{last_status_stamp_of_trade, opening_balance_in_accounts}
+use Rattle.brk_model.specs.Derived.{Posting, settlement_amount, balance_of_account, cash_trades, postings_sorted_by_stamp, posting_of_movement, postings_to_account, posting_of_trade, postings}
+use Rattle.brk_model.specs.Keys.{KeyPart, number, rows_sorted_by_key, insert_row_by_key, is_key_less, move_key, is_row_key_less}
+use Rattle.brk_model.specs.Tables.{MoveRow, move_row, numbered_move_rows}
 use Rattle.brk_book_theorems.proofs.Order.{NewKey, Sorted, append_nil, by_key-append, sort_sorted}
 use Rattle.brk_book_theorems.proofs.Places.{append_assoc, filter-append, filter-not_one, filter-one, map-append}
 use Rattle.brk_book_theorems.proofs.Positions.{sort_last}
@@ -113,85 +113,85 @@ length_one (y ∷ xs) x ys = let h = length_one xs x ys in omega (arith, h)
 is_after : ℕ → MoveRow → Type 0
 is_after n r = n ≤ r.id
 
-numbers_after : (m n : ℕ) (ps : List Posting) → m ≤ n → AllByRecursion (λ r. m ≤ r.id) (numbered n ps)
+numbers_after : (m n : ℕ) (ps : List Posting) → m ≤ n → AllByRecursion (λ r. m ≤ r.id) (numbered_move_rows n ps)
 numbers_after m n [] h = tt
 numbers_after m n (p ∷ ps) h = (h, numbers_after m (n + 1) ps (omega (arith, h)))
 
-later_number : (m n : ℕ) → m + 1 ≤ n → key_before (number n ∷ []) (number m ∷ []) ≡ false
+later_number : (m n : ℕ) → m + 1 ≤ n → is_key_less (number n ∷ []) (number m ∷ []) ≡ false
 later_number m n h = grind (arith, nat_tests)
 
-numbered_sorted : (n : ℕ) (ps : List Posting) → Sorted (row_before move_key) (numbered n ps)
+numbered_sorted : (n : ℕ) (ps : List Posting) → Sorted (is_row_key_less move_key) (numbered_move_rows n ps)
 numbered_sorted n [] = tt
 numbered_sorted n (p ∷ ps) =
-    (All-map (numbered (n + 1) ps) (λ r h. later_number n r.id h) (numbers_after (n + 1) (n + 1) ps (omega arith)), numbered_sorted (n + 1) ps)
+    (All-map (numbered_move_rows (n + 1) ps) (λ r h. later_number n r.id h) (numbers_after (n + 1) (n + 1) ps (omega arith)), numbered_sorted (n + 1) ps)
 
 -- they stand by their numbers
-pub numbered_stay : (n : ℕ) (ps : List Posting) → by_key move_key (numbered n ps) ≡ numbered n ps
-numbered_stay n ps = sort_sorted (row_before move_key) (numbered n ps) (numbered_sorted n ps)
+pub numbered_stay : (n : ℕ) (ps : List Posting) → rows_sorted_by_key move_key (numbered_move_rows n ps) ≡ numbered_move_rows n ps
+numbered_stay n ps = sort_sorted (is_row_key_less move_key) (numbered_move_rows n ps) (numbered_sorted n ps)
 
-pub numbered_last : (n : ℕ) (ps : List Posting) (p : Posting) → numbered n (ps ++ p ∷ []) ≡ numbered n ps ++ move_row (n + length ps) p ∷ []
+pub numbered_last : (n : ℕ) (ps : List Posting) (p : Posting) → numbered_move_rows n (ps ++ p ∷ []) ≡ numbered_move_rows n ps ++ move_row (n + length ps) p ∷ []
 numbered_last n [] p = ap (λ m. move_row m p ∷ []) (omega arith)
-numbered_last n (q ∷ ps) p = ap (λ rows. move_row n q ∷ rows) (numbered_last (n + 1) ps p ∙ ap (λ m. numbered (n + 1) ps ++ move_row m p ∷ []) (omega arith))
+numbered_last n (q ∷ ps) p = ap (λ rows. move_row n q ∷ rows) (numbered_last (n + 1) ps p ∙ ap (λ m. numbered_move_rows (n + 1) ps ++ move_row m p ∷ []) (omega arith))
 
-numbers_below : (n : ℕ) (ps : List Posting) → AllByRecursion (λ r. r.id < n + length ps) (numbered n ps)
+numbers_below : (n : ℕ) (ps : List Posting) → AllByRecursion (λ r. r.id < n + length ps) (numbered_move_rows n ps)
 numbers_below n [] = tt
-numbers_below n (p ∷ ps) = (omega arith, All-map (numbered (n + 1) ps) (λ r h. omega (arith, h)) (numbers_below (n + 1) ps))
+numbers_below n (p ∷ ps) = (omega arith, All-map (numbered_move_rows (n + 1) ps) (λ r h. omega (arith, h)) (numbers_below (n + 1) ps))
 
-new_last : (n : ℕ) (ps : List Posting) (p : Posting) → NewKey move_key (move_row (n + length ps) p) (numbered n ps)
-new_last n ps p = All-map (numbered n ps) (λ r h e. let k : r.id ≡ n + length ps = cc in omega (arith, h, k)) (numbers_below n ps)
+new_last : (n : ℕ) (ps : List Posting) (p : Posting) → NewKey move_key (move_row (n + length ps) p) (numbered_move_rows n ps)
+new_last n ps p = All-map (numbered_move_rows n ps) (λ r h e. let k : r.id ≡ n + length ps = cc in omega (arith, h, k)) (numbers_below n ps)
 
 -- ---- the posting with the last stamp
 
 pub is_before : ℕ → Posting → Type 0
 is_before stamp p = p.stamp < stamp
 
-pub turn_last : (xs : List Posting) (p : Posting) (ys : List Posting) → AllByRecursion (λ q. q.stamp < p.stamp) (xs ++ ys) → in_turn (xs ++ p ∷ ys) ≡ in_turn (xs ++ ys) ++ p ∷ []
+pub turn_last : (xs : List Posting) (p : Posting) (ys : List Posting) → AllByRecursion (λ q. q.stamp < p.stamp) (xs ++ ys) → postings_sorted_by_stamp (xs ++ p ∷ ys) ≡ postings_sorted_by_stamp (xs ++ ys) ++ p ∷ []
 turn_last xs p ys h =
     sort_last (λ a b. nat_lt a.stamp b.stamp) xs p ys
     (All-map xs (λ q k. grind (arith, nat_tests)) (All-front (λ q. q.stamp < p.stamp) xs ys h))
     (All-map ys (λ q k. grind (arith, nat_tests)) (All-back (λ q. q.stamp < p.stamp) xs ys h))
 
 pub rows_last : (xs : List Posting) (p : Posting) (ys : List Posting) → AllByRecursion (λ q. q.stamp < p.stamp) (xs ++ ys)
-    → by_key move_key (numbered 1 (in_turn (xs ++ p ∷ ys))) ≡ insert_row move_key (move_row (length (xs ++ ys) + 1) p) (by_key move_key (numbered 1 (in_turn (xs ++ ys))))
+    → rows_sorted_by_key move_key (numbered_move_rows 1 (postings_sorted_by_stamp (xs ++ p ∷ ys))) ≡ insert_row_by_key move_key (move_row (length (xs ++ ys) + 1) p) (rows_sorted_by_key move_key (numbered_move_rows 1 (postings_sorted_by_stamp (xs ++ ys))))
 rows_last xs p ys h =
-    let turned : List Posting = in_turn (xs ++ ys) in
-    ap (λ ps. by_key move_key (numbered 1 ps)) (turn_last xs p ys h) ∙ ap (by_key move_key) (numbered_last 1 turned p)
-    ∙ by_key-append move_key (numbered 1 turned) (move_row (1 + length turned) p) (new_last 1 turned p)
-    ∙ ap (λ n. insert_row move_key (move_row n p) (by_key move_key (numbered 1 turned))) (number_is (length turned) (length (xs ++ ys)) (length_sort (λ a b. nat_lt a.stamp b.stamp) (xs ++ ys)))
+    let turned : List Posting = postings_sorted_by_stamp (xs ++ ys) in
+    ap (λ ps. rows_sorted_by_key move_key (numbered_move_rows 1 ps)) (turn_last xs p ys h) ∙ ap (rows_sorted_by_key move_key) (numbered_last 1 turned p)
+    ∙ by_key-append move_key (numbered_move_rows 1 turned) (move_row (1 + length turned) p) (new_last 1 turned p)
+    ∙ ap (λ n. insert_row_by_key move_key (move_row n p) (rows_sorted_by_key move_key (numbered_move_rows 1 turned))) (number_is (length turned) (length (xs ++ ys)) (length_sort (λ a b. nat_lt a.stamp b.stamp) (xs ++ ys)))
   where
     number_is : (m n : ℕ) → m ≡ n → 1 + m ≡ n + 1
     number_is m n e = omega (arith, e)
 
 pub rows_end : (ps : List Posting) (p : Posting) → AllByRecursion (λ q. q.stamp < p.stamp) ps
-    → by_key move_key (numbered 1 (in_turn (ps ++ p ∷ []))) ≡ insert_row move_key (move_row (length ps + 1) p) (by_key move_key (numbered 1 (in_turn ps)))
+    → rows_sorted_by_key move_key (numbered_move_rows 1 (postings_sorted_by_stamp (ps ++ p ∷ []))) ≡ insert_row_by_key move_key (move_row (length ps + 1) p) (rows_sorted_by_key move_key (numbered_move_rows 1 (postings_sorted_by_stamp ps)))
 rows_end ps p h =
     rows_last ps p [] (subst (AllByRecursion (λ q. q.stamp < p.stamp)) (sym (append_nil ps)) h)
-    ∙ ap (λ qs. insert_row move_key (move_row (length qs + 1) p) (by_key move_key (numbered 1 (in_turn qs)))) (append_nil ps)
+    ∙ ap (λ qs. insert_row_by_key move_key (move_row (length qs + 1) p) (rows_sorted_by_key move_key (numbered_move_rows 1 (postings_sorted_by_stamp qs)))) (append_nil ps)
 
 -- ---- what rows move
 
-total_numbered : (n account : ℕ) (ps : List Posting) → total_by (λ r. r.amount) (filter (λ r. r.account == account) (numbered n ps)) ≡ total_by (λ p. p.amount) (filter (λ p. p.account == account) ps)
+total_numbered : (n account : ℕ) (ps : List Posting) → total_by (λ r. r.amount) (filter (λ r. r.account == account) (numbered_move_rows n ps)) ≡ total_by (λ p. p.amount) (filter (λ p. p.account == account) ps)
 unfolding total_by
 total_numbered n account [] = refl
 total_numbered n account (p ∷ ps) = by_test (p.account == account) (total_numbered (n + 1) account ps)
   where
     by_test : (b : Bool)
-        → total_by (λ r. r.amount) (filter (λ r. r.account == account) (numbered (n + 1) ps)) ≡ total_by (λ p. p.amount) (filter (λ p. p.account == account) ps)
-        → total_by (λ r. r.amount) (cond b (move_row n p ∷ filter (λ r. r.account == account) (numbered (n + 1) ps)) (filter (λ r. r.account == account) (numbered (n + 1) ps)))
+        → total_by (λ r. r.amount) (filter (λ r. r.account == account) (numbered_move_rows (n + 1) ps)) ≡ total_by (λ p. p.amount) (filter (λ p. p.account == account) ps)
+        → total_by (λ r. r.amount) (cond b (move_row n p ∷ filter (λ r. r.account == account) (numbered_move_rows (n + 1) ps)) (filter (λ r. r.account == account) (numbered_move_rows (n + 1) ps)))
         ≡ total_by (λ p. p.amount) (cond b (p ∷ filter (λ p. p.account == account) ps) (filter (λ p. p.account == account) ps))
     by_test true ih = ap (λ n. p.amount +ℤ n) ih
     by_test false ih = ih
 
 pub rows_total : (account : ℕ) (ps : List Posting)
-    → total_by (λ r. r.amount) (filter (λ r. r.account == account) (by_key move_key (numbered 1 (in_turn ps)))) ≡ total_by (λ p. p.amount) (filter (λ p. p.account == account) ps)
+    → total_by (λ r. r.amount) (filter (λ r. r.account == account) (rows_sorted_by_key move_key (numbered_move_rows 1 (postings_sorted_by_stamp ps)))) ≡ total_by (λ p. p.amount) (filter (λ p. p.account == account) ps)
 rows_total account ps =
-    ap (λ rows. total_by (λ r. r.amount) (filter (λ r. r.account == account) rows)) (numbered_stay 1 (in_turn ps))
-    ∙ total_numbered 1 account (in_turn ps) ∙ total_sort (λ p. p.amount) (λ p. p.account == account) (λ a b. nat_lt a.stamp b.stamp) ps
+    ap (λ rows. total_by (λ r. r.amount) (filter (λ r. r.account == account) rows)) (numbered_stay 1 (postings_sorted_by_stamp ps))
+    ∙ total_numbered 1 account (postings_sorted_by_stamp ps) ∙ total_sort (λ p. p.amount) (λ p. p.account == account) (λ a b. nat_lt a.stamp b.stamp) ps
 
 -- ---- a balance in its parts
 
 posted_trades : (accounts : List Account) (ts : List Trade) (account : ℕ)
-    → total_by (λ p. p.amount) (filter (λ p. p.account == account) (map (posting_of_trade accounts) ts)) ≡ total_by (amount_of accounts) (filter (λ t. t.account == account) ts)
+    → total_by (λ p. p.amount) (filter (λ p. p.account == account) (map (posting_of_trade accounts) ts)) ≡ total_by (settlement_amount accounts) (filter (λ t. t.account == account) ts)
 unfolding total_by
 posted_trades accounts [] account = refl
 posted_trades accounts (t ∷ ts) account = by_test (t.account == account) (posted_trades accounts ts account)
@@ -202,18 +202,18 @@ posted_trades accounts (t ∷ ts) account = by_test (t.account == account) (post
     T : List Trade
     T = filter (λ t. t.account == account) ts
 
-    by_test : (b : Bool) → total_by (λ p. p.amount) P ≡ total_by (amount_of accounts) T
-        → total_by (λ p. p.amount) (cond b (posting_of_trade accounts t ∷ P) P) ≡ total_by (amount_of accounts) (cond b (t ∷ T) T)
-    by_test true ih = ap (λ n. amount_of accounts t +ℤ n) ih
+    by_test : (b : Bool) → total_by (λ p. p.amount) P ≡ total_by (settlement_amount accounts) T
+        → total_by (λ p. p.amount) (cond b (posting_of_trade accounts t ∷ P) P) ≡ total_by (settlement_amount accounts) (cond b (t ∷ T) T)
+    by_test true ih = ap (λ n. settlement_amount accounts t +ℤ n) ih
     by_test false ih = ih
 
 -- its opening, its trades' amounts, and what else moved
 pub balance_parts : (accounts : List Account) (done : List Trade) (ms : List Movement) (account : ℕ)
-    → balance_of accounts (postings accounts done ms) account
-    ≡ opening_in accounts account +ℤ (total_by (amount_of accounts) (filter (λ t. t.account == account) (cash_trades done)) +ℤ total_by (λ p. p.amount) (posted_to (map posting_of_movement ms) account))
-unfolding balance_of
+    → balance_of_account accounts (postings accounts done ms) account
+    ≡ opening_balance_in_accounts accounts account +ℤ (total_by (settlement_amount accounts) (filter (λ t. t.account == account) (cash_trades done)) +ℤ total_by (λ p. p.amount) (postings_to_account (map posting_of_movement ms) account))
+unfolding balance_of_account
 balance_parts accounts done ms account =
-    ap (λ n. opening_in accounts account +ℤ n)
+    ap (λ n. opening_balance_in_accounts accounts account +ℤ n)
     (ap (total_by (λ p. p.amount)) (filter-append (λ p. p.account == account) (map (posting_of_trade accounts) (cash_trades done)) (map posting_of_movement ms))
-    ∙ total-append (λ p. p.amount) (posted_to (map (posting_of_trade accounts) (cash_trades done)) account) (posted_to (map posting_of_movement ms) account)
-    ∙ ap (λ n. n +ℤ total_by (λ p. p.amount) (posted_to (map posting_of_movement ms) account)) (posted_trades accounts (cash_trades done) account))
+    ∙ total-append (λ p. p.amount) (postings_to_account (map (posting_of_trade accounts) (cash_trades done)) account) (postings_to_account (map posting_of_movement ms) account)
+    ∙ ap (λ n. n +ℤ total_by (λ p. p.amount) (postings_to_account (map posting_of_movement ms) account)) (posted_trades accounts (cash_trades done) account))

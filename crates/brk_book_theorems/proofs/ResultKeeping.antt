@@ -8,18 +8,18 @@ use Rattle.brk_money.specs.Spelling.{Text}
 use Rattle.brk_money.specs.declared.refusal.Refusal.TheVariants.{NoTrade}
 use Rattle.brk_money.specs.declared.status.Status.TheVariants.{Submitted, Pending}
 use Rattle.brk_model.specs.Records.{Account, Security, Trade}
-use Rattle.brk_model.specs.Base.{Base, account_with, completed, has_status, is_completed, moment_of, security_with, trade_with}
+use Rattle.brk_model.specs.Base.{Base, account_with_id, completed_trades, has_status, is_completed, last_status_stamp_of_trade, security_with_symbol, trade_with_id}
 use Rattle.brk_model.specs.Commands.{CompleteTrade}
-use Rattle.brk_model.specs.Results.{completed_trade, with_result}
+use Rattle.brk_model.specs.Results.{completed_trade, base_after_result}
 use Rattle.brk_model.specs.Sheets.{sheets}
-use Rattle.brk_model.specs.Step.{records_after, with_result_of}
-use Rattle.brk_model.specs.Tests.{next_stamp, refusal_of, result_tests, tests}
-use Rattle.brk_lots.specs.Position.{IsNew}
-use Rattle.brk_model.specs.Names.{AccountExists, SecurityExists, NumberedFrom}
-use Rattle.brk_book_theorems.specs.Books.{CompletesFirst, BooksInvariant, IsEarly, IsNoCompletion, DistinctMoments, WaitsFirst}
-use Rattle.brk_book_theorems.specs.Steps.{ChangesRows, LeavesBooks}
-use Rattle.brk_book_theorems.specs.Results.{result_rows, rows_of_result}
-use Rattle.brk_book_theorems.specs.TradeReads.{position_in}
+use Rattle.brk_model.specs.Step.{base_after_command_unstamped, base_after_result_by_id}
+use Rattle.brk_model.specs.Tests.{stamp_of_next_command, refusal_of_command, checks_of_result, checks_of_command}
+use Rattle.brk_lots.specs.Position.{AreOpenedByOtherTrades}
+use Rattle.brk_model.specs.Names.{AccountOfTradeExists, SecurityOfTradeExists, AreNumberedFrom}
+use Rattle.brk_book_theorems.specs.Books.{HasNoCompletionIfSubmitted, BooksInvariant, IsTradeUpToLastStamp, IsNotCompletion, HasDistinctStatusStamps, HasOneChangeIfPending}
+use Rattle.brk_book_theorems.specs.Steps.{HasTableEffect, PreservesBooksInvariant}
+use Rattle.brk_book_theorems.specs.Results.{tables_after_result, result_rows_of_trade}
+use Rattle.brk_book_theorems.specs.TradeReads.{position_lots}
 use Rattle.brk_book_theorems.proofs.MovementOrder.{movements_before, movements_beside, movements_completion, movements_later}
 use Rattle.brk_book_theorems.proofs.Same.{NonePass, All-append, All-filter, All-map, find-All}
 use Rattle.brk_book_theorems.proofs.Places.{All-updated, FoundAt, filter-not_one, find-at, some_of}
@@ -32,44 +32,44 @@ use Rattle.brk_book_theorems.proofs.ResultRows.{IsResult, done_now, done_then, m
 
 -- ---- what an accepted result finds
 
-before_next : (last : Option ℕ) (now : ℕ) (t : Trade) → IsEarly last t → moment_of t < option_map_or (λ l. max now (l + 1)) last now
+before_next : (last : Option ℕ) (now : ℕ) (t : Trade) → IsTradeUpToLastStamp last t → last_status_stamp_of_trade t < option_map_or (λ l. max now (l + 1)) last now
 before_next None now t e = absurd e
 before_next (Some l) now t e = omega arith
 
 -- no trade was completed at the next stamp
-pub all_before : (base : Base) (now : ℕ) → BooksInvariant base → AllByRecursion (λ t. moment_of t < next_stamp base now) (completed base)
-all_before base now books = All-map (completed base) (λ t e. before_next base.last now t e) books.early
+pub all_before : (base : Base) (now : ℕ) → BooksInvariant base → AllByRecursion (λ t. last_status_stamp_of_trade t < stamp_of_next_command base now) (completed_trades base)
+all_before base now books = All-map (completed_trades base) (λ t e. before_next base.last now t e) books.early
 
 -- a trade that is not completed opened no lot
-pub new_of_waiting : (base : Base) (id account : ℕ) (symbol : Text) (t : Trade) → BooksInvariant base → trade_with base id ≡ Some t → is_completed t ≡ false
-    → IsNew id (position_in (sheets base) account symbol)
+pub new_of_waiting : (base : Base) (id account : ℕ) (symbol : Text) (t : Trade) → BooksInvariant base → trade_with_id base id ≡ Some t → is_completed t ≡ false
+    → AreOpenedByOtherTrades id (position_lots (sheets base) account symbol)
 new_of_waiting base id account symbol t books e w =
     let f : FoundAt Trade (λ u. u.id == id) t base.trades = find-at (λ u. u.id == id) base.trades t e in
     let same : t.id ≡ id = eqb-true t.id id f.passes in
-    let behind : NonePass (λ u. u.id == id) f.after = subst (λ (m : ℕ). NonePass (λ u. u.id == m) f.after) same (numbered_after 1 f.before t f.after (subst (NumberedFrom 1) f.stands books.numbered)) in
-    let done : completed base ≡ filter is_completed f.before ++ filter is_completed f.after = ap (filter is_completed) f.stands ∙ filter-not_one is_completed f.before t f.after w in
+    let behind : NonePass (λ u. u.id == id) f.after = subst (λ (m : ℕ). NonePass (λ u. u.id == m) f.after) same (numbered_after 1 f.before t f.after (subst (AreNumberedFrom 1) f.stands books.numbered)) in
+    let done : completed_trades base ≡ filter is_completed f.before ++ filter is_completed f.after = ap (filter is_completed) f.stands ∙ filter-not_one is_completed f.before t f.after w in
     new_read base account symbol id books
     (subst (NonePass (λ u. u.id == id)) (sym done)
     (All-append (λ u. (u.id == id) ≡ false) (filter is_completed f.before) (filter is_completed f.after)
     (All-filter (λ u. (u.id == id) ≡ false) is_completed f.before f.others) (All-filter (λ u. (u.id == id) ≡ false) is_completed f.after behind)))
 
 -- what its tests say of its trade
-pub result_passed : (base : Base) (now id price : ℕ) (t : Trade) → trade_with base id ≡ Some t → refusal_of base now (CompleteTrade id price) ≡ None
-    → AllByRecursion (λ test. test.0 ≡ false) (result_tests base (with_result base (next_stamp base now) price t) (next_stamp base now) t)
-unfolding tests
+pub result_passed : (base : Base) (now id price : ℕ) (t : Trade) → trade_with_id base id ≡ Some t → refusal_of_command base now (CompleteTrade id price) ≡ None
+    → AllByRecursion (λ test. test.0 ≡ false) (checks_of_result base (base_after_result base (stamp_of_next_command base now) price t) (stamp_of_next_command base now) t)
+unfolding checks_of_command
 result_passed base now id price t e accepted =
-    subst (λ o. AllByRecursion (λ test. test.0 ≡ false) (option_map_or (λ t. result_tests base (with_result base (next_stamp base now) price t) (next_stamp base now) t) o ((true, NoTrade) ∷ []))) e
+    subst (λ o. AllByRecursion (λ test. test.0 ≡ false) (option_map_or (λ t. checks_of_result base (base_after_result base (stamp_of_next_command base now) price t) (stamp_of_next_command base now) t) o ((true, NoTrade) ∷ []))) e
     (passed base now (CompleteTrade id price) accepted)
 
 -- it names a trade
-pub result_named : (base : Base) (now id price : ℕ) → refusal_of base now (CompleteTrade id price) ≡ None → (t : Trade) × (trade_with base id ≡ Some t)
-unfolding tests
-result_named base now id price accepted = by_trade (trade_with base id) refl
+pub result_named : (base : Base) (now id price : ℕ) → refusal_of_command base now (CompleteTrade id price) ≡ None → (t : Trade) × (trade_with_id base id ≡ Some t)
+unfolding checks_of_command
+result_named base now id price accepted = by_trade (trade_with_id base id) refl
   where
-    by_trade : (o : Option Trade) → trade_with base id ≡ o → (t : Trade) × (trade_with base id ≡ Some t)
+    by_trade : (o : Option Trade) → trade_with_id base id ≡ o → (t : Trade) × (trade_with_id base id ≡ Some t)
     by_trade (Some t) e = (t, e)
     by_trade None e =
-        let k = subst (λ o. AllByRecursion (λ test. test.0 ≡ false) (option_map_or (λ t. result_tests base (with_result base (next_stamp base now) price t) (next_stamp base now) t) o ((true, NoTrade) ∷ []))) e
+        let k = subst (λ o. AllByRecursion (λ test. test.0 ≡ false) (option_map_or (λ t. checks_of_result base (base_after_result base (stamp_of_next_command base now) price t) (stamp_of_next_command base now) t) o ((true, NoTrade) ∷ []))) e
         (passed base now (CompleteTrade id price) accepted) in
         let h : true ≡ false = k.0 in absurd (cc)
 
@@ -77,30 +77,30 @@ result_named base now id price accepted = by_trade (trade_with base id) refl
 pub record Found (base : Base) (now price : ℕ) (t : Trade) : Type 0 where
   pub front : List Trade
   pub back : List Trade
-  pub result : IsResult base (next_stamp base now) price t front back
+  pub result : IsResult base (stamp_of_next_command base now) price t front back
 
-pub found_at : (base : Base) (now id price : ℕ) (t : Trade) → BooksInvariant base → trade_with base id ≡ Some t → has_status Submitted t ≡ true → Found base now price t
+pub found_at : (base : Base) (now id price : ℕ) (t : Trade) → BooksInvariant base → trade_with_id base id ≡ Some t → has_status Submitted t ≡ true → Found base now price t
 found_at base now id price t books e s =
     let f : FoundAt Trade (λ u. u.id == id) t base.trades = find-at (λ u. u.id == id) base.trades t e in
     record { front = f.before; back = f.after; result = record { books = books; stands = f.stands; submitted = s; later = all_before base now books; moved = movements_before base now books.movements } }
 
-pub submitted : (base : Base) (now id price : ℕ) (t : Trade) → trade_with base id ≡ Some t → refusal_of base now (CompleteTrade id price) ≡ None → has_status Submitted t ≡ true
+pub submitted : (base : Base) (now id price : ℕ) (t : Trade) → trade_with_id base id ≡ Some t → refusal_of_command base now (CompleteTrade id price) ≡ None → has_status Submitted t ≡ true
 submitted base now id price t e accepted = not_not (has_status Submitted t) (result_passed base now id price t e accepted).0
 
 -- ---- its rows
 
-pub step_result : (base : Base) (now id price : ℕ) (t : Trade) → trade_with base id ≡ Some t
-    → ChangesRows base now (CompleteTrade id price) (result_rows (rows_of_result base (next_stamp base now) price t))
-unfolding records_after
+pub step_result : (base : Base) (now id price : ℕ) (t : Trade) → trade_with_id base id ≡ Some t
+    → HasTableEffect base now (CompleteTrade id price) (tables_after_result (result_rows_of_trade base (stamp_of_next_command base now) price t))
+unfolding base_after_command_unstamped
 step_result base now id price t e books accepted =
-    let stamp : ℕ = next_stamp base now in
+    let stamp : ℕ = stamp_of_next_command base now in
     let s : has_status Submitted t ≡ true = submitted base now id price t e accepted in
     let f : Found base now price t = found_at base now id price t books e s in
-    let a : (a : Account) × (account_with base t.account ≡ Some a) = some_of (account_with base t.account) (find-All (AccountExists base) (λ u. u.id == id) base.trades t books.accounts e) in
-    let y : (y : Security) × (security_with base t.symbol ≡ Some y) = some_of (security_with base t.symbol) (find-All (SecurityExists base) (λ u. u.id == id) base.trades t books.securities e) in
-    let marks : AllByRecursion IsNoCompletion t.marks = find-All CompletesFirst (λ u. u.id == id) base.trades t books.completions e s in
-    whole (with_result_of base stamp id price) stamp _
-    (ap (λ o. sheets (option_map_or (with_result base stamp price) o base)) e
+    let a : (a : Account) × (account_with_id base t.account ≡ Some a) = some_of (account_with_id base t.account) (find-All (AccountOfTradeExists base) (λ u. u.id == id) base.trades t books.accounts e) in
+    let y : (y : Security) × (security_with_symbol base t.symbol ≡ Some y) = some_of (security_with_symbol base t.symbol) (find-All (SecurityOfTradeExists base) (λ u. u.id == id) base.trades t books.securities e) in
+    let marks : AllByRecursion IsNotCompletion t.marks = find-All HasNoCompletionIfSubmitted (λ u. u.id == id) base.trades t books.completions e s in
+    whole (base_after_result_by_id base stamp id price) stamp _
+    (ap (λ o. sheets (option_map_or (base_after_result base stamp price) o base)) e
     ∙ sheets_then base stamp price t f.front f.back f.result a.0 y.0 a.1 y.1 marks)
 
 -- ---- the base after it
@@ -111,63 +111,63 @@ other_moment m n h = grind (arith, nat_tests)
 same_moment : (m n : ℕ) → m < n → (m == n) ≡ false
 same_moment m n h = grind (arith, nat_tests)
 
-moments_more : (xs : List Trade) (t : Trade) (ys : List Trade) → AllByRecursion (λ u. moment_of u < moment_of t) (xs ++ ys) → DistinctMoments (xs ++ ys) → DistinctMoments (xs ++ t ∷ ys)
-moments_more [] t ys h m = (All-map ys (λ u k. same_moment (moment_of u) (moment_of t) k) h, m)
+moments_more : (xs : List Trade) (t : Trade) (ys : List Trade) → AllByRecursion (λ u. last_status_stamp_of_trade u < last_status_stamp_of_trade t) (xs ++ ys) → HasDistinctStatusStamps (xs ++ ys) → HasDistinctStatusStamps (xs ++ t ∷ ys)
+moments_more [] t ys h m = (All-map ys (λ u k. same_moment (last_status_stamp_of_trade u) (last_status_stamp_of_trade t) k) h, m)
 moments_more (x ∷ xs) t ys h m = (
-  All-append (λ u. (moment_of u == moment_of x) ≡ false) xs (t ∷ ys) (All-front (λ u. (moment_of u == moment_of x) ≡ false) xs ys m.0)
-      (other_moment (moment_of x) (moment_of t) h.0, All-back (λ u. (moment_of u == moment_of x) ≡ false) xs ys m.0),
+  All-append (λ u. (last_status_stamp_of_trade u == last_status_stamp_of_trade x) ≡ false) xs (t ∷ ys) (All-front (λ u. (last_status_stamp_of_trade u == last_status_stamp_of_trade x) ≡ false) xs ys m.0)
+      (other_moment (last_status_stamp_of_trade x) (last_status_stamp_of_trade t) h.0, All-back (λ u. (last_status_stamp_of_trade u == last_status_stamp_of_trade x) ≡ false) xs ys m.0),
   moments_more xs t ys h.1 m.1,
 )
 
-not_waiting : (base : Base) (stamp price : ℕ) (t : Trade) → WaitsFirst (completed_trade base stamp price t)
+not_waiting : (base : Base) (stamp price : ℕ) (t : Trade) → HasOneChangeIfPending (completed_trade base stamp price t)
 not_waiting base stamp price t p = let k : has_status Pending (completed_trade base stamp price t) ≡ false = status_then base stamp price t Pending in absurd (cc)
 
-not_at_market : (base : Base) (stamp price : ℕ) (t : Trade) → CompletesFirst (completed_trade base stamp price t)
+not_at_market : (base : Base) (stamp price : ℕ) (t : Trade) → HasNoCompletionIfSubmitted (completed_trade base stamp price t)
 not_at_market base stamp price t p = let k : has_status Submitted (completed_trade base stamp price t) ≡ false = status_then base stamp price t Submitted in absurd (cc)
 
 same_id : (base : Base) (stamp price : ℕ) (t : Trade) → (completed_trade base stamp price t).id ≡ t.id
 unfolding completed_trade
 same_id base stamp price t = refl
 
-same_account : (base : Base) (stamp price : ℕ) (t : Trade) → AccountExists base t → AccountExists base (completed_trade base stamp price t)
+same_account : (base : Base) (stamp price : ℕ) (t : Trade) → AccountOfTradeExists base t → AccountOfTradeExists base (completed_trade base stamp price t)
 unfolding completed_trade
 same_account base stamp price t h = h
 
-same_security : (base : Base) (stamp price : ℕ) (t : Trade) → SecurityExists base t → SecurityExists base (completed_trade base stamp price t)
+same_security : (base : Base) (stamp price : ℕ) (t : Trade) → SecurityOfTradeExists base t → SecurityOfTradeExists base (completed_trade base stamp price t)
 unfolding completed_trade
 same_security base stamp price t h = h
 
 no_later : (m n : ℕ) → m ≡ n → m ≤ n
 no_later m n e = omega (arith, e)
 
-books_then : (base : Base) (now id price : ℕ) (t : Trade) → BooksInvariant base → trade_with base id ≡ Some t → refusal_of base now (CompleteTrade id price) ≡ None
-    → BooksInvariant (record (with_result base (next_stamp base now) price t) { last = Some (next_stamp base now) })
+books_then : (base : Base) (now id price : ℕ) (t : Trade) → BooksInvariant base → trade_with_id base id ≡ Some t → refusal_of_command base now (CompleteTrade id price) ≡ None
+    → BooksInvariant (record (base_after_result base (stamp_of_next_command base now) price t) { last = Some (stamp_of_next_command base now) })
 books_then base now id price t k e accepted =
-    let stamp : ℕ = next_stamp base now in
+    let stamp : ℕ = stamp_of_next_command base now in
     let u : Trade = completed_trade base stamp price t in
     let f : Found base now price t = found_at base now id price t k e (submitted base now id price t e accepted) in
     let A : List Trade = filter is_completed f.front in
     let Z : List Trade = filter is_completed f.back in
-    let done : completed base ≡ A ++ Z = done_now base stamp price t f.front f.back f.result in
-    let after : completed (with_result base stamp price t) ≡ A ++ u ∷ Z = done_then base stamp price t f.front f.back f.result in
-    let moment : moment_of u ≡ stamp = moment_then base stamp price t in
-    let early : AllByRecursion (IsEarly (Some stamp)) (A ++ Z) = subst (AllByRecursion (IsEarly (Some stamp))) done (later base now k.early) in
-    let last : AllByRecursion (λ v. moment_of v < moment_of u) (A ++ Z) =
-    subst (λ (m : ℕ). AllByRecursion (λ v. moment_of v < m) (A ++ Z)) (sym moment) (subst (AllByRecursion (λ v. moment_of v < stamp)) done (all_before base now k)) in
+    let done : completed_trades base ≡ A ++ Z = done_now base stamp price t f.front f.back f.result in
+    let after : completed_trades (base_after_result base stamp price t) ≡ A ++ u ∷ Z = done_then base stamp price t f.front f.back f.result in
+    let moment : last_status_stamp_of_trade u ≡ stamp = moment_then base stamp price t in
+    let early : AllByRecursion (IsTradeUpToLastStamp (Some stamp)) (A ++ Z) = subst (AllByRecursion (IsTradeUpToLastStamp (Some stamp))) done (later base now k.early) in
+    let last : AllByRecursion (λ v. last_status_stamp_of_trade v < last_status_stamp_of_trade u) (A ++ Z) =
+    subst (λ (m : ℕ). AllByRecursion (λ v. last_status_stamp_of_trade v < m) (A ++ Z)) (sym moment) (subst (AllByRecursion (λ v. last_status_stamp_of_trade v < stamp)) done (all_before base now k)) in
     record {
       parties = k.parties;
       market = k.market;
       trades = record {
-        accounts = All-updated (AccountExists base) (λ v. v.id == t.id) (completed_trade base stamp price) base.trades (λ v h. same_account base stamp price v h) k.accounts;
-        securities = All-updated (SecurityExists base) (λ v. v.id == t.id) (completed_trade base stamp price) base.trades (λ v h. same_security base stamp price v h) k.securities;
+        accounts = All-updated (AccountOfTradeExists base) (λ v. v.id == t.id) (completed_trade base stamp price) base.trades (λ v h. same_account base stamp price v h) k.accounts;
+        securities = All-updated (SecurityOfTradeExists base) (λ v. v.id == t.id) (completed_trade base stamp price) base.trades (λ v h. same_security base stamp price v h) k.securities;
         numbered = numbered_updated 1 (λ v. v.id == t.id) (completed_trade base stamp price) base.trades (λ v. same_id base stamp price v) k.numbered;
-        ways = All-updated WaitsFirst (λ v. v.id == t.id) (completed_trade base stamp price) base.trades (λ v h. not_waiting base stamp price v) k.ways;
-        completions = All-updated CompletesFirst (λ v. v.id == t.id) (completed_trade base stamp price) base.trades (λ v h. not_at_market base stamp price v) k.completions;
+        ways = All-updated HasOneChangeIfPending (λ v. v.id == t.id) (completed_trade base stamp price) base.trades (λ v h. not_waiting base stamp price v) k.ways;
+        completions = All-updated HasNoCompletionIfSubmitted (λ v. v.id == t.id) (completed_trade base stamp price) base.trades (λ v h. not_at_market base stamp price v) k.completions;
       };
       times = record {
-        early = subst (AllByRecursion (IsEarly (Some stamp))) (sym after)
-            (All-append (IsEarly (Some stamp)) A (u ∷ Z) (All-front (IsEarly (Some stamp)) A Z early) (no_later (moment_of u) stamp moment, All-back (IsEarly (Some stamp)) A Z early));
-        moments = subst DistinctMoments (sym after) (moments_more A u Z last (subst DistinctMoments done k.moments));
+        early = subst (AllByRecursion (IsTradeUpToLastStamp (Some stamp))) (sym after)
+            (All-append (IsTradeUpToLastStamp (Some stamp)) A (u ∷ Z) (All-front (IsTradeUpToLastStamp (Some stamp)) A Z early) (no_later (last_status_stamp_of_trade u) stamp moment, All-back (IsTradeUpToLastStamp (Some stamp)) A Z early));
+        moments = subst HasDistinctStatusStamps (sym after) (moments_more A u Z last (subst HasDistinctStatusStamps done k.moments));
         clock = in_time base now (CompleteTrade id price) accepted;
       };
       movements = movements_beside (sym after) (movements_completion A u Z base.movements
@@ -175,9 +175,9 @@ books_then base now id price t k e accepted =
           (movements_beside done (movements_later base now k.movements)));
     }
 
-pub books_result : (base : Base) (now id price : ℕ) → LeavesBooks base now (CompleteTrade id price)
-unfolding records_after
+pub books_result : (base : Base) (now id price : ℕ) → PreservesBooksInvariant base now (CompleteTrade id price)
+unfolding base_after_command_unstamped
 books_result base now id price k accepted =
     let named = result_named base now id price accepted in
-    subst (λ o. BooksInvariant (record (option_map_or (with_result base (next_stamp base now) price) o base) { last = Some (next_stamp base now) })) (sym named.1)
+    subst (λ o. BooksInvariant (record (option_map_or (base_after_result base (stamp_of_next_command base now) price) o base) { last = Some (stamp_of_next_command base now) })) (sym named.1)
     (books_then base now id price named.0 k named.1 accepted)

@@ -4,24 +4,24 @@ use Rattle.std.specs.Prelude.{flat_map, unwrap_or}
 use Rattle.std.specs.Option.{option_map_or}
 use Rattle.std.specs.List.{AllByRecursion}
 use Rattle.std.proofs.lemmas.Bool.{eqb-false, eq-eqb}
-use Rattle.brk_money.specs.Kinds.{same_status, status_code}
+use Rattle.brk_money.specs.Kinds.{is_same_trade_status, trade_status_code}
 use Rattle.brk_money.specs.declared.status.Status.{Status}
 use Rattle.brk_money.specs.declared.status.Status.TheVariants.{Completed, Active, Submitted, Pending, Canceled}
 use Rattle.brk_model.specs.Lists.{is_zero, update_where}
 use Rattle.brk_model.specs.Records.{Account, StatusChange, Security, Trade}
-use Rattle.brk_model.specs.Base.{Base, account_with, broker_in, completed, has_status, is_completed, last_mark, moment_of, security_with}
-use Rattle.brk_model.specs.Derived.{Posting, balance_of, commissions_of, deal_of, in_turn, pending, posting_of_trade, postings, postings_of, trade_count_of}
-use Rattle.brk_model.specs.Results.{completed_trade, result_deal, with_result}
+use Rattle.brk_model.specs.Base.{Base, account_with_id, broker_id_in_accounts, completed_trades, has_status, is_completed, last_status_change, last_status_stamp_of_trade, security_with_symbol}
+use Rattle.brk_model.specs.Derived.{Posting, balance_of_account, commission_total_of_broker, deal_of_trade, postings_sorted_by_stamp, pending_trades, posting_of_trade, postings, postings_of_base, trade_count_of_broker}
+use Rattle.brk_model.specs.Results.{completed_trade, deal_of_result, base_after_result}
 use Rattle.brk_model.specs.Shares as model
 use Rattle.brk_model.specs.Shares.{Touch}
-use Rattle.brk_model.specs.Tables.{BrokerRow, HistoryRow, MoveRow, SummaryRow, Tables, TradeRow, account_row, broker_row, history_rows, holding_row, lot_history, move_row as numbered_row, numbered, request_row, settlement_row, tables_at, trade_row}
-use Rattle.brk_model.specs.Keys.{number, word, account_key, broker_key, by_key, history_key, holding_history_key, holding_key, insert_row, move_key, request_key, settlement_key, summary_key, trade_key}
-use Rattle.brk_model.specs.Sheets.{sheets, sheets_of}
-use Rattle.brk_model.specs.Names.{NumberedFrom}
-use Rattle.brk_book_theorems.specs.Books.{BooksInvariant, IsNoCompletion}
-use Rattle.brk_book_theorems.specs.Results.{ResultRows, with_cash_posted, change_of_lot, completed_rows, left_of_lot, opened_rows, result_rows, rows_of_result, rows_upon, summary_rows_moved, touched_rows}
-use Rattle.brk_changes.specs.Changes.{with_broker_numbers, with_lot_change, with_settlement}
-use Rattle.brk_book_theorems.specs.Trading.{status_row}
+use Rattle.brk_model.specs.Tables.{BrokerRow, HistoryRow, MoveRow, SummaryRow, Tables, TradeRow, account_row, broker_row, history_rows, holding_row, holding_history_rows_of_lot, move_row as numbered_row, numbered_move_rows, request_row, settlement_row, tables_of_base_in_schema, trade_row}
+use Rattle.brk_model.specs.Keys.{number, word, account_key, broker_key, rows_sorted_by_key, history_key, holding_history_key, holding_key, insert_row_by_key, move_key, request_key, settlement_key, summary_key, trade_key}
+use Rattle.brk_model.specs.Sheets.{sheets, tables_sorted_by_key}
+use Rattle.brk_model.specs.Names.{AreNumberedFrom}
+use Rattle.brk_book_theorems.specs.Books.{BooksInvariant, IsNotCompletion}
+use Rattle.brk_book_theorems.specs.Results.{ResultRows, with_cash_posted, history_row_of_touch, with_trade_completed, with_lot_reduced, with_lots_opened, tables_after_result, result_rows_of_trade, result_rows_of_deal, with_summary_changed, with_lots_touched}
+use Rattle.brk_changes.specs.Changes.{tables_with_broker_totals, tables_with_lot_change, tables_with_settlement}
+use Rattle.brk_book_theorems.specs.Trading.{history_row_of_status}
 use Rattle.brk_book_theorems.proofs.Order.{NewKey, by_key-map, by_key-middle}
 use Rattle.brk_book_theorems.proofs.Same.{NonePass, All-append, All-filter, All-map, All-mapped, flat_map-append, map-last}
 use Rattle.brk_book_theorems.proofs.Places.{append_assoc, filter-not_one, filter-one, map-append, update_where-one}
@@ -36,12 +36,12 @@ use Rattle.brk_book_theorems.proofs.Sums.{accounts_after, brokers_after, cash_af
 
 -- ---- a trade at the market, and once it is completed
 
-at_market : (o : Option StatusChange) → option_map_or (λ m. same_status m.status Submitted) o false ≡ true
-    → (option_map_or (λ m. same_status m.status Completed) o false ≡ false) × (option_map_or (λ m. same_status m.status Pending) o false ≡ false)
+at_market : (o : Option StatusChange) → option_map_or (λ m. is_same_trade_status m.status Submitted) o false ≡ true
+    → (option_map_or (λ m. is_same_trade_status m.status Completed) o false ≡ false) × (option_map_or (λ m. is_same_trade_status m.status Pending) o false ≡ false)
 at_market None h = (refl, refl)
 at_market (Some m) h = by_status m.status h
   where
-    by_status : (s : Status) → same_status s Submitted ≡ true → (same_status s Completed ≡ false) × (same_status s Pending ≡ false)
+    by_status : (s : Status) → is_same_trade_status s Submitted ≡ true → (is_same_trade_status s Completed ≡ false) × (is_same_trade_status s Pending ≡ false)
     by_status Completed h = absurd (cc)
     by_status Active h = (refl, refl)
     by_status Submitted h = (refl, refl)
@@ -49,22 +49,22 @@ at_market (Some m) h = by_status m.status h
     by_status Canceled h = (refl, refl)
 
 pub submitted_not_completed : (t : Trade) → has_status Submitted t ≡ true → is_completed t ≡ false
-submitted_not_completed t h = (at_market (last_mark t) h).0
+submitted_not_completed t h = (at_market (last_status_change t) h).0
 
 submitted_not_pending : (t : Trade) → has_status Submitted t ≡ true → has_status Pending t ≡ false
-submitted_not_pending t h = (at_market (last_mark t) h).1
+submitted_not_pending t h = (at_market (last_status_change t) h).1
 
-pub status_then : (base : Base) (stamp price : ℕ) (t : Trade) (wanted : Status) → has_status wanted (completed_trade base stamp price t) ≡ same_status Completed wanted
+pub status_then : (base : Base) (stamp price : ℕ) (t : Trade) (wanted : Status) → has_status wanted (completed_trade base stamp price t) ≡ is_same_trade_status Completed wanted
 unfolding completed_trade
 status_then base stamp price t wanted = status_of_marked stamp Completed wanted t
 
-pub moment_then : (base : Base) (stamp price : ℕ) (t : Trade) → moment_of (completed_trade base stamp price t) ≡ stamp
+pub moment_then : (base : Base) (stamp price : ℕ) (t : Trade) → last_status_stamp_of_trade (completed_trade base stamp price t) ≡ stamp
 unfolding completed_trade
 moment_then base stamp price t = ap (λ o. option_map_or (λ m. m.stamp) o 0) (last_of_marked stamp Completed t)
 
-pub deal_then : (base : Base) (stamp price : ℕ) (t : Trade) → deal_of (completed_trade base stamp price t) ≡ result_deal stamp price t
+pub deal_then : (base : Base) (stamp price : ℕ) (t : Trade) → deal_of_trade (completed_trade base stamp price t) ≡ deal_of_result stamp price t
 unfolding completed_trade
-deal_then base stamp price t = λ i. record (result_deal stamp price t) { stamp = moment_then base stamp price t i }
+deal_then base stamp price t = λ i. record (deal_of_result stamp price t) { stamp = moment_then base stamp price t i }
 
 -- ---- TRADE
 
@@ -72,15 +72,15 @@ abbrev completed_row : TradeRow → TradeRow → TradeRow
 completed_row c r = record r { status = Completed; stamp = c.stamp; price = Some (unwrap_or c.price 0); commission = c.commission; tax = c.tax }
 
 trades_after : (base : Base) (stamp price : ℕ) (xs : List Trade) (t : Trade) (ys : List Trade) → ids_other t.id xs → ids_other t.id ys
-    → by_key trade_key (map trade_row (xs ++ completed_trade base stamp price t ∷ ys))
-    ≡ update_where (λ r. r.id == t.id) (completed_row (trade_row (completed_trade base stamp price t))) (by_key trade_key (map trade_row (xs ++ t ∷ ys)))
+    → rows_sorted_by_key trade_key (map trade_row (xs ++ completed_trade base stamp price t ∷ ys))
+    ≡ update_where (λ r. r.id == t.id) (completed_row (trade_row (completed_trade base stamp price t))) (rows_sorted_by_key trade_key (map trade_row (xs ++ t ∷ ys)))
 unfolding completed_trade
 trades_after base stamp price xs t ys g h =
     let u : Trade = completed_trade base stamp price t in
     let c : TradeRow = trade_row u in
     let row : c ≡ completed_row c (trade_row t) = λ i. record c { status = option_map_or (λ m. m.status) (last_of_marked stamp Completed t i) Canceled } in
     let change : TradeRow → TradeRow = λ r. cond (r.id == t.id) (completed_row c r) r in
-    ap (by_key trade_key) (map-append trade_row xs (u ∷ ys)
+    ap (rows_sorted_by_key trade_key) (map-append trade_row xs (u ∷ ys)
     ∙ ap (λ r. map trade_row xs ++ r ∷ map trade_row ys) row
     ∙ sym (update_where-one (λ r. r.id == t.id) (completed_row c) (map trade_row xs) (trade_row t) (map trade_row ys)
     (All-mapped _ trade_row xs g) (eq-eqb t.id t.id refl) (All-mapped _ trade_row ys h))
@@ -102,7 +102,7 @@ second_of [] = 0
 second_of (c ∷ []) = 0
 second_of (c ∷ d ∷ cs) = d
 
-no_completion : (s : Status) → same_status s Completed ≡ false → status_code s ≡ status_code Completed → ⊥
+no_completion : (s : Status) → is_same_trade_status s Completed ≡ false → trade_status_code s ≡ trade_status_code Completed → ⊥
 unfolding first_of second_of
 no_completion Completed g e = absurd (cc)
 no_completion Active g e = eqb-false 65 67 refl (ap first_of e)
@@ -110,36 +110,36 @@ no_completion Submitted g e = eqb-false 83 67 refl (ap first_of e)
 no_completion Pending g e = eqb-false 80 67 refl (ap first_of e)
 no_completion Canceled g e = eqb-false 78 77 refl (ap second_of e)
 
-own_history : (stamp : ℕ) (t : Trade) → AllByRecursion IsNoCompletion t.marks → NewKey history_key (status_row t.id Completed stamp) (history_rows t)
+own_history : (stamp : ℕ) (t : Trade) → AllByRecursion IsNotCompletion t.marks → NewKey history_key (history_row_of_status t.id Completed stamp) (history_rows t)
 own_history stamp t h =
-    All-mapped (λ r. history_key r ≡ history_key (status_row t.id Completed stamp) → ⊥) (λ m. status_row t.id m.status m.stamp) t.marks
-    (All-map t.marks (λ m g e. no_completion m.status g (code_of t.id (status_code m.status) (status_code Completed) e)) h)
+    All-mapped (λ r. history_key r ≡ history_key (history_row_of_status t.id Completed stamp) → ⊥) (λ m. history_row_of_status t.id m.status m.stamp) t.marks
+    (All-map t.marks (λ m g e. no_completion m.status g (code_of t.id (trade_status_code m.status) (trade_status_code Completed) e)) h)
   where
     code_of : (n : ℕ) (a b : List ℕ) → number n ∷ word a ∷ [] ≡ number n ∷ word b ∷ [] → a ≡ b
     code_of n a b e = cc
 
-history_after : (base : Base) (stamp price : ℕ) (xs : List Trade) (t : Trade) (ys : List Trade) → ids_other t.id xs → AllByRecursion IsNoCompletion t.marks
-    → by_key history_key (flat_map history_rows (xs ++ completed_trade base stamp price t ∷ ys))
-    ≡ insert_row history_key (status_row t.id Completed stamp) (by_key history_key (flat_map history_rows (xs ++ t ∷ ys)))
+history_after : (base : Base) (stamp price : ℕ) (xs : List Trade) (t : Trade) (ys : List Trade) → ids_other t.id xs → AllByRecursion IsNotCompletion t.marks
+    → rows_sorted_by_key history_key (flat_map history_rows (xs ++ completed_trade base stamp price t ∷ ys))
+    ≡ insert_row_by_key history_key (history_row_of_status t.id Completed stamp) (rows_sorted_by_key history_key (flat_map history_rows (xs ++ t ∷ ys)))
 unfolding completed_trade
 history_after base stamp price xs t ys g h =
-    let row : HistoryRow = status_row t.id Completed stamp in
+    let row : HistoryRow = history_row_of_status t.id Completed stamp in
     let H : List Trade → List HistoryRow = flat_map history_rows in
     let after : H (xs ++ completed_trade base stamp price t ∷ ys) ≡ (H xs ++ history_rows t) ++ row ∷ H ys =
     flat_map-append history_rows xs (completed_trade base stamp price t ∷ ys)
-    ∙ ap (λ rows. H xs ++ (rows ++ H ys)) (map-last (λ m. status_row t.id m.status m.stamp) t.marks (record { stamp = stamp; status = Completed }))
+    ∙ ap (λ rows. H xs ++ (rows ++ H ys)) (map-last (λ m. history_row_of_status t.id m.status m.stamp) t.marks (record { stamp = stamp; status = Completed }))
     ∙ ap (λ rows. H xs ++ rows) (append_assoc (history_rows t) (row ∷ []) (H ys))
     ∙ sym (append_assoc (H xs) (history_rows t) (row ∷ H ys)) in
     let before : H (xs ++ t ∷ ys) ≡ (H xs ++ history_rows t) ++ H ys =
     flat_map-append history_rows xs (t ∷ ys) ∙ sym (append_assoc (H xs) (history_rows t) (H ys)) in
-    ap (by_key history_key) after
+    ap (rows_sorted_by_key history_key) after
     ∙ by_key-middle history_key (H xs ++ history_rows t) row (H ys)
     (All-append (λ r. history_key r ≡ history_key row → ⊥) (H xs) (history_rows t) (history_of_others row xs g) (own_history stamp t h))
-    ∙ ap (λ rows. insert_row history_key row (by_key history_key rows)) (sym before)
+    ∙ ap (λ rows. insert_row_by_key history_key row (rows_sorted_by_key history_key rows)) (sym before)
 
 -- ---- the rows of a result, table by table
 
-left_is : (touch : Touch) (t : Tables) → left_of_lot touch t ≡ record t { holdings = set_lot touch t.holdings }
+left_is : (touch : Touch) (t : Tables) → with_lot_reduced touch t ≡ record t { holdings = set_lot touch t.holdings }
 left_is touch t = by_test (is_zero touch.after)
   where
     by_test : (b : Bool)
@@ -148,25 +148,25 @@ left_is touch t = by_test (is_zero touch.after)
     by_test true = refl
     by_test false = refl
 
-touched_are : (id : ℕ) (touched : List Touch) (t : Tables) → touched_rows id touched t ≡ record t { holdings = set_lots touched t.holdings; holding_history = put_changes id touched t.holding_history }
+touched_are : (id : ℕ) (touched : List Touch) (t : Tables) → with_lots_touched id touched t ≡ record t { holdings = set_lots touched t.holdings; holding_history = put_changes id touched t.holding_history }
 touched_are id [] t = refl
 touched_are id (touch ∷ touched) t =
-    ap (λ t. touched_rows id touched (with_lot_change (change_of_lot id touch) t)) (left_is touch t)
-    ∙ touched_are id touched (with_lot_change (change_of_lot id touch) (record t { holdings = set_lot touch t.holdings }))
+    ap (λ t. with_lots_touched id touched (tables_with_lot_change (history_row_of_touch id touch) t)) (left_is touch t)
+    ∙ touched_are id touched (tables_with_lot_change (history_row_of_touch id touch) (record t { holdings = set_lot touch t.holdings }))
 
 opened_are : (u : Trade) (opened : List model.Lot) (t : Tables)
-    → opened_rows (trade_row u) opened t ≡ record t { holdings = open_lots u opened t.holdings; holding_history = put_openings opened t.holding_history }
+    → with_lots_opened (trade_row u) opened t ≡ record t { holdings = open_lots u opened t.holdings; holding_history = put_openings opened t.holding_history }
 opened_are u [] t = refl
 opened_are u (lot ∷ opened) t = opened_are u opened _
 
-summary_is : (before after : ℤ) (row : SummaryRow) (t : Tables) → summary_rows_moved before after row t ≡ record t { summaries = move_row before after row t.summaries }
+summary_is : (before after : ℤ) (row : SummaryRow) (t : Tables) → with_summary_changed before after row t ≡ record t { summaries = move_row before after row t.summaries }
 summary_is before after row t = by_test (is_zero after) (is_zero before)
   where
     F : Tables
     F = record t { summaries = filter (λ r. not (is_of row.account row.symbol r)) t.summaries }
 
     I : Tables
-    I = record t { summaries = insert_row summary_key row t.summaries }
+    I = record t { summaries = insert_row_by_key summary_key row t.summaries }
 
     U : Tables
     U = record t { summaries = update_where (is_of row.account row.symbol) (λ r. record r { qty = row.qty }) t.summaries }
@@ -177,11 +177,11 @@ summary_is before after row t = by_test (is_zero after) (is_zero before)
     by_test false false = refl
 
 cash_is : (u : Trade) (c : ResultRows) (t : Tables) → with_cash_posted u.is_cash c.cash u.account c.balance t
-    ≡ record t { accounts = cond u.is_cash (map (with_other_balance u.account c.balance) t.accounts) t.accounts; moves = cond u.is_cash (insert_row move_key c.cash t.moves) t.moves }
+    ≡ record t { accounts = cond u.is_cash (map (with_other_balance u.account c.balance) t.accounts) t.accounts; moves = cond u.is_cash (insert_row_by_key move_key c.cash t.moves) t.moves }
 cash_is u c t = by_test u.is_cash
   where
     by_test : (b : Bool) → with_cash_posted b c.cash u.account c.balance t
-        ≡ record t { accounts = cond b (map (with_other_balance u.account c.balance) t.accounts) t.accounts; moves = cond b (insert_row move_key c.cash t.moves) t.moves }
+        ≡ record t { accounts = cond b (map (with_other_balance u.account c.balance) t.accounts) t.accounts; moves = cond b (insert_row_by_key move_key c.cash t.moves) t.moves }
     by_test true = refl
     by_test false = refl
 
@@ -192,34 +192,34 @@ pub record IsResult (base : Base) (stamp price : ℕ) (t : Trade) (xs ys : List 
   pub books : BooksInvariant base
   pub stands : base.trades ≡ xs ++ t ∷ ys
   pub submitted : has_status Submitted t ≡ true
-  pub later : AllByRecursion (λ u. moment_of u < stamp) (completed base)
+  pub later : AllByRecursion (λ u. last_status_stamp_of_trade u < stamp) (completed_trades base)
   pub moved : AllByRecursion (λ m. m.stamp < stamp) base.movements
 
 -- its trades, with the trade completed
 pub trades_then : (base : Base) (stamp price : ℕ) (t : Trade) (xs ys : List Trade) → IsResult base stamp price t xs ys
     → update_where (λ u. u.id == t.id) (completed_trade base stamp price) base.trades ≡ xs ++ completed_trade base stamp price t ∷ ys
 trades_then base stamp price t xs ys k =
-    let n : NumberedFrom 1 (xs ++ t ∷ ys) = subst (NumberedFrom 1) k.stands k.books.numbered in
+    let n : AreNumberedFrom 1 (xs ++ t ∷ ys) = subst (AreNumberedFrom 1) k.stands k.books.numbered in
     ap (update_where (λ u. u.id == t.id) (completed_trade base stamp price)) k.stands
     ∙ update_where-one (λ u. u.id == t.id) (completed_trade base stamp price) xs t ys (numbered_before 1 xs t ys n) (eq-eqb t.id t.id refl) (numbered_after 1 xs t ys n)
 
 pub done_then : (base : Base) (stamp price : ℕ) (t : Trade) (xs ys : List Trade) → IsResult base stamp price t xs ys
-    → completed (with_result base stamp price t) ≡ filter is_completed xs ++ completed_trade base stamp price t ∷ filter is_completed ys
+    → completed_trades (base_after_result base stamp price t) ≡ filter is_completed xs ++ completed_trade base stamp price t ∷ filter is_completed ys
 done_then base stamp price t xs ys k =
     ap (filter is_completed) (trades_then base stamp price t xs ys k) ∙ filter-one is_completed xs (completed_trade base stamp price t) ys (status_then base stamp price t Completed)
 
-pub done_now : (base : Base) (stamp price : ℕ) (t : Trade) (xs ys : List Trade) → IsResult base stamp price t xs ys → completed base ≡ filter is_completed xs ++ filter is_completed ys
+pub done_now : (base : Base) (stamp price : ℕ) (t : Trade) (xs ys : List Trade) → IsResult base stamp price t xs ys → completed_trades base ≡ filter is_completed xs ++ filter is_completed ys
 done_now base stamp price t xs ys k = ap (filter is_completed) k.stands ∙ filter-not_one is_completed xs t ys (submitted_not_completed t k.submitted)
 
 pub completes : (base : Base) (stamp price : ℕ) (t : Trade) (xs ys : List Trade) → IsResult base stamp price t xs ys
     → Completes base (filter is_completed xs) (completed_trade base stamp price t) (filter is_completed ys)
 unfolding completed_trade
 completes base stamp price t xs ys k =
-    let n : NumberedFrom 1 (xs ++ t ∷ ys) = subst (NumberedFrom 1) k.stands k.books.numbered in
+    let n : AreNumberedFrom 1 (xs ++ t ∷ ys) = subst (AreNumberedFrom 1) k.stands k.books.numbered in
     record {
       books = k.books;
       split = done_now base stamp price t xs ys k;
-      last = subst (λ (m : ℕ). AllByRecursion (λ u. moment_of u < m) (completed base)) (sym (moment_then base stamp price t)) k.later;
+      last = subst (λ (m : ℕ). AllByRecursion (λ u. last_status_stamp_of_trade u < m) (completed_trades base)) (sym (moment_then base stamp price t)) k.later;
       fresh = subst (ids_other t.id) (sym (done_now base stamp price t xs ys k))
           (All-append (λ u. (u.id == t.id) ≡ false) (filter is_completed xs) (filter is_completed ys)
           (All-filter (λ u. (u.id == t.id) ≡ false) is_completed xs (numbered_before 1 xs t ys n)) (All-filter (λ u. (u.id == t.id) ≡ false) is_completed ys (numbered_after 1 xs t ys n)));
@@ -231,38 +231,38 @@ rows_set u c t = record t {
   brokers = map (with_numbers c.broker c.trades c.commissions) t.brokers;
   accounts = cond u.is_cash (map (with_other_balance u.account c.balance) t.accounts) t.accounts;
   trades = update_where (λ r. r.id == u.id) (completed_row (trade_row u)) t.trades;
-  history = insert_row history_key (status_row u.id Completed (moment_of u)) t.history;
+  history = insert_row_by_key history_key (history_row_of_status u.id Completed (last_status_stamp_of_trade u)) t.history;
   holdings = open_lots u c.opened (set_lots c.touched t.holdings);
   summaries = move_row c.before c.after (record { account = u.account; symbol = u.symbol; qty = c.after }) t.summaries;
   holding_history = put_openings c.opened (put_changes u.id c.touched t.holding_history);
-  settlements = insert_row settlement_key c.settlement t.settlements;
-  moves = cond u.is_cash (insert_row move_key c.cash t.moves) t.moves;
+  settlements = insert_row_by_key settlement_key c.settlement t.settlements;
+  moves = cond u.is_cash (insert_row_by_key move_key c.cash t.moves) t.moves;
 }
 
-rows_are : (u : Trade) (c : ResultRows) (t : Tables) → result_rows (record c { trade = trade_row u }) t ≡ rows_set u c t
+rows_are : (u : Trade) (c : ResultRows) (t : Tables) → tables_after_result (record c { trade = trade_row u }) t ≡ rows_set u c t
 rows_are u c t =
-    ap (λ x. C (S (B (M (opened_rows (trade_row u) c.opened x))))) (touched_are u.id c.touched (completed_rows (trade_row u) t))
+    ap (λ x. C (S (B (M (with_lots_opened (trade_row u) c.opened x))))) (touched_are u.id c.touched (with_trade_completed (trade_row u) t))
     ∙ ap (λ x. C (S (B (M x)))) (opened_are u c.opened touched)
     ∙ ap (λ x. C (S (B x))) (summary_is c.before c.after row opened)
     ∙ cash_is u c (S (B (record opened { summaries = move_row c.before c.after row opened.summaries })))
   where
     B : Tables → Tables
-    B x = with_broker_numbers c.broker c.trades c.commissions x
+    B x = tables_with_broker_totals c.broker c.trades c.commissions x
 
     C : Tables → Tables
     C x = with_cash_posted u.is_cash c.cash u.account c.balance x
 
     S : Tables → Tables
-    S x = with_settlement c.settlement x
+    S x = tables_with_settlement c.settlement x
 
     row : SummaryRow
     row = record { account = u.account; symbol = u.symbol; qty = c.after }
 
     M : Tables → Tables
-    M x = summary_rows_moved c.before c.after row x
+    M x = with_summary_changed c.before c.after row x
 
     done : Tables
-    done = completed_rows (trade_row u) t
+    done = with_trade_completed (trade_row u) t
 
     touched : Tables
     touched = record done { holdings = set_lots c.touched done.holdings; holding_history = put_changes u.id c.touched done.holding_history }
@@ -271,11 +271,11 @@ rows_are u c t =
     opened = record touched { holdings = open_lots u c.opened touched.holdings; holding_history = put_openings c.opened touched.holding_history }
 
 pub sheets_then : (base : Base) (stamp price : ℕ) (t : Trade) (xs ys : List Trade) → IsResult base stamp price t xs ys → (a : Account) (s : Security)
-    → account_with base t.account ≡ Some a → security_with base t.symbol ≡ Some s → AllByRecursion IsNoCompletion t.marks
-    → sheets (with_result base stamp price t) ≡ result_rows (rows_of_result base stamp price t) (sheets base)
-unfolding tables_at sheets_of completed_trade
+    → account_with_id base t.account ≡ Some a → security_with_symbol base t.symbol ≡ Some s → AllByRecursion IsNotCompletion t.marks
+    → sheets (base_after_result base stamp price t) ≡ tables_after_result (result_rows_of_trade base stamp price t) (sheets base)
+unfolding tables_of_base_in_schema tables_sorted_by_key completed_trade
 sheets_then base stamp price t xs ys k a s ea es marks =
-    moved ∙ sym (rows_are u c (sheets base)) ∙ (λ i. result_rows (rows_upon base (sym then i) (deal_then base stamp price t i) u) (sheets base))
+    moved ∙ sym (rows_are u c (sheets base)) ∙ (λ i. tables_after_result (result_rows_of_deal base (sym then i) (deal_then base stamp price t i) u) (sheets base))
   where
     u : Trade
     u = completed_trade base stamp price t
@@ -290,25 +290,25 @@ sheets_then base stamp price t xs ys k a s ea es marks =
     done = A ++ u ∷ Z
 
     after : Base
-    after = with_result base stamp price t
+    after = base_after_result base stamp price t
 
     c : ResultRows
-    c = rows_upon base done (deal_of u) u
+    c = result_rows_of_deal base done (deal_of_trade u) u
 
     all : update_where (λ v. v.id == t.id) (completed_trade base stamp price) base.trades ≡ xs ++ u ∷ ys
     all = trades_then base stamp price t xs ys k
 
-    then : completed after ≡ done
+    then : completed_trades after ≡ done
     then = done_then base stamp price t xs ys k
 
-    now : completed base ≡ A ++ Z
+    now : completed_trades base ≡ A ++ Z
     now = done_now base stamp price t xs ys k
 
     m : Completes base A u Z
     m = completes base stamp price t xs ys k
 
-    n : NumberedFrom 1 (xs ++ t ∷ ys)
-    n = subst (NumberedFrom 1) k.stands k.books.numbered
+    n : AreNumberedFrom 1 (xs ++ t ∷ ys)
+    n = subst (AreNumberedFrom 1) k.stands k.books.numbered
 
     front : ids_other t.id xs
     front = numbered_before 1 xs t ys n
@@ -317,82 +317,82 @@ sheets_then base stamp price t xs ys k a s ea es marks =
     others = All-filter (λ v. (v.id == t.id) ≡ false) is_completed xs front
 
     broker : ℕ
-    broker = broker_in base.accounts u.account
+    broker = broker_id_in_accounts base.accounts u.account
 
     numbers : BrokerRow → BrokerRow
-    numbers = with_numbers broker (pos (trade_count_of base.accounts done broker)) (commissions_of base.accounts done broker)
+    numbers = with_numbers broker (pos (trade_count_of_broker base.accounts done broker)) (commission_total_of_broker base.accounts done broker)
 
-    brokers : by_key broker_key (map (broker_row base.accounts (completed after)) base.brokers) ≡ map numbers (sheets base).brokers
+    brokers : rows_sorted_by_key broker_key (map (broker_row base.accounts (completed_trades after)) base.brokers) ≡ map numbers (sheets base).brokers
     brokers =
-        ap (λ ts. by_key broker_key (map (broker_row base.accounts ts) base.brokers)) then ∙ brokers_after base.accounts base.brokers A u Z
-        ∙ ap (λ ts. map numbers (by_key broker_key (map (broker_row base.accounts ts) base.brokers))) (sym now)
+        ap (λ ts. rows_sorted_by_key broker_key (map (broker_row base.accounts ts) base.brokers)) then ∙ brokers_after base.accounts base.brokers A u Z
+        ∙ ap (λ ts. map numbers (rows_sorted_by_key broker_key (map (broker_row base.accounts ts) base.brokers))) (sym now)
 
     posted : List Posting
     posted = postings base.accounts done base.movements
 
-    accounts : (b : Bool) → t.is_cash ≡ b → by_key account_key (map (account_row base.accounts (postings_of after)) base.accounts)
-        ≡ cond t.is_cash (map (with_other_balance u.account (balance_of base.accounts posted u.account)) (sheets base).accounts) (sheets base).accounts
+    accounts : (b : Bool) → t.is_cash ≡ b → rows_sorted_by_key account_key (map (account_row base.accounts (postings_of_base after)) base.accounts)
+        ≡ cond t.is_cash (map (with_other_balance u.account (balance_of_account base.accounts posted u.account)) (sheets base).accounts) (sheets base).accounts
     accounts true e =
-        ap (λ ts. by_key account_key (map (account_row base.accounts (postings base.accounts ts base.movements)) base.accounts)) then ∙ accounts_after base.accounts base.accounts A u Z base.movements
-        ∙ ap (λ ts. map (with_other_balance u.account (balance_of base.accounts posted u.account)) (by_key account_key (map (account_row base.accounts (postings base.accounts ts base.movements)) base.accounts))) (sym now)
-        ∙ sym (ap (λ b. cond b (map (with_other_balance u.account (balance_of base.accounts posted u.account)) (sheets base).accounts) (sheets base).accounts) e)
+        ap (λ ts. rows_sorted_by_key account_key (map (account_row base.accounts (postings base.accounts ts base.movements)) base.accounts)) then ∙ accounts_after base.accounts base.accounts A u Z base.movements
+        ∙ ap (λ ts. map (with_other_balance u.account (balance_of_account base.accounts posted u.account)) (rows_sorted_by_key account_key (map (account_row base.accounts (postings base.accounts ts base.movements)) base.accounts))) (sym now)
+        ∙ sym (ap (λ b. cond b (map (with_other_balance u.account (balance_of_account base.accounts posted u.account)) (sheets base).accounts) (sheets base).accounts) e)
     accounts false e =
-        ap (λ ts. by_key account_key (map (account_row base.accounts (postings base.accounts ts base.movements)) base.accounts)) then ∙ margin_accounts base.accounts base.accounts A u Z base.movements e
-        ∙ ap (λ ts. by_key account_key (map (account_row base.accounts (postings base.accounts ts base.movements)) base.accounts)) (sym now)
-        ∙ sym (ap (λ b. cond b (map (with_other_balance u.account (balance_of base.accounts posted u.account)) (sheets base).accounts) (sheets base).accounts) e)
+        ap (λ ts. rows_sorted_by_key account_key (map (account_row base.accounts (postings base.accounts ts base.movements)) base.accounts)) then ∙ margin_accounts base.accounts base.accounts A u Z base.movements e
+        ∙ ap (λ ts. rows_sorted_by_key account_key (map (account_row base.accounts (postings base.accounts ts base.movements)) base.accounts)) (sym now)
+        ∙ sym (ap (λ b. cond b (map (with_other_balance u.account (balance_of_account base.accounts posted u.account)) (sheets base).accounts) (sheets base).accounts) e)
 
-    trades : by_key trade_key (map trade_row after.trades) ≡ update_where (λ r. r.id == u.id) (completed_row (trade_row u)) (sheets base).trades
+    trades : rows_sorted_by_key trade_key (map trade_row after.trades) ≡ update_where (λ r. r.id == u.id) (completed_row (trade_row u)) (sheets base).trades
     trades =
-        ap (λ ts. by_key trade_key (map trade_row ts)) all ∙ trades_after base stamp price xs t ys front (numbered_after 1 xs t ys n)
-        ∙ ap (λ ts. update_where (λ r. r.id == u.id) (completed_row (trade_row u)) (by_key trade_key (map trade_row ts))) (sym k.stands)
+        ap (λ ts. rows_sorted_by_key trade_key (map trade_row ts)) all ∙ trades_after base stamp price xs t ys front (numbered_after 1 xs t ys n)
+        ∙ ap (λ ts. update_where (λ r. r.id == u.id) (completed_row (trade_row u)) (rows_sorted_by_key trade_key (map trade_row ts))) (sym k.stands)
 
-    history : by_key history_key (flat_map history_rows after.trades) ≡ insert_row history_key (status_row u.id Completed (moment_of u)) (sheets base).history
+    history : rows_sorted_by_key history_key (flat_map history_rows after.trades) ≡ insert_row_by_key history_key (history_row_of_status u.id Completed (last_status_stamp_of_trade u)) (sheets base).history
     history =
-        ap (λ ts. by_key history_key (flat_map history_rows ts)) all ∙ history_after base stamp price xs t ys front marks
-        ∙ (λ i. insert_row history_key (status_row u.id Completed (sym (moment_then base stamp price t) i)) (by_key history_key (flat_map history_rows (sym k.stands i))))
+        ap (λ ts. rows_sorted_by_key history_key (flat_map history_rows ts)) all ∙ history_after base stamp price xs t ys front marks
+        ∙ (λ i. insert_row_by_key history_key (history_row_of_status u.id Completed (sym (moment_then base stamp price t) i)) (rows_sorted_by_key history_key (flat_map history_rows (sym k.stands i))))
 
-    requests : by_key request_key (map (request_row base.accounts) (pending after.trades)) ≡ (sheets base).requests
+    requests : rows_sorted_by_key request_key (map (request_row base.accounts) (pending_trades after.trades)) ≡ (sheets base).requests
     requests =
-        ap (λ ts. by_key request_key (map (request_row base.accounts) (pending ts))) all
-        ∙ ap (λ ts. by_key request_key (map (request_row base.accounts) ts))
+        ap (λ ts. rows_sorted_by_key request_key (map (request_row base.accounts) (pending_trades ts))) all
+        ∙ ap (λ ts. rows_sorted_by_key request_key (map (request_row base.accounts) ts))
         (filter-not_one (has_status Pending) xs u ys (status_then base stamp price t Pending) ∙ sym (filter-not_one (has_status Pending) xs t ys (submitted_not_pending t k.submitted))
-        ∙ ap pending (sym k.stands))
+        ∙ ap pending_trades (sym k.stands))
 
-    settlements : by_key settlement_key (map (settlement_row base.accounts base.rule) (completed after)) ≡ insert_row settlement_key (settlement_row base.accounts base.rule u) (sheets base).settlements
+    settlements : rows_sorted_by_key settlement_key (map (settlement_row base.accounts base.rule) (completed_trades after)) ≡ insert_row_by_key settlement_key (settlement_row base.accounts base.rule u) (sheets base).settlements
     settlements =
-        ap (λ ts. by_key settlement_key (map (settlement_row base.accounts base.rule) ts)) then ∙ settlements_after base.accounts base.rule A u Z others
-        ∙ ap (λ ts. insert_row settlement_key (settlement_row base.accounts base.rule u) (by_key settlement_key (map (settlement_row base.accounts base.rule) ts))) (sym now)
+        ap (λ ts. rows_sorted_by_key settlement_key (map (settlement_row base.accounts base.rule) ts)) then ∙ settlements_after base.accounts base.rule A u Z others
+        ∙ ap (λ ts. insert_row_by_key settlement_key (settlement_row base.accounts base.rule u) (rows_sorted_by_key settlement_key (map (settlement_row base.accounts base.rule) ts))) (sym now)
 
     -- what was posted before
     M : Tables → List MoveRow
-    M x = cond u.is_cash (insert_row move_key c.cash x.moves) x.moves
+    M x = cond u.is_cash (insert_row_by_key move_key c.cash x.moves) x.moves
 
-    before : AllByRecursion (λ p. p.stamp < moment_of u) (postings base.accounts (A ++ Z) base.movements)
+    before : AllByRecursion (λ p. p.stamp < last_status_stamp_of_trade u) (postings base.accounts (A ++ Z) base.movements)
     before =
         subst (λ (m : ℕ). AllByRecursion (λ p. p.stamp < m) (postings base.accounts (A ++ Z) base.movements)) (sym (moment_then base stamp price t))
-        (posted_before base.accounts (A ++ Z) base.movements stamp (subst (AllByRecursion (λ v. moment_of v < stamp)) now k.later) k.moved)
+        (posted_before base.accounts (A ++ Z) base.movements stamp (subst (AllByRecursion (λ v. last_status_stamp_of_trade v < stamp)) now k.later) k.moved)
 
     row_of : List Trade → MoveRow
     row_of ts = numbered_row (length (postings base.accounts ts base.movements) + 1) (posting_of_trade base.accounts u)
 
-    cash : (b : Bool) → t.is_cash ≡ b → by_key move_key (numbered 1 (in_turn (postings_of after))) ≡ M (sheets base)
+    cash : (b : Bool) → t.is_cash ≡ b → rows_sorted_by_key move_key (numbered_move_rows 1 (postings_sorted_by_stamp (postings_of_base after))) ≡ M (sheets base)
     cash true e =
-        ap (λ ts. by_key move_key (numbered 1 (in_turn (postings base.accounts ts base.movements)))) then ∙ cash_after base.accounts A u Z base.movements e before
-        ∙ ap (λ ts. insert_row move_key (row_of ts) (by_key move_key (numbered 1 (in_turn (postings base.accounts ts base.movements))))) (sym now)
-        ∙ sym (ap (λ b. cond b (insert_row move_key (row_of (completed base)) (sheets base).moves) (sheets base).moves) e)
+        ap (λ ts. rows_sorted_by_key move_key (numbered_move_rows 1 (postings_sorted_by_stamp (postings base.accounts ts base.movements)))) then ∙ cash_after base.accounts A u Z base.movements e before
+        ∙ ap (λ ts. insert_row_by_key move_key (row_of ts) (rows_sorted_by_key move_key (numbered_move_rows 1 (postings_sorted_by_stamp (postings base.accounts ts base.movements))))) (sym now)
+        ∙ sym (ap (λ b. cond b (insert_row_by_key move_key (row_of (completed_trades base)) (sheets base).moves) (sheets base).moves) e)
     cash false e =
-        ap (λ ts. by_key move_key (numbered 1 (in_turn (postings base.accounts ts base.movements)))) then ∙ margin_cash base.accounts A u Z base.movements e
-        ∙ ap (λ ts. by_key move_key (numbered 1 (in_turn (postings base.accounts ts base.movements)))) (sym now)
-        ∙ sym (ap (λ b. cond b (insert_row move_key (row_of (completed base)) (sheets base).moves) (sheets base).moves) e)
+        ap (λ ts. rows_sorted_by_key move_key (numbered_move_rows 1 (postings_sorted_by_stamp (postings base.accounts ts base.movements)))) then ∙ margin_cash base.accounts A u Z base.movements e
+        ∙ ap (λ ts. rows_sorted_by_key move_key (numbered_move_rows 1 (postings_sorted_by_stamp (postings base.accounts ts base.movements)))) (sym now)
+        ∙ sym (ap (λ b. cond b (insert_row_by_key move_key (row_of (completed_trades base)) (sheets base).moves) (sheets base).moves) e)
 
     holdings : (sheets after).holdings ≡ open_lots u c.opened (set_lots c.touched (sheets base).holdings)
-    holdings = ap (λ ts. by_key holding_key (filter (λ row. not (is_zero row.qty)) (map (holding_row ts) ts))) then ∙ holdings_after base A u Z m
+    holdings = ap (λ ts. rows_sorted_by_key holding_key (filter (λ row. not (is_zero row.qty)) (map (holding_row ts) ts))) then ∙ holdings_after base A u Z m
 
     summaries : (sheets after).summaries ≡ move_row c.before c.after (record { account = u.account; symbol = u.symbol; qty = c.after }) (sheets base).summaries
-    summaries = ap (λ ts. by_key summary_key (all_summaries base ts)) then ∙ summaries_after base A u Z m a s ea es
+    summaries = ap (λ ts. rows_sorted_by_key summary_key (all_summaries base ts)) then ∙ summaries_after base A u Z m a s ea es
 
     histories : (sheets after).holding_history ≡ put_openings c.opened (put_changes u.id c.touched (sheets base).holding_history)
-    histories = ap (λ ts. by_key holding_history_key (flat_map (lot_history ts) ts)) then ∙ histories_after base A u Z m
+    histories = ap (λ ts. rows_sorted_by_key holding_history_key (flat_map (holding_history_rows_of_lot ts) ts)) then ∙ histories_after base A u Z m
 
     moved : sheets after ≡ rows_set u c (sheets base)
     moved = λ i. record (sheets base) {

@@ -4,13 +4,13 @@ use Rattle.std.specs.Prelude.{sum_by}
 use Rattle.std.proofs.lemmas.Bool.{eq-eqb}
 use Rattle.std.proofs.lemmas.List.Sums.{sum_by-append, sum_by-cons}
 use lib.IntN.{+ℤ_assoc, +ℤ_comm}
-use Rattle.brk_money.specs.Kinds.{side_of}
+use Rattle.brk_money.specs.Kinds.{side_of_trade_type}
 use Rattle.brk_model.specs.Lists.{total_by}
 use Rattle.brk_model.specs.Records.{Account, Movement, Trade}
-use Rattle.brk_model.specs.Base.{Base, broker_in, broker_of_account, completed, is_completed, opening_in}
-use Rattle.brk_model.specs.Derived.{Posting, amount_of, balance_of, cash_trades, commissions_of, of_broker, posting_of_movement, posting_of_trade, postings, postings_of, summary_of, trade_count_of}
-use Rattle.brk_model.specs.Results.{completed_trade, with_result}
-use Rattle.brk_model.specs.Shares.{signed}
+use Rattle.brk_model.specs.Base.{Base, broker_id_in_accounts, broker_id_of_account, completed_trades, is_completed, opening_balance_in_accounts}
+use Rattle.brk_model.specs.Derived.{Posting, settlement_amount, balance_of_account, cash_trades, commission_total_of_broker, trades_of_broker, posting_of_movement, posting_of_trade, postings, postings_of_base, holding_summary_quantity, trade_count_of_broker}
+use Rattle.brk_model.specs.Results.{completed_trade, base_after_result}
+use Rattle.brk_model.specs.Shares.{signed_by_side}
 use Rattle.brk_book_theorems.proofs.Places.{filter-append, filter-one}
 use Rattle.brk_book_theorems.proofs.Positions.{summary_own}
 use Rattle.brk_book_theorems.proofs.Postings.{length_one, postings_both, postings_one, total_one}
@@ -29,40 +29,40 @@ sum_one f xs x ys =
 -- ---- brokers
 
 own_broker : (accounts : List Account) (xs : List Trade) (t : Trade) (ys : List Trade)
-    → of_broker accounts (xs ++ t ∷ ys) (broker_in accounts t.account) ≡ of_broker accounts xs (broker_in accounts t.account) ++ t ∷ of_broker accounts ys (broker_in accounts t.account)
-own_broker accounts xs t ys = filter-one (λ u. broker_in accounts u.account == broker_in accounts t.account) xs t ys (eq-eqb (broker_in accounts t.account) (broker_in accounts t.account) refl)
+    → trades_of_broker accounts (xs ++ t ∷ ys) (broker_id_in_accounts accounts t.account) ≡ trades_of_broker accounts xs (broker_id_in_accounts accounts t.account) ++ t ∷ trades_of_broker accounts ys (broker_id_in_accounts accounts t.account)
+own_broker accounts xs t ys = filter-one (λ u. broker_id_in_accounts accounts u.account == broker_id_in_accounts accounts t.account) xs t ys (eq-eqb (broker_id_in_accounts accounts t.account) (broker_id_in_accounts accounts t.account) refl)
 
-both_brokers : (accounts : List Account) (xs ys : List Trade) (id : ℕ) → of_broker accounts (xs ++ ys) id ≡ of_broker accounts xs id ++ of_broker accounts ys id
-both_brokers accounts xs ys id = filter-append (λ u. broker_in accounts u.account == id) xs ys
+both_brokers : (accounts : List Account) (xs ys : List Trade) (id : ℕ) → trades_of_broker accounts (xs ++ ys) id ≡ trades_of_broker accounts xs id ++ trades_of_broker accounts ys id
+both_brokers accounts xs ys id = filter-append (λ u. broker_id_in_accounts accounts u.account == id) xs ys
 
 count_one : (accounts : List Account) (xs : List Trade) (t : Trade) (ys : List Trade)
-    → trade_count_of accounts (xs ++ t ∷ ys) (broker_in accounts t.account) ≡ trade_count_of accounts (xs ++ ys) (broker_in accounts t.account) + 1
-unfolding trade_count_of
+    → trade_count_of_broker accounts (xs ++ t ∷ ys) (broker_id_in_accounts accounts t.account) ≡ trade_count_of_broker accounts (xs ++ ys) (broker_id_in_accounts accounts t.account) + 1
+unfolding trade_count_of_broker
 count_one accounts xs t ys =
-    let b : ℕ = broker_in accounts t.account in
-    ap length (own_broker accounts xs t ys) ∙ length_one (of_broker accounts xs b) t (of_broker accounts ys b)
+    let b : ℕ = broker_id_in_accounts accounts t.account in
+    ap length (own_broker accounts xs t ys) ∙ length_one (trades_of_broker accounts xs b) t (trades_of_broker accounts ys b)
     ∙ ap (λ ts. length ts + 1) (sym (both_brokers accounts xs ys b))
 
 commissions_one : (accounts : List Account) (xs : List Trade) (t : Trade) (ys : List Trade)
-    → commissions_of accounts (xs ++ t ∷ ys) (broker_in accounts t.account) ≡ commissions_of accounts (xs ++ ys) (broker_in accounts t.account) + t.commission
-unfolding commissions_of
+    → commission_total_of_broker accounts (xs ++ t ∷ ys) (broker_id_in_accounts accounts t.account) ≡ commission_total_of_broker accounts (xs ++ ys) (broker_id_in_accounts accounts t.account) + t.commission
+unfolding commission_total_of_broker
 commissions_one accounts xs t ys =
-    let b : ℕ = broker_in accounts t.account in
-    ap (sum_by (λ u. u.commission)) (own_broker accounts xs t ys) ∙ sum_one (λ u. u.commission) (of_broker accounts xs b) t (of_broker accounts ys b)
+    let b : ℕ = broker_id_in_accounts accounts t.account in
+    ap (sum_by (λ u. u.commission)) (own_broker accounts xs t ys) ∙ sum_one (λ u. u.commission) (trades_of_broker accounts xs b) t (trades_of_broker accounts ys b)
     ∙ ap (λ ts. sum_by (λ u. u.commission) ts + t.commission) (sym (both_brokers accounts xs ys b))
 
 -- ---- balances
 
 cash_one : (accounts : List Account) (xs : List Trade) (t : Trade) (ys : List Trade) (ms : List Movement) → t.is_cash ≡ true
-    → balance_of accounts (postings accounts (xs ++ t ∷ ys) ms) t.account ≡ balance_of accounts (postings accounts (xs ++ ys) ms) t.account +ℤ amount_of accounts t
-unfolding balance_of
+    → balance_of_account accounts (postings accounts (xs ++ t ∷ ys) ms) t.account ≡ balance_of_account accounts (postings accounts (xs ++ ys) ms) t.account +ℤ settlement_amount accounts t
+unfolding balance_of_account
 cash_one accounts xs t ys ms e =
-    ap (λ n. opening_in accounts t.account +ℤ n)
+    ap (λ n. opening_balance_in_accounts accounts t.account +ℤ n)
     (ap (λ ps. total_by (λ p. p.amount) (A ps)) (postings_one accounts xs t ys ms e)
     ∙ ap (total_by (λ p. p.amount)) (filter-one (λ p. p.account == t.account) X (posting_of_trade accounts t) Y (eq-eqb t.account t.account refl))
     ∙ total_one (λ p. p.amount) (A X) (posting_of_trade accounts t) (A Y)
-    ∙ ap (λ ps. total_by (λ p. p.amount) ps +ℤ amount_of accounts t) (sym (filter-append (λ p. p.account == t.account) X Y) ∙ ap A (sym (postings_both accounts xs ys ms))))
-    ∙ sym (+ℤ_assoc (opening_in accounts t.account) (total_by (λ p. p.amount) (A (postings accounts (xs ++ ys) ms))) (amount_of accounts t))
+    ∙ ap (λ ps. total_by (λ p. p.amount) ps +ℤ settlement_amount accounts t) (sym (filter-append (λ p. p.account == t.account) X Y) ∙ ap A (sym (postings_both accounts xs ys ms))))
+    ∙ sym (+ℤ_assoc (opening_balance_in_accounts accounts t.account) (total_by (λ p. p.amount) (A (postings accounts (xs ++ ys) ms))) (settlement_amount accounts t))
   where
     A : List Posting → List Posting
     A = filter (λ p. p.account == t.account)
@@ -76,44 +76,44 @@ cash_one accounts xs t ys ms e =
 -- ---- of a result
 
 pub summary_grows : (base : Base) (stamp price : ℕ) (t : Trade) (xs ys : List Trade) → IsResult base stamp price t xs ys
-    → summary_of (completed (with_result base stamp price t)) t.account t.symbol ≡ summary_of (completed base) t.account t.symbol +ℤ signed (side_of t.kind) t.qty
+    → holding_summary_quantity (completed_trades (base_after_result base stamp price t)) t.account t.symbol ≡ holding_summary_quantity (completed_trades base) t.account t.symbol +ℤ signed_by_side (side_of_trade_type t.kind) t.qty
 unfolding completed_trade
 summary_grows base stamp price t xs ys k =
-    ap (λ ts. summary_of ts t.account t.symbol) (done_then base stamp price t xs ys k)
+    ap (λ ts. holding_summary_quantity ts t.account t.symbol) (done_then base stamp price t xs ys k)
     ∙ summary_own (filter is_completed xs) (completed_trade base stamp price t) (filter is_completed ys)
-    ∙ ap (λ ts. summary_of ts t.account t.symbol +ℤ signed (side_of t.kind) t.qty) (sym (done_now base stamp price t xs ys k))
+    ∙ ap (λ ts. holding_summary_quantity ts t.account t.symbol +ℤ signed_by_side (side_of_trade_type t.kind) t.qty) (sym (done_now base stamp price t xs ys k))
 
 pub count_grows : (base : Base) (stamp price : ℕ) (t : Trade) (xs ys : List Trade) → IsResult base stamp price t xs ys
-    → trade_count_of base.accounts (completed (with_result base stamp price t)) (broker_of_account base t.account) ≡ trade_count_of base.accounts (completed base) (broker_of_account base t.account) + 1
+    → trade_count_of_broker base.accounts (completed_trades (base_after_result base stamp price t)) (broker_id_of_account base t.account) ≡ trade_count_of_broker base.accounts (completed_trades base) (broker_id_of_account base t.account) + 1
 unfolding completed_trade
 count_grows base stamp price t xs ys k =
-    ap (λ ts. trade_count_of base.accounts ts (broker_of_account base t.account)) (done_then base stamp price t xs ys k)
+    ap (λ ts. trade_count_of_broker base.accounts ts (broker_id_of_account base t.account)) (done_then base stamp price t xs ys k)
     ∙ count_one base.accounts (filter is_completed xs) (completed_trade base stamp price t) (filter is_completed ys)
-    ∙ ap (λ ts. trade_count_of base.accounts ts (broker_of_account base t.account) + 1) (sym (done_now base stamp price t xs ys k))
+    ∙ ap (λ ts. trade_count_of_broker base.accounts ts (broker_id_of_account base t.account) + 1) (sym (done_now base stamp price t xs ys k))
 
 pub commissions_grow : (base : Base) (stamp price : ℕ) (t : Trade) (xs ys : List Trade) → IsResult base stamp price t xs ys
-    → commissions_of base.accounts (completed (with_result base stamp price t)) (broker_of_account base t.account)
-    ≡ commissions_of base.accounts (completed base) (broker_of_account base t.account) + (completed_trade base stamp price t).commission
+    → commission_total_of_broker base.accounts (completed_trades (base_after_result base stamp price t)) (broker_id_of_account base t.account)
+    ≡ commission_total_of_broker base.accounts (completed_trades base) (broker_id_of_account base t.account) + (completed_trade base stamp price t).commission
 unfolding completed_trade
 commissions_grow base stamp price t xs ys k =
-    ap (λ ts. commissions_of base.accounts ts (broker_of_account base t.account)) (done_then base stamp price t xs ys k)
+    ap (λ ts. commission_total_of_broker base.accounts ts (broker_id_of_account base t.account)) (done_then base stamp price t xs ys k)
     ∙ commissions_one base.accounts (filter is_completed xs) (completed_trade base stamp price t) (filter is_completed ys)
-    ∙ ap (λ ts. commissions_of base.accounts ts (broker_of_account base t.account) + (completed_trade base stamp price t).commission) (sym (done_now base stamp price t xs ys k))
+    ∙ ap (λ ts. commission_total_of_broker base.accounts ts (broker_id_of_account base t.account) + (completed_trade base stamp price t).commission) (sym (done_now base stamp price t xs ys k))
 
 pub balance_grows : (base : Base) (stamp price : ℕ) (t : Trade) (xs ys : List Trade) → IsResult base stamp price t xs ys → t.is_cash ≡ true
-    → balance_of base.accounts (postings_of (with_result base stamp price t)) t.account
-    ≡ balance_of base.accounts (postings_of base) t.account +ℤ amount_of base.accounts (completed_trade base stamp price t)
+    → balance_of_account base.accounts (postings_of_base (base_after_result base stamp price t)) t.account
+    ≡ balance_of_account base.accounts (postings_of_base base) t.account +ℤ settlement_amount base.accounts (completed_trade base stamp price t)
 unfolding completed_trade
 balance_grows base stamp price t xs ys k e =
-    ap (λ ts. balance_of base.accounts (postings base.accounts ts base.movements) t.account) (done_then base stamp price t xs ys k)
+    ap (λ ts. balance_of_account base.accounts (postings base.accounts ts base.movements) t.account) (done_then base stamp price t xs ys k)
     ∙ cash_one base.accounts (filter is_completed xs) (completed_trade base stamp price t) (filter is_completed ys) base.movements e
-    ∙ ap (λ ts. balance_of base.accounts (postings base.accounts ts base.movements) t.account +ℤ amount_of base.accounts (completed_trade base stamp price t)) (sym (done_now base stamp price t xs ys k))
+    ∙ ap (λ ts. balance_of_account base.accounts (postings base.accounts ts base.movements) t.account +ℤ settlement_amount base.accounts (completed_trade base stamp price t)) (sym (done_now base stamp price t xs ys k))
 
 -- a trade on margin leaves the balance
 pub balance_stays : (base : Base) (stamp price : ℕ) (t : Trade) (xs ys : List Trade) → IsResult base stamp price t xs ys → t.is_cash ≡ false
-    → balance_of base.accounts (postings_of (with_result base stamp price t)) t.account ≡ balance_of base.accounts (postings_of base) t.account
+    → balance_of_account base.accounts (postings_of_base (base_after_result base stamp price t)) t.account ≡ balance_of_account base.accounts (postings_of_base base) t.account
 unfolding completed_trade
 balance_stays base stamp price t xs ys k e =
-    ap (λ ts. balance_of base.accounts (postings base.accounts ts base.movements) t.account) (done_then base stamp price t xs ys k)
+    ap (λ ts. balance_of_account base.accounts (postings base.accounts ts base.movements) t.account) (done_then base stamp price t xs ys k)
     ∙ margin_balance base.accounts (filter is_completed xs) (completed_trade base stamp price t) (filter is_completed ys) base.movements t.account e
-    ∙ ap (λ ts. balance_of base.accounts (postings base.accounts ts base.movements) t.account) (sym (done_now base stamp price t xs ys k))
+    ∙ ap (λ ts. balance_of_account base.accounts (postings base.accounts ts base.movements) t.account) (sym (done_now base stamp price t xs ys k))

@@ -9,7 +9,7 @@ use lib.IntN.{+ℤ_assoc, +ℤ_idl}
 use Rattle.brk_money.specs.declared.side.Side.{Side}
 use Rattle.brk_money.specs.declared.side.Side.TheVariants.{Buy, Sell}
 use Rattle.brk_model.specs.Lists.{total_by}
-use Rattle.brk_model.specs.Shares.{Share, Deal, closed_count, kept_shares, lot_qty, net, opened_by, opened_share, replay, shares_after, signed}
+use Rattle.brk_model.specs.Shares.{Share, Deal, closed_share_count_of_deal, remaining_shares, lot_quantity, net_share_count, shares_opened_by_trade, opened_share, replay, shares_after_deal, signed_by_side}
 use Rattle.brk_lots.specs.Lots.{side_of_qty}
 use Rattle.brk_book_theorems.proofs.References.{append_nil}
 use Rattle.brk_book_theorems.proofs.Places.{append_assoc}
@@ -66,17 +66,17 @@ runs_more (e ∷ ds) shares d k r = (
   runs_more ds r.1 d k r.3,
 )
 
-runs_kept : (ds : List Deal) (shares : List Share) (d : Deal) → AreRuns ds shares → AreRuns ds (kept_shares d shares)
+runs_kept : (ds : List Deal) (shares : List Share) (d : Deal) → AreRuns ds shares → AreRuns ds (remaining_shares d shares)
 runs_kept ds shares d r =
-    elim d.is_lifo as (λ b. AreRuns ds (cond b (take (length shares - closed_count d shares) shares) (drop (closed_count d shares) shares)))
-    [ true ↦ runs_take ds shares (length shares - closed_count d shares) r | false ↦ runs_drop ds shares (closed_count d shares) r ]
+    elim d.is_lifo as (λ b. AreRuns ds (cond b (take (length shares - closed_share_count_of_deal d shares) shares) (drop (closed_share_count_of_deal d shares) shares)))
+    [ true ↦ runs_take ds shares (length shares - closed_share_count_of_deal d shares) r | false ↦ runs_drop ds shares (closed_share_count_of_deal d shares) r ]
 
-runs_after : (ds : List Deal) (shares : List Share) (more : List Deal) → AreRuns ds shares → AreRuns (ds ++ more) (fold shares_after shares more)
-unfolding shares_after
+runs_after : (ds : List Deal) (shares : List Share) (more : List Deal) → AreRuns ds shares → AreRuns (ds ++ more) (fold shares_after_deal shares more)
+unfolding shares_after_deal
 runs_after ds shares [] r = subst (λ ds. AreRuns ds shares) (sym (append_nil ds)) r
 runs_after ds shares (d ∷ more) r =
-    let next = runs_more ds (kept_shares d shares) d _ (runs_kept ds shares d r) in
-    subst (λ ds. AreRuns ds (fold shares_after (shares_after shares d) more)) (append_assoc ds (d ∷ []) more) (runs_after (ds ++ d ∷ []) (shares_after shares d) more next)
+    let next = runs_more ds (remaining_shares d shares) d _ (runs_kept ds shares d r) in
+    subst (λ ds. AreRuns ds (fold shares_after_deal (shares_after_deal shares d) more)) (append_assoc ds (d ∷ []) more) (runs_after (ds ++ d ∷ []) (shares_after_deal shares d) more next)
 
 pub runs_of : (ds : List Deal) → AreRuns ds (replay ds)
 runs_of ds = runs_after [] [] ds refl
@@ -84,42 +84,42 @@ runs_of ds = runs_after [] [] ds refl
 -- ---- the lot of a run
 
 -- a share more, of the trade or of another
-lot_more : (id : ℕ) (s : Share) (shares : List Share) (b : Bool) → (s.trade == id) ≡ b → lot_qty (s ∷ shares) id ≡ cond b (signed s.side 1 +ℤ lot_qty shares id) (lot_qty shares id)
+lot_more : (id : ℕ) (s : Share) (shares : List Share) (b : Bool) → (s.trade == id) ≡ b → lot_quantity (s ∷ shares) id ≡ cond b (signed_by_side s.side 1 +ℤ lot_quantity shares id) (lot_quantity shares id)
 unfolding total_by
-lot_more id s shares true e = ap (λ b. net (cond b (s ∷ opened_by id shares) (opened_by id shares))) e
-lot_more id s shares false e = ap (λ b. net (cond b (s ∷ opened_by id shares) (opened_by id shares))) e
+lot_more id s shares true e = ap (λ b. net_share_count (cond b (s ∷ shares_opened_by_trade id shares) (shares_opened_by_trade id shares))) e
+lot_more id s shares false e = ap (λ b. net_share_count (cond b (s ∷ shares_opened_by_trade id shares) (shares_opened_by_trade id shares))) e
 
 -- shares of another trade
-pub lot_other : (id : ℕ) (s : Share) (k : ℕ) (rest : List Share) → (s.trade == id) ≡ false → lot_qty (replicate k s ++ rest) id ≡ lot_qty rest id
+pub lot_other : (id : ℕ) (s : Share) (k : ℕ) (rest : List Share) → (s.trade == id) ≡ false → lot_quantity (replicate k s ++ rest) id ≡ lot_quantity rest id
 lot_other id s zero rest e = refl
 lot_other id s (suc k) rest e = lot_more id s (replicate k s ++ rest) false e ∙ lot_other id s k rest e
 
-signed_more : (side : Side) (k : ℕ) → signed side 1 +ℤ signed side k ≡ signed side (suc k)
+signed_more : (side : Side) (k : ℕ) → signed_by_side side 1 +ℤ signed_by_side side k ≡ signed_by_side side (suc k)
 signed_more Buy k = omega (arith, ints)
 signed_more Sell k = omega (arith, ints)
 
 -- shares of the trade itself
-pub lot_own : (s : Share) (k : ℕ) (rest : List Share) → lot_qty (replicate k s ++ rest) s.trade ≡ signed s.side k +ℤ lot_qty rest s.trade
+pub lot_own : (s : Share) (k : ℕ) (rest : List Share) → lot_quantity (replicate k s ++ rest) s.trade ≡ signed_by_side s.side k +ℤ lot_quantity rest s.trade
 lot_own s zero rest = by_side s.side
   where
-    by_side : (side : Side) → lot_qty rest s.trade ≡ signed side 0 +ℤ lot_qty rest s.trade
-    by_side Buy = sym (+ℤ_idl (lot_qty rest s.trade))
-    by_side Sell = sym (+ℤ_idl (lot_qty rest s.trade))
+    by_side : (side : Side) → lot_quantity rest s.trade ≡ signed_by_side side 0 +ℤ lot_quantity rest s.trade
+    by_side Buy = sym (+ℤ_idl (lot_quantity rest s.trade))
+    by_side Sell = sym (+ℤ_idl (lot_quantity rest s.trade))
 lot_own s (suc k) rest =
     lot_more s.trade s (replicate k s ++ rest) true (eq-eqb s.trade s.trade refl)
-    ∙ ap (λ z. signed s.side 1 +ℤ z) (lot_own s k rest)
-    ∙ sym (+ℤ_assoc (signed s.side 1) (signed s.side k) (lot_qty rest s.trade))
-    ∙ ap (λ z. z +ℤ lot_qty rest s.trade) (signed_more s.side k)
+    ∙ ap (λ z. signed_by_side s.side 1 +ℤ z) (lot_own s k rest)
+    ∙ sym (+ℤ_assoc (signed_by_side s.side 1) (signed_by_side s.side k) (lot_quantity rest s.trade))
+    ∙ ap (λ z. z +ℤ lot_quantity rest s.trade) (signed_more s.side k)
 
 -- of a trade that is none of theirs deals leave no lot
-pub no_lot : (id : ℕ) (ds : List Deal) (shares : List Share) → AllByRecursion (λ d. (d.trade == id) ≡ false) ds → AreRuns ds shares → lot_qty shares id ≡ pos 0
+pub no_lot : (id : ℕ) (ds : List Deal) (shares : List Share) → AllByRecursion (λ d. (d.trade == id) ≡ false) ds → AreRuns ds shares → lot_quantity shares id ≡ pos 0
 unfolding total_by
-no_lot id [] shares h r = ap (λ xs. lot_qty xs id) r
-no_lot id (d ∷ ds) shares h r = ap (λ xs. lot_qty xs id) r.2 ∙ lot_other id (opened_share d) r.0 r.1 h.0 ∙ no_lot id ds r.1 h.1 r.3
+no_lot id [] shares h r = ap (λ xs. lot_quantity xs id) r
+no_lot id (d ∷ ds) shares h r = ap (λ xs. lot_quantity xs id) r.2 ∙ lot_other id (opened_share d) r.0 r.1 h.0 ∙ no_lot id ds r.1 h.1 r.3
 
 -- a run is as its lot tells
 pub run_told : (side : Side) (k : ℕ) (trade price stamp : ℕ)
-    → replicate {A = Share} (unsigned_abs (signed side k)) (record { side = side_of_qty (signed side k); trade = trade; price = price; stamp = stamp })
+    → replicate {A = Share} (unsigned_abs (signed_by_side side k)) (record { side = side_of_qty (signed_by_side side k); trade = trade; price = price; stamp = stamp })
     ≡ replicate {A = Share} k (record { side = side; trade = trade; price = price; stamp = stamp })
 run_told Buy k trade price stamp = refl
 run_told Sell zero trade price stamp = refl

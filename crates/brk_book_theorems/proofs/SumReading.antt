@@ -5,17 +5,17 @@ use Rattle.std.specs.Option.{option_map_or}
 use Rattle.std.specs.List.{AllByRecursion}
 use Rattle.std.proofs.lemmas.Bool.{eqb-true, eq-eqb}
 use Rattle.std.proofs.lemmas.List.Sums.{sum_by-cons}
-use Rattle.brk_money.specs.Kinds.{same_status}
+use Rattle.brk_money.specs.Kinds.{is_same_trade_status}
 use Rattle.brk_money.specs.declared.status.Status.TheVariants.{Canceled, Completed}
 use Rattle.brk_model.specs.Lists.{total_by}
 use Rattle.brk_model.specs.Records.{Account, Broker, StatusChange, Trade}
-use Rattle.brk_model.specs.Base.{Base, account_with, broker_in, broker_with, completed, is_completed, last_mark, trade_with}
-use Rattle.brk_model.specs.Derived.{Posting, balance_of, commissions_of, of_broker, posted_to, postings_of, trade_count_of}
-use Rattle.brk_model.specs.Joins.{account_in}
-use Rattle.brk_model.specs.Sheets.{sheets, sheets_of}
-use Rattle.brk_model.specs.Tables.{AccountRow, BrokerRow, account_row, broker_row, tables_at, trade_row}
+use Rattle.brk_model.specs.Base.{Base, account_with_id, broker_id_in_accounts, broker_with_id, completed_trades, is_completed, last_status_change, trade_with_id}
+use Rattle.brk_model.specs.Derived.{Posting, balance_of_account, commission_total_of_broker, trades_of_broker, postings_to_account, postings_of_base, trade_count_of_broker}
+use Rattle.brk_model.specs.Joins.{account_row_with_id}
+use Rattle.brk_model.specs.Sheets.{sheets, tables_sorted_by_key}
+use Rattle.brk_model.specs.Tables.{AccountRow, BrokerRow, account_row, broker_row, tables_of_base_in_schema, trade_row}
 use Rattle.brk_book_theorems.specs.Books.{BooksInvariant}
-use Rattle.brk_book_theorems.specs.Sums.{cash_of_account, done_of_broker, is_of_broker}
+use Rattle.brk_book_theorems.specs.Sums.{cash_rows_of_account, completed_rows_of_broker, is_completed_for_broker}
 use Rattle.brk_book_theorems.proofs.Bools.{numbers_back}
 use Rattle.brk_book_theorems.proofs.Order.{by_key-filter}
 use Rattle.brk_book_theorems.proofs.Same.{All-filter, All-map, filter-same}
@@ -42,7 +42,7 @@ length-map g (x ∷ xs) = let h = length-map g xs in omega (arith, h)
 
 -- ---- brokers
 
-done_told : (o : Option StatusChange) → same_status (option_map_or (λ m. m.status) o Canceled) Completed ≡ option_map_or (λ m. same_status m.status Completed) o false
+done_told : (o : Option StatusChange) → is_same_trade_status (option_map_or (λ m. m.status) o Canceled) Completed ≡ option_map_or (λ m. is_same_trade_status m.status Completed) o false
 done_told None = refl
 done_told (Some m) = refl
 
@@ -50,46 +50,46 @@ broker_or : (accounts : List Account) (posted : List Posting) (a : Option Accoun
 broker_or accounts posted None = refl
 broker_or accounts posted (Some a) = refl
 
-broker_told : (base : Base) (account : ℕ) → option_map_or (λ r. r.broker) (account_in (sheets base) account) 0 ≡ broker_in base.accounts account
-broker_told base account = ap (λ o. option_map_or (λ r. r.broker) o 0) (reads_account base account) ∙ broker_or base.accounts (postings_of base) (account_with base account)
+broker_told : (base : Base) (account : ℕ) → option_map_or (λ r. r.broker) (account_row_with_id (sheets base) account) 0 ≡ broker_id_in_accounts base.accounts account
+broker_told base account = ap (λ o. option_map_or (λ r. r.broker) o 0) (reads_account base account) ∙ broker_or base.accounts (postings_of_base base) (account_with_id base account)
 
-pub broker_trades : (base : Base) (broker : ℕ) → BooksInvariant base → done_of_broker (sheets base) broker ≡ map trade_row (of_broker base.accounts (completed base) broker)
+pub broker_trades : (base : Base) (broker : ℕ) → BooksInvariant base → completed_rows_of_broker (sheets base) broker ≡ map trade_row (trades_of_broker base.accounts (completed_trades base) broker)
 broker_trades base broker books =
-    ap (filter (is_of_broker (sheets base) broker)) (trades_in_order base books.numbered)
-    ∙ filter-map (is_of_broker (sheets base) broker) trade_row base.trades
-    ∙ ap (map trade_row) (filter-same (λ t. is_of_broker (sheets base) broker (trade_row t)) (λ t. is_completed t && (broker_in base.accounts t.account == broker)) base.trades (every base.trades)
-    ∙ filter-both is_completed (λ t. broker_in base.accounts t.account == broker) base.trades)
+    ap (filter (is_completed_for_broker (sheets base) broker)) (trades_in_order base books.numbered)
+    ∙ filter-map (is_completed_for_broker (sheets base) broker) trade_row base.trades
+    ∙ ap (map trade_row) (filter-same (λ t. is_completed_for_broker (sheets base) broker (trade_row t)) (λ t. is_completed t && (broker_id_in_accounts base.accounts t.account == broker)) base.trades (every base.trades)
+    ∙ filter-both is_completed (λ t. broker_id_in_accounts base.accounts t.account == broker) base.trades)
   where
-    every : (ts : List Trade) → AllByRecursion (λ t. is_of_broker (sheets base) broker (trade_row t) ≡ is_completed t && (broker_in base.accounts t.account == broker)) ts
+    every : (ts : List Trade) → AllByRecursion (λ t. is_completed_for_broker (sheets base) broker (trade_row t) ≡ is_completed t && (broker_id_in_accounts base.accounts t.account == broker)) ts
     every [] = tt
-    every (t ∷ ts) = ((λ i. done_told (last_mark t) i && (broker_told base t.account i == broker)), every ts)
+    every (t ∷ ts) = ((λ i. done_told (last_status_change t) i && (broker_told base t.account i == broker)), every ts)
 
-row_of : (base : Base) (id : ℕ) (r : BrokerRow) → find (λ r. r.id == id) (sheets base).brokers ≡ Some r → (b : Broker) × (broker_with base id ≡ Some b) × (r ≡ broker_row base.accounts (completed base) b)
-row_of base id r e = by_broker (broker_with base id) refl
+row_of : (base : Base) (id : ℕ) (r : BrokerRow) → find (λ r. r.id == id) (sheets base).brokers ≡ Some r → (b : Broker) × (broker_with_id base id ≡ Some b) × (r ≡ broker_row base.accounts (completed_trades base) b)
+row_of base id r e = by_broker (broker_with_id base id) refl
   where
-    by_broker : (o : Option Broker) → broker_with base id ≡ o → (b : Broker) × (broker_with base id ≡ Some b) × (r ≡ broker_row base.accounts (completed base) b)
-    by_broker None f = let k : Some r ≡ None = sym e ∙ reads_broker base id ∙ ap (option_map (broker_row base.accounts (completed base))) f in absurd (cc)
+    by_broker : (o : Option Broker) → broker_with_id base id ≡ o → (b : Broker) × (broker_with_id base id ≡ Some b) × (r ≡ broker_row base.accounts (completed_trades base) b)
+    by_broker None f = let k : Some r ≡ None = sym e ∙ reads_broker base id ∙ ap (option_map (broker_row base.accounts (completed_trades base))) f in absurd (cc)
     by_broker (Some b) f =
-        let k : Some r ≡ Some (broker_row base.accounts (completed base) b) = sym e ∙ reads_broker base id ∙ ap (option_map (broker_row base.accounts (completed base))) f in
-        let j : r ≡ broker_row base.accounts (completed base) b = cc in (b, f, j)
+        let k : Some r ≡ Some (broker_row base.accounts (completed_trades base) b) = sym e ∙ reads_broker base id ∙ ap (option_map (broker_row base.accounts (completed_trades base))) f in
+        let j : r ≡ broker_row base.accounts (completed_trades base) b = cc in (b, f, j)
 
-broker_id : (base : Base) (id : ℕ) (b : Broker) → broker_with base id ≡ Some b → b.id ≡ id
+broker_id : (base : Base) (id : ℕ) (b : Broker) → broker_with_id base id ≡ Some b → b.id ≡ id
 broker_id base id b e = let f : FoundAt Broker (λ b. b.id == id) b base.brokers = find-at (λ b. b.id == id) base.brokers b e in eqb-true b.id id f.passes
 
-pub broker_counts : (base : Base) (id : ℕ) (r : BrokerRow) → BooksInvariant base → find (λ r. r.id == id) (sheets base).brokers ≡ Some r → r.trades ≡ pos (length (done_of_broker (sheets base) id))
-unfolding trade_count_of
+pub broker_counts : (base : Base) (id : ℕ) (r : BrokerRow) → BooksInvariant base → find (λ r. r.id == id) (sheets base).brokers ≡ Some r → r.trades ≡ pos (length (completed_rows_of_broker (sheets base) id))
+unfolding trade_count_of_broker
 broker_counts base id r books e =
     let k = row_of base id r e in
-    ap (λ r. r.trades) k.2 ∙ ap (λ (m : ℕ). pos (trade_count_of base.accounts (completed base) m)) (broker_id base id k.0 k.1)
-    ∙ ap pos (sym (ap length (broker_trades base id books) ∙ length-map trade_row (of_broker base.accounts (completed base) id)))
+    ap (λ r. r.trades) k.2 ∙ ap (λ (m : ℕ). pos (trade_count_of_broker base.accounts (completed_trades base) m)) (broker_id base id k.0 k.1)
+    ∙ ap pos (sym (ap length (broker_trades base id books) ∙ length-map trade_row (trades_of_broker base.accounts (completed_trades base) id)))
 
 pub broker_sums : (base : Base) (id : ℕ) (r : BrokerRow) → BooksInvariant base → find (λ r. r.id == id) (sheets base).brokers ≡ Some r
-    → r.commissions ≡ sum_by (λ t. t.commission) (done_of_broker (sheets base) id)
-unfolding commissions_of
+    → r.commissions ≡ sum_by (λ t. t.commission) (completed_rows_of_broker (sheets base) id)
+unfolding commission_total_of_broker
 broker_sums base id r books e =
     let k = row_of base id r e in
-    ap (λ r. r.commissions) k.2 ∙ ap (λ (m : ℕ). commissions_of base.accounts (completed base) m) (broker_id base id k.0 k.1)
-    ∙ sym (ap (sum_by (λ t. t.commission)) (broker_trades base id books) ∙ sum-map (λ t. t.commission) trade_row (of_broker base.accounts (completed base) id))
+    ap (λ r. r.commissions) k.2 ∙ ap (λ (m : ℕ). commission_total_of_broker base.accounts (completed_trades base) m) (broker_id base id k.0 k.1)
+    ∙ sym (ap (sum_by (λ t. t.commission)) (broker_trades base id books) ∙ sum-map (λ t. t.commission) trade_row (trades_of_broker base.accounts (completed_trades base) id))
 
 -- ---- balances
 
@@ -106,25 +106,25 @@ found_each (t ∷ ts) d = (
     behind [] h k = tt
     behind (u ∷ us) h k = (ap (λ b. cond b (Some t) (find (λ v. v.id == u.id) ts)) (numbers_back t.id u.id ∙ h.0) ∙ k.0, behind us h.1 k.1)
 
-pub cash_moves : (base : Base) (account : ℕ) → total_by (λ r. r.amount) (cash_of_account (sheets base) account) ≡ total_by (λ p. p.amount) (posted_to (postings_of base) account)
-unfolding tables_at sheets_of
-cash_moves base account = rows_total account (postings_of base)
+pub cash_moves : (base : Base) (account : ℕ) → total_by (λ r. r.amount) (cash_rows_of_account (sheets base) account) ≡ total_by (λ p. p.amount) (postings_to_account (postings_of_base base) account)
+unfolding tables_of_base_in_schema tables_sorted_by_key
+cash_moves base account = rows_total account (postings_of_base base)
 
-account_of_row : (base : Base) (id : ℕ) (r : AccountRow) → account_in (sheets base) id ≡ Some r → (a : Account) × (account_with base id ≡ Some a) × (r ≡ account_row base.accounts (postings_of base) a)
-account_of_row base id r e = by_account (account_with base id) refl
+account_of_row : (base : Base) (id : ℕ) (r : AccountRow) → account_row_with_id (sheets base) id ≡ Some r → (a : Account) × (account_with_id base id ≡ Some a) × (r ≡ account_row base.accounts (postings_of_base base) a)
+account_of_row base id r e = by_account (account_with_id base id) refl
   where
-    by_account : (o : Option Account) → account_with base id ≡ o → (a : Account) × (account_with base id ≡ Some a) × (r ≡ account_row base.accounts (postings_of base) a)
-    by_account None f = let k : Some r ≡ None = sym e ∙ reads_account base id ∙ ap (option_map (account_row base.accounts (postings_of base))) f in absurd (cc)
+    by_account : (o : Option Account) → account_with_id base id ≡ o → (a : Account) × (account_with_id base id ≡ Some a) × (r ≡ account_row base.accounts (postings_of_base base) a)
+    by_account None f = let k : Some r ≡ None = sym e ∙ reads_account base id ∙ ap (option_map (account_row base.accounts (postings_of_base base))) f in absurd (cc)
     by_account (Some a) f =
-        let k : Some r ≡ Some (account_row base.accounts (postings_of base) a) = sym e ∙ reads_account base id ∙ ap (option_map (account_row base.accounts (postings_of base))) f in
-        let j : r ≡ account_row base.accounts (postings_of base) a = cc in (a, f, j)
+        let k : Some r ≡ Some (account_row base.accounts (postings_of_base base) a) = sym e ∙ reads_account base id ∙ ap (option_map (account_row base.accounts (postings_of_base base))) f in
+        let j : r ≡ account_row base.accounts (postings_of_base base) a = cc in (a, f, j)
 
-pub balance_sums : (base : Base) (id : ℕ) (r : AccountRow) → BooksInvariant base → account_in (sheets base) id ≡ Some r
-    → r.balance ≡ r.opening +ℤ total_by (λ r. r.amount) (cash_of_account (sheets base) id)
-unfolding balance_of
+pub balance_sums : (base : Base) (id : ℕ) (r : AccountRow) → BooksInvariant base → account_row_with_id (sheets base) id ≡ Some r
+    → r.balance ≡ r.opening +ℤ total_by (λ r. r.amount) (cash_rows_of_account (sheets base) id)
+unfolding balance_of_account
 balance_sums base id r books e =
     let k = account_of_row base id r e in
     let g : FoundAt Account (λ a. a.id == id) k.0 base.accounts = find-at (λ a. a.id == id) base.accounts k.0 k.1 in
-    ap (λ r. r.balance) k.2 ∙ ap (λ (m : ℕ). balance_of base.accounts (postings_of base) m) (eqb-true k.0.id id g.passes)
+    ap (λ r. r.balance) k.2 ∙ ap (λ (m : ℕ). balance_of_account base.accounts (postings_of_base base) m) (eqb-true k.0.id id g.passes)
     ∙ (λ i. option_map_or (λ a. a.opening) (k.1 i) (pos 0) +ℤ sym (cash_moves base id) i)
-    ∙ sym (ap (λ r. r.opening +ℤ total_by (λ r. r.amount) (cash_of_account (sheets base) id)) k.2)
+    ∙ sym (ap (λ r. r.opening +ℤ total_by (λ r. r.amount) (cash_rows_of_account (sheets base) id)) k.2)

@@ -3,13 +3,13 @@ use Rattle.std.proofs.Common.{◌≡◌, ◌≤◌, ℕ, Bool, true, false, not,
 use Rattle.std.specs.Prelude.{nat_lt}
 use Rattle.std.specs.List.{AllByRecursion}
 use Rattle.std.proofs.lemmas.Bool.{ltb-false}
-use Rattle.brk_money.specs.Moments.{last_stamp}
+use Rattle.brk_money.specs.Moments.{greatest_stamp}
 use Rattle.brk_money.specs.declared.refusal.Refusal.TheVariants.{ClockEnd}
 use Rattle.brk_model.specs.Base.{Base}
 use Rattle.brk_model.specs.Commands.{Command}
-use Rattle.brk_model.specs.Tests.{Test, tests, refusal_of, first_refusal, next_stamp, is_too_early, stamp_tests}
+use Rattle.brk_model.specs.Tests.{RefusalCheck, checks_of_command, refusal_of_command, first_refusal, stamp_of_next_command, is_settlement_day_too_early, checks_of_stamp}
 
-pub none_refuse : (ts : List Test) → first_refusal ts ≡ None → AllByRecursion (λ t. t.0 ≡ false) ts
+pub none_refuse : (ts : List RefusalCheck) → first_refusal ts ≡ None → AllByRecursion (λ t. t.0 ≡ false) ts
 none_refuse [] e = tt
 none_refuse (t ∷ ts) e = by_test (none_refuse ts) t.0 refl
   where
@@ -26,22 +26,22 @@ All-back P [] ys h = h
 All-back P (x ∷ xs) ys h = All-back P xs ys h.1
 
 -- none of its tests found anything wrong
-pub passed : (base : Base) (now : ℕ) (command : Command) → refusal_of base now command ≡ None → AllByRecursion (λ t. t.0 ≡ false) (tests base (next_stamp base now) command)
-unfolding refusal_of
-passed base now command e = All-front _ (tests base (next_stamp base now) command) _ (none_refuse _ e)
+pub passed : (base : Base) (now : ℕ) (command : Command) → refusal_of_command base now command ≡ None → AllByRecursion (λ t. t.0 ≡ false) (checks_of_command base (stamp_of_next_command base now) command)
+unfolding refusal_of_command
+passed base now command e = All-front _ (checks_of_command base (stamp_of_next_command base now) command) _ (none_refuse _ e)
 
 -- and its stamp is no later than the last one that there is
-pub in_time : (base : Base) (now : ℕ) (command : Command) → refusal_of base now command ≡ None → next_stamp base now ≤ last_stamp
-unfolding refusal_of
+pub in_time : (base : Base) (now : ℕ) (command : Command) → refusal_of_command base now command ≡ None → stamp_of_next_command base now ≤ greatest_stamp
+unfolding refusal_of_command
 in_time base now command e =
-    ltb-false last_stamp (next_stamp base now)
-    (All-back (λ t. t.0 ≡ false) (tests base (next_stamp base now) command) (stamp_tests (next_stamp base now) command) (none_refuse _ e)).0
+    ltb-false greatest_stamp (stamp_of_next_command base now)
+    (All-back (λ t. t.0 ≡ false) (checks_of_command base (stamp_of_next_command base now) command) (checks_of_stamp (stamp_of_next_command base now) command) (none_refuse _ e)).0
 
 -- nor is it too early for the day that it sets
-pub not_too_early : (base : Base) (now : ℕ) (command : Command) → refusal_of base now command ≡ None → is_too_early (next_stamp base now) command ≡ false
-unfolding refusal_of
+pub not_too_early : (base : Base) (now : ℕ) (command : Command) → refusal_of_command base now command ≡ None → is_settlement_day_too_early (stamp_of_next_command base now) command ≡ false
+unfolding refusal_of_command
 not_too_early base now command e =
-    (All-back (λ t. t.0 ≡ false) (tests base (next_stamp base now) command) (stamp_tests (next_stamp base now) command) (none_refuse _ e)).1.0
+    (All-back (λ t. t.0 ≡ false) (checks_of_command base (stamp_of_next_command base now) command) (checks_of_stamp (stamp_of_next_command base now) command) (none_refuse _ e)).1.0
 
 pub not_not : (b : Bool) → not b ≡ false → b ≡ true
 not_not true e = refl

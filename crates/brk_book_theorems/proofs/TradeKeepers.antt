@@ -3,19 +3,19 @@ use Rattle.std.proofs.Common.{◌≡◌, ℕ, ◌+◌, ◌==◌, false, List, []
 use Rattle.std.specs.Prelude.{is_some, nat_lt}
 use Rattle.std.specs.List.{AllByRecursion, list_any}
 use Rattle.std.proofs.lemmas.Bool.{ltb-false}
-use Rattle.brk_money.specs.OrderTypes.{kind_of}
+use Rattle.brk_money.specs.OrderTypes.{trade_type_of_order}
 use Rattle.brk_money.specs.declared.status.Status.TheVariants.{Completed, Submitted, Canceled}
 use Rattle.brk_model.specs.Limits.{greatest_amount}
 use Rattle.brk_model.specs.Records.{Security, Trade}
-use Rattle.brk_model.specs.Base.{Base, account_with, completed, security_with, marked, trade_with, with_trades}
+use Rattle.brk_model.specs.Base.{Base, account_with_id, completed_trades, security_with_symbol, trade_with_status_change, trade_with_id, base_with_updated_trades}
 use Rattle.brk_model.specs.Commands.{Order, Tick, PlaceOrder, FeedTicks, CancelTrade}
 use Rattle.brk_model.specs.Orders.{first_status, ordered_trade}
-use Rattle.brk_model.specs.Feed.{is_triggered, with_tick, with_ticks}
-use Rattle.brk_model.specs.Tests.{tests, next_stamp}
-use Rattle.brk_model.specs.Step.{records_after}
-use Rattle.brk_model.specs.Names.{AccountExists, SecurityExists}
-use Rattle.brk_book_theorems.specs.Books.{AreMomentsInOrder, AreMovementsInOrder, ArePartiesInOrder, AreTradesInOrder, BandsApart, CompletesFirst, DistinctSymbols, HasBounds, HasVolume, WaitsFirst}
-use Rattle.brk_book_theorems.specs.Steps.{LeavesBooks}
+use Rattle.brk_model.specs.Feed.{is_triggered_by_tick, base_after_tick, base_after_ticks}
+use Rattle.brk_model.specs.Tests.{checks_of_command, stamp_of_next_command}
+use Rattle.brk_model.specs.Step.{base_after_command_unstamped}
+use Rattle.brk_model.specs.Names.{AccountOfTradeExists, SecurityOfTradeExists}
+use Rattle.brk_book_theorems.specs.Books.{CompletionBooksInvariant, MovementBooksInvariant, AccountBooksInvariant, TradeBooksInvariant, HasDisjointBands, HasNoCompletionIfSubmitted, HasDistinctSymbols, HasOrderedBounds, HasVolumeWithinLimit, HasOneChangeIfPending}
+use Rattle.brk_book_theorems.specs.Steps.{PreservesBooksInvariant}
 use Rattle.brk_book_theorems.proofs.Same.{All-append, All-map, any-none}
 use Rattle.brk_book_theorems.proofs.Places.{All-updated}
 use Rattle.brk_book_theorems.proofs.Numbering.{moved_way, numbered_more, numbered_updated, status_of_marked}
@@ -30,45 +30,45 @@ use Rattle.brk_book_theorems.proofs.Tested.{passed, in_time, not_not}
 next_number : (n : ℕ) → n + 1 ≡ 1 + n
 next_number n = omega arith
 
-pub books_order : (base : Base) (now : ℕ) (o : Order) → LeavesBooks base now (PlaceOrder o)
-unfolding records_after tests
+pub books_order : (base : Base) (now : ℕ) (o : Order) → PreservesBooksInvariant base now (PlaceOrder o)
+unfolding base_after_command_unstamped checks_of_command
 books_order base now o k e =
     let p = passed base now (PlaceOrder o) e in
-    let t : Trade = ordered_trade base (next_stamp base now) o in
+    let t : Trade = ordered_trade base (stamp_of_next_command base now) o in
     record {
       parties = k.parties;
       market = k.market;
       trades = record {
-        accounts = All-append (AccountExists base) base.trades (t ∷ []) k.accounts (not_not (is_some (account_with base o.account)) p.0, tt);
-        securities = All-append (SecurityExists base) base.trades (t ∷ []) k.securities (not_not (is_some (security_with base o.symbol)) p.1.0, tt);
+        accounts = All-append (AccountOfTradeExists base) base.trades (t ∷ []) k.accounts (not_not (is_some (account_with_id base o.account)) p.0, tt);
+        securities = All-append (SecurityOfTradeExists base) base.trades (t ∷ []) k.securities (not_not (is_some (security_with_symbol base o.symbol)) p.1.0, tt);
         numbered = numbered_more 1 base.trades t (next_number (length base.trades)) k.numbered;
-        ways = All-append WaitsFirst base.trades (t ∷ []) k.ways ((λ waits. tt), tt);
-        completions = All-append CompletesFirst base.trades (t ∷ []) k.completions (first_mark t (record { stamp = next_stamp base now; status = first_status (kind_of o.order_type) }) refl (first_not_completed (kind_of o.order_type)), tt);
+        ways = All-append HasOneChangeIfPending base.trades (t ∷ []) k.ways ((λ waits. tt), tt);
+        completions = All-append HasNoCompletionIfSubmitted base.trades (t ∷ []) k.completions (first_mark t (record { stamp = stamp_of_next_command base now; status = first_status (trade_type_of_order o.order_type) }) refl (first_not_completed (trade_type_of_order o.order_type)), tt);
       };
-      times = subst (AreMomentsInOrder (Some (next_stamp base now))) (sym (ordered_done base (next_stamp base now) o)) (later_times base now (in_time base now (PlaceOrder o) e) k.times);
-      movements = movements_beside (sym (ordered_done base (next_stamp base now) o)) (movements_later base now k.movements);
+      times = subst (CompletionBooksInvariant (Some (stamp_of_next_command base now))) (sym (ordered_done base (stamp_of_next_command base now) o)) (later_times base now (in_time base now (PlaceOrder o) e) k.times);
+      movements = movements_beside (sym (ordered_done base (stamp_of_next_command base now) o)) (movements_later base now k.movements);
     }
 
 -- ---- a cancel
 
-pub books_cancel : (base : Base) (now id : ℕ) → LeavesBooks base now (CancelTrade id)
-unfolding records_after tests
+pub books_cancel : (base : Base) (now id : ℕ) → PreservesBooksInvariant base now (CancelTrade id)
+unfolding base_after_command_unstamped checks_of_command
 books_cancel base now id k e =
-    let stamp : ℕ = next_stamp base now in
-    let done : completed (with_trades (λ t. t.id == id) (marked stamp Canceled) base) ≡ completed base =
-    completed_unseen (λ t. t.id == id) (marked stamp Canceled) base.trades (λ t. status_of_marked stamp Canceled Completed t)
-    (named_waits base id (trade_with base id) k.numbered refl (passed base now (CancelTrade id) e)) in
+    let stamp : ℕ = stamp_of_next_command base now in
+    let done : completed_trades (base_with_updated_trades (λ t. t.id == id) (trade_with_status_change stamp Canceled) base) ≡ completed_trades base =
+    completed_unseen (λ t. t.id == id) (trade_with_status_change stamp Canceled) base.trades (λ t. status_of_marked stamp Canceled Completed t)
+    (named_waits base id (trade_with_id base id) k.numbered refl (passed base now (CancelTrade id) e)) in
     record {
       parties = k.parties;
       market = k.market;
       trades = record {
-        accounts = All-updated (AccountExists base) (λ t. t.id == id) (marked stamp Canceled) base.trades (λ t h. h) k.accounts;
-        securities = All-updated (SecurityExists base) (λ t. t.id == id) (marked stamp Canceled) base.trades (λ t h. h) k.securities;
-        numbered = numbered_updated 1 (λ t. t.id == id) (marked stamp Canceled) base.trades (λ t. refl) k.numbered;
-        ways = All-updated WaitsFirst (λ t. t.id == id) (marked stamp Canceled) base.trades (λ t h. moved_way stamp Canceled t refl) k.ways;
-        completions = All-updated CompletesFirst (λ t. t.id == id) (marked stamp Canceled) base.trades (λ t h. moved_elsewhere stamp Canceled t refl) k.completions;
+        accounts = All-updated (AccountOfTradeExists base) (λ t. t.id == id) (trade_with_status_change stamp Canceled) base.trades (λ t h. h) k.accounts;
+        securities = All-updated (SecurityOfTradeExists base) (λ t. t.id == id) (trade_with_status_change stamp Canceled) base.trades (λ t h. h) k.securities;
+        numbered = numbered_updated 1 (λ t. t.id == id) (trade_with_status_change stamp Canceled) base.trades (λ t. refl) k.numbered;
+        ways = All-updated HasOneChangeIfPending (λ t. t.id == id) (trade_with_status_change stamp Canceled) base.trades (λ t h. moved_way stamp Canceled t refl) k.ways;
+        completions = All-updated HasNoCompletionIfSubmitted (λ t. t.id == id) (trade_with_status_change stamp Canceled) base.trades (λ t h. moved_elsewhere stamp Canceled t refl) k.completions;
       };
-      times = subst (AreMomentsInOrder (Some stamp)) (sym done) (later_times base now (in_time base now (CancelTrade id) e) k.times);
+      times = subst (CompletionBooksInvariant (Some stamp)) (sym done) (later_times base now (in_time base now (CancelTrade id) e) k.times);
       movements = movements_beside (sym done) (movements_later base now k.movements);
     }
 
@@ -76,24 +76,24 @@ books_cancel base now id k e =
 
 -- in order but for the volumes
 record Between (stamp : ℕ) (base : Base) : Type 0 where
-  pub parties : ArePartiesInOrder base.brokers base.customers base.accounts base.permissions
-  pub symbols : DistinctSymbols base.securities
-  pub bands : AllByRecursion HasBounds base.bands
-  pub apart : BandsApart base.bands
-  pub trades : AreTradesInOrder base.accounts base.securities base.trades
-  pub movements : AreMovementsInOrder base.accounts (Some stamp) (completed base) base.movements
+  pub parties : AccountBooksInvariant base.brokers base.customers base.accounts base.permissions
+  pub symbols : HasDistinctSymbols base.securities
+  pub bands : AllByRecursion HasOrderedBounds base.bands
+  pub apart : HasDisjointBands base.bands
+  pub trades : TradeBooksInvariant base.accounts base.securities base.trades
+  pub movements : MovementBooksInvariant base.accounts (Some stamp) (completed_trades base) base.movements
 
-between_tick : (base : Base) (stamp : ℕ) (tick : Tick) → Between stamp base → Between stamp (with_tick stamp base tick)
+between_tick : (base : Base) (stamp : ℕ) (tick : Tick) → Between stamp base → Between stamp (base_after_tick stamp base tick)
 between_tick base stamp tick k =
-    let r : Ready (with_tick stamp base tick) = ready_tick base stamp tick (record { symbols = k.symbols; numbered = k.trades.numbered; ways = k.trades.ways }) in
+    let r : Ready (base_after_tick stamp base tick) = ready_tick base stamp tick (record { symbols = k.symbols; numbered = k.trades.numbered; ways = k.trades.ways }) in
     record {
       parties = k.parties;
       symbols = r.symbols;
       bands = k.bands;
       apart = k.apart;
       trades = record {
-        accounts = All-updated (AccountExists base) (is_triggered tick) (marked stamp Submitted) base.trades (λ t h. h) k.trades.accounts;
-        securities = All-updated (SecurityExists (with_tick stamp base tick)) (is_triggered tick) (marked stamp Submitted) base.trades (λ t h. h)
+        accounts = All-updated (AccountOfTradeExists base) (is_triggered_by_tick tick) (trade_with_status_change stamp Submitted) base.trades (λ t h. h) k.trades.accounts;
+        securities = All-updated (SecurityOfTradeExists (base_after_tick stamp base tick)) (is_triggered_by_tick tick) (trade_with_status_change stamp Submitted) base.trades (λ t h. h)
             (All-map base.trades (λ t h. known_after base stamp tick t.symbol h) k.trades.securities);
         numbered = r.numbered;
         ways = r.ways;
@@ -102,26 +102,26 @@ between_tick base stamp tick k =
       movements = movements_beside (sym (completed_tick base stamp tick)) k.movements;
     }
 
-between_ticks : (base : Base) (stamp : ℕ) (ticks : List Tick) → Between stamp base → Between stamp (with_ticks stamp base ticks)
-unfolding with_ticks
+between_ticks : (base : Base) (stamp : ℕ) (ticks : List Tick) → Between stamp base → Between stamp (base_after_ticks stamp base ticks)
+unfolding base_after_ticks
 between_ticks base stamp [] k = k
-between_ticks base stamp (tick ∷ ticks) k = between_ticks (with_tick stamp base tick) stamp ticks (between_tick base stamp tick k)
+between_ticks base stamp (tick ∷ ticks) k = between_ticks (base_after_tick stamp base tick) stamp ticks (between_tick base stamp tick k)
 
-within_limit : (ss : List Security) → list_any (λ s. nat_lt greatest_amount s.volume) ss ≡ false → AllByRecursion HasVolume ss
+within_limit : (ss : List Security) → list_any (λ s. nat_lt greatest_amount s.volume) ss ≡ false → AllByRecursion HasVolumeWithinLimit ss
 within_limit ss e = All-map ss (λ s h. ltb-false greatest_amount s.volume h) (any-none (λ s. nat_lt greatest_amount s.volume) ss e)
 
-pub books_feed : (base : Base) (now : ℕ) (ticks : List Tick) → LeavesBooks base now (FeedTicks ticks)
-unfolding records_after tests
+pub books_feed : (base : Base) (now : ℕ) (ticks : List Tick) → PreservesBooksInvariant base now (FeedTicks ticks)
+unfolding base_after_command_unstamped checks_of_command
 books_feed base now ticks k e =
     let p = passed base now (FeedTicks ticks) e in
-    let after : Base = with_ticks (next_stamp base now) base ticks in
-    let done : completed after ≡ completed base = completed_ticks base (next_stamp base now) ticks in
-    let b : Between (next_stamp base now) after = between_ticks base (next_stamp base now) ticks
+    let after : Base = base_after_ticks (stamp_of_next_command base now) base ticks in
+    let done : completed_trades after ≡ completed_trades base = completed_ticks base (stamp_of_next_command base now) ticks in
+    let b : Between (stamp_of_next_command base now) after = between_ticks base (stamp_of_next_command base now) ticks
     (record { parties = k.parties; symbols = k.symbols; bands = k.bands; apart = k.apart; trades = k.trades; movements = movements_later base now k.movements }) in
     record {
       parties = b.parties;
       market = record { symbols = b.symbols; volumes = within_limit after.securities p.1.0; bands = b.bands; apart = b.apart };
       trades = b.trades;
-      times = subst (AreMomentsInOrder (Some (next_stamp base now))) (sym done) (later_times base now (in_time base now (FeedTicks ticks) e) k.times);
+      times = subst (CompletionBooksInvariant (Some (stamp_of_next_command base now))) (sym done) (later_times base now (in_time base now (FeedTicks ticks) e) k.times);
       movements = b.movements;
     }

@@ -8,15 +8,15 @@ use lib.IntN.{+ℤ_assoc, +ℤ_comm, +ℤ_idr, +ℤ_idl}
 use Rattle.brk_money.specs.Spelling.{Text}
 use Rattle.brk_model.specs.Lists.{insert_by, sort_by, is_zero, total_by}
 use Rattle.brk_model.specs.Records.{Account, Security, Trade}
-use Rattle.brk_model.specs.Base.{Base, account_with, completed, security_with}
-use Rattle.brk_model.specs.Derived.{balance_of, holdings_of, postings_of, summary_of}
-use Rattle.brk_model.specs.Joins.{account_in, price_in}
-use Rattle.brk_model.specs.Keys.{KeyPart, by_key, row_before, summary_key}
-use Rattle.brk_model.specs.Orders.{assets_of}
+use Rattle.brk_model.specs.Base.{Base, account_with_id, completed_trades, security_with_symbol}
+use Rattle.brk_model.specs.Derived.{balance_of_account, holdings_market_value, postings_of_base, holding_summary_quantity}
+use Rattle.brk_model.specs.Joins.{account_row_with_id, last_price_in_tables}
+use Rattle.brk_model.specs.Keys.{KeyPart, rows_sorted_by_key, is_row_key_less, summary_key}
+use Rattle.brk_model.specs.Orders.{assets_of_account}
 use Rattle.brk_model.specs.PositionView.{asset_total}
-use Rattle.brk_model.specs.Sheets.{sheets, sheets_of}
-use Rattle.brk_model.specs.Tables.{AccountRow, SummaryRow, Tables, tables_at, account_row, last_trade_row, summary_rows}
-use Rattle.brk_book_theorems.specs.Books.{BooksInvariant, DistinctAccounts}
+use Rattle.brk_model.specs.Sheets.{sheets, tables_sorted_by_key}
+use Rattle.brk_model.specs.Tables.{AccountRow, SummaryRow, Tables, tables_of_base_in_schema, account_row, last_trade_row, summary_rows}
+use Rattle.brk_book_theorems.specs.Books.{BooksInvariant, HasDistinctAccountIds}
 use Rattle.brk_book_theorems.proofs.Order.{by_key-filter}
 use Rattle.brk_book_theorems.proofs.Same.{NonePass, All-map, flat_map-append, flat_map-empty}
 use Rattle.brk_book_theorems.proofs.Places.{FoundAt, filter-append, find-at}
@@ -39,10 +39,10 @@ total-insert {X = X} f before x (y ∷ ys) = by_test (total-insert f before x ys
     by_test e true = ap (λ n. f y +ℤ n) e ∙ swap (f x) (f y) (total_by f ys)
     by_test e false = refl
 
-pub total-sorted : {Row : Type 0} (key : Row → List KeyPart) (f : Row → ℤ) (xs : List Row) → total_by f (by_key key xs) ≡ total_by f xs
+pub total-sorted : {Row : Type 0} (key : Row → List KeyPart) (f : Row → ℤ) (xs : List Row) → total_by f (rows_sorted_by_key key xs) ≡ total_by f xs
 unfolding total_by sort_by
 total-sorted key f [] = refl
-total-sorted key f (x ∷ xs) = total-insert f (row_before key) x (by_key key xs) ∙ ap (λ n. f x +ℤ n) (total-sorted key f xs)
+total-sorted key f (x ∷ xs) = total-insert f (is_row_key_less key) x (rows_sorted_by_key key xs) ∙ ap (λ n. f x +ℤ n) (total-sorted key f xs)
 
 pub total-append : {X : Type 0} (f : X → ℤ) (xs ys : List X) → total_by f (xs ++ ys) ≡ total_by f xs +ℤ total_by f ys
 unfolding total_by
@@ -57,12 +57,12 @@ summaries_in done ss account = flat_map (λ s. summary_rows done account s.symbo
 
 -- they are of the account
 own : (done : List Trade) (account id : ℕ) (b : Bool) → (account == id) ≡ b → (symbol : Text) (zero : Bool)
-    → filter {X = SummaryRow} (λ r. r.account == id) (cond (not zero) (record { account = account; symbol = symbol; qty = summary_of done account symbol } ∷ []) [])
-    ≡ cond b (cond (not zero) (record { account = account; symbol = symbol; qty = summary_of done account symbol } ∷ []) []) []
+    → filter {X = SummaryRow} (λ r. r.account == id) (cond (not zero) (record { account = account; symbol = symbol; qty = holding_summary_quantity done account symbol } ∷ []) [])
+    ≡ cond b (cond (not zero) (record { account = account; symbol = symbol; qty = holding_summary_quantity done account symbol } ∷ []) []) []
 own done account id true e symbol true = refl
 own done account id false e symbol true = refl
-own done account id true e symbol false = ap (λ b. cond b (record { account = account; symbol = symbol; qty = summary_of done account symbol } ∷ []) []) e
-own done account id false e symbol false = ap (λ b. cond b (record { account = account; symbol = symbol; qty = summary_of done account symbol } ∷ []) []) e
+own done account id true e symbol false = ap (λ b. cond b (record { account = account; symbol = symbol; qty = holding_summary_quantity done account symbol } ∷ []) []) e
+own done account id false e symbol false = ap (λ b. cond b (record { account = account; symbol = symbol; qty = holding_summary_quantity done account symbol } ∷ []) []) e
 
 none_appended : {X : Type 0} (b : Bool) (xs ys : List X) → cond b xs [] ++ cond b ys [] ≡ cond b (xs ++ ys) []
 none_appended true xs ys = refl
@@ -76,7 +76,7 @@ of_one : (done : List Trade) (ss : List Security) (account id : ℕ) → filter 
 of_one done [] account id = no_rows (account == id)
 of_one done (s ∷ ss) account id =
     filter-append (λ r. r.account == id) (summary_rows done account s.symbol) (summaries_in done ss account)
-    ∙ (λ i. own done account id (account == id) refl s.symbol (is_zero (summary_of done account s.symbol)) i ++ of_one done ss account id i)
+    ∙ (λ i. own done account id (account == id) refl s.symbol (is_zero (holding_summary_quantity done account s.symbol)) i ++ of_one done ss account id i)
     ∙ none_appended (account == id) (summary_rows done account s.symbol) (summaries_in done ss account)
 
 pub of_all : (done : List Trade) (ss : List Security) (accounts : List Account) (id : ℕ)
@@ -86,16 +86,16 @@ of_all done ss (a ∷ accounts) id =
     filter-append (λ r. r.account == id) (summaries_in done ss a.id) (flat_map (λ a. summaries_in done ss a.id) accounts)
     ∙ (λ i. of_one done ss a.id id i ++ of_all done ss accounts id i)
 
-accounts_after : (xs : List Account) (a : Account) (ys : List Account) → DistinctAccounts (xs ++ a ∷ ys) → NonePass (λ b. b.id == a.id) ys
+accounts_after : (xs : List Account) (a : Account) (ys : List Account) → HasDistinctAccountIds (xs ++ a ∷ ys) → NonePass (λ b. b.id == a.id) ys
 accounts_after [] a ys d = d.0
 accounts_after (x ∷ xs) a ys d = accounts_after xs a ys d.1
 
-pub of_account_alone : (done : List Trade) (ss : List Security) (accounts : List Account) (id : ℕ) (a : Account) → DistinctAccounts accounts → find (λ a. a.id == id) accounts ≡ Some a
+pub of_account_alone : (done : List Trade) (ss : List Security) (accounts : List Account) (id : ℕ) (a : Account) → HasDistinctAccountIds accounts → find (λ a. a.id == id) accounts ≡ Some a
     → flat_map (λ a. cond (a.id == id) (summaries_in done ss a.id) []) accounts ≡ summaries_in done ss id
 of_account_alone done ss accounts id a d e =
     let f : FoundAt Account (λ a. a.id == id) a accounts = find-at (λ a. a.id == id) accounts a e in
     let same : a.id ≡ id = eqb-true a.id id f.passes in
-    let after : NonePass (λ b. b.id == id) f.after = subst (λ m. NonePass (λ b. b.id == m) f.after) same (accounts_after f.before a f.after (subst DistinctAccounts f.stands d)) in
+    let after : NonePass (λ b. b.id == id) f.after = subst (λ m. NonePass (λ b. b.id == m) f.after) same (accounts_after f.before a f.after (subst HasDistinctAccountIds f.stands d)) in
     let F : Account → List SummaryRow = λ a. cond (a.id == id) (summaries_in done ss a.id) [] in
     let none : (xs : List Account) → NonePass (λ b. b.id == id) xs → flat_map F xs ≡ [] = λ xs h.
     flat_map-empty F xs (All-map xs (λ b k. ap (λ c. cond c (summaries_in done ss b.id) []) k) h) in
@@ -121,47 +121,47 @@ zero_worth (negsuc n) price true e row k g h = absurd (cc)
 
 -- the worth of a row at the prices of some tables
 abbrev worth : Tables → SummaryRow → ℤ
-worth t r = r.qty *ℤ pos (price_in t r.symbol)
+worth t r = r.qty *ℤ pos (last_price_in_tables t r.symbol)
 
-price_found : (base : Base) (s : Security) → security_with base s.symbol ≡ Some s → price_in (sheets base) s.symbol ≡ s.last_price
+price_found : (base : Base) (s : Security) → security_with_symbol base s.symbol ≡ Some s → last_price_in_tables (sheets base) s.symbol ≡ s.last_price
 price_found base s e = ap (λ o. option_map_or (λ r. r.price) o 0) (reads_last_trade base s.symbol ∙ ap (option_map last_trade_row) e)
 
-worth_of : (base : Base) (id : ℕ) (ss : List Security) → AllByRecursion (λ s. security_with base s.symbol ≡ Some s) ss
-    → total_by (worth (sheets base)) (summaries_in (completed base) ss id) ≡ total_by (λ s. summary_of (completed base) id s.symbol *ℤ pos s.last_price) ss
+worth_of : (base : Base) (id : ℕ) (ss : List Security) → AllByRecursion (λ s. security_with_symbol base s.symbol ≡ Some s) ss
+    → total_by (worth (sheets base)) (summaries_in (completed_trades base) ss id) ≡ total_by (λ s. holding_summary_quantity (completed_trades base) id s.symbol *ℤ pos s.last_price) ss
 unfolding total_by
 worth_of base id [] h = refl
 worth_of base id (s ∷ ss) h =
-    let row : SummaryRow = record { account = id; symbol = s.symbol; qty = summary_of (completed base) id s.symbol } in
-    total-append (worth (sheets base)) (summary_rows (completed base) id s.symbol) (summaries_in (completed base) ss id)
-    ∙ (λ i. zero_worth (summary_of (completed base) id s.symbol) s.last_price (is_zero (summary_of (completed base) id s.symbol)) refl row refl (worth (sheets base))
-    (ap (λ n. summary_of (completed base) id s.symbol *ℤ pos n) (price_found base s h.0)) i +ℤ worth_of base id ss h.1 i)
+    let row : SummaryRow = record { account = id; symbol = s.symbol; qty = holding_summary_quantity (completed_trades base) id s.symbol } in
+    total-append (worth (sheets base)) (summary_rows (completed_trades base) id s.symbol) (summaries_in (completed_trades base) ss id)
+    ∙ (λ i. zero_worth (holding_summary_quantity (completed_trades base) id s.symbol) s.last_price (is_zero (holding_summary_quantity (completed_trades base) id s.symbol)) refl row refl (worth (sheets base))
+    (ap (λ n. holding_summary_quantity (completed_trades base) id s.symbol *ℤ pos n) (price_found base s h.0)) i +ℤ worth_of base id ss h.1 i)
 
-summaries_read : (base : Base) (id : ℕ) (a : Account) → BooksInvariant base → account_with base id ≡ Some a
-    → total_by (worth (sheets base)) (filter (λ r. r.account == id) (sheets base).summaries) ≡ holdings_of base.securities (completed base) id
-unfolding tables_at sheets_of holdings_of
+summaries_read : (base : Base) (id : ℕ) (a : Account) → BooksInvariant base → account_with_id base id ≡ Some a
+    → total_by (worth (sheets base)) (filter (λ r. r.account == id) (sheets base).summaries) ≡ holdings_market_value base.securities (completed_trades base) id
+unfolding tables_of_base_in_schema tables_sorted_by_key holdings_market_value
 summaries_read base id a books e =
-    let done : List Trade = completed base in
+    let done : List Trade = completed_trades base in
     let rows : List SummaryRow = flat_map (λ a. summaries_in done base.securities a.id) base.accounts in
     ap (total_by (worth (sheets base))) (sym (by_key-filter summary_key (λ r. r.account == id) rows))
     ∙ total-sorted summary_key (worth (sheets base)) (filter (λ r. r.account == id) rows)
     ∙ ap (total_by (worth (sheets base))) (of_all done base.securities base.accounts id ∙ of_account_alone done base.securities base.accounts id a books.owners e)
     ∙ worth_of base id base.securities (each_found base.securities books.symbols)
 
-pub reads_assets : (base : Base) (id : ℕ) (r : AccountRow) → BooksInvariant base → account_in (sheets base) id ≡ Some r → r.balance +ℤ asset_total (sheets base) r ≡ assets_of base id
-reads_assets base id r books e = by_account (account_with base id) refl
+pub reads_assets : (base : Base) (id : ℕ) (r : AccountRow) → BooksInvariant base → account_row_with_id (sheets base) id ≡ Some r → r.balance +ℤ asset_total (sheets base) r ≡ assets_of_account base id
+reads_assets base id r books e = by_account (account_with_id base id) refl
   where
     same_row : (x y : AccountRow) → Some x ≡ Some y → x ≡ y
     same_row x y e = cc
 
-    by_account : (o : Option Account) → account_with base id ≡ o → r.balance +ℤ asset_total (sheets base) r ≡ assets_of base id
+    by_account : (o : Option Account) → account_with_id base id ≡ o → r.balance +ℤ asset_total (sheets base) r ≡ assets_of_account base id
     by_account None f =
-        let k : Some r ≡ None = sym e ∙ reads_account base id ∙ ap (option_map (account_row base.accounts (postings_of base))) f in
+        let k : Some r ≡ None = sym e ∙ reads_account base id ∙ ap (option_map (account_row base.accounts (postings_of_base base))) f in
         absurd (cc)
     by_account (Some a) f =
         let g : FoundAt Account (λ a. a.id == id) a base.accounts = find-at (λ a. a.id == id) base.accounts a f in
         let same : a.id ≡ id = eqb-true a.id id g.passes in
-        let row : r ≡ account_row base.accounts (postings_of base) a =
-        same_row r (account_row base.accounts (postings_of base) a) (sym e ∙ reads_account base id ∙ ap (option_map (account_row base.accounts (postings_of base))) f) in
+        let row : r ≡ account_row base.accounts (postings_of_base base) a =
+        same_row r (account_row base.accounts (postings_of_base base) a) (sym e ∙ reads_account base id ∙ ap (option_map (account_row base.accounts (postings_of_base base))) f) in
         ap (λ r. r.balance +ℤ asset_total (sheets base) r) row
-        ∙ (λ i. balance_of base.accounts (postings_of base) (same i) +ℤ total_by (worth (sheets base)) (filter (λ row. row.account == same i) (sheets base).summaries))
-        ∙ ap (λ n. balance_of base.accounts (postings_of base) id +ℤ n) (summaries_read base id a books f)
+        ∙ (λ i. balance_of_account base.accounts (postings_of_base base) (same i) +ℤ total_by (worth (sheets base)) (filter (λ row. row.account == same i) (sheets base).summaries))
+        ∙ ap (λ n. balance_of_account base.accounts (postings_of_base base) id +ℤ n) (summaries_read base id a books f)

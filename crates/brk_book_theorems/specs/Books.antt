@@ -2,176 +2,176 @@
 -- and of every base that is read from rows that pass an audit.
 use Rattle.std.specs.Prelude.{◌≡◌, ◌≤◌, ⊤, ℕ, ◌==◌, ◌&&◌, true, false, List, [], ◌∷◌, Option, Some, None, nat_le, IfSome, bytes_eq, find, is_some}
 use Rattle.std.specs.List.{AllByRecursion}
-use Rattle.brk_money.specs.Moments.{last_stamp}
-use Rattle.brk_money.specs.Kinds.{same_status}
+use Rattle.brk_money.specs.Moments.{greatest_stamp}
+use Rattle.brk_money.specs.Kinds.{is_same_trade_status}
 use Rattle.brk_money.specs.declared.status.Status.TheVariants.{Completed, Pending, Submitted}
 use Rattle.brk_model.specs.Limits.{greatest_amount}
 use Rattle.brk_model.specs.Records.{Account, Band, Broker, Customer, StatusChange, Movement, Permission, Security, Trade}
-use Rattle.brk_model.specs.Base.{Base, completed, find_account, has_status, moment_of}
-use Rattle.brk_model.specs.Names.{NumberedFrom}
-use Rattle.brk_model.specs.Tests.{bands_meet}
+use Rattle.brk_model.specs.Base.{Base, completed_trades, account_with_id_in_list, has_status, last_status_stamp_of_trade}
+use Rattle.brk_model.specs.Names.{AreNumberedFrom}
+use Rattle.brk_model.specs.Tests.{bands_overlap}
 
 -- No two accounts of the list have the same id.
-abbrev pub DistinctAccounts : List Account → Type 0
-DistinctAccounts [] = ⊤
-DistinctAccounts (a ∷ rest) = AllByRecursion (λ b. (b.id == a.id) ≡ false) rest × DistinctAccounts rest
+abbrev pub HasDistinctAccountIds : List Account → Type 0
+HasDistinctAccountIds [] = ⊤
+HasDistinctAccountIds (a ∷ rest) = AllByRecursion (λ b. (b.id == a.id) ≡ false) rest × HasDistinctAccountIds rest
 
 -- No two permissions of the list have the same account and the same tax id.
-abbrev pub DistinctPermissions : List Permission → Type 0
-DistinctPermissions [] = ⊤
-DistinctPermissions (p ∷ ps) = AllByRecursion (λ q. ((q.account == p.account) && bytes_eq q.tax_id p.tax_id) ≡ false) ps × DistinctPermissions ps
+abbrev pub HasDistinctPermissions : List Permission → Type 0
+HasDistinctPermissions [] = ⊤
+HasDistinctPermissions (p ∷ ps) = AllByRecursion (λ q. ((q.account == p.account) && bytes_eq q.tax_id p.tax_id) ≡ false) ps × HasDistinctPermissions ps
 
 -- No two securities of the list have the same symbol.
-abbrev pub DistinctSymbols : List Security → Type 0
-DistinctSymbols [] = ⊤
-DistinctSymbols (s ∷ ss) = AllByRecursion (λ u. bytes_eq u.symbol s.symbol ≡ false) ss × DistinctSymbols ss
+abbrev pub HasDistinctSymbols : List Security → Type 0
+HasDistinctSymbols [] = ⊤
+HasDistinctSymbols (s ∷ ss) = AllByRecursion (λ u. bytes_eq u.symbol s.symbol ≡ false) ss × HasDistinctSymbols ss
 
 -- The volume of the security is at most the greatest amount.
-abbrev pub HasVolume : Security → Type 0
-HasVolume s = s.volume ≤ greatest_amount
+abbrev pub HasVolumeWithinLimit : Security → Type 0
+HasVolumeWithinLimit s = s.volume ≤ greatest_amount
 
 -- The list has exactly one status change.
-abbrev pub IsOne : List StatusChange → Type 0
-IsOne [] = ⊥
-IsOne (m ∷ []) = ⊤
-IsOne (m ∷ n ∷ marks) = ⊥
+abbrev pub HasOneStatusChange : List StatusChange → Type 0
+HasOneStatusChange [] = ⊥
+HasOneStatusChange (m ∷ []) = ⊤
+HasOneStatusChange (m ∷ n ∷ marks) = ⊥
 
 -- If the trade is pending, its history has exactly one status change. Vacuous for a trade of
 -- another status.
-abbrev pub WaitsFirst : Trade → Type 0
-WaitsFirst t = has_status Pending t ≡ true → IsOne t.marks
+abbrev pub HasOneChangeIfPending : Trade → Type 0
+HasOneChangeIfPending t = has_status Pending t ≡ true → HasOneStatusChange t.marks
 
 -- The status of the status change is not `Completed`.
-abbrev pub IsNoCompletion : StatusChange → Type 0
-IsNoCompletion m = same_status m.status Completed ≡ false
+abbrev pub IsNotCompletion : StatusChange → Type 0
+IsNotCompletion m = is_same_trade_status m.status Completed ≡ false
 
 -- If the trade is submitted, no status change of its history is a completion. Vacuous for a trade
 -- of another status.
-abbrev pub CompletesFirst : Trade → Type 0
-CompletesFirst t = has_status Submitted t ≡ true → AllByRecursion IsNoCompletion t.marks
+abbrev pub HasNoCompletionIfSubmitted : Trade → Type 0
+HasNoCompletionIfSubmitted t = has_status Submitted t ≡ true → AllByRecursion IsNotCompletion t.marks
 
 -- The stamp of the trade's last status change is at most the last stamp `last`. False if `last` is
 -- `None`.
-abbrev pub IsEarly : Option ℕ → Trade → Type 0
-IsEarly None t = ⊥
-IsEarly (Some last) t = moment_of t ≤ last
+abbrev pub IsTradeUpToLastStamp : Option ℕ → Trade → Type 0
+IsTradeUpToLastStamp None t = ⊥
+IsTradeUpToLastStamp (Some last) t = last_status_stamp_of_trade t ≤ last
 
 -- No two trades of the list have the same stamp of their last status change.
-abbrev pub DistinctMoments : List Trade → Type 0
-DistinctMoments [] = ⊤
-DistinctMoments (t ∷ ts) = AllByRecursion (λ u. (moment_of u == moment_of t) ≡ false) ts × DistinctMoments ts
+abbrev pub HasDistinctStatusStamps : List Trade → Type 0
+HasDistinctStatusStamps [] = ⊤
+HasDistinctStatusStamps (t ∷ ts) = AllByRecursion (λ u. (last_status_stamp_of_trade u == last_status_stamp_of_trade t) ≡ false) ts × HasDistinctStatusStamps ts
 
 -- The account of the movement is one of `accounts`.
-abbrev pub HasHolder : List Account → Movement → Type 0
-HasHolder accounts m = is_some (find_account accounts m.account) ≡ true
+abbrev pub MovementAccountExists : List Account → Movement → Type 0
+MovementAccountExists accounts m = is_some (account_with_id_in_list accounts m.account) ≡ true
 
 -- The stamp of the movement is at most the last stamp `last`. False if `last` is `None`.
-abbrev pub IsMadeBy : Option ℕ → Movement → Type 0
-IsMadeBy None m = ⊥
-IsMadeBy (Some last) m = m.stamp ≤ last
+abbrev pub IsMovementUpToLastStamp : Option ℕ → Movement → Type 0
+IsMovementUpToLastStamp None m = ⊥
+IsMovementUpToLastStamp (Some last) m = m.stamp ≤ last
 
 -- The stamp of the trade's last status change is not `stamp`.
-abbrev pub IsOtherwhen : ℕ → Trade → Type 0
-IsOtherwhen stamp t = (moment_of t == stamp) ≡ false
+abbrev pub HasOtherStatusStamp : ℕ → Trade → Type 0
+HasOtherStatusStamp stamp t = (last_status_stamp_of_trade t == stamp) ≡ false
 
 -- No two movements of the list have the same stamp, and no movement has the stamp of the last
 -- status change of a trade of `done`.
-abbrev pub MovementsApart : List Trade → List Movement → Type 0
-MovementsApart done [] = ⊤
-MovementsApart done (m ∷ ms) = AllByRecursion (IsOtherwhen m.stamp) done × AllByRecursion (λ n. (n.stamp == m.stamp) ≡ false) ms × MovementsApart done ms
+abbrev pub HasDistinctMovementStamps : List Trade → List Movement → Type 0
+HasDistinctMovementStamps done [] = ⊤
+HasDistinctMovementStamps done (m ∷ ms) = AllByRecursion (HasOtherStatusStamp m.stamp) done × AllByRecursion (λ n. (n.stamp == m.stamp) ≡ false) ms × HasDistinctMovementStamps done ms
 
 -- The part of the books invariant that concerns movements: the accounts of `all_movements` exist,
 -- and their stamps fit the last stamp `last` and the completed trades `done`.
-pub record AreMovementsInOrder (all_accounts : List Account) (last : Option ℕ) (done : List Trade) (all_movements : List Movement) : Type 0 where
+pub record MovementBooksInvariant (all_accounts : List Account) (last : Option ℕ) (done : List Trade) (all_movements : List Movement) : Type 0 where
   -- The account of each movement exists.
-  pub holders : AllByRecursion (HasHolder all_accounts) all_movements
+  pub holders : AllByRecursion (MovementAccountExists all_accounts) all_movements
   -- None has a stamp after the last stamp, so the next cash row is the last one.
-  pub early : AllByRecursion (IsMadeBy last) all_movements
+  pub early : AllByRecursion (IsMovementUpToLastStamp last) all_movements
   -- Each has a stamp of its own, so the order of the cash rows is unique.
-  pub apart : MovementsApart done all_movements
+  pub apart : HasDistinctMovementStamps done all_movements
 
 -- The lower bound of the band is at most its upper bound.
-abbrev pub HasBounds : Band → Type 0
-HasBounds b = nat_le b.from_qty b.to_qty ≡ true
+abbrev pub HasOrderedBounds : Band → Type 0
+HasOrderedBounds b = nat_le b.from_qty b.to_qty ≡ true
 
 -- No two bands of the list that have the same tier, type and exchange share a quantity.
-abbrev pub BandsApart : List Band → Type 0
-BandsApart [] = ⊤
-BandsApart (b ∷ bs) = AllByRecursion (λ c. bands_meet b c ≡ false) bs × BandsApart bs
+abbrev pub HasDisjointBands : List Band → Type 0
+HasDisjointBands [] = ⊤
+HasDisjointBands (b ∷ bs) = AllByRecursion (λ c. bands_overlap b c ≡ false) bs × HasDisjointBands bs
 
 -- The broker of the account is one of `brokers`.
-abbrev pub HasBroker : List Broker → Account → Type 0
-HasBroker brokers a = is_some (find (λ b. b.id == a.broker) brokers) ≡ true
+abbrev pub AccountBrokerExists : List Broker → Account → Type 0
+AccountBrokerExists brokers a = is_some (find (λ b. b.id == a.broker) brokers) ≡ true
 
 -- The customer of the account is one of `customers`.
-abbrev pub HasCustomer : List Customer → Account → Type 0
-HasCustomer customers a = is_some (find (λ c. c.id == a.customer) customers) ≡ true
+abbrev pub AccountCustomerExists : List Customer → Account → Type 0
+AccountCustomerExists customers a = is_some (find (λ c. c.id == a.customer) customers) ≡ true
 
 -- The account of the trade is one of `accounts`.
-abbrev pub HasAccount : List Account → Trade → Type 0
-HasAccount accounts t = is_some (find (λ a. a.id == t.account) accounts) ≡ true
+abbrev pub TradeAccountExists : List Account → Trade → Type 0
+TradeAccountExists accounts t = is_some (find (λ a. a.id == t.account) accounts) ≡ true
 
 -- The symbol of the trade is that of one of `securities`.
-abbrev pub HasSecurity : List Security → Trade → Type 0
-HasSecurity securities t = is_some (find (λ s. bytes_eq s.symbol t.symbol) securities) ≡ true
+abbrev pub TradeSecurityExists : List Security → Trade → Type 0
+TradeSecurityExists securities t = is_some (find (λ s. bytes_eq s.symbol t.symbol) securities) ≡ true
 
 -- The part of the books invariant that concerns accounts and permissions: brokers and customers of
 -- accounts exist, and ids of accounts and permissions of an account are unique.
-pub record ArePartiesInOrder (all_brokers : List Broker) (all_customers : List Customer) (all_accounts : List Account) (all_permissions : List Permission) : Type 0 where
+pub record AccountBooksInvariant (all_brokers : List Broker) (all_customers : List Customer) (all_accounts : List Account) (all_permissions : List Permission) : Type 0 where
   -- The broker and the customer of each account exist.
-  pub brokers : AllByRecursion (HasBroker all_brokers) all_accounts
-  pub customers : AllByRecursion (HasCustomer all_customers) all_accounts
+  pub brokers : AllByRecursion (AccountBrokerExists all_brokers) all_accounts
+  pub customers : AllByRecursion (AccountCustomerExists all_customers) all_accounts
   -- No two accounts have one id, so each summary belongs to one account.
-  pub owners : DistinctAccounts all_accounts
+  pub owners : HasDistinctAccountIds all_accounts
   -- An account has at most one permission for a tax id, so this one alone decides on its executor.
-  pub permissions : DistinctPermissions all_permissions
+  pub permissions : HasDistinctPermissions all_permissions
 
 -- The part of the books invariant that concerns securities and bands: symbols are unique, volumes
 -- are within the limit, and bands are disjoint.
-pub record IsMarketInOrder (all_securities : List Security) (all_bands : List Band) : Type 0 where
+pub record SecurityBooksInvariant (all_securities : List Security) (all_bands : List Band) : Type 0 where
   -- No two securities have one symbol, so a tick changes one last trade.
-  pub symbols : DistinctSymbols all_securities
+  pub symbols : HasDistinctSymbols all_securities
   -- The volume of each is within the limit, so a feed is checked by the symbols of its ticks.
-  pub volumes : AllByRecursion HasVolume all_securities
+  pub volumes : AllByRecursion HasVolumeWithinLimit all_securities
   -- The lower bound of each band is at most its upper bound.
-  pub bands : AllByRecursion HasBounds all_bands
+  pub bands : AllByRecursion HasOrderedBounds all_bands
   -- A quantity is in at most one band of a tier, a type and an exchange.
-  pub apart : BandsApart all_bands
+  pub apart : HasDisjointBands all_bands
 
 -- The part of the books invariant that concerns trades: their accounts and securities exist, their
 -- numbers are 1, 2, 3 and so on, and the histories of pending and submitted trades fit their
 -- status.
-pub record AreTradesInOrder (all_accounts : List Account) (all_securities : List Security) (all_trades : List Trade) : Type 0 where
+pub record TradeBooksInvariant (all_accounts : List Account) (all_securities : List Security) (all_trades : List Trade) : Type 0 where
   -- The account and the security of each trade exist.
-  pub accounts : AllByRecursion (HasAccount all_accounts) all_trades
-  pub securities : AllByRecursion (HasSecurity all_securities) all_trades
+  pub accounts : AllByRecursion (TradeAccountExists all_accounts) all_trades
+  pub securities : AllByRecursion (TradeSecurityExists all_securities) all_trades
   -- Trades are numbered from 1, in the order of their acceptance, so the next number is new.
-  pub numbered : NumberedFrom 1 all_trades
+  pub numbered : AreNumberedFrom 1 all_trades
   -- A pending trade has one status change in its history, so the next one is new.
-  pub ways : AllByRecursion WaitsFirst all_trades
+  pub ways : AllByRecursion HasOneChangeIfPending all_trades
   -- A submitted trade was never completed, so its completion is new in its history.
-  pub completions : AllByRecursion CompletesFirst all_trades
+  pub completions : AllByRecursion HasNoCompletionIfSubmitted all_trades
 
 -- The part of the books invariant that concerns stamps: the completed trades `done` have distinct
 -- stamps, none after the last stamp `last`, and `last` is within the range of stamps.
-pub record AreMomentsInOrder (last : Option ℕ) (done : List Trade) : Type 0 where
+pub record CompletionBooksInvariant (last : Option ℕ) (done : List Trade) : Type 0 where
   -- No trade was completed after the last stamp, so the next completion is the last of its
   -- position.
-  pub early : AllByRecursion (IsEarly last) done
+  pub early : AllByRecursion (IsTradeUpToLastStamp last) done
   -- No two trades were completed at one stamp, so the order of a position's lots is unique.
-  pub moments : DistinctMoments done
+  pub moments : HasDistinctStatusStamps done
   -- The last stamp, if there is one, is within the range of stamps.
-  pub clock : IfSome last (λ last. last ≤ last_stamp)
+  pub clock : IfSome last (λ last. last ≤ greatest_stamp)
 
 -- The books invariant of the base. Each part concerns only the lists of the base that it names, so
 -- a command that does not change these lists preserves the part.
 pub record BooksInvariant (base : Base) : Type 0 where
-  pub parties : ArePartiesInOrder base.brokers base.customers base.accounts base.permissions
+  pub parties : AccountBooksInvariant base.brokers base.customers base.accounts base.permissions
   pub open parties use *
-  pub market : IsMarketInOrder base.securities base.bands
+  pub market : SecurityBooksInvariant base.securities base.bands
   pub open market use *
-  pub trades : AreTradesInOrder base.accounts base.securities base.trades
+  pub trades : TradeBooksInvariant base.accounts base.securities base.trades
   pub open trades use *
-  pub times : AreMomentsInOrder base.last (completed base)
+  pub times : CompletionBooksInvariant base.last (completed_trades base)
   pub open times use *
-  pub movements : AreMovementsInOrder base.accounts base.last (completed base) base.movements
+  pub movements : MovementBooksInvariant base.accounts base.last (completed_trades base) base.movements

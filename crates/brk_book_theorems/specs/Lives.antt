@@ -1,34 +1,34 @@
 -- The life of each lot: the chain of its changes.
 use Rattle.std.specs.Prelude.{◌≡◌, ⊤, ℕ, ◌==◌, nat_lt, List, [], ◌∷◌, filter, find, map, ℤ, pos}
 use Rattle.std.specs.Option.{option_map_or}
-use Rattle.brk_lots.specs.Chains.{IsLife}
+use Rattle.brk_lots.specs.Chains.{IsLotHistory}
 use Rattle.brk_model.specs.Lists.{sort_by}
-use Rattle.brk_model.specs.LookupView.{touch_stamp}
+use Rattle.brk_model.specs.LookupView.{stamp_of_touching_trade}
 use Rattle.brk_model.specs.Tables.{HoldingHistoryRow, Tables, touch_of_row}
 
 -- The rows of HOLDING_HISTORY of the lot `lot`, sorted by the stamp of the trade that changed the
 -- lot.
-abbrev pub changes_in : Tables → ℕ → List HoldingHistoryRow
-changes_in t lot = sort_by (λ a b. nat_lt (touch_stamp t a) (touch_stamp t b)) (filter (λ h. h.lot == lot) t.holding_history)
+abbrev pub lot_changes_by_stamp : Tables → ℕ → List HoldingHistoryRow
+lot_changes_by_stamp t lot = sort_by (λ a b. nat_lt (stamp_of_touching_trade t a) (stamp_of_touching_trade t b)) (filter (λ h. h.lot == lot) t.holding_history)
 
 -- The quantity of the lot `lot` in HOLDING, or 0 if the lot has no row there.
-abbrev pub left_in : Tables → ℕ → ℤ
-left_in t lot = option_map_or (λ h. h.qty) (find (λ h. h.trade == lot) t.holdings) (pos 0)
+abbrev pub remaining_lot_quantity : Tables → ℕ → ℤ
+remaining_lot_quantity t lot = option_map_or (λ h. h.qty) (find (λ h. h.trade == lot) t.holdings) (pos 0)
 
 -- The first row is a change by the trade `lot`, which is the trade that opened the lot. Vacuous if
 -- there is no row.
-abbrev pub IsOpened : ℕ → List HoldingHistoryRow → Type 0
-IsOpened lot [] = ⊤
-IsOpened lot (row ∷ rows) = row.trade ≡ lot
+abbrev pub BeginsWithOwnTrade : ℕ → List HoldingHistoryRow → Type 0
+BeginsWithOwnTrade lot [] = ⊤
+BeginsWithOwnTrade lot (row ∷ rows) = row.trade ≡ lot
 
 -- The rows of HOLDING_HISTORY of the lot `lot` form a chain. The first row is a change by the lot's
 -- own trade and starts at 0. Each later row starts where the row before it ended and ends strictly
 -- nearer to 0. The last row ends at the quantity in HOLDING. If there are no rows, that quantity is
 -- 0.
-pub record IsLotLife (t : Tables) (lot : ℕ) : Type 0 where
-  pub opened : IsOpened lot (changes_in t lot)
-  pub life : IsLife (map touch_of_row (changes_in t lot)) (left_in t lot)
+pub record LotChangesFormChain (t : Tables) (lot : ℕ) : Type 0 where
+  pub opened : BeginsWithOwnTrade lot (lot_changes_by_stamp t lot)
+  pub life : IsLotHistory (map touch_of_row (lot_changes_by_stamp t lot)) (remaining_lot_quantity t lot)
 
--- The rows of HOLDING_HISTORY of every lot form a chain (`IsLotLife`).
-abbrev pub LotsLive : Tables → Type 0
-LotsLive t = (lot : ℕ) → IsLotLife t lot
+-- The rows of HOLDING_HISTORY of every lot form a chain (`LotChangesFormChain`).
+abbrev pub AllLotChangesFormChains : Tables → Type 0
+AllLotChangesFormChains t = (lot : ℕ) → LotChangesFormChain t lot

@@ -1,42 +1,42 @@
 -- Lookups in tables for an order, and the lots that a source passes to it.
 use Rattle.std.specs.Prelude.{ℕ, Bool, ◌==◌, ◌&&◌, List, find, reverse, slice_get, IfSome, Option, option_map, bytes_eq}
-use Rattle.brk_lots.specs.Lots.{from_end}
+use Rattle.brk_lots.specs.Lots.{list_in_closing_order}
 use Rattle.brk_lots.specs.declared.lot.Lot.{Lot}
-use Rattle.brk_model.specs.Joins.{account_in}
+use Rattle.brk_model.specs.Joins.{account_row_with_id}
 use Rattle.brk_model.specs.Records.{Customer}
 use Rattle.brk_model.specs.Tables.{Tables}
-use Rattle.brk_money.specs.Kinds.{same_type}
+use Rattle.brk_money.specs.Kinds.{is_same_trade_type}
 use Rattle.brk_money.specs.Spelling.{Text}
 use Rattle.brk_money.specs.declared.trade_type.TradeType.{TradeType}
 use Rattle.brk_changes.specs.declared.holding_row.HoldingRow.{HoldingRow}
-use Rattle.brk_book_theorems.specs.TradeReads.{position_in}
+use Rattle.brk_book_theorems.specs.TradeReads.{position_lots}
 
 -- ---- lookups
 
 -- The last price of the symbol, or `None` if the symbol has no row of LAST_TRADE.
-abbrev pub last_price_in : Tables → Text → Option ℕ
-last_price_in t symbol = option_map (λ r. r.price) (find (λ r. bytes_eq r.symbol symbol) t.last_trades)
+abbrev pub last_price_of_symbol : Tables → Text → Option ℕ
+last_price_of_symbol t symbol = option_map (λ r. r.price) (find (λ r. bytes_eq r.symbol symbol) t.last_trades)
 
 -- The charge for the trade type and the customer tier, or `None` if there is no such charge.
-abbrev pub charge_in : Tables → TradeType → ℕ → Option ℕ
-charge_in t kind tier = option_map (λ r. r.amount) (find (λ r. same_type r.kind kind && (r.tier == tier)) t.charges)
+abbrev pub charge_of_type_and_tier : Tables → TradeType → ℕ → Option ℕ
+charge_of_type_and_tier t kind tier = option_map (λ r. r.amount) (find (λ r. is_same_trade_type r.kind kind && (r.tier == tier)) t.charges)
 
 -- The number of the last row of TRADE, or `None` if there are no trades.
-abbrev pub last_trade_id_in : Tables → Option ℕ
-last_trade_id_in t = option_map (λ r. r.id) (slice_get (reverse t.trades) 0)
+abbrev pub last_trade_row_id : Tables → Option ℕ
+last_trade_row_id t = option_map (λ r. r.id) (slice_get (reverse t.trades) 0)
 
 -- The customer of the account satisfies `holds`. Vacuous if the account or its customer does not
 -- exist.
-abbrev pub IfCustomer : Tables → ℕ → (Customer → Type 0) → Type 0
-IfCustomer t account holds = IfSome (account_in t account) (λ a. IfSome (find (λ r. r.id == a.customer) t.customers) holds)
+abbrev pub CustomerOfAccountSatisfies : Tables → ℕ → (Customer → Type 0) → Type 0
+CustomerOfAccountSatisfies t account holds = IfSome (account_row_with_id t account) (λ a. IfSome (find (λ r. r.id == a.customer) t.customers) holds)
 
 -- ---- lots
 
 -- The lot of a typed row of HOLDING: the row without its account and symbol.
-abbrev pub lot_in : HoldingRow → Lot
-lot_in r = record { trade = r.trade; price = r.price; qty = r.qty; stamp = r.stamp }
+abbrev pub lot_of_typed_row : HoldingRow → Lot
+lot_of_typed_row r = record { trade = r.trade; price = r.price; qty = r.qty; stamp = r.stamp }
 
 -- The lots of the account in the symbol satisfy `given`. They are listed from the oldest on, or
 -- from the newest on if `lifo` is true.
-abbrev pub GivesLots : Tables → ℕ → Text → Bool → (List Lot → Type 0) → Type 0
-GivesLots t account symbol lifo given = given (from_end lifo (position_in t account symbol))
+abbrev pub PositionLotsSatisfy : Tables → ℕ → Text → Bool → (List Lot → Type 0) → Type 0
+PositionLotsSatisfy t account symbol lifo given = given (list_in_closing_order lifo (position_lots t account symbol))

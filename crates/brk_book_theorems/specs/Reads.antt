@@ -2,64 +2,64 @@
 use Rattle.std.specs.Prelude.{ℕ, ◌==◌, ◌&&◌, Bool, List, length, filter, find, sum_by, is_some, Option, option_map, unwrap_or, bytes_eq}
 use Rattle.std.specs.List.{list_any}
 use Rattle.brk_money.specs.Spelling.{Text}
-use Rattle.brk_money.specs.Kinds.{same_type}
+use Rattle.brk_money.specs.Kinds.{is_same_trade_type}
 use Rattle.brk_money.specs.declared.trade_type.TradeType.{TradeType}
 use Rattle.brk_model.specs.Records.{Band, TaxRate}
 use Rattle.brk_model.specs.Tables.{Tables}
-use Rattle.brk_model.specs.Tests.{bands_meet}
+use Rattle.brk_model.specs.Tests.{bands_overlap}
 
 -- True if the tables contain a broker with the id `id`.
-abbrev pub finds_broker : Tables → ℕ → Bool
-finds_broker t id = is_some (find (λ r. r.id == id) t.brokers)
+abbrev pub contains_broker : Tables → ℕ → Bool
+contains_broker t id = is_some (find (λ r. r.id == id) t.brokers)
 
 -- True if the tables contain a customer with the id `id`.
-abbrev pub finds_customer : Tables → ℕ → Bool
-finds_customer t id = is_some (find (λ r. r.id == id) t.customers)
+abbrev pub contains_customer : Tables → ℕ → Bool
+contains_customer t id = is_some (find (λ r. r.id == id) t.customers)
 
 -- True if the tables contain a customer with the tax id `tax_id`.
-abbrev pub finds_tax_id : Tables → Text → Bool
-finds_tax_id t tax_id = is_some (find (λ r. bytes_eq r.tax_id tax_id) t.customers)
+abbrev pub contains_tax_id : Tables → Text → Bool
+contains_tax_id t tax_id = is_some (find (λ r. bytes_eq r.tax_id tax_id) t.customers)
 
 -- True if the tables contain an account with the id `id`.
-abbrev pub finds_account : Tables → ℕ → Bool
-finds_account t id = is_some (find (λ r. r.id == id) t.accounts)
+abbrev pub contains_account : Tables → ℕ → Bool
+contains_account t id = is_some (find (λ r. r.id == id) t.accounts)
 
 -- The number of accounts of the customer.
-abbrev pub accounts_of : Tables → ℕ → ℕ
-accounts_of t customer = length (filter (λ r. r.customer == customer) t.accounts)
+abbrev pub account_count_of_customer : Tables → ℕ → ℕ
+account_count_of_customer t customer = length (filter (λ r. r.customer == customer) t.accounts)
 
 -- True if the account has a permission for the tax id.
-abbrev pub finds_permission : Tables → ℕ → Text → Bool
-finds_permission t account tax_id = is_some (find (λ r. (r.account == account) && bytes_eq r.tax_id tax_id) t.permissions)
+abbrev pub contains_permission : Tables → ℕ → Text → Bool
+contains_permission t account tax_id = is_some (find (λ r. (r.account == account) && bytes_eq r.tax_id tax_id) t.permissions)
 
 -- True if the tables contain a security with the symbol.
-abbrev pub finds_security : Tables → Text → Bool
-finds_security t symbol = is_some (find (λ r. bytes_eq r.symbol symbol) t.securities)
+abbrev pub contains_security : Tables → Text → Bool
+contains_security t symbol = is_some (find (λ r. bytes_eq r.symbol symbol) t.securities)
 
 -- True if the tables contain a charge for the trade type and the customer tier.
-abbrev pub finds_charge : Tables → TradeType → ℕ → Bool
-finds_charge t kind tier = is_some (find (λ r. same_type r.kind kind && (r.tier == tier)) t.charges)
+abbrev pub contains_charge : Tables → TradeType → ℕ → Bool
+contains_charge t kind tier = is_some (find (λ r. is_same_trade_type r.kind kind && (r.tier == tier)) t.charges)
 
 -- The bands of the customer tier, the trade type and the exchange, in the order of the table.
-abbrev pub bands_of : Tables → ℕ → TradeType → Text → List Band
-bands_of t tier kind exchange = filter (λ r. (r.tier == tier) && same_type r.kind kind && bytes_eq r.exchange exchange) t.bands
+abbrev pub matching_bands : Tables → ℕ → TradeType → Text → List Band
+matching_bands t tier kind exchange = filter (λ r. (r.tier == tier) && is_same_trade_type r.kind kind && bytes_eq r.exchange exchange) t.bands
 
 -- True if a band in the tables with the tier, type and exchange of the band `b` shares a quantity
 -- with `b`.
-abbrev pub has_overlap : Tables → Band → Bool
-has_overlap t b = list_any (bands_meet b) (bands_of t b.tier b.kind b.exchange)
+abbrev pub overlaps_some_band : Tables → Band → Bool
+overlaps_some_band t b = list_any (bands_overlap b) (matching_bands t b.tier b.kind b.exchange)
 
 -- The row of the tax rate with the id `id`, or `None` if there is none.
-abbrev pub tax_rate_of : Tables → ℕ → Option TaxRate
-tax_rate_of t id = find (λ r. r.id == id) t.tax_rates
+abbrev pub tax_rate_with_id : Tables → ℕ → Option TaxRate
+tax_rate_with_id t id = find (λ r. r.id == id) t.tax_rates
 
 -- True if the tables contain a tax rate with the id `id`.
-abbrev pub finds_tax_rate : Tables → ℕ → Bool
-finds_tax_rate t id = is_some (tax_rate_of t id)
+abbrev pub contains_tax_rate : Tables → ℕ → Bool
+contains_tax_rate t id = is_some (tax_rate_with_id t id)
 
 -- The rate of the tax rate with the id `tax`, or `None` if there is none.
-abbrev pub rate_of : Tables → ℕ → Option ℕ
-rate_of t tax = option_map (λ r. r.rate) (tax_rate_of t tax)
+abbrev pub rate_by_tax_id : Tables → ℕ → Option ℕ
+rate_by_tax_id t tax = option_map (λ r. r.rate) (tax_rate_with_id t tax)
 
 -- True if CUSTOMER_TAXRATE has a row with the customer and the tax rate `tax`.
 abbrev pub pays_tax : Tables → ℕ → ℕ → Bool
@@ -67,5 +67,5 @@ pays_tax t customer tax = is_some (find (λ r. (r.customer == customer) && (r.ta
 
 -- The sum of the rates of the taxes that the customer pays. A tax rate that does not exist counts
 -- 0.
-abbrev pub rates_of_customer : Tables → ℕ → ℕ
-rates_of_customer t customer = sum_by (λ r. unwrap_or (rate_of t r.tax) 0) (filter (λ r. r.customer == customer) t.customer_taxes)
+abbrev pub rate_sum_of_customer : Tables → ℕ → ℕ
+rate_sum_of_customer t customer = sum_by (λ r. unwrap_or (rate_by_tax_id t r.tax) 0) (filter (λ r. r.customer == customer) t.customer_taxes)

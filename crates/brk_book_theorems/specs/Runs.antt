@@ -1,58 +1,58 @@
 -- Properties of whole runs of calls.
 use Rattle.std.specs.Prelude.{◌≡◌, ⊤, ℕ, true, List, ◌∷◌, Some}
-use Rattle.brk_model.specs.Base.{Base, completed, is_completed, trade_with}
+use Rattle.brk_model.specs.Base.{Base, completed_trades, is_completed, trade_with_id}
 use Rattle.brk_model.specs.Commands.{CompleteTrade, Done}
-use Rattle.brk_model.specs.Derived.{shares_in}
-use Rattle.brk_model.specs.Joins.{trade_in}
+use Rattle.brk_model.specs.Derived.{shares_of_position}
+use Rattle.brk_model.specs.Joins.{trade_row_with_id}
 use Rattle.brk_model.specs.Orders.{tax_on_deal}
 use Rattle.brk_model.specs.Records.{Trade}
-use Rattle.brk_model.specs.Results.{result_deal}
-use Rattle.brk_model.specs.Run.{Answers, Call, Did, Do, Outcome, Run}
+use Rattle.brk_model.specs.Results.{deal_of_result}
+use Rattle.brk_model.specs.Run.{IsOutcomeOfCall, Call, Did, Do, Outcome, Run}
 use Rattle.brk_model.specs.Sheets.{sheets}
 use Rattle.brk_model.specs.Tables.{Tables, TradeRow}
-use Rattle.brk_model.specs.Tests.{next_stamp}
+use Rattle.brk_model.specs.Tests.{stamp_of_next_command}
 use Rattle.brk_book_theorems.specs.Books.{BooksInvariant}
 use Rattle.brk_book_theorems.specs.Sums.{SumsMatch}
 
 -- The trade with the number `id` exists in the base, is completed, and has the tax `tax`.
-pub record IsTaxed (id tax : ℕ) (base : Base) : Type 0 where
+pub record CompletedTradeHasTax (id tax : ℕ) (base : Base) : Type 0 where
   pub trade : Trade
-  pub found : trade_with base id ≡ Some trade
+  pub found : trade_with_id base id ≡ Some trade
   pub completed : is_completed trade ≡ true
   pub taxed : trade.tax ≡ tax
 
 -- The row of the trade with the number `id` exists in the tables and has the tax `tax`.
-pub record HasTax (t : Tables) (id tax : ℕ) : Type 0 where
+pub record TradeRowHasTax (t : Tables) (id tax : ℕ) : Type 0 where
   pub row : TradeRow
-  pub found : trade_in t id ≡ Some row
+  pub found : trade_row_with_id t id ≡ Some row
   pub taxed : row.tax ≡ tax
 
 -- The tax of the trade `t` if it is completed at the clock reading `now` and the price `price`. It
 -- is the tax on exactly the shares that the trade then closes, at the rates of the base.
-abbrev pub tax_upon : Base → ℕ → ℕ → Trade → ℕ
-tax_upon base now price t = tax_on_deal base t.account (result_deal (next_stamp base now) price t) (shares_in (completed base) t.account t.symbol)
+abbrev pub tax_at_completion : Base → ℕ → ℕ → Trade → ℕ
+tax_at_completion base now price t = tax_on_deal base t.account (deal_of_result (stamp_of_next_command base now) price t) (shares_of_position (completed_trades base) t.account t.symbol)
 
 -- If the call is an accepted result, the row of its trade in the tables `later` has the tax of its
 -- completion from `base` at the clock reading `now`. Vacuous for other calls and for other
 -- outcomes.
-abbrev pub KeepsTax : Tables → Base → ℕ → Call → Outcome → Type 0
-KeepsTax later base now (Do (CompleteTrade id price) key) (Did (Done reply)) =
-    (t : Trade) × (trade_with base id ≡ Some t) × HasTax later id (tax_upon base now price t)
-KeepsTax later base now call outcome = ⊤
+abbrev pub RecordsTaxOfResult : Tables → Base → ℕ → Call → Outcome → Type 0
+RecordsTaxOfResult later base now (Do (CompleteTrade id price) key) (Did (Done reply)) =
+    (t : Trade) × (trade_with_id base id ≡ Some t) × TradeRowHasTax later id (tax_at_completion base now price t)
+RecordsTaxOfResult later base now call outcome = ⊤
 
 -- For each accepted result of a run from `base`, the row of its trade in the tables `later` has the
 -- tax of its completion. Vacuous for other calls and for other outcomes.
-abbrev pub KeepTaxes : Tables → Base → List (ℕ × Call) → List Outcome → Type 0
-KeepTaxes later base (call ∷ calls) (outcome ∷ outcomes) =
-    KeepsTax later base call.0 call.1 outcome
-    × ((mid : Base) × Answers base call.0 call.1 outcome mid × KeepTaxes later mid calls outcomes)
-KeepTaxes later base calls outcomes = ⊤
+abbrev pub RecordsTaxesOfResults : Tables → Base → List (ℕ × Call) → List Outcome → Type 0
+RecordsTaxesOfResults later base (call ∷ calls) (outcome ∷ outcomes) =
+    RecordsTaxOfResult later base call.0 call.1 outcome
+    × ((mid : Base) × IsOutcomeOfCall base call.0 call.1 outcome mid × RecordsTaxesOfResults later mid calls outcomes)
+RecordsTaxesOfResults later base calls outcomes = ⊤
 
 -- The calls can have these outcomes and lead from `base` to `after`, which satisfies the books
 -- invariant. The sums in its tables match their rows, and the trade of each accepted result has the
 -- tax of its completion.
-pub record RunAddsUp (base : Base) (calls : List (ℕ × Call)) (outcomes : List Outcome) (after : Base) : Type 0 where
+pub record IsRunWithSumsAndTaxes (base : Base) (calls : List (ℕ × Call)) (outcomes : List Outcome) (after : Base) : Type 0 where
   pub run : Run base calls outcomes after
   pub order : BooksInvariant after
   pub sums : SumsMatch (sheets after)
-  pub taxes : KeepTaxes (sheets after) base calls outcomes
+  pub taxes : RecordsTaxesOfResults (sheets after) base calls outcomes

@@ -3,68 +3,68 @@ use Rattle.std.specs.Prelude.{◌≡◌, ◌≢◌, ℕ, ◌==◌, ◌&&◌, Boo
 use Rattle.std.specs.List.{AllByRecursion}
 use Rattle.std.specs.Option.{option_map_or}
 use Rattle.brk_lots.specs.Position.{IsPosition}
-use Rattle.brk_money.specs.Kinds.{same_status}
+use Rattle.brk_money.specs.Kinds.{is_same_trade_status}
 use Rattle.brk_money.specs.declared.status.Status.TheVariants.{Completed}
 use Rattle.brk_money.specs.Spelling.{Text}
-use Rattle.brk_model.specs.Joins.{account_in, trade_in}
+use Rattle.brk_model.specs.Joins.{account_row_with_id, trade_row_with_id}
 use Rattle.brk_model.specs.Lists.{total_by}
 use Rattle.brk_model.specs.Tables.{AccountRow, BrokerRow, MoveRow, HoldingRow, SummaryRow, Tables, TradeRow}
-use Rattle.brk_book_theorems.specs.Lives.{LotsLive}
-use Rattle.brk_book_theorems.specs.TradeReads.{position_in, summary_in}
+use Rattle.brk_book_theorems.specs.Lives.{AllLotChangesFormChains}
+use Rattle.brk_book_theorems.specs.TradeReads.{position_lots, summary_row_of_position}
 
 -- The rows of CASH_MOVE of the account, in the order of the table.
-abbrev pub cash_of_account : Tables → ℕ → List MoveRow
-cash_of_account t account = filter (λ r. r.account == account) t.moves
+abbrev pub cash_rows_of_account : Tables → ℕ → List MoveRow
+cash_rows_of_account t account = filter (λ r. r.account == account) t.moves
 
 -- True if the trade `r` is completed and the broker of its account is `broker`.
-abbrev pub is_of_broker : Tables → ℕ → TradeRow → Bool
-is_of_broker t broker r = same_status r.status Completed && (option_map_or (λ a. a.broker) (account_in t r.account) 0 == broker)
+abbrev pub is_completed_for_broker : Tables → ℕ → TradeRow → Bool
+is_completed_for_broker t broker r = is_same_trade_status r.status Completed && (option_map_or (λ a. a.broker) (account_row_with_id t r.account) 0 == broker)
 
 -- The completed trades of the broker's accounts, in the order of the table.
-abbrev pub done_of_broker : Tables → ℕ → List TradeRow
-done_of_broker t broker = filter (is_of_broker t broker) t.trades
+abbrev pub completed_rows_of_broker : Tables → ℕ → List TradeRow
+completed_rows_of_broker t broker = filter (is_completed_for_broker t broker) t.trades
 
 -- True if the row of HOLDING belongs to the account and the symbol.
-abbrev pub is_lot_of : ℕ → Text → HoldingRow → Bool
-is_lot_of account symbol h = (h.account == account) && bytes_eq h.symbol symbol
+abbrev pub is_lot_of_position : ℕ → Text → HoldingRow → Bool
+is_lot_of_position account symbol h = (h.account == account) && bytes_eq h.symbol symbol
 
 -- The sum of the quantities of the lots of the account in the symbol.
-abbrev pub held_in : Tables → ℕ → Text → ℤ
-held_in t account symbol = total_by (λ h. h.qty) (filter (is_lot_of account symbol) t.holdings)
+abbrev pub lot_sum_of_position : Tables → ℕ → Text → ℤ
+lot_sum_of_position t account symbol = total_by (λ h. h.qty) (filter (is_lot_of_position account symbol) t.holdings)
 
 -- ---- all rows of a kind
 
 -- The trade count and the commission total of the broker's row equal the number of completed trades
 -- of the broker's accounts and the sum of their commissions.
-pub record IsBrokerSum (t : Tables) (b : BrokerRow) : Type 0 where
-  pub trades : b.trades ≡ pos (length (done_of_broker t b.id))
-  pub commissions : b.commissions ≡ sum_by (λ r. r.commission) (done_of_broker t b.id)
+pub record BrokerTotalsMatch (t : Tables) (b : BrokerRow) : Type 0 where
+  pub trades : b.trades ≡ pos (length (completed_rows_of_broker t b.id))
+  pub commissions : b.commissions ≡ sum_by (λ r. r.commission) (completed_rows_of_broker t b.id)
 
 -- The balance of the account's row equals its opening balance plus the amounts of its cash rows.
-abbrev pub IsBalance : Tables → AccountRow → Type 0
-IsBalance t a = a.balance ≡ a.opening +ℤ total_by (λ c. c.amount) (cash_of_account t a.id)
+abbrev pub BalanceMatchesCashRows : Tables → AccountRow → Type 0
+BalanceMatchesCashRows t a = a.balance ≡ a.opening +ℤ total_by (λ c. c.amount) (cash_rows_of_account t a.id)
 
 -- The quantity of the summary equals the sum of the lots of its account in its symbol, and is not
 -- 0.
-pub record IsSummary (t : Tables) (s : SummaryRow) : Type 0 where
-  pub sum : s.qty ≡ held_in t s.account s.symbol
+pub record SummaryMatchesLots (t : Tables) (s : SummaryRow) : Type 0 where
+  pub sum : s.qty ≡ lot_sum_of_position t s.account s.symbol
   pub some : s.qty ≢ pos 0
 
 -- The account of the lot has a summary in the symbol of the lot.
-abbrev pub IsSummed : Tables → HoldingRow → Type 0
-IsSummed t h = is_some (summary_in t h.account h.symbol) ≡ true
+abbrev pub LotHasSummary : Tables → HoldingRow → Type 0
+LotHasSummary t h = is_some (summary_row_of_position t h.account h.symbol) ≡ true
 
 -- The broker totals, balances and summaries in the tables equal the sums of the rows that they
 -- count. Each lot has a summary, the lots of an account in a symbol form a position, and the
 -- changes of each lot form a chain.
 pub record SumsMatch (t : Tables) : Type 0 where
-  pub brokers : AllByRecursion (IsBrokerSum t) t.brokers
-  pub balances : AllByRecursion (IsBalance t) t.accounts
-  pub summaries : AllByRecursion (IsSummary t) t.summaries
+  pub brokers : AllByRecursion (BrokerTotalsMatch t) t.brokers
+  pub balances : AllByRecursion (BalanceMatchesCashRows t) t.accounts
+  pub summaries : AllByRecursion (SummaryMatchesLots t) t.summaries
   -- Each lot has a summary.
-  pub summed : AllByRecursion (IsSummed t) t.holdings
+  pub summed : AllByRecursion (LotHasSummary t) t.holdings
   -- The lots of an account in a symbol form a position: none is 0, and all have one side.
-  pub positions : (account : ℕ) (symbol : Text) → IsPosition (position_in t account symbol)
+  pub positions : (account : ℕ) (symbol : Text) → IsPosition (position_lots t account symbol)
   -- The changes of each lot form a chain: from 0 to the quantity that its own trade opened, then
   -- strictly nearer to 0, and at last to the remaining quantity.
-  pub lives : LotsLive t
+  pub lives : AllLotChangesFormChains t

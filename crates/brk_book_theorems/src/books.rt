@@ -3,60 +3,60 @@
 ghost use Rattle.std.specs.Prelude.{ℕ, List, Option};
 ghost use Rattle.brk_model.specs.Base.{Base, empty_base};
 ghost use Rattle.brk_model.specs.Commands.{AddAccount, AddBand, AddBroker, AddCharge, AddCustomer, AddCustomerTax, AddPermission, AddSecurity, AddTaxRate, CancelTrade, Command, CompleteTrade, FeedTicks, Listing, Order, PlaceOrder, Reply, Tick, DepositCash, SetOneDay, WithdrawCash};
-ghost use Rattle.brk_model.specs.Keyed.{keeping};
+ghost use Rattle.brk_model.specs.Keyed.{base_with_stored_reply};
 ghost use Rattle.brk_model.specs.Records.{Account, Band, Broker, Charge, Customer, CustomerTax, Key, Permission, TaxRate};
 ghost use Rattle.brk_book_theorems.specs.Books.{BooksInvariant};
-ghost use Rattle.brk_book_theorems.specs.Steps.{LeavesBooks};
+ghost use Rattle.brk_book_theorems.specs.Steps.{PreservesBooksInvariant};
 
 /// Proves that the empty base satisfies the books invariant.
-pub fn the_empty_base_is_in_order()
+pub fn empty_base_satisfies_books_invariant()
     ensures { BooksInvariant empty_base }
 {}
 
 /// Proves that each accepted command that adds a record of reference data preserves the books
 /// invariant.
-pub fn records_preserve_the_invariant()
-    ensures broker { (base : Base) (now : ℕ) (b : Broker) → LeavesBooks base now (AddBroker b) }
-    ensures customer { (base : Base) (now : ℕ) (c : Customer) → LeavesBooks base now (AddCustomer c) }
-    ensures account { (base : Base) (now : ℕ) (a : Account) → LeavesBooks base now (AddAccount a) }
-    ensures permission { (base : Base) (now : ℕ) (p : Permission) → LeavesBooks base now (AddPermission p) }
-    ensures security { (base : Base) (now : ℕ) (l : Listing) → LeavesBooks base now (AddSecurity l) }
-    ensures charge { (base : Base) (now : ℕ) (c : Charge) → LeavesBooks base now (AddCharge c) }
-    ensures band { (base : Base) (now : ℕ) (b : Band) → LeavesBooks base now (AddBand b) }
-    ensures tax_rate { (base : Base) (now : ℕ) (r : TaxRate) → LeavesBooks base now (AddTaxRate r) }
-    ensures customer_tax { (base : Base) (now : ℕ) (x : CustomerTax) → LeavesBooks base now (AddCustomerTax x) }
+pub fn records_preserve_books_invariant()
+    ensures broker { (base : Base) (now : ℕ) (b : Broker) → PreservesBooksInvariant base now (AddBroker b) }
+    ensures customer { (base : Base) (now : ℕ) (c : Customer) → PreservesBooksInvariant base now (AddCustomer c) }
+    ensures account { (base : Base) (now : ℕ) (a : Account) → PreservesBooksInvariant base now (AddAccount a) }
+    ensures permission { (base : Base) (now : ℕ) (p : Permission) → PreservesBooksInvariant base now (AddPermission p) }
+    ensures security { (base : Base) (now : ℕ) (l : Listing) → PreservesBooksInvariant base now (AddSecurity l) }
+    ensures charge { (base : Base) (now : ℕ) (c : Charge) → PreservesBooksInvariant base now (AddCharge c) }
+    ensures band { (base : Base) (now : ℕ) (b : Band) → PreservesBooksInvariant base now (AddBand b) }
+    ensures tax_rate { (base : Base) (now : ℕ) (r : TaxRate) → PreservesBooksInvariant base now (AddTaxRate r) }
+    ensures customer_tax { (base : Base) (now : ℕ) (x : CustomerTax) → PreservesBooksInvariant base now (AddCustomerTax x) }
 {}
 
 /// Proves that an accepted order preserves the books invariant.
-pub fn orders_preserve_the_invariant()
-    ensures { (base : Base) (now : ℕ) (o : Order) → LeavesBooks base now (PlaceOrder o) }
+pub fn orders_preserve_books_invariant()
+    ensures { (base : Base) (now : ℕ) (o : Order) → PreservesBooksInvariant base now (PlaceOrder o) }
 {}
 
 /// Proves that an accepted cancel preserves the books invariant.
-pub fn cancels_preserve_the_invariant()
-    ensures { (base : Base) (now id : ℕ) → LeavesBooks base now (CancelTrade id) }
+pub fn cancels_preserve_books_invariant()
+    ensures { (base : Base) (now id : ℕ) → PreservesBooksInvariant base now (CancelTrade id) }
 {}
 
 /// Proves that an accepted feed preserves the books invariant.
-pub fn feeds_preserve_the_invariant()
-    ensures { (base : Base) (now : ℕ) (ticks : List Tick) → LeavesBooks base now (FeedTicks ticks) }
+pub fn feeds_preserve_books_invariant()
+    ensures { (base : Base) (now : ℕ) (ticks : List Tick) → PreservesBooksInvariant base now (FeedTicks ticks) }
 {}
 
 /// Proves that an accepted result preserves the books invariant.
-pub fn results_preserve_the_invariant()
-    ensures { (base : Base) (now id price : ℕ) → LeavesBooks base now (CompleteTrade id price) }
+pub fn results_preserve_books_invariant()
+    ensures { (base : Base) (now id price : ℕ) → PreservesBooksInvariant base now (CompleteTrade id price) }
 {}
 
 /// Proves that an accepted deposit, an accepted withdrawal and an accepted settlement day preserve
 /// the books invariant.
-pub fn movements_preserve_the_invariant()
-    ensures deposit { (base : Base) (now account amount : ℕ) → LeavesBooks base now (DepositCash account amount) }
-    ensures withdrawal { (base : Base) (now account amount : ℕ) → LeavesBooks base now (WithdrawCash account amount) }
-    ensures one_day { (base : Base) (now day : ℕ) → LeavesBooks base now (SetOneDay day) }
+pub fn movements_preserve_books_invariant()
+    ensures deposit { (base : Base) (now account amount : ℕ) → PreservesBooksInvariant base now (DepositCash account amount) }
+    ensures withdrawal { (base : Base) (now account amount : ℕ) → PreservesBooksInvariant base now (WithdrawCash account amount) }
+    ensures one_day { (base : Base) (now day : ℕ) → PreservesBooksInvariant base now (SetOneDay day) }
 {}
 
 /// Proves that storing a command and its reply, under a key or under none, preserves the books
 /// invariant.
-pub fn kept_rows_preserve_the_invariant()
-    ensures { (base : Base) (key : Option Key) (command : Command) (reply : Reply) → BooksInvariant base → BooksInvariant (keeping key command reply base) }
+pub fn stored_replies_preserve_books_invariant()
+    ensures { (base : Base) (key : Option Key) (command : Command) (reply : Reply) → BooksInvariant base → BooksInvariant (base_with_stored_reply key command reply base) }
 {}

@@ -2,67 +2,67 @@
 
 ghost use Rattle.std.specs.Prelude.{◌≡◌, ℕ, List, None, Some, not};
 ghost use Rattle.std.specs.List.{AllByRecursion};
-ghost use Rattle.brk_money.specs.Kinds.{is_market};
-ghost use Rattle.brk_money.specs.OrderTypes.{kind_of};
-ghost use Rattle.brk_model.specs.Base.{Base, broker_of_account, completed, empty_base, trade_with};
+ghost use Rattle.brk_money.specs.Kinds.{is_market_type};
+ghost use Rattle.brk_money.specs.OrderTypes.{trade_type_of_order};
+ghost use Rattle.brk_model.specs.Base.{Base, broker_id_of_account, completed_trades, empty_base, trade_with_id};
 ghost use Rattle.brk_model.specs.Commands.{AddAccount, AddBand, AddBroker, AddCharge, AddCustomer, AddCustomerTax, AddPermission, AddSecurity, AddTaxRate, CancelTrade, Command, CompleteTrade, DepositCash, FeedTicks, Listing, Order, PlaceOrder, Reply, SetOneDay, Tick, WithdrawCash};
 ghost use Rattle.brk_model.specs.Derived.{due_day};
-ghost use Rattle.brk_model.specs.Feed.{triggered_by};
-ghost use Rattle.brk_model.specs.Keyed.{keeping, kept_under};
-ghost use Rattle.brk_model.specs.Movements.{deposit, withdrawal};
+ghost use Rattle.brk_model.specs.Feed.{triggered_trade_ids};
+ghost use Rattle.brk_model.specs.Keyed.{base_with_stored_reply, stored_row_with_key};
+ghost use Rattle.brk_model.specs.Movements.{deposit_movement, withdrawal_movement};
 ghost use Rattle.brk_model.specs.Orders.{ordered_trade};
 ghost use Rattle.brk_model.specs.Records.{Account, Band, Broker, Charge, Customer, CustomerTax, Key, Permission, TaxRate, Trade};
 ghost use Rattle.brk_model.specs.Sheets.{sheets};
-ghost use Rattle.brk_model.specs.Tables.{no_rows, trade_row};
-ghost use Rattle.brk_model.specs.Tests.{next_stamp, refusal_of};
-ghost use Rattle.brk_changes.specs.Changes.{with_account, with_band, with_broker, with_charge, with_customer, with_customer_tax, with_kept, with_permission, with_rule, with_tax_rate};
+ghost use Rattle.brk_model.specs.Tables.{tables_without_rows, trade_row};
+ghost use Rattle.brk_model.specs.Tests.{stamp_of_next_command, refusal_of_command};
+ghost use Rattle.brk_changes.specs.Changes.{tables_with_account, tables_with_band, tables_with_broker, tables_with_charge, tables_with_customer, tables_with_customer_tax, tables_with_stored_reply, tables_with_permission, tables_with_settlement_day, tables_with_tax_rate};
 ghost use Rattle.brk_book_theorems.specs.Books.{BooksInvariant};
-ghost use Rattle.brk_book_theorems.specs.Steps.{ChangesRows, kept_row, with_listing};
-ghost use Rattle.brk_book_theorems.specs.Movements.{rows_of_movement};
-ghost use Rattle.brk_book_theorems.specs.Results.{result_rows, rows_of_result};
-ghost use Rattle.brk_book_theorems.specs.Trading.{cancel_rows, fed_trades, feed_rows, order_rows};
+ghost use Rattle.brk_book_theorems.specs.Steps.{HasTableEffect, stored_reply_row, with_listing};
+ghost use Rattle.brk_book_theorems.specs.Movements.{tables_after_movement};
+ghost use Rattle.brk_book_theorems.specs.Results.{tables_after_result, result_rows_of_trade};
+ghost use Rattle.brk_book_theorems.specs.Trading.{tables_after_cancel, ids_triggered_by_feed, tables_after_feed, tables_after_order};
 
 /// Proves that the tables of the empty base have no rows.
 pub fn the_empty_base_has_no_rows()
-    ensures { sheets empty_base ≡ no_rows }
+    ensures { sheets empty_base ≡ tables_without_rows }
 {}
 
 /// Proves that an accepted command of reference data adds one row, a security two, and sets the
 /// last stamp. No other row changes, if the base satisfies the books invariant.
-pub fn records_are_rows()
-    ensures broker { (base : Base) (now : ℕ) (b : Broker) → ChangesRows base now (AddBroker b) (with_broker b) }
-    ensures customer { (base : Base) (now : ℕ) (c : Customer) → ChangesRows base now (AddCustomer c) (with_customer c) }
-    ensures account { (base : Base) (now : ℕ) (a : Account) → ChangesRows base now (AddAccount a) (with_account a) }
-    ensures permission { (base : Base) (now : ℕ) (p : Permission) → ChangesRows base now (AddPermission p) (with_permission p) }
-    ensures security { (base : Base) (now : ℕ) (l : Listing) → ChangesRows base now (AddSecurity l) (with_listing (next_stamp base now) l) }
-    ensures charge { (base : Base) (now : ℕ) (c : Charge) → ChangesRows base now (AddCharge c) (with_charge c) }
-    ensures band { (base : Base) (now : ℕ) (b : Band) → ChangesRows base now (AddBand b) (with_band b) }
-    ensures tax_rate { (base : Base) (now : ℕ) (r : TaxRate) → ChangesRows base now (AddTaxRate r) (with_tax_rate r) }
-    ensures customer_tax { (base : Base) (now : ℕ) (x : CustomerTax) → ChangesRows base now (AddCustomerTax x) (with_customer_tax x) }
+pub fn records_add_only_their_rows()
+    ensures broker { (base : Base) (now : ℕ) (b : Broker) → HasTableEffect base now (AddBroker b) (tables_with_broker b) }
+    ensures customer { (base : Base) (now : ℕ) (c : Customer) → HasTableEffect base now (AddCustomer c) (tables_with_customer c) }
+    ensures account { (base : Base) (now : ℕ) (a : Account) → HasTableEffect base now (AddAccount a) (tables_with_account a) }
+    ensures permission { (base : Base) (now : ℕ) (p : Permission) → HasTableEffect base now (AddPermission p) (tables_with_permission p) }
+    ensures security { (base : Base) (now : ℕ) (l : Listing) → HasTableEffect base now (AddSecurity l) (with_listing (stamp_of_next_command base now) l) }
+    ensures charge { (base : Base) (now : ℕ) (c : Charge) → HasTableEffect base now (AddCharge c) (tables_with_charge c) }
+    ensures band { (base : Base) (now : ℕ) (b : Band) → HasTableEffect base now (AddBand b) (tables_with_band b) }
+    ensures tax_rate { (base : Base) (now : ℕ) (r : TaxRate) → HasTableEffect base now (AddTaxRate r) (tables_with_tax_rate r) }
+    ensures customer_tax { (base : Base) (now : ℕ) (x : CustomerTax) → HasTableEffect base now (AddCustomerTax x) (tables_with_customer_tax x) }
 {}
 
 /// Proves that an accepted order adds its row of TRADE, one row of TRADE_HISTORY and, if it is
 /// pending, one row of TRADE_REQUEST with the broker of its account, and sets the last stamp. No
 /// other row changes, if the base satisfies the books invariant.
-pub fn orders_are_rows()
+pub fn orders_change_only_their_rows()
     ensures { (base : Base) (now : ℕ) (o : Order)
-        → ChangesRows base now (PlaceOrder o) (order_rows (trade_row (ordered_trade base (next_stamp base now) o)) (not (is_market (kind_of o.order_type))) (broker_of_account base o.account)) }
+        → HasTableEffect base now (PlaceOrder o) (tables_after_order (trade_row (ordered_trade base (stamp_of_next_command base now) o)) (not (is_market_type (trade_type_of_order o.order_type))) (broker_id_of_account base o.account)) }
 {}
 
 /// Proves that an accepted cancel sets its trade's status, adds a row of TRADE_HISTORY, deletes the
 /// trade's row of TRADE_REQUEST, and sets the last stamp. No other row changes, if the base
 /// satisfies the books invariant.
-pub fn cancels_are_rows()
-    ensures { (base : Base) (now id : ℕ) → ChangesRows base now (CancelTrade id) (cancel_rows (next_stamp base now) id) }
+pub fn cancels_change_only_their_rows()
+    ensures { (base : Base) (now id : ℕ) → HasTableEffect base now (CancelTrade id) (tables_after_cancel (stamp_of_next_command base now) id) }
 {}
 
 /// Proves that an accepted feed, tick by tick, sets the last trade of the symbol and submits the
 /// trades whose requests the price triggers, and sets the last stamp. No other row changes, if the
 /// base satisfies the books invariant. The submitted trades are the triggered trades of the model.
-pub fn feeds_are_rows()
-    ensures rows { (base : Base) (now : ℕ) (ticks : List Tick) → ChangesRows base now (FeedTicks ticks) (feed_rows (next_stamp base now) ticks) }
-    ensures triggered { (base : Base) (now : ℕ) (ticks : List Tick) → BooksInvariant base → refusal_of base now (FeedTicks ticks) ≡ None
-        → triggered_by (next_stamp base now) base ticks ≡ fed_trades (next_stamp base now) ticks (sheets base) }
+pub fn feeds_change_only_their_rows()
+    ensures rows { (base : Base) (now : ℕ) (ticks : List Tick) → HasTableEffect base now (FeedTicks ticks) (tables_after_feed (stamp_of_next_command base now) ticks) }
+    ensures triggered { (base : Base) (now : ℕ) (ticks : List Tick) → BooksInvariant base → refusal_of_command base now (FeedTicks ticks) ≡ None
+        → triggered_trade_ids (stamp_of_next_command base now) base ticks ≡ ids_triggered_by_feed (stamp_of_next_command base now) ticks (sheets base) }
 {}
 
 /// Proves that an accepted result completes its trade and adds the completion to its history. It
@@ -70,33 +70,33 @@ pub fn feeds_are_rows()
 /// sets the summary, adds the settlement, adds the cash row of a cash trade and sets its balance,
 /// adds to the broker totals, and sets the last stamp. No other row changes, if the base satisfies
 /// the books invariant.
-pub fn results_are_rows()
-    ensures { (base : Base) (now id price : ℕ) (t : Trade) → trade_with base id ≡ Some t
-        → ChangesRows base now (CompleteTrade id price) (result_rows (rows_of_result base (next_stamp base now) price t)) }
+pub fn results_change_only_their_rows()
+    ensures { (base : Base) (now id price : ℕ) (t : Trade) → trade_with_id base id ≡ Some t
+        → HasTableEffect base now (CompleteTrade id price) (tables_after_result (result_rows_of_trade base (stamp_of_next_command base now) price t)) }
 {}
 
 /// Proves that an accepted deposit or withdrawal adds a cash row with the next number, sets the
 /// balance of its account, and sets the last stamp. No other row changes, if the base satisfies the
 /// books invariant.
-pub fn movements_are_rows()
+pub fn movements_change_only_their_rows()
     ensures deposit { (base : Base) (now account amount : ℕ)
-        → ChangesRows base now (DepositCash account amount) (rows_of_movement base (deposit (next_stamp base now) account amount)) }
+        → HasTableEffect base now (DepositCash account amount) (tables_after_movement base (deposit_movement (stamp_of_next_command base now) account amount)) }
     ensures withdrawal { (base : Base) (now account amount : ℕ)
-        → ChangesRows base now (WithdrawCash account amount) (rows_of_movement base (withdrawal (next_stamp base now) account amount)) }
+        → HasTableEffect base now (WithdrawCash account amount) (tables_after_movement base (withdrawal_movement (stamp_of_next_command base now) account amount)) }
 {}
 
 /// Proves that an accepted settlement day sets only its own value and the last stamp, if the base
 /// satisfies the books invariant. The due days of the trades that were completed before do not
 /// change.
-pub fn a_settlement_day_is_a_row()
-    ensures row { (base : Base) (now day : ℕ) → ChangesRows base now (SetOneDay day) (with_rule day) }
-    ensures due_days { (base : Base) (now day : ℕ) → BooksInvariant base → refusal_of base now (SetOneDay day) ≡ None
-        → AllByRecursion (λ t. due_day (Some day) t ≡ due_day base.rule t) (completed base) }
+pub fn settlement_day_changes_only_its_row()
+    ensures row { (base : Base) (now day : ℕ) → HasTableEffect base now (SetOneDay day) (tables_with_settlement_day day) }
+    ensures due_days { (base : Base) (now day : ℕ) → BooksInvariant base → refusal_of_command base now (SetOneDay day) ≡ None
+        → AllByRecursion (λ t. due_day (Some day) t ≡ due_day base.rule t) (completed_trades base) }
 {}
 
 /// Proves that storing a command and its reply under a new key adds one row of KEPT. No other row
 /// changes.
-pub fn kept_rows_are_rows()
-    ensures { (base : Base) (key : Key) (command : Command) (reply : Reply) → kept_under base key ≡ None
-        → sheets (keeping (Some key) command reply base) ≡ with_kept (kept_row key command reply) (sheets base) }
+pub fn stored_replies_add_only_one_row()
+    ensures { (base : Base) (key : Key) (command : Command) (reply : Reply) → stored_row_with_key base key ≡ None
+        → sheets (base_with_stored_reply (Some key) command reply base) ≡ tables_with_stored_reply (stored_reply_row key command reply) (sheets base) }
 {}

@@ -2,30 +2,30 @@
 //! of calls from one.
 
 ghost use Rattle.std.specs.Prelude.{◌+ℤ◌, ◌≡◌, [], ℕ, List, None, Option, Some, map};
-ghost use Rattle.brk_lots.specs.Books.{deals_total, gains, lots_cost, lots_total, spent};
-ghost use Rattle.brk_lots.specs.Chains.{IsLife, changes_of_lot};
-ghost use Rattle.brk_lots.specs.Lots.{plain_lot, shares_of};
+ghost use Rattle.brk_lots.specs.Books.{deal_quantity_sum, realised_gain_sum, lot_cost_basis, lot_quantity_sum, purchases_minus_sales};
+ghost use Rattle.brk_lots.specs.Chains.{IsLotHistory, changes_of_lot};
+ghost use Rattle.brk_lots.specs.Lots.{abstract_lot, shares_of_lots};
 ghost use Rattle.brk_lots.specs.Position.{IsPosition};
 ghost use Rattle.brk_money.specs.Spelling.{Text};
-ghost use Rattle.brk_model.specs.Base.{Base, completed, empty_base, trade_with};
+ghost use Rattle.brk_model.specs.Base.{Base, completed_trades, empty_base, trade_with_id};
 ghost use Rattle.brk_model.specs.Commands.{Command, CompleteTrade, Done, Reply};
-ghost use Rattle.brk_model.specs.Derived.{deals_in, shares_in};
+ghost use Rattle.brk_model.specs.Derived.{deals_of_position, shares_of_position};
 ghost use Rattle.brk_model.specs.Keyed.{keyed_step};
 ghost use Rattle.brk_model.specs.Records.{Key, Trade};
 ghost use Rattle.brk_model.specs.Run.{Call, Outcome, Run};
-ghost use Rattle.brk_model.specs.Shares.{lot_qty, lots, replay};
+ghost use Rattle.brk_model.specs.Shares.{lot_quantity, lots_of_shares, replay};
 ghost use Rattle.brk_model.specs.Sheets.{sheets};
-ghost use Rattle.brk_model.specs.Tests.{refusal_of};
+ghost use Rattle.brk_model.specs.Tests.{refusal_of_command};
 ghost use Rattle.brk_book_theorems.specs.Books.{BooksInvariant};
-ghost use Rattle.brk_book_theorems.specs.Steps.{LeavesBooks, base_then};
-ghost use Rattle.brk_book_theorems.specs.Runs.{HasTax, IsTaxed, RunAddsUp, KeepTaxes, tax_upon};
+ghost use Rattle.brk_book_theorems.specs.Steps.{PreservesBooksInvariant, base_after_command};
+ghost use Rattle.brk_book_theorems.specs.Runs.{TradeRowHasTax, CompletedTradeHasTax, IsRunWithSumsAndTaxes, RecordsTaxesOfResults, tax_at_completion};
 ghost use Rattle.brk_book_theorems.specs.Sums.{SumsMatch};
-ghost use Rattle.brk_book_theorems.specs.TradeReads.{position_in};
+ghost use Rattle.brk_book_theorems.specs.TradeReads.{position_lots};
 
 /// Proves that every accepted command and every run of calls preserves the books invariant. A base
 /// that a run reaches from the empty base satisfies it.
-pub fn runs_preserve_the_invariant()
-    ensures command { (base : Base) (now : ℕ) (command : Command) → LeavesBooks base now command }
+pub fn runs_preserve_books_invariant()
+    ensures command { (base : Base) (now : ℕ) (command : Command) → PreservesBooksInvariant base now command }
     ensures run { (base : Base) (calls : List (ℕ × Call)) (outcomes : List Outcome) (after : Base)
         → BooksInvariant base → Run base calls outcomes after → BooksInvariant after }
     ensures first { (calls : List (ℕ × Call)) (outcomes : List Outcome) (after : Base)
@@ -38,35 +38,35 @@ pub fn runs_preserve_the_invariant()
 /// these shares, and the changes of each lot form a chain.
 pub fn lots_match_the_shares()
     ensures position { (base after : Base) (calls : List (ℕ × Call)) (outcomes : List Outcome) (account : ℕ) (symbol : Text)
-        → BooksInvariant base → Run base calls outcomes after → IsPosition (position_in (sheets after) account symbol) }
+        → BooksInvariant base → Run base calls outcomes after → IsPosition (position_lots (sheets after) account symbol) }
     ensures shares { (base after : Base) (calls : List (ℕ × Call)) (outcomes : List Outcome) (account : ℕ) (symbol : Text)
         → BooksInvariant base → Run base calls outcomes after
-        → shares_of (position_in (sheets after) account symbol) ≡ replay (deals_in (completed after) account symbol) }
+        → shares_of_lots (position_lots (sheets after) account symbol) ≡ replay (deals_of_position (completed_trades after) account symbol) }
     ensures lots { (base after : Base) (calls : List (ℕ × Call)) (outcomes : List Outcome) (account : ℕ) (symbol : Text)
         → BooksInvariant base → Run base calls outcomes after
-        → map plain_lot (position_in (sheets after) account symbol) ≡ lots (shares_in (completed after) account symbol) }
+        → map abstract_lot (position_lots (sheets after) account symbol) ≡ lots_of_shares (shares_of_position (completed_trades after) account symbol) }
     ensures lives { (base after : Base) (calls : List (ℕ × Call)) (outcomes : List Outcome) (account : ℕ) (symbol : Text) (lot : ℕ)
         → BooksInvariant base → Run base calls outcomes after
-        → IsLife (changes_of_lot lot (deals_in (completed after) account symbol) [])
-        (lot_qty (replay (deals_in (completed after) account symbol)) lot) }
+        → IsLotHistory (changes_of_lot lot (deals_of_position (completed_trades after) account symbol) [])
+        (lot_quantity (replay (deals_of_position (completed_trades after) account symbol)) lot) }
 {}
 
 /// Proves that after any run from a base that satisfies the books invariant, the quantities of the
 /// lots of an account in a symbol total purchases - sales. Their cost basis is purchases - sales +
 /// realised gains.
-pub fn lots_balance()
+pub fn lot_sums_match_deals()
     ensures quantities { (base after : Base) (calls : List (ℕ × Call)) (outcomes : List Outcome) (account : ℕ) (symbol : Text)
         → BooksInvariant base → Run base calls outcomes after
-        → lots_total (position_in (sheets after) account symbol) ≡ deals_total (deals_in (completed after) account symbol) }
+        → lot_quantity_sum (position_lots (sheets after) account symbol) ≡ deal_quantity_sum (deals_of_position (completed_trades after) account symbol) }
     ensures costs { (base after : Base) (calls : List (ℕ × Call)) (outcomes : List Outcome) (account : ℕ) (symbol : Text)
         → BooksInvariant base → Run base calls outcomes after
-        → lots_cost (position_in (sheets after) account symbol)
-        ≡ gains (deals_in (completed after) account symbol) [] +ℤ spent (deals_in (completed after) account symbol) }
+        → lot_cost_basis (position_lots (sheets after) account symbol)
+        ≡ realised_gain_sum (deals_of_position (completed_trades after) account symbol) [] +ℤ purchases_minus_sales (deals_of_position (completed_trades after) account symbol) }
 {}
 
 /// Proves that the sums in the tables of a base that satisfies the books invariant match their
 /// rows, and also those after any run from such a base.
-pub fn tables_add_up()
+pub fn table_sums_match_their_rows()
     ensures base { (base : Base) → BooksInvariant base → SumsMatch (sheets base) }
     ensures run { (base after : Base) (calls : List (ℕ × Call)) (outcomes : List Outcome)
         → BooksInvariant base → Run base calls outcomes after → SumsMatch (sheets after) }
@@ -75,26 +75,26 @@ pub fn tables_add_up()
 /// Proves that an accepted result, with or without a key, is taxed on exactly the shares that it
 /// closes, at the rates of the base before it, if that base satisfies the books invariant. Any run
 /// preserves this tax, and the row of the trade has it.
-pub fn results_are_taxed()
+pub fn results_are_taxed_on_closed_shares()
     ensures taxed { (base : Base) (now id price : ℕ) (t : Trade)
-        → BooksInvariant base → trade_with base id ≡ Some t → refusal_of base now (CompleteTrade id price) ≡ None
-        → IsTaxed id (tax_upon base now price t) (base_then base now (CompleteTrade id price)) }
+        → BooksInvariant base → trade_with_id base id ≡ Some t → refusal_of_command base now (CompleteTrade id price) ≡ None
+        → CompletedTradeHasTax id (tax_at_completion base now price t) (base_after_command base now (CompleteTrade id price)) }
     ensures called { (base after : Base) (now id price : ℕ) (key : Option Key) (reply : Reply)
         → BooksInvariant base → keyed_step base now (CompleteTrade id price) key ≡ (Done reply, after)
-        → (t : Trade) × (trade_with base id ≡ Some t) × IsTaxed id (tax_upon base now price t) after }
+        → (t : Trade) × (trade_with_id base id ≡ Some t) × CompletedTradeHasTax id (tax_at_completion base now price t) after }
     ensures stays { (base : Base) (calls : List (ℕ × Call)) (outcomes : List Outcome) (after : Base) (id tax : ℕ)
-        → BooksInvariant base → Run base calls outcomes after → IsTaxed id tax base → IsTaxed id tax after }
-    ensures row { (base : Base) (id tax : ℕ) → IsTaxed id tax base → HasTax (sheets base) id tax }
+        → BooksInvariant base → Run base calls outcomes after → CompletedTradeHasTax id tax base → CompletedTradeHasTax id tax after }
+    ensures row { (base : Base) (id tax : ℕ) → CompletedTradeHasTax id tax base → TradeRowHasTax (sheets base) id tax }
     ensures run { (base after : Base) (calls : List (ℕ × Call)) (outcomes : List Outcome)
-        → BooksInvariant base → Run base calls outcomes after → KeepTaxes (sheets after) base calls outcomes }
+        → BooksInvariant base → Run base calls outcomes after → RecordsTaxesOfResults (sheets after) base calls outcomes }
 {}
 
 /// Proves that a run from the empty base, or from a base that satisfies the books invariant, leads
 /// to a base that satisfies it. The sums in its tables match their rows, and each accepted result
 /// was taxed on exactly the shares that it closed.
-pub fn runs_add_up()
+pub fn runs_preserve_sums_and_taxes()
     ensures run { (base after : Base) (calls : List (ℕ × Call)) (outcomes : List Outcome)
-        → BooksInvariant base → Run base calls outcomes after → RunAddsUp base calls outcomes after }
+        → BooksInvariant base → Run base calls outcomes after → IsRunWithSumsAndTaxes base calls outcomes after }
     ensures first { (after : Base) (calls : List (ℕ × Call)) (outcomes : List Outcome)
-        → Run empty_base calls outcomes after → RunAddsUp empty_base calls outcomes after }
+        → Run empty_base calls outcomes after → IsRunWithSumsAndTaxes empty_base calls outcomes after }
 {}

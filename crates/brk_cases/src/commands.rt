@@ -1,11 +1,11 @@
 //! The commands of transcripts, each of which appends its output lines.
 
-use crate::escape::{Piece, add_line, add_written};
+use crate::escape::{Piece, append_output_line, append_written_bytes};
 use crate::failed::Failed;
-use crate::place::{Place, adopt};
-use crate::tables::add_tables;
-use crate::views::{add_refusal, ask, print};
-use brk_explain::{explain, parse_explain};
+use crate::place::{Place, adopt_into_place};
+use crate::tables::append_rows_of_all_tables;
+use crate::views::{append_refusal_line, execute_ask_command, execute_print_command};
+use brk_explain::{explain, parse_explain_request};
 use brk_http::serve_stream;
 use brk_import::brk_desk::Desk;
 use brk_import::{Clock, FaultKind, run_batch};
@@ -29,14 +29,14 @@ impl Clock for Still {
 }
 
 // Returns the clock that always returns this timestamp, or 0 if the word is no timestamp.
-fn clock_of(moment: &str) -> Still {
+fn fixed_clock_from_word(moment: &str) -> Still {
     Still {
         at: parse_stamp(moment.as_bytes()).unwrap_or(Stamp::nearest(0)),
     }
 }
 
 // Returns the bytes of all input lines, with their line feeds.
-fn block(alloc: Global, pieces: &[Piece]) -> Result<Vec<u8>, AllocError> {
+fn join_input_lines(alloc: Global, pieces: &[Piece]) -> Result<Vec<u8>, AllocError> {
     let mut bytes = Vec::new(alloc);
     for piece in pieces {
         bytes.extend_from_slice(&piece.bytes)?;
@@ -48,7 +48,7 @@ fn block(alloc: Global, pieces: &[Piece]) -> Result<Vec<u8>, AllocError> {
 }
 
 // Returns the word for a fault of a batch.
-fn kind_word(kind: FaultKind) -> &'static str {
+fn word_of_batch_fault(kind: FaultKind) -> &'static str {
     match kind {
         FaultKind::BadHeader => "bad header",
         FaultKind::NoEnd => "no end",
@@ -60,7 +60,7 @@ fn kind_word(kind: FaultKind) -> &'static str {
 }
 
 // Runs the input as a batch, and appends its lines and its fault.
-fn batch(
+fn execute_batch_command(
     alloc: Global,
     out: &mut String,
     desk: &mut Desk<MemStore>,
@@ -68,17 +68,28 @@ fn batch(
     input: &[u8],
 ) -> Result<(), Failed> {
     let mut lines = Vec::new(alloc);
-    let ended = run_batch(alloc, input, &mut lines, &mut clock_of(moment), desk);
-    add_written(out, &lines)?;
+    let ended = run_batch(
+        alloc,
+        input,
+        &mut lines,
+        &mut fixed_clock_from_word(moment),
+        desk,
+    );
+    append_written_bytes(out, &lines)?;
     if let Err(fault) = ended {
-        writeln!(out, "> ! {} {}", kind_word(fault.kind), fault.rows)?;
+        writeln!(
+            out,
+            "> ! {} {}",
+            word_of_batch_fault(fault.kind),
+            fault.rows
+        )?;
     }
     Ok(())
 }
 
 // Serves the input as a stream of requests, and appends the replies and the number of requests, or
 // the fault.
-fn http(
+fn execute_http_command(
     alloc: Global,
     out: &mut String,
     desk: &mut Desk<MemStore>,
@@ -86,18 +97,24 @@ fn http(
     input: &[u8],
 ) -> Result<(), Failed> {
     let mut replies = Vec::new(alloc);
-    let ended = serve_stream(alloc, input, &mut replies, &mut clock_of(moment), desk);
-    add_written(out, &replies)?;
+    let ended = serve_stream(
+        alloc,
+        input,
+        &mut replies,
+        &mut fixed_clock_from_word(moment),
+        desk,
+    );
+    append_written_bytes(out, &replies)?;
     match ended {
         Ok(done) => writeln!(out, "> ! done {done}")?,
-        Err(_) => add_line(out, "! fault")?,
+        Err(_) => append_output_line(out, "! fault")?,
     }
     Ok(())
 }
 
 // Writes a statement, of the account and the two days in `words`, and appends its lines, its
 // refusal or its fault.
-fn state(
+fn execute_statement_command(
     alloc: Global,
     out: &mut String,
     desk: &mut Desk<MemStore>,
@@ -110,20 +127,20 @@ fn state(
         parse_day(from.as_bytes()),
         parse_day(to.as_bytes()),
     ) else {
-        return add_refusal(out, Refusal::BadText);
+        return append_refusal_line(out, Refusal::BadText);
     };
     let mut lines = Vec::new(alloc);
     let ended = statement(alloc, desk, account, from, to, &mut lines);
-    add_written(out, &lines)?;
+    append_written_bytes(out, &lines)?;
     match ended {
         Ok(()) => Ok(()),
-        Err(ReportFault::Refused(refusal)) => add_refusal(out, refusal),
-        Err(_) => add_line(out, "! fault"),
+        Err(ReportFault::Refused(refusal)) => append_refusal_line(out, refusal),
+        Err(_) => append_output_line(out, "! fault"),
     }
 }
 
 // Writes the explanation that `words` name, and appends its lines, its refusal or its fault.
-fn explained(
+fn execute_explain_command(
     alloc: Global,
     out: &mut String,
     desk: &mut Desk<MemStore>,
@@ -133,50 +150,50 @@ fn explained(
     for word in words.split(' ') {
         asked.push(word.as_bytes())?;
     }
-    let what = match parse_explain(&asked) {
+    let what = match parse_explain_request(&asked) {
         Ok(what) => what,
-        Err(refusal) => return add_refusal(out, refusal),
+        Err(refusal) => return append_refusal_line(out, refusal),
     };
     let mut lines = Vec::new(alloc);
     let ended = explain(alloc, desk, what, &mut lines);
-    add_written(out, &lines)?;
+    append_written_bytes(out, &lines)?;
     match ended {
         Ok(()) => Ok(()),
-        Err(ReportFault::Refused(refusal)) => add_refusal(out, refusal),
-        Err(_) => add_line(out, "! fault"),
+        Err(ReportFault::Refused(refusal)) => append_refusal_line(out, refusal),
+        Err(_) => append_output_line(out, "! fault"),
     }
 }
 
 // Appends the result of an audit or of an adoption.
-fn add_audited(out: &mut String, audited: Result<(), Fault>) -> Result<(), Failed> {
+fn append_audit_result(out: &mut String, audited: Result<(), Fault>) -> Result<(), Failed> {
     match audited {
-        Ok(()) => add_line(out, "ok"),
+        Ok(()) => append_output_line(out, "ok"),
         Err(Fault::Damaged(condition)) => {
             writeln!(out, "> damaged {}", condition.word())?;
             Ok(())
         }
-        Err(_) => add_line(out, "! fault"),
+        Err(_) => append_output_line(out, "! fault"),
     }
 }
 
 // Audits the open desk or database, and appends the result. A database remains without a desk.
-fn audit(alloc: Global, out: &mut String, place: Place) -> Result<Place, Failed> {
+fn execute_audit_command(alloc: Global, out: &mut String, place: Place) -> Result<Place, Failed> {
     match place {
         Place::Open(mut desk) => {
-            add_audited(out, desk.audit(alloc))?;
+            append_audit_result(out, desk.audit(alloc))?;
             Ok(Place::Open(desk))
         }
         Place::Database(conn) => {
-            let (place, audited) = adopt(alloc, conn);
-            add_audited(out, audited)?;
-            Ok(closed(place))
+            let (place, audited) = adopt_into_place(alloc, conn);
+            append_audit_result(out, audited)?;
+            Ok(place_without_desk(place))
         }
         Place::Nothing => Ok(Place::Nothing),
     }
 }
 
 // Returns the open database without its desk.
-fn closed(place: Place) -> Place {
+fn place_without_desk(place: Place) -> Place {
     match place.into_conn() {
         Some(conn) => Place::Database(conn),
         None => Place::Nothing,
@@ -184,11 +201,11 @@ fn closed(place: Place) -> Place {
 }
 
 // Adopts the open database, appends the result, and returns its desk or the database.
-fn adopt_here(alloc: Global, out: &mut String, place: Place) -> Result<Place, Failed> {
+fn execute_adopt_command(alloc: Global, out: &mut String, place: Place) -> Result<Place, Failed> {
     match place.into_conn() {
         Some(conn) => {
-            let (place, adopted) = adopt(alloc, conn);
-            add_audited(out, adopted)?;
+            let (place, adopted) = adopt_into_place(alloc, conn);
+            append_audit_result(out, adopted)?;
             Ok(place)
         }
         None => Ok(Place::Nothing),
@@ -196,20 +213,28 @@ fn adopt_here(alloc: Global, out: &mut String, place: Place) -> Result<Place, Fa
 }
 
 // Executes an SQL statement of another program, and appends a line if it fails.
-fn run_sql(out: &mut String, conn: &mut Connection<MemStore>, bytes: &[u8]) -> Result<(), Failed> {
+fn execute_sql_statement(
+    out: &mut String,
+    conn: &mut Connection<MemStore>,
+    bytes: &[u8],
+) -> Result<(), Failed> {
     let done = match str::from_utf8(bytes) {
         Ok(sql) => conn.execute(sql, &[]).is_ok(),
         Err(_) => false,
     };
-    if done { Ok(()) } else { add_line(out, "! sql") }
+    if done {
+        Ok(())
+    } else {
+        append_output_line(out, "! sql")
+    }
 }
 
 // Executes the input lines as SQL statements of another program, on the database without its desk.
-fn sql(out: &mut String, place: Place, pieces: &[Piece]) -> Result<Place, Failed> {
+fn execute_sql_command(out: &mut String, place: Place, pieces: &[Piece]) -> Result<Place, Failed> {
     match place.into_conn() {
         Some(mut conn) => {
             for piece in pieces {
-                run_sql(out, &mut conn, &piece.bytes)?;
+                execute_sql_statement(out, &mut conn, &piece.bytes)?;
             }
             Ok(Place::Database(conn))
         }
@@ -218,11 +243,11 @@ fn sql(out: &mut String, place: Place, pieces: &[Piece]) -> Result<Place, Failed
 }
 
 // Appends the rows of all tables, and adopts the database again.
-fn show_tables(alloc: Global, out: &mut String, place: Place) -> Result<Place, Failed> {
+fn execute_tables_command(alloc: Global, out: &mut String, place: Place) -> Result<Place, Failed> {
     match place.into_conn() {
         Some(mut conn) => {
-            add_tables(alloc, out, &mut conn)?;
-            let (place, _) = adopt(alloc, conn);
+            append_rows_of_all_tables(alloc, out, &mut conn)?;
+            let (place, _) = adopt_into_place(alloc, conn);
             Ok(place)
         }
         None => Ok(Place::Nothing),
@@ -230,7 +255,7 @@ fn show_tables(alloc: Global, out: &mut String, place: Place) -> Result<Place, F
 }
 
 // Executes a command that needs an open desk, and appends its output lines.
-fn at_desk(
+fn execute_desk_command(
     alloc: Global,
     out: &mut String,
     desk: &mut Desk<MemStore>,
@@ -239,19 +264,25 @@ fn at_desk(
     pieces: &[Piece],
 ) -> Result<(), Failed> {
     match verb {
-        "batch" => batch(alloc, out, desk, words, &block(alloc, pieces)?),
-        "http" => http(alloc, out, desk, words, &block(alloc, pieces)?),
-        "ask" => ask(alloc, out, desk, words, pieces),
-        "print" => print(alloc, out, desk, words, pieces),
-        "statement" => state(alloc, out, desk, words),
-        "explain" => explained(alloc, out, desk, words),
-        _ => add_line(out, "! no such command"),
+        "batch" => execute_batch_command(
+            alloc,
+            out,
+            desk,
+            words,
+            &join_input_lines(alloc, pieces)?,
+        ),
+        "http" => execute_http_command(alloc, out, desk, words, &join_input_lines(alloc, pieces)?),
+        "ask" => execute_ask_command(alloc, out, desk, words, pieces),
+        "print" => execute_print_command(alloc, out, desk, words, pieces),
+        "statement" => execute_statement_command(alloc, out, desk, words),
+        "explain" => execute_explain_command(alloc, out, desk, words),
+        _ => append_output_line(out, "! no such command"),
     }
 }
 
 /// Executes a command on the open desk or database, appends its output lines, and returns the desk
 /// or database that is open after it.
-pub fn execute(
+pub fn execute_command(
     alloc: Global,
     out: &mut String,
     place: Place,
@@ -260,19 +291,19 @@ pub fn execute(
 ) -> Result<Place, Failed> {
     let (verb, words) = command.split_once(' ').unwrap_or((command, ""));
     match verb {
-        "desk" => Ok(Place::desk(alloc)),
-        "empty" => Ok(Place::empty(alloc)),
-        "sql" => sql(out, place, pieces),
-        "tables" => show_tables(alloc, out, place),
-        "audit" => audit(alloc, out, place),
-        "adopt" => adopt_here(alloc, out, place),
+        "desk" => Ok(Place::with_new_desk(alloc)),
+        "empty" => Ok(Place::with_empty_database(alloc)),
+        "sql" => execute_sql_command(out, place, pieces),
+        "tables" => execute_tables_command(alloc, out, place),
+        "audit" => execute_audit_command(alloc, out, place),
+        "adopt" => execute_adopt_command(alloc, out, place),
         _ => match place {
             Place::Open(mut desk) => {
-                at_desk(alloc, out, &mut desk, verb, words, pieces)?;
+                execute_desk_command(alloc, out, &mut desk, verb, words, pieces)?;
                 Ok(Place::Open(desk))
             }
             other => {
-                add_line(out, "! no desk")?;
+                append_output_line(out, "! no desk")?;
                 Ok(other)
             }
         },

@@ -21,20 +21,20 @@ enum Escape {
 }
 
 // Returns the value of a hexadecimal digit, or 0 for any other byte.
-fn digit(byte: u8) -> u8 {
+fn value_of_hex_digit(byte: u8) -> u8 {
     let value = char::from(byte).to_digit(16).unwrap_or(0);
     u8::try_from(value).unwrap_or(0)
 }
 
 // Reads one byte of an input line: appends the byte that it completes, and returns the escape that
 // it begins or continues.
-fn read_byte(bytes: &mut Vec<u8>, read: Escape, byte: u8) -> Result<Escape, AllocError> {
+fn unescape_byte(bytes: &mut Vec<u8>, read: Escape, byte: u8) -> Result<Escape, AllocError> {
     match (read, byte) {
         (Escape::Nothing, b'\\') => return Ok(Escape::Backslash),
         (Escape::Backslash, b'x') => return Ok(Escape::Hex),
         (Escape::Backslash, b'r') => bytes.push(b'\r')?,
-        (Escape::Hex, _) => return Ok(Escape::Digit(digit(byte))),
-        (Escape::Digit(high), _) => bytes.push((high << 4) | digit(byte))?,
+        (Escape::Hex, _) => return Ok(Escape::Digit(value_of_hex_digit(byte))),
+        (Escape::Digit(high), _) => bytes.push((high << 4) | value_of_hex_digit(byte))?,
         (Escape::Nothing | Escape::Backslash, _) => bytes.push(byte)?,
     }
     Ok(Escape::Nothing)
@@ -42,11 +42,11 @@ fn read_byte(bytes: &mut Vec<u8>, read: Escape, byte: u8) -> Result<Escape, Allo
 
 /// Returns the bytes of an input line without its escapes. A single backslash at its end means that
 /// no line feed follows.
-pub fn unescaped(alloc: Global, text: &str) -> Result<Piece, AllocError> {
+pub fn unescape_input_line(alloc: Global, text: &str) -> Result<Piece, AllocError> {
     let mut bytes = Vec::new(alloc);
     let mut read = Escape::Nothing;
     for byte in text.as_bytes() {
-        read = read_byte(&mut bytes, read, *byte)?;
+        read = unescape_byte(&mut bytes, read, *byte)?;
     }
     Ok(Piece {
         bytes,
@@ -55,7 +55,7 @@ pub fn unescaped(alloc: Global, text: &str) -> Result<Piece, AllocError> {
 }
 
 // Appends text with the escapes of an output line; within a record a bar is escaped too.
-fn add_text(out: &mut String, text: &str, in_record: bool) -> Result<(), Failed> {
+fn append_escaped_text(out: &mut String, text: &str, in_record: bool) -> Result<(), Failed> {
     for c in text.chars() {
         match c {
             '\\' => out.push_str("\\\\")?,
@@ -70,7 +70,7 @@ fn add_text(out: &mut String, text: &str, in_record: bool) -> Result<(), Failed>
 
 /// Appends bytes with the escapes of an output line; within a record a bar is escaped too, and so
 /// is a byte that is no part of a UTF-8 character.
-pub fn add_escaped(out: &mut String, bytes: &[u8], in_record: bool) -> Result<(), Failed> {
+pub fn append_escaped_bytes(out: &mut String, bytes: &[u8], in_record: bool) -> Result<(), Failed> {
     let mut rest = bytes;
     for _ in 0..bytes.len() {
         let known = match str::from_utf8(rest) {
@@ -78,7 +78,7 @@ pub fn add_escaped(out: &mut String, bytes: &[u8], in_record: bool) -> Result<()
             Err(error) => error.valid_up_to().min(rest.len()),
         };
         let (front, back) = rest.split_at(known);
-        add_text(out, str::from_utf8(front).unwrap_or(""), in_record)?;
+        append_escaped_text(out, str::from_utf8(front).unwrap_or(""), in_record)?;
         let Some((bad, after)) = back.split_first() else {
             return Ok(());
         };
@@ -90,13 +90,13 @@ pub fn add_escaped(out: &mut String, bytes: &[u8], in_record: bool) -> Result<()
 
 /// Appends written bytes as output lines: one for each line feed, and one that ends in a single
 /// backslash for the bytes after the last.
-pub fn add_written(out: &mut String, bytes: &[u8]) -> Result<(), Failed> {
+pub fn append_written_bytes(out: &mut String, bytes: &[u8]) -> Result<(), Failed> {
     for piece in bytes.split_inclusive(|byte| *byte == b'\n') {
         out.push_str("> ")?;
         match piece.strip_suffix(b"\n") {
-            Some(line) => add_escaped(out, line, false)?,
+            Some(line) => append_escaped_bytes(out, line, false)?,
             None => {
-                add_escaped(out, piece, false)?;
+                append_escaped_bytes(out, piece, false)?;
                 out.push_str("\\")?;
             }
         }
@@ -106,7 +106,7 @@ pub fn add_written(out: &mut String, bytes: &[u8]) -> Result<(), Failed> {
 }
 
 /// Appends an output line.
-pub fn add_line(out: &mut String, line: &str) -> Result<(), Failed> {
+pub fn append_output_line(out: &mut String, line: &str) -> Result<(), Failed> {
     writeln!(out, "> {line}")?;
     Ok(())
 }

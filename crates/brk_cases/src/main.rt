@@ -17,11 +17,11 @@ use std::io;
 use std::process::ExitCode;
 
 // Reads a transcript from standard input and writes its replay to standard output.
-fn run(rt: &HostRuntime) -> Result<(), Failed> {
+fn replay_standard_input(rt: &HostRuntime) -> Result<(), Failed> {
     let Ok(text) = io::read_to_string(rt.alloc(), rt.reader()) else {
         return Err(Failed::Input);
     };
-    let replayed = replay::replayed(rt.alloc(), text.as_str())?;
+    let replayed = replay::replay_transcript(rt.alloc(), text.as_str())?;
     match rt.print(replayed.as_str()) {
         Ok(()) => Ok(()),
         Err(_) => Err(Failed::Output),
@@ -31,7 +31,7 @@ fn run(rt: &HostRuntime) -> Result<(), Failed> {
 // Replays the transcript. Writes the reason of a failure to standard error and returns the exit
 // status.
 fn main(rt: HostRuntime) -> ExitCode {
-    match run(&rt) {
+    match replay_standard_input(&rt) {
         Ok(()) => ExitCode::SUCCESS,
         Err(failed) => {
             let _ = rt.eprint(failed.word());

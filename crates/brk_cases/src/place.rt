@@ -17,7 +17,7 @@ pub enum Place {
 
 impl Place {
     /// Returns a new database without tables, or nothing if memory ran out.
-    pub fn empty(alloc: Global) -> Place {
+    pub fn with_empty_database(alloc: Global) -> Place {
         match Connection::open_in_memory(alloc) {
             Ok(conn) => Place::Database(conn),
             Err(_) => Place::Nothing,
@@ -25,7 +25,7 @@ impl Place {
     }
 
     /// Returns a new desk, or nothing if memory ran out.
-    pub fn desk(alloc: Global) -> Place {
+    pub fn with_new_desk(alloc: Global) -> Place {
         let Ok(conn) = Connection::open_in_memory(alloc) else {
             return Place::Nothing;
         };
@@ -47,7 +47,7 @@ impl Place {
 
 /// Adopts the database of a connection. Returns its desk if its rows pass the audit, otherwise the
 /// database with the fault.
-pub fn adopt(alloc: Global, conn: Connection<MemStore>) -> (Place, Result<(), Fault>) {
+pub fn adopt_into_place(alloc: Global, conn: Connection<MemStore>) -> (Place, Result<(), Fault>) {
     match Store::adopt(alloc, conn) {
         Ok(store) => (Place::Open(Desk::new(store)), Ok(())),
         Err((conn, fault)) => (Place::Database(conn), Err(fault)),

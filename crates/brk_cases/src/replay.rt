@@ -1,7 +1,7 @@
 //! The replay of a transcript, line by line.
 
-use crate::commands::execute;
-use crate::escape::{Piece, unescaped};
+use crate::commands::execute_command;
+use crate::escape::{Piece, unescape_input_line};
 use crate::failed::Failed;
 use crate::place::Place;
 use std::alloc::Global;
@@ -15,20 +15,20 @@ struct Due<'a> {
 
 // Executes the pending command, if there is one, and returns the desk or database that is open
 // after it.
-fn settle(
+fn execute_pending_command(
     alloc: Global,
     out: &mut String,
     place: Place,
     due: Option<Due<'_>>,
 ) -> Result<Place, Failed> {
     match due {
-        Some(due) => execute(alloc, out, place, due.command, &due.pieces),
+        Some(due) => execute_command(alloc, out, place, due.command, &due.pieces),
         None => Ok(place),
     }
 }
 
 // Returns true if a line is a comment or empty.
-fn is_note(line: &str) -> bool {
+fn is_comment_or_empty(line: &str) -> bool {
     line.is_empty() || line.starts_with('#')
 }
 
@@ -41,12 +41,12 @@ struct Replay<'a> {
 
 impl<'a> Replay<'a> {
     // Adds an input line to the pending command, if there is one.
-    fn add_input(self, alloc: Global, text: &str) -> Result<Replay<'a>, Failed> {
+    fn with_input_line(self, alloc: Global, text: &str) -> Result<Replay<'a>, Failed> {
         let Replay { place, due } = self;
         let Some(mut due) = due else {
             return Ok(Replay { place, due: None });
         };
-        due.pieces.push(unescaped(alloc, text)?)?;
+        due.pieces.push(unescape_input_line(alloc, text)?)?;
         Ok(Replay {
             place,
             due: Some(due),
@@ -55,11 +55,16 @@ impl<'a> Replay<'a> {
 
     // Executes the pending command, copies the line, and makes it the pending command unless it is
     // a comment or empty.
-    fn begin(self, alloc: Global, out: &mut String, line: &'a str) -> Result<Replay<'a>, Failed> {
+    fn start_next_command(
+        self,
+        alloc: Global,
+        out: &mut String,
+        line: &'a str,
+    ) -> Result<Replay<'a>, Failed> {
         let Replay { place, due } = self;
-        let place = settle(alloc, out, place, due)?;
+        let place = execute_pending_command(alloc, out, place, due)?;
         writeln!(out, "{line}")?;
-        let due = if is_note(line) {
+        let due = if is_comment_or_empty(line) {
             None
         } else {
             Some(Due {
@@ -72,16 +77,21 @@ impl<'a> Replay<'a> {
 
     // Processes the next line: drops an output line, adds an input line to the pending command, and
     // begins with any other line.
-    fn take(self, alloc: Global, out: &mut String, line: &'a str) -> Result<Replay<'a>, Failed> {
+    fn process_line(
+        self,
+        alloc: Global,
+        out: &mut String,
+        line: &'a str,
+    ) -> Result<Replay<'a>, Failed> {
         if line.starts_with("> ") {
             return Ok(self);
         }
         match line.strip_prefix("| ") {
             Some(text) => {
                 writeln!(out, "{line}")?;
-                self.add_input(alloc, text)
+                self.with_input_line(alloc, text)
             }
-            None => self.begin(alloc, out, line),
+            None => self.start_next_command(alloc, out, line),
         }
     }
 }
@@ -90,15 +100,15 @@ impl<'a> Replay<'a> {
 /// ones.
 ///
 /// Fails if memory ran out.
-pub fn replayed(alloc: Global, text: &str) -> Result<String, Failed> {
+pub fn replay_transcript(alloc: Global, text: &str) -> Result<String, Failed> {
     let mut out = String::new(alloc);
     let mut replay = Replay {
         place: Place::Nothing,
         due: None,
     };
     for line in text.strip_suffix('\n').unwrap_or(text).split('\n') {
-        replay = replay.take(alloc, &mut out, line)?;
+        replay = replay.process_line(alloc, &mut out, line)?;
     }
-    settle(alloc, &mut out, replay.place, replay.due)?;
+    execute_pending_command(alloc, &mut out, replay.place, replay.due)?;
     Ok(out)
 }

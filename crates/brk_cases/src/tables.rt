@@ -1,6 +1,6 @@
 //! The rows of all tables as the records of transcripts.
 
-use crate::escape::add_escaped;
+use crate::escape::append_escaped_bytes;
 use crate::failed::Failed;
 use crate::table_list::TABLES;
 use sqlite::types::ValueRef;
@@ -9,30 +9,30 @@ use std::alloc::Global;
 
 // Appends the value of a column, with a bar before each but the first. A null or any value that is
 // neither a whole number nor text is `\x00`.
-fn add_column(out: &mut String, row: &Row, at: usize) -> Result<(), Failed> {
+fn append_cell_text(out: &mut String, row: &Row, at: usize) -> Result<(), Failed> {
     if at > 0 {
         out.push_str("|")?;
     }
     match row.get_ref(at) {
         Ok(ValueRef::Int(number)) => write!(out, "{number}")?,
-        Ok(ValueRef::Text(bytes)) => add_escaped(out, bytes, true)?,
+        Ok(ValueRef::Text(bytes)) => append_escaped_bytes(out, bytes, true)?,
         _ => out.push_str("\\x00")?,
     }
     Ok(())
 }
 
 // Appends a row of a table as an output line.
-fn add_row(out: &mut String, table: &str, row: &Row) -> Result<(), Failed> {
+fn append_table_row(out: &mut String, table: &str, row: &Row) -> Result<(), Failed> {
     write!(out, "> {table} ")?;
     for at in 0..row.column_count() {
-        add_column(out, row, at)?;
+        append_cell_text(out, row, at)?;
     }
     out.push_str("\n")?;
     Ok(())
 }
 
 // Appends the rows of a table, sorted by its key, or a line if there is no such table.
-fn add_table(
+fn append_rows_of_table(
     alloc: Global,
     out: &mut String,
     conn: &mut Connection<MemStore>,
@@ -43,7 +43,7 @@ fn add_table(
     match conn.query_all(sql.as_str(), &[]) {
         Ok(rows) => {
             for row in &rows {
-                add_row(out, table, row)?;
+                append_table_row(out, table, row)?;
             }
         }
         Err(_) => writeln!(out, "> ! no table {table}")?,
@@ -52,13 +52,13 @@ fn add_table(
 }
 
 /// Appends the rows of all tables, each sorted by its key.
-pub fn add_tables(
+pub fn append_rows_of_all_tables(
     alloc: Global,
     out: &mut String,
     conn: &mut Connection<MemStore>,
 ) -> Result<(), Failed> {
     for (table, key) in &TABLES {
-        add_table(alloc, out, conn, table, key)?;
+        append_rows_of_table(alloc, out, conn, table, key)?;
     }
     Ok(())
 }

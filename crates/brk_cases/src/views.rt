@@ -1,6 +1,6 @@
 //! Views as the records of transcripts.
 
-use crate::escape::{Piece, add_escaped, add_line, add_written};
+use crate::escape::{Piece, append_escaped_bytes, append_output_line, append_written_bytes};
 use crate::failed::Failed;
 use brk_ask::{Form, ReportFault};
 use brk_import::brk_desk::{Desk, parse_query};
@@ -11,17 +11,17 @@ use sqlite::MemStore;
 use std::alloc::{AllocError, Global};
 
 /// Appends the output line of a refusal.
-pub fn add_refusal(out: &mut String, refusal: Refusal) -> Result<(), Failed> {
+pub fn append_refusal_line(out: &mut String, refusal: Refusal) -> Result<(), Failed> {
     writeln!(out, "> no {}", refusal.number())?;
     Ok(())
 }
 
 // Appends a record as an output line.
-fn add_record(out: &mut String, record: &[String]) -> Result<(), Failed> {
+fn append_record_line(out: &mut String, record: &[String]) -> Result<(), Failed> {
     let mut sign = "> ";
     for field in record {
         out.push_str(sign)?;
-        add_escaped(out, field.as_bytes(), true)?;
+        append_escaped_bytes(out, field.as_bytes(), true)?;
         sign = "|";
     }
     out.push_str("\n")?;
@@ -29,11 +29,11 @@ fn add_record(out: &mut String, record: &[String]) -> Result<(), Failed> {
 }
 
 // Appends the records of a view as output lines.
-fn add_view(alloc: Global, out: &mut String, view: &View) -> Result<(), Failed> {
+fn append_view_lines(alloc: Global, out: &mut String, view: &View) -> Result<(), Failed> {
     match view_fields(alloc, view) {
         Ok(records) => {
             for record in &records {
-                add_record(out, record)?;
+                append_record_line(out, record)?;
             }
             Ok(())
         }
@@ -42,7 +42,7 @@ fn add_view(alloc: Global, out: &mut String, view: &View) -> Result<(), Failed> 
 }
 
 // Returns the bytes of the input lines, in order.
-fn texts(alloc: Global, pieces: &[Piece]) -> Result<Vec<&[u8]>, AllocError> {
+fn bytes_of_input_lines(alloc: Global, pieces: &[Piece]) -> Result<Vec<&[u8]>, AllocError> {
     let mut texts = Vec::new(alloc);
     for piece in pieces {
         texts.push(piece.bytes.as_slice())?;
@@ -51,7 +51,7 @@ fn texts(alloc: Global, pieces: &[Piece]) -> Result<Vec<&[u8]>, AllocError> {
 }
 
 // Parses a query from a view's name and its arguments, and executes it on a desk.
-fn answer(
+fn append_query_answer(
     alloc: Global,
     desk: &mut Desk<MemStore>,
     view: &str,
@@ -65,24 +65,24 @@ fn answer(
 
 /// Executes the query of a view on a desk, with the input lines as its arguments, and appends the
 /// records, the refusal or the fault.
-pub fn ask(
+pub fn execute_ask_command(
     alloc: Global,
     out: &mut String,
     desk: &mut Desk<MemStore>,
     view: &str,
     pieces: &[Piece],
 ) -> Result<(), Failed> {
-    let arguments = texts(alloc, pieces)?;
-    match answer(alloc, desk, view, &arguments) {
-        Ok(Ok(view)) => add_view(alloc, out, &view),
-        Ok(Err(refusal)) => add_refusal(out, refusal),
-        Err(_) => add_line(out, "! fault"),
+    let arguments = bytes_of_input_lines(alloc, pieces)?;
+    match append_query_answer(alloc, desk, view, &arguments) {
+        Ok(Ok(view)) => append_view_lines(alloc, out, &view),
+        Ok(Err(refusal)) => append_refusal_line(out, refusal),
+        Err(_) => append_output_line(out, "! fault"),
     }
 }
 
 // Returns the form of a printed view: as JSON for `json` and `json-heads`, with the names of the
 // fields for `csv-heads` and `json-heads`.
-fn form_of(word: &str) -> Form {
+fn form_from_word(word: &str) -> Form {
     Form {
         json: word == "json" || word == "json-heads",
         heads: word == "csv-heads" || word == "json-heads",
@@ -91,7 +91,7 @@ fn form_of(word: &str) -> Form {
 
 /// Prints a view of a desk and appends the text: the words are the form and the view, the input
 /// lines the arguments.
-pub fn print(
+pub fn execute_print_command(
     alloc: Global,
     out: &mut String,
     desk: &mut Desk<MemStore>,
@@ -99,13 +99,20 @@ pub fn print(
     pieces: &[Piece],
 ) -> Result<(), Failed> {
     let (form, view) = words.split_once(' ').unwrap_or((words, ""));
-    let arguments = texts(alloc, pieces)?;
+    let arguments = bytes_of_input_lines(alloc, pieces)?;
     let mut printed = Vec::new(alloc);
-    let ended = brk_ask::ask(alloc, desk, view, &arguments, form_of(form), &mut printed);
-    add_written(out, &printed)?;
+    let ended = brk_ask::ask(
+        alloc,
+        desk,
+        view,
+        &arguments,
+        form_from_word(form),
+        &mut printed,
+    );
+    append_written_bytes(out, &printed)?;
     match ended {
         Ok(()) => Ok(()),
-        Err(ReportFault::Refused(refusal)) => add_refusal(out, refusal),
-        Err(_) => add_line(out, "! fault"),
+        Err(ReportFault::Refused(refusal)) => append_refusal_line(out, refusal),
+        Err(_) => append_output_line(out, "! fault"),
     }
 }

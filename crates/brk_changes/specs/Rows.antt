@@ -1,7 +1,7 @@
 -- The abstract value of each typed row of trades, holdings, settlements and cash.
 use Rattle.std.specs.Prelude.{List, [], ◌∷◌, codes, string_bytes}
 use Rattle.brk_money.specs.Spelling.{Text}
-use Rattle.brk_model.specs.Keys.{KeyPart, number, by_key}
+use Rattle.brk_model.specs.Keys.{KeyPart, number, rows_sorted_by_key}
 use Rattle.brk_model.specs.Tables.{TradeRow, HistoryRow, RequestRow, HoldingRow, SummaryRow, HoldingHistoryRow, SettlementRow, CashRow, MoveRow}
 use Rattle.brk_changes.specs.declared.trade_row.TradeRow as trade
 use Rattle.brk_changes.specs.declared.history_row.HistoryRow as history
@@ -16,8 +16,8 @@ use Rattle.brk_changes.specs.declared.cash_type.CashType.{CashType}
 use Rattle.brk_changes.specs.declared.cash_type.CashType.TheVariants.{CashAccount, Cash, Margin, MarginAccount}
 
 -- The model's TRADE row with the values of the typed row `r`.
-abbrev pub trade_row_of : trade.TradeRow → TradeRow
-trade_row_of r = record {
+abbrev pub abstract_trade_row : trade.TradeRow → TradeRow
+abstract_trade_row r = record {
   id = r.id;
   stamp = r.stamp;
   status = r.status;
@@ -36,49 +36,49 @@ trade_row_of r = record {
 }
 
 -- The model's TRADE_HISTORY row with the values of the typed row `r`.
-abbrev pub history_row_of : history.HistoryRow → HistoryRow
-history_row_of r = record { trade = r.trade; status = r.status; stamp = r.stamp }
+abbrev pub abstract_history_row : history.HistoryRow → HistoryRow
+abstract_history_row r = record { trade = r.trade; status = r.status; stamp = r.stamp }
 
 -- The model's TRADE_REQUEST row with the values of the typed row `r`.
-abbrev pub request_row_of : request.RequestRow → RequestRow
-request_row_of r = record { trade = r.trade; kind = r.kind; symbol = r.symbol; qty = r.qty; bid = r.bid; broker = r.broker }
+abbrev pub abstract_request_row : request.RequestRow → RequestRow
+abstract_request_row r = record { trade = r.trade; kind = r.kind; symbol = r.symbol; qty = r.qty; bid = r.bid; broker = r.broker }
 
 -- The model's HOLDING row with the values of the typed row `r`.
-abbrev pub holding_row_of : holding.HoldingRow → HoldingRow
-holding_row_of r = record { trade = r.trade; account = r.account; symbol = r.symbol; stamp = r.stamp; price = r.price; qty = r.qty }
+abbrev pub abstract_holding_row : holding.HoldingRow → HoldingRow
+abstract_holding_row r = record { trade = r.trade; account = r.account; symbol = r.symbol; stamp = r.stamp; price = r.price; qty = r.qty }
 
 -- The model's HOLDING_SUMMARY row with the values of the typed row `r`.
-abbrev pub summary_row_of : summary.SummaryRow → SummaryRow
-summary_row_of r = record { account = r.account; symbol = r.symbol; qty = r.qty }
+abbrev pub abstract_summary_row : summary.SummaryRow → SummaryRow
+abstract_summary_row r = record { account = r.account; symbol = r.symbol; qty = r.qty }
 
 -- The model's HOLDING_HISTORY row with the values of the typed lot change `r`.
-abbrev pub lot_change_of : lot_change.LotChange → HoldingHistoryRow
-lot_change_of r = record { lot = r.lot; trade = r.trade; before = r.before; after = r.after }
+abbrev pub abstract_lot_change_row : lot_change.LotChange → HoldingHistoryRow
+abstract_lot_change_row r = record { lot = r.lot; trade = r.trade; before = r.before; after = r.after }
 
 -- The text of a cash type in the column SE_CASH_TYPE.
-abbrev pub cash_type_word : CashType → Text
-cash_type_word CashAccount = codes "Cash Account"
-cash_type_word Cash = codes "Cash"
-cash_type_word Margin = codes "Margin"
-cash_type_word MarginAccount = codes "Margin Account"
+abbrev pub cash_type_text : CashType → Text
+cash_type_text CashAccount = codes "Cash Account"
+cash_type_text Cash = codes "Cash"
+cash_type_text Margin = codes "Margin"
+cash_type_text MarginAccount = codes "Margin Account"
 
 -- The model's SETTLEMENT row with the values of the typed row `r`, and the text of its cash type.
-abbrev pub settlement_row_of : settlement.SettlementRow → SettlementRow
-settlement_row_of r = record { trade = r.trade; cash_type = cash_type_word r.cash_type; due_day = r.due_day; amount = r.amount }
+abbrev pub abstract_settlement_row : settlement.SettlementRow → SettlementRow
+abstract_settlement_row r = record { trade = r.trade; cash_type = cash_type_text r.cash_type; due_day = r.due_day; amount = r.amount }
 
 -- The model's CASH_TRANSACTION row (schema 1) with the values of the typed row `r`.
-abbrev pub cash_row_of : cash.CashRow → CashRow
-cash_row_of r = record { trade = r.trade; stamp = r.stamp; amount = r.amount; name = string_bytes r.name }
+abbrev pub abstract_cash_row : cash.CashRow → CashRow
+abstract_cash_row r = record { trade = r.trade; stamp = r.stamp; amount = r.amount; name = string_bytes r.name }
 
 -- The model's CASH_MOVE row with the values of the typed row `r`.
-abbrev pub move_row_of : move.MoveRow → MoveRow
-move_row_of r = record { id = r.id; account = r.account; trade = r.trade; stamp = r.stamp; amount = r.amount; name = string_bytes r.name }
+abbrev pub abstract_move_row : move.MoveRow → MoveRow
+abstract_move_row r = record { id = r.id; account = r.account; trade = r.trade; stamp = r.stamp; amount = r.amount; name = string_bytes r.name }
 
 -- The key by which lots are sorted by age: the stamp at which the lot `r` was opened, then the
 -- trade that opened it.
-abbrev pub age_key : HoldingRow → List KeyPart
-age_key r = number r.stamp ∷ number r.trade ∷ []
+abbrev pub lot_age_key : HoldingRow → List KeyPart
+lot_age_key r = number r.stamp ∷ number r.trade ∷ []
 
--- The lots sorted by age (`age_key`), ascending: the oldest first.
+-- The lots sorted by age (`lot_age_key`), ascending: the oldest first.
 abbrev pub oldest_lots_first : List HoldingRow → List HoldingRow
-oldest_lots_first = by_key age_key
+oldest_lots_first = rows_sorted_by_key lot_age_key

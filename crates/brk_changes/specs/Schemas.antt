@@ -4,7 +4,7 @@ use Rattle.brk_changes.specs.declared.schema.Schema as declared
 use Rattle.brk_changes.specs.declared.schema.Schema.TheVariants.{First, Second, Third}
 
 -- The model's schema for a typed schema: the first, the second or the third.
-abbrev pub schema_of : declared.Schema → Schema
-schema_of First = first_schema
-schema_of Second = second_schema
-schema_of Third = third_schema
+abbrev pub abstract_schema : declared.Schema → Schema
+abstract_schema First = first_schema
+abstract_schema Second = second_schema
+abstract_schema Third = third_schema

@@ -1,5 +1,5 @@
 ghost use Rattle.std.specs.Prelude.{◌≡◌};
-ghost use Rattle.brk_changes.specs.Rows.{cash_type_word};
+ghost use Rattle.brk_changes.specs.Rows.{cash_type_text};
 
 /// The settlement text of a trade (SE_CASH_TYPE): in cash or on margin, each with two texts.
 #[derive(Clone, Copy, PartialEq, Eq)]
@@ -17,7 +17,7 @@ pub enum CashType {
 impl CashType {
     /// Returns the text of the cash type in the column SE_CASH_TYPE and in replies.
     pub fn word(self) -> &'static str
-        ensures { result.now ≡ cash_type_word self }
+        ensures { result.now ≡ cash_type_text self }
     {
         match self {
             CashType::CashAccount => "Cash Account",

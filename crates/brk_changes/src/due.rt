@@ -1,5 +1,5 @@
 ghost use Rattle.std.specs.Prelude.{◌≡◌, ◌≤◌, SomeIff};
-ghost use Rattle.brk_money.specs.Moments.{last_day};
+ghost use Rattle.brk_money.specs.Moments.{greatest_day};
 ghost use Rattle.brk_model.specs.Derived as derived;
 
 use brk_money::{Day, Stamp, day_of};
@@ -7,7 +7,7 @@ use brk_money::{Day, Stamp, day_of};
 /// Returns the number of days after `day` on which a trade that is completed on `day` settles: one
 /// if a settlement day is set and is not later than `day`, otherwise two.
 pub fn settlement_days(rule: Option<Day>, day: Day) -> u16
-    ensures { result ≡ derived.settlement_days rule day }
+    ensures { result ≡ derived.days_to_settlement rule day }
 {
     match rule {
         Some(first) => { if first.get() <= day.get() { 1 } else { 2 } }
@@ -17,9 +17,9 @@ pub fn settlement_days(rule: Option<Day>, day: Day) -> u16
 
 /// Returns the day on which a trade that is completed at `stamp` settles, or `None` if that day is
 /// later than 9999-12-31.
-pub fn due_after(rule: Option<Day>, stamp: Stamp) -> Option<Day>
-    ensures { SomeIff result (derived.due_after rule stamp ≤ last_day) (derived.due_after rule stamp) }
+pub fn due_day_after_completion(rule: Option<Day>, stamp: Stamp) -> Option<Day>
+    ensures { SomeIff result (derived.due_day_of_completion_stamp rule stamp ≤ greatest_day) (derived.due_day_of_completion_stamp rule stamp) }
 {
     let day = day_of(stamp);
-    day.later(settlement_days(rule, day))
+    day.days_later(settlement_days(rule, day))
 }

@@ -24,7 +24,7 @@ pub use broker_numbers::BrokerNumbers;
 pub use cash_row::CashRow;
 pub use cash_type::CashType;
 pub use change::Change;
-pub use due::{due_after, settlement_days};
+pub use due::{due_day_after_completion, settlement_days};
 pub use history_row::HistoryRow;
 pub use holding_row::HoldingRow;
 pub use lot_change::LotChange;

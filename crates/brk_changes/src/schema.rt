@@ -1,5 +1,5 @@
 ghost use Rattle.std.specs.Prelude.{◌≡◌};
-ghost use Rattle.brk_changes.specs.Schemas.{schema_of};
+ghost use Rattle.brk_changes.specs.Schemas.{abstract_schema};
 
 use brk_money::Qty;
 
@@ -19,7 +19,7 @@ pub enum Schema {
 impl Schema {
     /// Returns the number of the schema, 1 to 3 (D_SCHEMA).
     pub fn number(self) -> u32
-        ensures { result ≡ (schema_of self).number }
+        ensures { result ≡ (abstract_schema self).number }
     {
         match self {
             Schema::First => 1,
@@ -30,7 +30,7 @@ impl Schema {
 
     /// Returns true if cash rows are numbered and may have no trade (CASH_MOVE).
     pub fn has_moves(self) -> bool
-        ensures { result ≡ (schema_of self).has_moves }
+        ensures { result ≡ (abstract_schema self).has_moves }
     {
         match self {
             Schema::First => false,
@@ -40,7 +40,7 @@ impl Schema {
 
     /// Returns true if a settlement day can be set (SETTLE_RULE).
     pub fn has_rule(self) -> bool
-        ensures { result ≡ (schema_of self).has_rule }
+        ensures { result ≡ (abstract_schema self).has_rule }
     {
         match self {
             Schema::First | Schema::Second => false,
@@ -50,7 +50,7 @@ impl Schema {
 
     /// Returns the greatest quantity of an order or a band, in shares.
     pub fn greatest_qty(self) -> u32
-        ensures { result ≡ (schema_of self).greatest_qty }
+        ensures { result ≡ (abstract_schema self).greatest_qty }
     {
         match self {
             Schema::First | Schema::Second => 999_999,
@@ -60,7 +60,7 @@ impl Schema {
 
     /// Returns the greatest number of shares of a security that an account holds, or is short of.
     pub fn greatest_summary(self) -> u64
-        ensures { result ≡ (schema_of self).greatest_summary }
+        ensures { result ≡ (abstract_schema self).greatest_summary }
     {
         match self {
             Schema::First | Schema::Second => 999_999_999,

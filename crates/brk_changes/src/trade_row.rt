@@ -1,5 +1,5 @@
 ghost use Rattle.std.specs.Prelude.{◌≡◌};
-ghost use Rattle.brk_money.specs.Kinds.{same_status};
+ghost use Rattle.brk_money.specs.Kinds.{is_same_trade_status};
 ghost use Rattle.brk_money.specs.declared.status.Status.TheVariants.{Submitted};
 
 use brk_money::{Amount, Id, Price, Qty, Stamp, Status, TradeType};
@@ -27,7 +27,7 @@ pub struct TradeRow {
 
 /// Returns true if the status of the trade is `Submitted`.
 pub fn is_submitted(trade: &TradeRow) -> bool
-    ensures { result ≡ same_status trade.now.status Submitted }
+    ensures { result ≡ is_same_trade_status trade.now.status Submitted }
 {
     trade.status == Status::Submitted
 }

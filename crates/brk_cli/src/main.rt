@@ -1,9 +1,9 @@
 //! The program `brk`: a brokerage desk at the command line.
 #![tactic(auto)]
 
-use brk_args::{UsageFault, no_text};
+use brk_args::{UsageFault, non_utf8_argument_fault};
 use brk_exit::{Ending, end_with};
-use brk_jobs::run;
+use brk_jobs::execute_arguments;
 use std::alloc::AllocError;
 use std::env;
 use std::io::ErrorKind;
@@ -12,7 +12,7 @@ use std::process::ExitCode;
 // Returns the command-line arguments, the program's own name first.
 //
 // Fails with `Memory`, or with `Words` if an argument is not UTF-8.
-fn given_words(rt: &HostRuntime) -> Result<Vec<String>, UsageFault> {
+fn command_line_arguments(rt: &HostRuntime) -> Result<Vec<String>, UsageFault> {
     match env::args(rt) {
         Ok(words) => {
             let all: Result<Vec<String>, AllocError> = words.collect(rt.alloc());
@@ -20,16 +20,16 @@ fn given_words(rt: &HostRuntime) -> Result<Vec<String>, UsageFault> {
         }
         Err(error) => match error.kind() {
             ErrorKind::OutOfMemory => Err(UsageFault::Memory),
-            _ => Err(no_text(rt.alloc())),
+            _ => Err(non_utf8_argument_fault(rt.alloc())),
         },
     }
 }
 
 // Executes the job of the command-line arguments, from standard input to standard output, and
 // returns the outcome.
-fn executed(rt: &HostRuntime) -> Ending {
-    match given_words(rt) {
-        Ok(words) => run(rt, words, rt.reader(), &mut rt.stdout()),
+fn execute_command_line(rt: &HostRuntime) -> Ending {
+    match command_line_arguments(rt) {
+        Ok(words) => execute_arguments(rt, words, rt.reader(), &mut rt.stdout()),
         Err(fault) => Ending::Usage(fault),
     }
 }
@@ -37,7 +37,7 @@ fn executed(rt: &HostRuntime) -> Ending {
 // Runs the program: executes its job, writes the error line of the outcome to standard error, and
 // returns the exit status.
 fn main(rt: HostRuntime) -> ExitCode {
-    let ending = executed(&rt);
+    let ending = execute_command_line(&rt);
     let mut errors = rt.stderr();
     ExitCode::from(end_with(&ending, &mut errors))
 }

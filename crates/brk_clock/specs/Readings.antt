@@ -3,22 +3,22 @@ use Rattle.std.specs.Prelude.{◌≡◌, ◌/◌, ℕ, Option, None, Some, min}
 use Rattle.std.specs.Borrow.{Bor}
 use Rattle.std.specs.Time.{system_time_nanos}
 use Rattle.std.specs.declared.time.SystemTime.{SystemTime}
-use Rattle.brk_money.specs.Moments.{last_stamp}
+use Rattle.brk_money.specs.Moments.{greatest_stamp}
 use Rattle.brk_clock.specs.declared.moments.Moments.{Moments}
 use Rattle.brk_clock.specs.declared.moments.Moments.TheVariants as moments
 
 -- The stamp of a time: its whole milliseconds since 1970-01-01 UTC, or the greatest stamp if they
 -- are more.
-abbrev pub stamp_at : SystemTime → ℕ
-stamp_at time = min (system_time_nanos time / 1000000) last_stamp
+abbrev pub stamp_of_time : SystemTime → ℕ
+stamp_of_time time = min (system_time_nanos time / 1000000) greatest_stamp
 
 -- The clock that always returns the timestamp, or the machine's clock if there is no timestamp.
-abbrev pub clock_of : {R : Type 0} → Bor R → Option ℕ → Moments R
-clock_of machine (Some stamp) = moments.At stamp
-clock_of machine None = moments.Machine machine
+abbrev pub program_clock : {R : Type 0} → Bor R → Option ℕ → Moments R
+program_clock machine (Some stamp) = moments.At stamp
+program_clock machine None = moments.Machine machine
 
 -- The clock returned `moment` and did not change. A clock with a fixed timestamp returned this
 -- timestamp; of a reading of the machine's clock nothing is known.
-abbrev pub Gives : {R : Type 0} → Moments R → ℕ → Moments R → Type 0
-Gives (moments.At stamp) moment new = (moment ≡ stamp) × (new ≡ moments.At stamp)
-Gives (moments.Machine machine) moment new = new ≡ moments.Machine machine
+abbrev pub ReturnsReading : {R : Type 0} → Moments R → ℕ → Moments R → Type 0
+ReturnsReading (moments.At stamp) moment new = (moment ≡ stamp) × (new ≡ moments.At stamp)
+ReturnsReading (moments.Machine machine) moment new = new ≡ moments.Machine machine

@@ -1,5 +1,5 @@
 ghost use Rattle.std.specs.Prelude.{◌≡◌};
-ghost use Rattle.brk_clock.specs.Readings.{Gives, clock_of, stamp_at};
+ghost use Rattle.brk_clock.specs.Readings.{ReturnsReading, program_clock, stamp_of_time};
 
 use brk_io::Clock;
 use brk_money::Stamp;
@@ -17,8 +17,8 @@ pub enum Moments<'a, R> {
 
 /// Returns the stamp of a time of the machine: its whole milliseconds since 1970-01-01 UTC, or the
 /// greatest stamp if they are more.
-pub fn stamp_of(time: SystemTime) -> Stamp
-    ensures { result ≡ stamp_at time }
+pub fn stamp_of_system_time(time: SystemTime) -> Stamp
+    ensures { result ≡ stamp_of_time time }
 {
     match time.duration_since(UNIX_EPOCH) {
         Ok(since) => {
@@ -30,9 +30,9 @@ pub fn stamp_of(time: SystemTime) -> Stamp
 }
 
 // Reads the machine's clock. Returns its stamp, or 0 if the clock cannot be read.
-fn reading<R: rt::Clock>(clock: &R) -> Stamp {
+fn read_machine_clock<R: rt::Clock>(clock: &R) -> Stamp {
     match SystemTime::now(clock) {
-        Ok(time) => stamp_of(time),
+        Ok(time) => stamp_of_system_time(time),
         Err(_) => Stamp::nearest(0),
     }
 }
@@ -40,7 +40,7 @@ fn reading<R: rt::Clock>(clock: &R) -> Stamp {
 impl<'a, R: rt::Clock> Moments<'a, R> {
     /// Returns a clock that always returns `at`, or the machine's clock if there is no `at`.
     pub fn new(clock: &'a R, at: Option<Stamp>) -> Moments<'a, R>
-        ensures { result ≡ clock_of clock.entry at }
+        ensures { result ≡ program_clock clock.entry at }
     {
         match at {
             Some(stamp) => Moments::At(stamp),
@@ -52,12 +52,12 @@ impl<'a, R: rt::Clock> Moments<'a, R> {
 /// No contract specifies the time that the machine's clock has. If the clock cannot be read, the
 /// reading is 0.
 impl<R: rt::Clock> Clock for Moments<'_, R> {
-    ghost gives = { Gives };
+    ghost gives = { ReturnsReading };
 
     fn now(&mut self) -> Stamp {
         match self {
             Moments::At(stamp) => *stamp,
-            Moments::Machine(clock) => reading(*clock),
+            Moments::Machine(clock) => read_machine_clock(*clock),
         }
     }
 }

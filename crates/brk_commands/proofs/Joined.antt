@@ -6,37 +6,37 @@ use Rattle.std.specs.List.{join_with_byte}
 use Rattle.brk_money.specs.Spelling.{Text}
 use Rattle.brk_model.specs.Commands.{ChangeExecutors, FeedTicks, Ticked}
 use Rattle.brk_model.specs.Rows.{tick_fields, row_fields, reply_fields, row_text, line_text}
-use Rattle.brk_orders.specs.Records.{tick_of, ticks_of}
+use Rattle.brk_orders.specs.Records.{abstract_tick, abstract_ticks}
 use Rattle.brk_orders.specs.declared.tick.Tick as tick
-use Rattle.brk_commands.specs.Fields.{more_fields}
+use Rattle.brk_commands.specs.Fields.{fields_after_separators}
 
 -- joined fields are the first, and the others each with the separator before it
-pub joined : (separator : ℕ) (first : Text) (fields : List Text) → join_with_byte separator (first ∷ fields) ≡ first ++ more_fields separator fields
+pub joined : (separator : ℕ) (first : Text) (fields : List Text) → join_with_byte separator (first ∷ fields) ≡ first ++ fields_after_separators separator fields
 joined separator first [] = sym (append-nil first)
 joined separator first (field ∷ fields) = ap (λ (text : Text). first ++ separator ∷ text) (joined separator field fields)
 
 -- fields after fields
-pub more_append : (separator : ℕ) (xs ys : List Text) → more_fields separator (xs ++ ys) ≡ more_fields separator xs ++ more_fields separator ys
+pub more_append : (separator : ℕ) (xs ys : List Text) → fields_after_separators separator (xs ++ ys) ≡ fields_after_separators separator xs ++ fields_after_separators separator ys
 more_append separator [] ys = refl
-more_append separator (x ∷ xs) ys = ap (λ (text : Text). separator ∷ x ++ text) (more_append separator xs ys) ∙ sym (append_assoc (separator ∷ x) (more_fields separator xs) (more_fields separator ys))
+more_append separator (x ∷ xs) ys = ap (λ (text : Text). separator ∷ x ++ text) (more_append separator xs ys) ∙ sym (append_assoc (separator ∷ x) (fields_after_separators separator xs) (fields_after_separators separator ys))
 
 -- the fields of ticks, tick by tick
-pub tick_row : (ticks : List tick.Tick) → codes "feed" ++ flat_map (λ tick. more_fields 31 (tick_fields (tick_of tick))) ticks ≡ row_text (FeedTicks (ticks_of ticks))
+pub tick_row : (ticks : List tick.Tick) → codes "feed" ++ flat_map (λ tick. fields_after_separators 31 (tick_fields (abstract_tick tick))) ticks ≡ row_text (FeedTicks (abstract_ticks ticks))
 unfolding row_fields
-tick_row ticks = ap (λ (text : Text). codes "feed" ++ text) (sym (each ticks)) ∙ sym (joined 31 (codes "feed") (flat_map tick_fields (ticks_of ticks)))
+tick_row ticks = ap (λ (text : Text). codes "feed" ++ text) (sym (each ticks)) ∙ sym (joined 31 (codes "feed") (flat_map tick_fields (abstract_ticks ticks)))
   where
-    each : (ticks : List tick.Tick) → more_fields 31 (flat_map tick_fields (ticks_of ticks)) ≡ flat_map (λ tick. more_fields 31 (tick_fields (tick_of tick))) ticks
+    each : (ticks : List tick.Tick) → fields_after_separators 31 (flat_map tick_fields (abstract_ticks ticks)) ≡ flat_map (λ tick. fields_after_separators 31 (tick_fields (abstract_tick tick))) ticks
     each [] = refl
     each (tick ∷ ticks) =
-        more_append 31 (tick_fields (tick_of tick)) (flat_map tick_fields (ticks_of ticks))
-        ∙ ap (λ (text : Text). more_fields 31 (tick_fields (tick_of tick)) ++ text) (each ticks)
+        more_append 31 (tick_fields (abstract_tick tick)) (flat_map tick_fields (abstract_ticks ticks))
+        ∙ ap (λ (text : Text). fields_after_separators 31 (tick_fields (abstract_tick tick)) ++ text) (each ticks)
 
 -- a stamp and trades
 pub trades_line : (stamp : ℕ) (trades : List ℕ) → decimal stamp ++ flat_map (λ trade. 44 ∷ decimal trade) trades ≡ line_text (Ticked stamp trades)
 unfolding reply_fields
 trades_line stamp trades = ap (λ (text : Text). decimal stamp ++ text) (sym (each trades)) ∙ sym (joined 44 (decimal stamp) (map decimal trades))
   where
-    each : (trades : List ℕ) → more_fields 44 (map decimal trades) ≡ flat_map (λ trade. 44 ∷ decimal trade) trades
+    each : (trades : List ℕ) → fields_after_separators 44 (map decimal trades) ≡ flat_map (λ trade. 44 ∷ decimal trade) trades
     each [] = refl
     each (trade ∷ trades) = ap (λ (text : Text). (44 ∷ decimal trade) ++ text) (each trades)
 
@@ -45,15 +45,15 @@ pub trades_row : (trades : List ℕ) → codes "upname" ++ flat_map (λ trade. 3
 unfolding row_fields
 trades_row trades = ap (λ (text : Text). codes "upname" ++ text) (sym (each trades)) ∙ sym (joined 31 (codes "upname") (map decimal trades))
   where
-    each : (trades : List ℕ) → more_fields 31 (map decimal trades) ≡ flat_map (λ trade. 31 ∷ decimal trade) trades
+    each : (trades : List ℕ) → fields_after_separators 31 (map decimal trades) ≡ flat_map (λ trade. 31 ∷ decimal trade) trades
     each [] = refl
     each (trade ∷ trades) = ap (λ (text : Text). (31 ∷ decimal trade) ++ text) (each trades)
 
 -- fields that were added after others
-pub added : (separator : ℕ) (first : Text) (xs ys : List Text) (was now : Text) → was ≡ join_with_byte separator (first ∷ xs) → now ≡ was ++ more_fields separator ys
+pub added : (separator : ℕ) (first : Text) (xs ys : List Text) (was now : Text) → was ≡ join_with_byte separator (first ∷ xs) → now ≡ was ++ fields_after_separators separator ys
     → now ≡ join_with_byte separator (first ∷ xs ++ ys)
 added separator first xs ys was now w n =
-    n ∙ ap (λ (text : Text). text ++ more_fields separator ys) (w ∙ joined separator first xs) ∙ append_assoc first (more_fields separator xs) (more_fields separator ys)
+    n ∙ ap (λ (text : Text). text ++ fields_after_separators separator ys) (w ∙ joined separator first xs) ∙ append_assoc first (fields_after_separators separator xs) (fields_after_separators separator ys)
     ∙ ap (λ (text : Text). first ++ text) (sym (more_append separator xs ys)) ∙ sym (joined separator first (xs ++ ys))
 
 -- one text more

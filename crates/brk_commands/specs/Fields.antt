@@ -3,5 +3,5 @@ use Rattle.std.specs.Prelude.{ℕ, List, ◌∷◌, flat_map}
 use Rattle.brk_money.specs.Spelling.{Text}
 
 -- The bytes of `fields`, each with the byte `separator` before it.
-abbrev pub more_fields : ℕ → List Text → Text
-more_fields separator fields = flat_map (λ field. separator ∷ field) fields
+abbrev pub fields_after_separators : ℕ → List Text → Text
+fields_after_separators separator fields = flat_map (λ field. separator ∷ field) fields

@@ -15,8 +15,11 @@ pub mod update_row;
 
 pub use command::Command;
 pub use line::{day_text, line_text};
-pub use movement_row::{movement_text, oneday_text};
-pub use order_row::{cancel_text, cash_word, end_word, feed_text, order_text, result_text};
+pub use movement_row::{movement_row_text, settlement_day_row_text};
+pub use order_row::{
+    cancel_row_text, cash_or_margin_word, feed_row_text, lifo_or_fifo_word, order_row_text,
+    result_row_text,
+};
 pub use parse::parse_row;
-pub use row::{reference_text, row_text};
-pub use update_row::update_text;
+pub use row::{reference_row_text, row_text};
+pub use update_row::update_row_text;

@@ -4,11 +4,11 @@
 ghost use Rattle.std.specs.Prelude.{◌≡◌, ◌∷◌, ◌++◌, [], IfOk, OnOk, OnErr, Err, decimal, drop, string_bytes, take};
 ghost use Rattle.brk_model.specs.Commands as replies;
 ghost use Rattle.brk_model.specs.Rows as model;
-ghost use Rattle.brk_commands.specs.Fields.{more_fields};
-ghost use Rattle.brk_money.specs.Kinds.{status_code};
+ghost use Rattle.brk_commands.specs.Fields.{fields_after_separators};
+ghost use Rattle.brk_money.specs.Kinds.{trade_status_code};
 ghost use Rattle.brk_money.specs.Spelling as spelling;
 ghost use Rattle.brk_money.specs.declared.fault.Fault.TheVariants.{Memory};
-ghost use Rattle.brk_plans.specs.Replies.{completion_of, estimate_of, reply_of};
+ghost use Rattle.brk_plans.specs.Replies.{abstract_completion, abstract_estimate, abstract_reply};
 
 use brk_money::{Cents, Day, Fault, Id, MoveId, Stamp, Wide, write_day};
 use brk_plans::{Completed, Estimate, Ordered, Reply};
@@ -16,7 +16,7 @@ use itoa::Buffer;
 use std::alloc::{AllocError, Global};
 
 // Returns the text of a stamp, which is the line of a `Booked` reply. Fails if memory runs out.
-fn stamp_text(alloc: Global, stamp: Stamp) -> Result<String, AllocError>
+fn booked_reply_text(alloc: Global, stamp: Stamp) -> Result<String, AllocError>
     ensures { IfOk result (λ line. string_bytes line ≡ model.line_text (replies.Booked stamp)) }
 {
     let mut digits = Buffer::new();
@@ -24,8 +24,8 @@ fn stamp_text(alloc: Global, stamp: Stamp) -> Result<String, AllocError>
 }
 
 // Appends the seven fields of an estimate, each after a comma. Fails if memory runs out.
-fn add_estimate(line: &mut String, estimate: &Estimate) -> Result<(), AllocError>
-    ensures { OnOk result (string_bytes line.new ≡ string_bytes line.old ++ more_fields 44 (model.estimate_fields (estimate_of estimate.now))) }
+fn append_estimate_fields(line: &mut String, estimate: &Estimate) -> Result<(), AllocError>
+    ensures { OnOk result (string_bytes line.new ≡ string_bytes line.old ++ fields_after_separators 44 (model.estimate_fields (abstract_estimate estimate.now))) }
 {
     write!(
         line,
@@ -42,8 +42,8 @@ fn add_estimate(line: &mut String, estimate: &Estimate) -> Result<(), AllocError
 
 // Returns the stamp, the id and the status of a placed order, joined by commas. Fails if memory
 // runs out.
-fn placed_text(alloc: Global, ordered: &Ordered) -> Result<String, AllocError>
-    ensures { IfOk result (λ line. string_bytes line ≡ model.line_of (decimal ordered.now.stamp ∷ decimal ordered.now.trade ∷ status_code ordered.now.status ∷ [])) }
+fn placed_order_text(alloc: Global, ordered: &Ordered) -> Result<String, AllocError>
+    ensures { IfOk result (λ line. string_bytes line ≡ model.comma_separated_text (decimal ordered.now.stamp ∷ decimal ordered.now.trade ∷ trade_status_code ordered.now.status ∷ [])) }
 {
     format!(in alloc;
         "{},{},{}",
@@ -54,16 +54,16 @@ fn placed_text(alloc: Global, ordered: &Ordered) -> Result<String, AllocError>
 }
 
 // Returns the line of an `Ordered` reply. Fails if memory runs out.
-fn ordered_text(alloc: Global, ordered: &Ordered) -> Result<String, AllocError>
-    ensures { IfOk result (λ line. string_bytes line ≡ model.line_text (replies.Ordered ordered.now.stamp ordered.now.trade ordered.now.status (estimate_of ordered.now.estimate))) }
+fn ordered_reply_text(alloc: Global, ordered: &Ordered) -> Result<String, AllocError>
+    ensures { IfOk result (λ line. string_bytes line ≡ model.line_text (replies.Ordered ordered.now.stamp ordered.now.trade ordered.now.status (abstract_estimate ordered.now.estimate))) }
 {
-    let mut line = placed_text(alloc, ordered)?;
-    add_estimate(&mut line, &ordered.estimate)?;
+    let mut line = placed_order_text(alloc, ordered)?;
+    append_estimate_fields(&mut line, &ordered.estimate)?;
     Ok(line)
 }
 
 // Appends a comma and the id of a trade. Fails if memory runs out.
-fn add_trade(line: &mut String, trade: Id) -> Result<(), AllocError>
+fn append_trade_after_comma(line: &mut String, trade: Id) -> Result<(), AllocError>
     ensures { OnOk result (string_bytes line.new ≡ string_bytes line.old ++ (44 ∷ decimal trade)) }
 {
     write!(line, ",{}", trade.get())
@@ -71,18 +71,18 @@ fn add_trade(line: &mut String, trade: Id) -> Result<(), AllocError>
 
 // Returns the line of a `Ticked` reply: the stamp, and the triggered trades. Fails if memory runs
 // out.
-fn ticked_text(alloc: Global, stamp: Stamp, triggered: &[Id]) -> Result<String, AllocError>
+fn ticked_reply_text(alloc: Global, stamp: Stamp, triggered: &[Id]) -> Result<String, AllocError>
     ensures { IfOk result (λ line. string_bytes line ≡ model.line_text (replies.Ticked stamp triggered.now)) }
 {
-    let mut line = stamp_text(alloc, stamp)?;
+    let mut line = booked_reply_text(alloc, stamp)?;
     for trade in triggered {
-        add_trade(&mut line, *trade)?;
+        append_trade_after_comma(&mut line, *trade)?;
     }
     Ok(line)
 }
 
 // Returns the line of a `Canceled` reply. Fails if memory runs out.
-fn canceled_text(alloc: Global, stamp: Stamp) -> Result<String, AllocError>
+fn canceled_reply_text(alloc: Global, stamp: Stamp) -> Result<String, AllocError>
     ensures { IfOk result (λ line. string_bytes line ≡ model.line_text (replies.CanceledTrade stamp)) }
 {
     format!(in alloc; "{},CNCL", stamp.get().unsigned_abs())
@@ -102,8 +102,11 @@ pub fn day_text(alloc: Global, day: Day) -> Result<String, Fault>
 
 // Appends the commission, the tax and the settlement amount of a completed trade, each after a
 // comma. Fails if memory runs out.
-fn add_dues(line: &mut String, completed: &Completed) -> Result<(), AllocError>
-    ensures { OnOk result (string_bytes line.new ≡ string_bytes line.old ++ more_fields 44 (take 3 (model.completion_fields (completion_of completed.now)))) }
+fn append_commission_tax_and_amount(
+    line: &mut String,
+    completed: &Completed,
+) -> Result<(), AllocError>
+    ensures { OnOk result (string_bytes line.new ≡ string_bytes line.old ++ fields_after_separators 44 (take 3 (model.completion_fields (abstract_completion completed.now)))) }
 {
     write!(
         line,
@@ -115,16 +118,16 @@ fn add_dues(line: &mut String, completed: &Completed) -> Result<(), AllocError>
 }
 
 // Appends a comma and the text of a day. Fails if memory runs out.
-fn add_day(line: &mut String, day: &str) -> Result<(), AllocError>
-    ensures { OnOk result (string_bytes line.new ≡ string_bytes line.old ++ more_fields 44 (day.now ∷ [])) }
+fn append_day_field(line: &mut String, day: &str) -> Result<(), AllocError>
+    ensures { OnOk result (string_bytes line.new ≡ string_bytes line.old ++ fields_after_separators 44 (day.now ∷ [])) }
 {
     write!(line, ",{day}")
 }
 
 // Appends the buy value and the sell value of the closed shares, and the balance, each after a
 // comma. Fails if memory runs out.
-fn add_values(line: &mut String, completed: &Completed) -> Result<(), AllocError>
-    ensures { OnOk result (string_bytes line.new ≡ string_bytes line.old ++ more_fields 44 (drop 4 (model.completion_fields (completion_of completed.now)))) }
+fn append_values_and_balance(line: &mut String, completed: &Completed) -> Result<(), AllocError>
+    ensures { OnOk result (string_bytes line.new ≡ string_bytes line.old ++ fields_after_separators 44 (drop 4 (model.completion_fields (abstract_completion completed.now)))) }
 {
     write!(
         line,
@@ -136,21 +139,21 @@ fn add_values(line: &mut String, completed: &Completed) -> Result<(), AllocError
 }
 
 // Returns the line of a `Completed` reply. Fails with `Memory` only.
-fn completed_text(alloc: Global, completed: &Completed) -> Result<String, Fault>
-    ensures line { IfOk result (λ line. string_bytes line ≡ model.line_text (replies.CompletedTrade completed.now.stamp (completion_of completed.now))) }
+fn completed_reply_text(alloc: Global, completed: &Completed) -> Result<String, Fault>
+    ensures line { IfOk result (λ line. string_bytes line ≡ model.line_text (replies.CompletedTrade completed.now.stamp (abstract_completion completed.now))) }
     ensures fault { OnErr result (result ≡ Err Memory) }
 {
     let due_day = day_text(alloc, completed.due_day)?;
-    let mut line = stamp_text(alloc, completed.stamp)?;
-    add_dues(&mut line, completed)?;
-    add_day(&mut line, due_day.as_str())?;
-    add_values(&mut line, completed)?;
+    let mut line = booked_reply_text(alloc, completed.stamp)?;
+    append_commission_tax_and_amount(&mut line, completed)?;
+    append_day_field(&mut line, due_day.as_str())?;
+    append_values_and_balance(&mut line, completed)?;
     Ok(line)
 }
 
 // Returns the line of a `Changed` reply: the stamp, and the number of trades. Fails if memory runs
 // out.
-fn changed_text(alloc: Global, stamp: Stamp, count: usize) -> Result<String, AllocError>
+fn changed_reply_text(alloc: Global, stamp: Stamp, count: usize) -> Result<String, AllocError>
     ensures { IfOk result (λ line. string_bytes line ≡ model.line_text (replies.Changed stamp count)) }
 {
     format!(in alloc; "{},{count}", stamp.get().unsigned_abs())
@@ -158,7 +161,7 @@ fn changed_text(alloc: Global, stamp: Stamp, count: usize) -> Result<String, All
 
 // Returns the line of a `Moved` reply: the stamp, the id of the cash row, and the balance. Fails if
 // memory runs out.
-fn moved_text(
+fn moved_reply_text(
     alloc: Global,
     stamp: Stamp,
     number: MoveId,
@@ -177,21 +180,21 @@ fn moved_text(
 /// Returns the line of a reply: its fields, the stamp first, joined by commas. Fails with `Memory`
 /// only.
 pub fn line_text(alloc: Global, reply: &Reply) -> Result<String, Fault>
-    ensures line { IfOk result (λ line. string_bytes line ≡ model.line_text (reply_of reply.now)) }
+    ensures line { IfOk result (λ line. string_bytes line ≡ model.line_text (abstract_reply reply.now)) }
     ensures fault { OnErr result (result ≡ Err Memory) }
 {
     let line = match reply {
-        Reply::Booked(stamp) => stamp_text(alloc, *stamp)?,
-        Reply::Ordered(ordered) => ordered_text(alloc, ordered)?,
-        Reply::Ticked(stamp, triggered) => ticked_text(alloc, *stamp, triggered)?,
-        Reply::Canceled(stamp) => canceled_text(alloc, *stamp)?,
-        Reply::Completed(completed) => completed_text(alloc, completed)?,
-        Reply::Changed(stamp, count) => changed_text(alloc, *stamp, *count)?,
+        Reply::Booked(stamp) => booked_reply_text(alloc, *stamp)?,
+        Reply::Ordered(ordered) => ordered_reply_text(alloc, ordered)?,
+        Reply::Ticked(stamp, triggered) => ticked_reply_text(alloc, *stamp, triggered)?,
+        Reply::Canceled(stamp) => canceled_reply_text(alloc, *stamp)?,
+        Reply::Completed(completed) => completed_reply_text(alloc, completed)?,
+        Reply::Changed(stamp, count) => changed_reply_text(alloc, *stamp, *count)?,
         Reply::Moved {
             stamp,
             number,
             balance,
-        } => moved_text(alloc, *stamp, *number, *balance)?,
+        } => moved_reply_text(alloc, *stamp, *number, *balance)?,
     };
     Ok(line)
 }

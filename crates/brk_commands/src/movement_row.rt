@@ -6,7 +6,7 @@ ghost use Rattle.std.specs.List.{join_with_byte};
 ghost use Rattle.brk_model.specs.Commands.{DepositCash, SetOneDay, WithdrawCash};
 ghost use Rattle.brk_model.specs.Rows as model;
 ghost use Rattle.brk_money.specs.declared.fault.Fault.TheVariants.{Memory};
-ghost use Rattle.brk_orders.specs.Records.{movement_of};
+ghost use Rattle.brk_orders.specs.Records.{movement_command};
 
 use crate::line::day_text;
 use brk_money::{Day, Fault, Id, Wide};
@@ -15,7 +15,7 @@ use brk_ref::MovedAmount;
 use std::alloc::{AllocError, Global};
 
 // Returns the row of a deposit, its fields joined by byte 31. Fails if memory runs out.
-fn deposit_text(alloc: Global, account: Id, amount: MovedAmount) -> Result<String, AllocError>
+fn deposit_row_text(alloc: Global, account: Id, amount: MovedAmount) -> Result<String, AllocError>
     ensures { IfOk result (λ row. string_bytes row ≡ model.row_text (DepositCash account amount)) }
 {
     format!(in alloc;
@@ -26,7 +26,11 @@ fn deposit_text(alloc: Global, account: Id, amount: MovedAmount) -> Result<Strin
 }
 
 // Returns the row of a withdrawal, its fields joined by byte 31. Fails if memory runs out.
-fn withdrawal_text(alloc: Global, account: Id, amount: MovedAmount) -> Result<String, AllocError>
+fn withdrawal_row_text(
+    alloc: Global,
+    account: Id,
+    amount: MovedAmount,
+) -> Result<String, AllocError>
     ensures { IfOk result (λ row. string_bytes row ≡ model.row_text (WithdrawCash account amount)) }
 {
     format!(in alloc;
@@ -38,17 +42,17 @@ fn withdrawal_text(alloc: Global, account: Id, amount: MovedAmount) -> Result<St
 
 /// Returns the row of a deposit or a withdrawal, its fields joined by byte 31. Fails if memory runs
 /// out.
-pub fn movement_text(alloc: Global, movement: &Movement) -> Result<String, AllocError>
-    ensures { IfOk result (λ row. string_bytes row ≡ model.row_text (movement_of movement.now)) }
+pub fn movement_row_text(alloc: Global, movement: &Movement) -> Result<String, AllocError>
+    ensures { IfOk result (λ row. string_bytes row ≡ model.row_text (movement_command movement.now)) }
 {
     match movement.direction {
-        Direction::Deposit => deposit_text(alloc, movement.account, movement.amount),
-        Direction::Withdrawal => withdrawal_text(alloc, movement.account, movement.amount),
+        Direction::Deposit => deposit_row_text(alloc, movement.account, movement.amount),
+        Direction::Withdrawal => withdrawal_row_text(alloc, movement.account, movement.amount),
     }
 }
 
 // Returns the kind `oneday` and the text of a day, joined by byte 31. Fails if memory runs out.
-fn kept_day(alloc: Global, day: &str) -> Result<String, AllocError>
+fn join_oneday_fields(alloc: Global, day: &str) -> Result<String, AllocError>
     ensures { IfOk result (λ row. string_bytes row ≡ join_with_byte 31 (codes "oneday" ∷ day.now ∷ [])) }
 {
     format!(in alloc; "oneday\x1f{day}")
@@ -56,11 +60,11 @@ fn kept_day(alloc: Global, day: &str) -> Result<String, AllocError>
 
 /// Returns the row that sets the settlement day, its fields joined by byte 31. Fails with `Memory`
 /// only.
-pub fn oneday_text(alloc: Global, day: Day) -> Result<String, Fault>
+pub fn settlement_day_row_text(alloc: Global, day: Day) -> Result<String, Fault>
     ensures row { IfOk result (λ row. string_bytes row ≡ model.row_text (SetOneDay day)) }
     ensures fault { OnErr result (result ≡ Err Memory) }
 {
     let text = day_text(alloc, day)?;
-    let row = kept_day(alloc, text.as_str())?;
+    let row = join_oneday_fields(alloc, text.as_str())?;
     Ok(row)
 }

@@ -4,34 +4,34 @@
 ghost use Rattle.std.specs.Prelude.{◌≡◌, ◌∷◌, ◌++◌, [], IfOk, OnOk, codes, drop, string_bytes, take};
 ghost use Rattle.std.specs.List.{join_with_byte};
 ghost use Rattle.std.specs.Option.{option_map_or};
-ghost use Rattle.brk_money.specs.OrderTypes.{price_asked};
+ghost use Rattle.brk_money.specs.OrderTypes.{price_of_order};
 ghost use Rattle.brk_model.specs.Commands.{CancelTrade, FeedTicks, PlaceOrder};
 ghost use Rattle.brk_model.specs.Rows as model;
-ghost use Rattle.brk_orders.specs.Records.{order_of, result_of, tick_of, ticks_of};
-ghost use Rattle.brk_commands.specs.Fields.{more_fields};
+ghost use Rattle.brk_orders.specs.Records.{abstract_order, completion_command, abstract_tick, abstract_ticks};
+ghost use Rattle.brk_commands.specs.Fields.{fields_after_separators};
 
 use brk_money::{Id, OrderType, Wide};
 use brk_orders::{Completion, Order, Tick};
 use std::alloc::{AllocError, Global};
 
 /// Returns the word for a trade's account: `cash` or `margin`.
-pub fn cash_word(is_cash: bool) -> &'static str
-    ensures { result.now ≡ model.cash_word is_cash }
+pub fn cash_or_margin_word(is_cash: bool) -> &'static str
+    ensures { result.now ≡ model.cash_or_margin_word is_cash }
 {
     if is_cash { "cash" } else { "margin" }
 }
 
 /// Returns the word for the end from which lots are closed: `lifo` or `fifo`.
-pub fn end_word(is_lifo: bool) -> &'static str
-    ensures { result.now ≡ model.end_word is_lifo }
+pub fn lifo_or_fifo_word(is_lifo: bool) -> &'static str
+    ensures { result.now ≡ model.lifo_or_fifo_word is_lifo }
 {
     if is_lifo { "lifo" } else { "fifo" }
 }
 
 // Returns the kind of an order and its first four fields, joined by byte 31: account, type, symbol
 // and quantity. Fails if memory runs out.
-fn asked_text(alloc: Global, order: &Order) -> Result<String, AllocError>
-    ensures { IfOk result (λ row. string_bytes row ≡ join_with_byte 31 (codes "order" ∷ take 4 (model.order_fields (order_of order.now)))) }
+fn first_order_fields_text(alloc: Global, order: &Order) -> Result<String, AllocError>
+    ensures { IfOk result (λ row. string_bytes row ≡ join_with_byte 31 (codes "order" ∷ take 4 (model.order_fields (abstract_order order.now)))) }
 {
     format!(in alloc;
         "order\x1f{}\x1f{}\x1f{}\x1f{}",
@@ -44,8 +44,8 @@ fn asked_text(alloc: Global, order: &Order) -> Result<String, AllocError>
 
 // Appends byte 31 and the price that an order asks for, or byte 31 alone if it asks for none. Fails
 // if memory runs out.
-fn add_price(row: &mut String, order_type: OrderType) -> Result<(), AllocError>
-    ensures { OnOk result (string_bytes row.new ≡ string_bytes row.old ++ more_fields 31 (option_map_or model.price_text (price_asked order_type) [] ∷ [])) }
+fn append_price_field(row: &mut String, order_type: OrderType) -> Result<(), AllocError>
+    ensures { OnOk result (string_bytes row.new ≡ string_bytes row.old ++ fields_after_separators 31 (option_map_or model.nonnegative_cents_text (price_of_order order_type) [] ∷ [])) }
 {
     match order_type.price() {
         Some(price) => write!(row, "\x1f{}", Wide::from(price)),
@@ -55,14 +55,14 @@ fn add_price(row: &mut String, order_type: OrderType) -> Result<(), AllocError>
 
 // Appends the last five fields of an order, each after byte 31: cash or margin, the end from which
 // it closes lots, and the names and the tax id of its executor. Fails if memory runs out.
-fn add_manner(row: &mut String, order: &Order) -> Result<(), AllocError>
-    ensures { OnOk result (string_bytes row.new ≡ string_bytes row.old ++ more_fields 31 (drop 5 (model.order_fields (order_of order.now)))) }
+fn append_last_order_fields(row: &mut String, order: &Order) -> Result<(), AllocError>
+    ensures { OnOk result (string_bytes row.new ≡ string_bytes row.old ++ fields_after_separators 31 (drop 5 (model.order_fields (abstract_order order.now)))) }
 {
     write!(
         row,
         "\x1f{}\x1f{}\x1f{}\x1f{}\x1f{}",
-        cash_word(order.is_cash),
-        end_word(order.is_lifo),
+        cash_or_margin_word(order.is_cash),
+        lifo_or_fifo_word(order.is_lifo),
         order.executor.first_name.as_str(),
         order.executor.last_name.as_str(),
         order.executor.tax_id.as_str()
@@ -71,18 +71,18 @@ fn add_manner(row: &mut String, order: &Order) -> Result<(), AllocError>
 
 /// Returns the row of an order, its fields joined by byte 31. PRICE is empty if the order asks for
 /// none. Fails if memory runs out.
-pub fn order_text(alloc: Global, order: &Order) -> Result<String, AllocError>
-    ensures { IfOk result (λ row. string_bytes row ≡ model.row_text (PlaceOrder (order_of order.now))) }
+pub fn order_row_text(alloc: Global, order: &Order) -> Result<String, AllocError>
+    ensures { IfOk result (λ row. string_bytes row ≡ model.row_text (PlaceOrder (abstract_order order.now))) }
 {
-    let mut row = asked_text(alloc, order)?;
-    add_price(&mut row, order.order_type)?;
-    add_manner(&mut row, order)?;
+    let mut row = first_order_fields_text(alloc, order)?;
+    append_price_field(&mut row, order.order_type)?;
+    append_last_order_fields(&mut row, order)?;
     Ok(row)
 }
 
 // Appends the three fields of a tick, each after byte 31. Fails if memory runs out.
-fn add_tick(row: &mut String, tick: &Tick) -> Result<(), AllocError>
-    ensures { OnOk result (string_bytes row.new ≡ string_bytes row.old ++ more_fields 31 (model.tick_fields (tick_of tick.now))) }
+fn append_tick_fields(row: &mut String, tick: &Tick) -> Result<(), AllocError>
+    ensures { OnOk result (string_bytes row.new ≡ string_bytes row.old ++ fields_after_separators 31 (model.tick_fields (abstract_tick tick.now))) }
 {
     write!(
         row,
@@ -95,26 +95,26 @@ fn add_tick(row: &mut String, tick: &Tick) -> Result<(), AllocError>
 
 /// Returns the row of a feed of these ticks, its fields joined by byte 31. Fails if memory runs
 /// out.
-pub fn feed_text(alloc: Global, ticks: &[Tick]) -> Result<String, AllocError>
-    ensures { IfOk result (λ row. string_bytes row ≡ model.row_text (FeedTicks (ticks_of ticks.now))) }
+pub fn feed_row_text(alloc: Global, ticks: &[Tick]) -> Result<String, AllocError>
+    ensures { IfOk result (λ row. string_bytes row ≡ model.row_text (FeedTicks (abstract_ticks ticks.now))) }
 {
     let mut row = String::from_str(alloc, "feed")?;
     for tick in ticks {
-        add_tick(&mut row, tick)?;
+        append_tick_fields(&mut row, tick)?;
     }
     Ok(row)
 }
 
 /// Returns the row that cancels a trade, its fields joined by byte 31. Fails if memory runs out.
-pub fn cancel_text(alloc: Global, trade: Id) -> Result<String, AllocError>
+pub fn cancel_row_text(alloc: Global, trade: Id) -> Result<String, AllocError>
     ensures { IfOk result (λ row. string_bytes row ≡ model.row_text (CancelTrade trade)) }
 {
     format!(in alloc; "cancel\x1f{}", trade.get())
 }
 
 /// Returns the row that completes a trade, its fields joined by byte 31. Fails if memory runs out.
-pub fn result_text(alloc: Global, completion: &Completion) -> Result<String, AllocError>
-    ensures { IfOk result (λ row. string_bytes row ≡ model.row_text (result_of completion.now)) }
+pub fn result_row_text(alloc: Global, completion: &Completion) -> Result<String, AllocError>
+    ensures { IfOk result (λ row. string_bytes row ≡ model.row_text (completion_command completion.now)) }
 {
     format!(in alloc;
         "result\x1f{}\x1f{}",

@@ -1,12 +1,12 @@
 ghost use Rattle.std.specs.Prelude.{◌≡◌, ◌∷◌, ◌++◌, IfOk, OnErr, Err};
-ghost use Rattle.brk_model.specs.Parse.{parse_by, read_account, read_as, read_band, read_broker, read_charge, read_customer, read_customer_tax, read_permission, read_security, read_tax_rate, order_readers, readers, result_readers, term_readers, update_readers, movement_readers};
+ghost use Rattle.brk_model.specs.Parse.{parse_by_first_field, read_account, read_and_wrap, read_commission_band, read_broker, read_charge, read_customer, read_customer_tax, read_permission, read_listing, read_tax_rate, order_row_parsers, row_parsers, result_row_parsers, other_reference_row_parsers, update_row_parsers, movement_row_parsers};
 ghost use Rattle.brk_money.specs.declared.fault.Fault.TheVariants.{Memory};
 ghost use Rattle.brk_model.specs.Commands.{AddAccount, AddBand, AddBroker, AddCharge, AddCustomer, AddCustomerTax, AddPermission, AddSecurity, AddTaxRate};
-ghost use Rattle.brk_ref.specs.Fields.{ParsesAs, texts};
-ghost use Rattle.brk_commands.specs.Commands.{command_of};
+ghost use Rattle.brk_ref.specs.Fields.{ParsesAs, texts_of_fields};
+ghost use Rattle.brk_commands.specs.Commands.{abstract_command};
 
 use crate::command::Command;
-use crate::parse_order::parse_trading;
+use crate::parse_order::parse_trading_or_later_kind;
 use brk_money::{Planned, Refusal};
 use brk_plans::Reference;
 use brk_ref::{
@@ -18,7 +18,7 @@ use std::alloc::Global;
 // Parses the command that adds a broker, or returns the refusal of malformed fields. Fails with
 // `Memory` only.
 fn parse_broker(alloc: Global, fields: &[&[u8]]) -> Planned<Command>
-    ensures read { IfOk result (λ read. ParsesAs command_of read (read_as AddBroker read_broker (texts fields.now))) }
+    ensures read { IfOk result (λ read. ParsesAs abstract_command read (read_and_wrap AddBroker read_broker (texts_of_fields fields.now))) }
     ensures fault { OnErr result (result ≡ Err Memory) }
 {
     match check_broker(alloc, fields)? {
@@ -30,7 +30,7 @@ fn parse_broker(alloc: Global, fields: &[&[u8]]) -> Planned<Command>
 // Parses the command that adds a customer, or returns the refusal of malformed fields. Fails with
 // `Memory` only.
 fn parse_customer(alloc: Global, fields: &[&[u8]]) -> Planned<Command>
-    ensures read { IfOk result (λ read. ParsesAs command_of read (read_as AddCustomer read_customer (texts fields.now))) }
+    ensures read { IfOk result (λ read. ParsesAs abstract_command read (read_and_wrap AddCustomer read_customer (texts_of_fields fields.now))) }
     ensures fault { OnErr result (result ≡ Err Memory) }
 {
     match check_customer(alloc, fields)? {
@@ -42,7 +42,7 @@ fn parse_customer(alloc: Global, fields: &[&[u8]]) -> Planned<Command>
 // Parses the command that adds an account, or returns the refusal of malformed fields. Fails with
 // `Memory` only.
 fn parse_account(alloc: Global, fields: &[&[u8]]) -> Planned<Command>
-    ensures read { IfOk result (λ read. ParsesAs command_of read (read_as AddAccount read_account (texts fields.now))) }
+    ensures read { IfOk result (λ read. ParsesAs abstract_command read (read_and_wrap AddAccount read_account (texts_of_fields fields.now))) }
     ensures fault { OnErr result (result ≡ Err Memory) }
 {
     match check_account(alloc, fields)? {
@@ -54,7 +54,7 @@ fn parse_account(alloc: Global, fields: &[&[u8]]) -> Planned<Command>
 // Parses the command that adds a permission, or returns the refusal of malformed fields. Fails with
 // `Memory` only.
 fn parse_permission(alloc: Global, fields: &[&[u8]]) -> Planned<Command>
-    ensures read { IfOk result (λ read. ParsesAs command_of read (read_as AddPermission read_permission (texts fields.now))) }
+    ensures read { IfOk result (λ read. ParsesAs abstract_command read (read_and_wrap AddPermission read_permission (texts_of_fields fields.now))) }
     ensures fault { OnErr result (result ≡ Err Memory) }
 {
     match check_permission(alloc, fields)? {
@@ -66,7 +66,7 @@ fn parse_permission(alloc: Global, fields: &[&[u8]]) -> Planned<Command>
 // Parses the command that lists a security, or returns the refusal of malformed fields. Fails with
 // `Memory` only.
 fn parse_security(alloc: Global, fields: &[&[u8]]) -> Planned<Command>
-    ensures read { IfOk result (λ read. ParsesAs command_of read (read_as AddSecurity read_security (texts fields.now))) }
+    ensures read { IfOk result (λ read. ParsesAs abstract_command read (read_and_wrap AddSecurity read_listing (texts_of_fields fields.now))) }
     ensures fault { OnErr result (result ≡ Err Memory) }
 {
     match check_security(alloc, fields)? {
@@ -77,7 +77,7 @@ fn parse_security(alloc: Global, fields: &[&[u8]]) -> Planned<Command>
 
 // Parses the command that adds a charge, or returns the refusal of malformed fields.
 fn parse_charge(fields: &[&[u8]]) -> Result<Command, Refusal>
-    ensures { ParsesAs command_of result (read_as AddCharge read_charge (texts fields.now)) }
+    ensures { ParsesAs abstract_command result (read_and_wrap AddCharge read_charge (texts_of_fields fields.now)) }
 {
     match check_charge(fields) {
         Ok(charge) => Ok(Command::Add(Reference::Charge(charge))),
@@ -88,7 +88,7 @@ fn parse_charge(fields: &[&[u8]]) -> Result<Command, Refusal>
 // Parses the command that adds a commission band, or returns the refusal of malformed fields. Fails
 // with `Memory` only.
 fn parse_band(alloc: Global, fields: &[&[u8]]) -> Planned<Command>
-    ensures read { IfOk result (λ read. ParsesAs command_of read (read_as AddBand read_band (texts fields.now))) }
+    ensures read { IfOk result (λ read. ParsesAs abstract_command read (read_and_wrap AddBand read_commission_band (texts_of_fields fields.now))) }
     ensures fault { OnErr result (result ≡ Err Memory) }
 {
     match check_band(alloc, fields)? {
@@ -100,7 +100,7 @@ fn parse_band(alloc: Global, fields: &[&[u8]]) -> Planned<Command>
 // Parses the command that adds a tax with its rate, or returns the refusal of malformed fields.
 // Fails with `Memory` only.
 fn parse_tax_rate(alloc: Global, fields: &[&[u8]]) -> Planned<Command>
-    ensures read { IfOk result (λ read. ParsesAs command_of read (read_as AddTaxRate read_tax_rate (texts fields.now))) }
+    ensures read { IfOk result (λ read. ParsesAs abstract_command read (read_and_wrap AddTaxRate read_tax_rate (texts_of_fields fields.now))) }
     ensures fault { OnErr result (result ≡ Err Memory) }
 {
     match check_tax_rate(alloc, fields)? {
@@ -111,7 +111,7 @@ fn parse_tax_rate(alloc: Global, fields: &[&[u8]]) -> Planned<Command>
 
 // Parses the command that adds a tax of a customer, or returns the refusal of malformed fields.
 fn parse_customer_tax(fields: &[&[u8]]) -> Result<Command, Refusal>
-    ensures { ParsesAs command_of result (read_as AddCustomerTax read_customer_tax (texts fields.now)) }
+    ensures { ParsesAs abstract_command result (read_and_wrap AddCustomerTax read_customer_tax (texts_of_fields fields.now)) }
 {
     match check_customer_tax(fields) {
         Ok(customer_tax) => Ok(Command::Add(Reference::CustomerTax(customer_tax))),
@@ -120,9 +120,10 @@ fn parse_customer_tax(fields: &[&[u8]]) -> Result<Command, Refusal>
 }
 
 // Parses a command of the kind `permission`, `security`, `charge`, `band`, `taxrate` or `custtax`,
-// or of a kind of `parse_trading`. Refuses any other kind with `BadText`. Fails with `Memory` only.
-fn parse_term(alloc: Global, kind: &[u8], fields: &[&[u8]]) -> Planned<Command>
-    ensures read { IfOk result (λ read. ParsesAs command_of read (parse_by (term_readers ++ order_readers ++ result_readers ++ update_readers ++ movement_readers) (kind.now ∷ texts fields.now))) }
+// or of a kind of `parse_trading_or_later_kind`. Refuses any other kind with `BadText`. Fails with
+// `Memory` only.
+fn parse_terms_or_later_kind(alloc: Global, kind: &[u8], fields: &[&[u8]]) -> Planned<Command>
+    ensures read { IfOk result (λ read. ParsesAs abstract_command read (parse_by_first_field (other_reference_row_parsers ++ order_row_parsers ++ result_row_parsers ++ update_row_parsers ++ movement_row_parsers) (kind.now ∷ texts_of_fields fields.now))) }
     ensures fault { OnErr result (result ≡ Err Memory) }
 {
     if kind == b"permission".as_slice() {
@@ -143,13 +144,13 @@ fn parse_term(alloc: Global, kind: &[u8], fields: &[&[u8]]) -> Planned<Command>
     if kind == b"custtax".as_slice() {
         return Ok(parse_customer_tax(fields));
     }
-    parse_trading(alloc, kind, fields)
+    parse_trading_or_later_kind(alloc, kind, fields)
 }
 
 // Parses a command of `kind` from the fields after it. Refuses an unknown kind with `BadText`.
 // Fails with `Memory` only.
-fn parse_kind(alloc: Global, kind: &[u8], fields: &[&[u8]]) -> Planned<Command>
-    ensures read { IfOk result (λ read. ParsesAs command_of read (parse_by readers (kind.now ∷ texts fields.now))) }
+fn parse_command_of_kind(alloc: Global, kind: &[u8], fields: &[&[u8]]) -> Planned<Command>
+    ensures read { IfOk result (λ read. ParsesAs abstract_command read (parse_by_first_field row_parsers (kind.now ∷ texts_of_fields fields.now))) }
     ensures fault { OnErr result (result ≡ Err Memory) }
 {
     if kind == b"broker".as_slice() {
@@ -161,17 +162,17 @@ fn parse_kind(alloc: Global, kind: &[u8], fields: &[&[u8]]) -> Planned<Command>
     if kind == b"account".as_slice() {
         return parse_account(alloc, fields);
     }
-    parse_term(alloc, kind, fields)
+    parse_terms_or_later_kind(alloc, kind, fields)
 }
 
 /// Parses the command of a row from its fields, the kind first, or returns the refusal of malformed
 /// fields. Refuses an unknown kind with `BadText`. Fails with `Memory` only.
 pub fn parse_row(alloc: Global, fields: &[&[u8]]) -> Planned<Command>
-    ensures read { IfOk result (λ read. ParsesAs command_of read (parse_by readers (texts fields.now))) }
+    ensures read { IfOk result (λ read. ParsesAs abstract_command read (parse_by_first_field row_parsers (texts_of_fields fields.now))) }
     ensures fault { OnErr result (result ≡ Err Memory) }
 {
     let [kind, fields @ ..] = fields else {
         return Ok(Err(Refusal::BadText));
     };
-    parse_kind(alloc, kind, fields)
+    parse_command_of_kind(alloc, kind, fields)
 }

@@ -1,17 +1,17 @@
 ghost use Rattle.std.specs.Prelude.{◌≡◌, ◌∷◌};
 ghost use Rattle.brk_model.specs.Commands.{SetOneDay};
-ghost use Rattle.brk_model.specs.Parse.{movement_readers, parse_by, read_as, read_movement, read_oneday};
-ghost use Rattle.brk_orders.specs.Records.{moved_by};
-ghost use Rattle.brk_ref.specs.Fields.{ParsesAs, texts};
-ghost use Rattle.brk_commands.specs.Commands.{command_of};
+ghost use Rattle.brk_model.specs.Parse.{movement_row_parsers, parse_by_first_field, read_and_wrap, read_movement_command, read_settlement_day};
+ghost use Rattle.brk_orders.specs.Records.{cash_movement_command};
+ghost use Rattle.brk_ref.specs.Fields.{ParsesAs, texts_of_fields};
+ghost use Rattle.brk_commands.specs.Commands.{abstract_command};
 
 use crate::command::Command;
 use brk_money::Refusal;
 use brk_orders::{Direction, check_move, check_oneday};
 
 // Parses the command of a deposit or a withdrawal, or returns the refusal of malformed fields.
-fn parse_move(direction: Direction, fields: &[&[u8]]) -> Result<Command, Refusal>
-    ensures { ParsesAs command_of result (read_movement (moved_by direction) (texts fields.now)) }
+fn parse_deposit_or_withdrawal(direction: Direction, fields: &[&[u8]]) -> Result<Command, Refusal>
+    ensures { ParsesAs abstract_command result (read_movement_command (cash_movement_command direction) (texts_of_fields fields.now)) }
 {
     match check_move(direction, fields) {
         Ok(movement) => Ok(Command::Move(movement)),
@@ -20,8 +20,8 @@ fn parse_move(direction: Direction, fields: &[&[u8]]) -> Result<Command, Refusal
 }
 
 // Parses the command that sets the settlement day, or returns the refusal of malformed fields.
-fn parse_oneday(fields: &[&[u8]]) -> Result<Command, Refusal>
-    ensures { ParsesAs command_of result (read_as SetOneDay read_oneday (texts fields.now)) }
+fn parse_settlement_day(fields: &[&[u8]]) -> Result<Command, Refusal>
+    ensures { ParsesAs abstract_command result (read_and_wrap SetOneDay read_settlement_day (texts_of_fields fields.now)) }
 {
     match check_oneday(fields) {
         Ok(day) => Ok(Command::OneDay(day)),
@@ -31,17 +31,20 @@ fn parse_oneday(fields: &[&[u8]]) -> Result<Command, Refusal>
 
 // Parses a command of the kind `deposit`, `withdraw` or `oneday`. Refuses any other kind with
 // `BadText`.
-pub(crate) fn parse_movement(kind: &[u8], fields: &[&[u8]]) -> Result<Command, Refusal>
-    ensures { ParsesAs command_of result (parse_by movement_readers (kind.now ∷ texts fields.now)) }
+pub(crate) fn parse_movement_or_settlement_day(
+    kind: &[u8],
+    fields: &[&[u8]],
+) -> Result<Command, Refusal>
+    ensures { ParsesAs abstract_command result (parse_by_first_field movement_row_parsers (kind.now ∷ texts_of_fields fields.now)) }
 {
     if kind == b"deposit".as_slice() {
-        return parse_move(Direction::Deposit, fields);
+        return parse_deposit_or_withdrawal(Direction::Deposit, fields);
     }
     if kind == b"withdraw".as_slice() {
-        return parse_move(Direction::Withdrawal, fields);
+        return parse_deposit_or_withdrawal(Direction::Withdrawal, fields);
     }
     if kind == b"oneday".as_slice() {
-        return parse_oneday(fields);
+        return parse_settlement_day(fields);
     }
     Err(Refusal::BadText)
 }

@@ -1,12 +1,12 @@
 ghost use Rattle.std.specs.Prelude.{◌≡◌, ◌∷◌, ◌++◌, IfOk, OnErr, Err};
 ghost use Rattle.brk_model.specs.Commands.{CancelTrade, FeedTicks, PlaceOrder};
-ghost use Rattle.brk_model.specs.Parse.{order_readers, parse_by, read_as, read_cancel, read_feed, read_order, read_result, result_readers, update_readers, movement_readers};
+ghost use Rattle.brk_model.specs.Parse.{order_row_parsers, parse_by_first_field, read_and_wrap, read_canceled_trade_id, read_feed, read_order, read_result_command, result_row_parsers, update_row_parsers, movement_row_parsers};
 ghost use Rattle.brk_money.specs.declared.fault.Fault.TheVariants.{Memory};
-ghost use Rattle.brk_ref.specs.Fields.{ParsesAs, texts};
-ghost use Rattle.brk_commands.specs.Commands.{command_of};
+ghost use Rattle.brk_ref.specs.Fields.{ParsesAs, texts_of_fields};
+ghost use Rattle.brk_commands.specs.Commands.{abstract_command};
 
 use crate::command::Command;
-use crate::parse_update::parse_update;
+use crate::parse_update::parse_update_or_later_kind;
 use brk_money::{Planned, Refusal};
 use brk_orders::{check_cancel, check_feed, check_order, check_result};
 use std::alloc::Global;
@@ -14,7 +14,7 @@ use std::alloc::Global;
 // Parses the command of an order, or returns the refusal of malformed fields. Fails with `Memory`
 // only.
 fn parse_order(alloc: Global, fields: &[&[u8]]) -> Planned<Command>
-    ensures read { IfOk result (λ read. ParsesAs command_of read (read_as PlaceOrder read_order (texts fields.now))) }
+    ensures read { IfOk result (λ read. ParsesAs abstract_command read (read_and_wrap PlaceOrder read_order (texts_of_fields fields.now))) }
     ensures fault { OnErr result (result ≡ Err Memory) }
 {
     match check_order(alloc, fields)? {
@@ -26,7 +26,7 @@ fn parse_order(alloc: Global, fields: &[&[u8]]) -> Planned<Command>
 // Parses the command of a market feed, or returns the refusal of malformed fields. Fails with
 // `Memory` only.
 fn parse_feed(alloc: Global, fields: &[&[u8]]) -> Planned<Command>
-    ensures read { IfOk result (λ read. ParsesAs command_of read (read_as FeedTicks read_feed (texts fields.now))) }
+    ensures read { IfOk result (λ read. ParsesAs abstract_command read (read_and_wrap FeedTicks read_feed (texts_of_fields fields.now))) }
     ensures fault { OnErr result (result ≡ Err Memory) }
 {
     match check_feed(alloc, fields)? {
@@ -37,7 +37,7 @@ fn parse_feed(alloc: Global, fields: &[&[u8]]) -> Planned<Command>
 
 // Parses the command of a cancel, or returns the refusal of malformed fields.
 fn parse_cancel(fields: &[&[u8]]) -> Result<Command, Refusal>
-    ensures { ParsesAs command_of result (read_as CancelTrade read_cancel (texts fields.now)) }
+    ensures { ParsesAs abstract_command result (read_and_wrap CancelTrade read_canceled_trade_id (texts_of_fields fields.now)) }
 {
     match check_cancel(fields) {
         Ok(trade) => Ok(Command::Cancel(trade)),
@@ -47,7 +47,7 @@ fn parse_cancel(fields: &[&[u8]]) -> Result<Command, Refusal>
 
 // Parses the command that completes a trade, or returns the refusal of malformed fields.
 fn parse_result(fields: &[&[u8]]) -> Result<Command, Refusal>
-    ensures { ParsesAs command_of result (read_result (texts fields.now)) }
+    ensures { ParsesAs abstract_command result (read_result_command (texts_of_fields fields.now)) }
 {
     match check_result(fields) {
         Ok(completion) => Ok(Command::Complete(completion)),
@@ -56,9 +56,13 @@ fn parse_result(fields: &[&[u8]]) -> Result<Command, Refusal>
 }
 
 // Parses a command of the kind `order`, `feed`, `cancel` or `result`, or of a kind of
-// `parse_update`. Refuses any other kind with `BadText`. Fails with `Memory` only.
-pub(crate) fn parse_trading(alloc: Global, kind: &[u8], fields: &[&[u8]]) -> Planned<Command>
-    ensures read { IfOk result (λ read. ParsesAs command_of read (parse_by (order_readers ++ result_readers ++ update_readers ++ movement_readers) (kind.now ∷ texts fields.now))) }
+// `parse_update_or_later_kind`. Refuses any other kind with `BadText`. Fails with `Memory` only.
+pub(crate) fn parse_trading_or_later_kind(
+    alloc: Global,
+    kind: &[u8],
+    fields: &[&[u8]],
+) -> Planned<Command>
+    ensures read { IfOk result (λ read. ParsesAs abstract_command read (parse_by_first_field (order_row_parsers ++ result_row_parsers ++ update_row_parsers ++ movement_row_parsers) (kind.now ∷ texts_of_fields fields.now))) }
     ensures fault { OnErr result (result ≡ Err Memory) }
 {
     if kind == b"order".as_slice() {
@@ -73,5 +77,5 @@ pub(crate) fn parse_trading(alloc: Global, kind: &[u8], fields: &[&[u8]]) -> Pla
     if kind == b"result".as_slice() {
         return Ok(parse_result(fields));
     }
-    parse_update(alloc, kind, fields)
+    parse_update_or_later_kind(alloc, kind, fields)
 }

@@ -1,21 +1,21 @@
 ghost use Rattle.std.specs.Prelude.{◌≡◌, ◌∷◌, ◌++◌, IfOk, OnErr, Err};
 ghost use Rattle.brk_model.specs.Commands.{ChangeExecutors};
-ghost use Rattle.brk_model.specs.Forms.{read_ids};
-ghost use Rattle.brk_model.specs.Parse.{movement_readers, parse_by, read_as, read_upcash, read_uptext, update_readers};
+ghost use Rattle.brk_model.specs.Forms.{read_distinct_ids};
+ghost use Rattle.brk_model.specs.Parse.{movement_row_parsers, parse_by_first_field, read_and_wrap, read_cash_type_update, read_cash_name_update, update_row_parsers};
 ghost use Rattle.brk_money.specs.declared.fault.Fault.TheVariants.{Memory};
-ghost use Rattle.brk_ref.specs.Fields.{ParsesAs, texts};
-ghost use Rattle.brk_commands.specs.Commands.{command_of};
+ghost use Rattle.brk_ref.specs.Fields.{ParsesAs, texts_of_fields};
+ghost use Rattle.brk_commands.specs.Commands.{abstract_command};
 
 use crate::command::Command;
-use crate::parse_movement::parse_movement;
+use crate::parse_movement::parse_movement_or_settlement_day;
 use brk_money::{Planned, Refusal};
 use brk_orders::{check_upcash, check_upname, check_uptext};
 use std::alloc::Global;
 
 // Parses the command that updates executors' names, or returns the refusal of malformed fields.
 // Fails with `Memory` only.
-fn parse_upname(alloc: Global, fields: &[&[u8]]) -> Planned<Command>
-    ensures read { IfOk result (λ read. ParsesAs command_of read (read_as ChangeExecutors read_ids (texts fields.now))) }
+fn parse_executor_update(alloc: Global, fields: &[&[u8]]) -> Planned<Command>
+    ensures read { IfOk result (λ read. ParsesAs abstract_command read (read_and_wrap ChangeExecutors read_distinct_ids (texts_of_fields fields.now))) }
     ensures fault { OnErr result (result ≡ Err Memory) }
 {
     match check_upname(alloc, fields)? {
@@ -25,8 +25,8 @@ fn parse_upname(alloc: Global, fields: &[&[u8]]) -> Planned<Command>
 }
 
 // Parses the command that updates cash types, or returns the refusal of malformed fields.
-fn parse_upcash(fields: &[&[u8]]) -> Result<Command, Refusal>
-    ensures { ParsesAs command_of result (read_upcash (texts fields.now)) }
+fn parse_cash_type_update(fields: &[&[u8]]) -> Result<Command, Refusal>
+    ensures { ParsesAs abstract_command result (read_cash_type_update (texts_of_fields fields.now)) }
 {
     match check_upcash(fields) {
         Ok(update) => Ok(Command::Update(update)),
@@ -36,8 +36,8 @@ fn parse_upcash(fields: &[&[u8]]) -> Result<Command, Refusal>
 
 // Parses the command that updates cash texts, or returns the refusal of malformed fields. Fails
 // with `Memory` only.
-fn parse_uptext(alloc: Global, fields: &[&[u8]]) -> Planned<Command>
-    ensures read { IfOk result (λ read. ParsesAs command_of read (read_uptext (texts fields.now))) }
+fn parse_cash_text_update(alloc: Global, fields: &[&[u8]]) -> Planned<Command>
+    ensures read { IfOk result (λ read. ParsesAs abstract_command read (read_cash_name_update (texts_of_fields fields.now))) }
     ensures fault { OnErr result (result ≡ Err Memory) }
 {
     match check_uptext(alloc, fields)? {
@@ -46,20 +46,25 @@ fn parse_uptext(alloc: Global, fields: &[&[u8]]) -> Planned<Command>
     }
 }
 
-// Parses a command of the kind `upname`, `upcash` or `uptext`, or of a kind of `parse_movement`.
-// Refuses any other kind with `BadText`. Fails with `Memory` only.
-pub(crate) fn parse_update(alloc: Global, kind: &[u8], fields: &[&[u8]]) -> Planned<Command>
-    ensures read { IfOk result (λ read. ParsesAs command_of read (parse_by (update_readers ++ movement_readers) (kind.now ∷ texts fields.now))) }
+// Parses a command of the kind `upname`, `upcash` or `uptext`, or of a kind of
+// `parse_movement_or_settlement_day`. Refuses any other kind with `BadText`. Fails with `Memory`
+// only.
+pub(crate) fn parse_update_or_later_kind(
+    alloc: Global,
+    kind: &[u8],
+    fields: &[&[u8]],
+) -> Planned<Command>
+    ensures read { IfOk result (λ read. ParsesAs abstract_command read (parse_by_first_field (update_row_parsers ++ movement_row_parsers) (kind.now ∷ texts_of_fields fields.now))) }
     ensures fault { OnErr result (result ≡ Err Memory) }
 {
     if kind == b"upname".as_slice() {
-        return parse_upname(alloc, fields);
+        return parse_executor_update(alloc, fields);
     }
     if kind == b"upcash".as_slice() {
-        return Ok(parse_upcash(fields));
+        return Ok(parse_cash_type_update(fields));
     }
     if kind == b"uptext".as_slice() {
-        return parse_uptext(alloc, fields);
+        return parse_cash_text_update(alloc, fields);
     }
-    Ok(parse_movement(kind, fields))
+    Ok(parse_movement_or_settlement_day(kind, fields))
 }

@@ -3,31 +3,31 @@
 
 ghost use Rattle.std.specs.Prelude.{◌≡◌, IfOk, OnErr, Err, string_bytes};
 ghost use Rattle.brk_plans.specs.Commands as books;
-ghost use Rattle.brk_commands.specs.Commands.{command_of};
+ghost use Rattle.brk_commands.specs.Commands.{abstract_command};
 ghost use Rattle.brk_model.specs.Commands.{AddAccount, AddBand, AddBroker, AddCharge, AddCustomer, AddCustomerTax, AddPermission, AddSecurity, AddTaxRate};
 ghost use Rattle.brk_model.specs.Rows as model;
 ghost use Rattle.brk_money.specs.declared.fault.Fault.TheVariants.{Memory};
-ghost use Rattle.brk_ref.specs.Records.{account_of, band_of, broker_of, charge_of, customer_of, customer_tax_of, listing_of, permission_of, tax_of};
+ghost use Rattle.brk_ref.specs.Records.{abstract_account, abstract_band, abstract_broker, abstract_charge, abstract_customer, abstract_customer_tax, abstract_listing, abstract_permission, abstract_tax_rate};
 
 use crate::command::Command;
-use crate::movement_row::{movement_text, oneday_text};
-use crate::order_row::{cancel_text, feed_text, order_text, result_text};
-use crate::update_row::update_text;
+use crate::movement_row::{movement_row_text, settlement_day_row_text};
+use crate::order_row::{cancel_row_text, feed_row_text, order_row_text, result_row_text};
+use crate::update_row::update_row_text;
 use brk_money::{Fault, Wide};
 use brk_plans::Reference;
 use brk_ref::{Account, Band, Broker, Charge, Customer, CustomerTax, Listing, Permission, Tax};
 use std::alloc::{AllocError, Global};
 
 // Returns the row that adds a broker, its fields joined by byte 31. Fails if memory runs out.
-fn broker_text(alloc: Global, broker: &Broker) -> Result<String, AllocError>
-    ensures { IfOk result (λ row. string_bytes row ≡ model.row_text (AddBroker (broker_of broker.now))) }
+fn broker_row_text(alloc: Global, broker: &Broker) -> Result<String, AllocError>
+    ensures { IfOk result (λ row. string_bytes row ≡ model.row_text (AddBroker (abstract_broker broker.now))) }
 {
     format!(in alloc; "broker\x1f{}\x1f{}", broker.id.get(), broker.name.as_str())
 }
 
 // Returns the row that adds a customer, its fields joined by byte 31. Fails if memory runs out.
-fn customer_text(alloc: Global, customer: &Customer) -> Result<String, AllocError>
-    ensures { IfOk result (λ row. string_bytes row ≡ model.row_text (AddCustomer (customer_of customer.now))) }
+fn customer_row_text(alloc: Global, customer: &Customer) -> Result<String, AllocError>
+    ensures { IfOk result (λ row. string_bytes row ≡ model.row_text (AddCustomer (abstract_customer customer.now))) }
 {
     format!(in alloc;
         "customer\x1f{}\x1f{}\x1f{}\x1f{}\x1f{}",
@@ -40,8 +40,8 @@ fn customer_text(alloc: Global, customer: &Customer) -> Result<String, AllocErro
 }
 
 // Returns the row that adds an account, its fields joined by byte 31. Fails if memory runs out.
-fn account_text(alloc: Global, account: &Account) -> Result<String, AllocError>
-    ensures { IfOk result (λ row. string_bytes row ≡ model.row_text (AddAccount (account_of account.now))) }
+fn account_row_text(alloc: Global, account: &Account) -> Result<String, AllocError>
+    ensures { IfOk result (λ row. string_bytes row ≡ model.row_text (AddAccount (abstract_account account.now))) }
 {
     format!(in alloc;
         "account\x1f{}\x1f{}\x1f{}\x1f{}\x1f{}\x1f{}",
@@ -55,8 +55,8 @@ fn account_text(alloc: Global, account: &Account) -> Result<String, AllocError>
 }
 
 // Returns the row that adds a permission, its fields joined by byte 31. Fails if memory runs out.
-fn permission_text(alloc: Global, permission: &Permission) -> Result<String, AllocError>
-    ensures { IfOk result (λ row. string_bytes row ≡ model.row_text (AddPermission (permission_of permission.now))) }
+fn permission_row_text(alloc: Global, permission: &Permission) -> Result<String, AllocError>
+    ensures { IfOk result (λ row. string_bytes row ≡ model.row_text (AddPermission (abstract_permission permission.now))) }
 {
     format!(in alloc;
         "permission\x1f{}\x1f{}\x1f{}\x1f{}\x1f{}",
@@ -69,8 +69,8 @@ fn permission_text(alloc: Global, permission: &Permission) -> Result<String, All
 }
 
 // Returns the row that lists a security, its fields joined by byte 31. Fails if memory runs out.
-fn security_text(alloc: Global, listing: &Listing) -> Result<String, AllocError>
-    ensures { IfOk result (λ row. string_bytes row ≡ model.row_text (AddSecurity (listing_of listing.now))) }
+fn listing_row_text(alloc: Global, listing: &Listing) -> Result<String, AllocError>
+    ensures { IfOk result (λ row. string_bytes row ≡ model.row_text (AddSecurity (abstract_listing listing.now))) }
 {
     let security = &listing.security;
     format!(in alloc;
@@ -84,8 +84,8 @@ fn security_text(alloc: Global, listing: &Listing) -> Result<String, AllocError>
 }
 
 // Returns the row that adds a charge, its fields joined by byte 31. Fails if memory runs out.
-fn charge_text(alloc: Global, charge: &Charge) -> Result<String, AllocError>
-    ensures { IfOk result (λ row. string_bytes row ≡ model.row_text (AddCharge (charge_of charge.now))) }
+fn charge_row_text(alloc: Global, charge: &Charge) -> Result<String, AllocError>
+    ensures { IfOk result (λ row. string_bytes row ≡ model.row_text (AddCharge (abstract_charge charge.now))) }
 {
     format!(in alloc;
         "charge\x1f{}\x1f{}\x1f{}",
@@ -97,8 +97,8 @@ fn charge_text(alloc: Global, charge: &Charge) -> Result<String, AllocError>
 
 // Returns the row that adds a commission band, its fields joined by byte 31. Fails if memory runs
 // out.
-fn band_text(alloc: Global, band: &Band) -> Result<String, AllocError>
-    ensures { IfOk result (λ row. string_bytes row ≡ model.row_text (AddBand (band_of band.now))) }
+fn band_row_text(alloc: Global, band: &Band) -> Result<String, AllocError>
+    ensures { IfOk result (λ row. string_bytes row ≡ model.row_text (AddBand (abstract_band band.now))) }
 {
     format!(in alloc;
         "band\x1f{}\x1f{}\x1f{}\x1f{}\x1f{}\x1f{}",
@@ -113,8 +113,8 @@ fn band_text(alloc: Global, band: &Band) -> Result<String, AllocError>
 
 // Returns the row that adds a tax with its rate, its fields joined by byte 31. Fails if memory runs
 // out.
-fn tax_rate_text(alloc: Global, tax: &Tax) -> Result<String, AllocError>
-    ensures { IfOk result (λ row. string_bytes row ≡ model.row_text (AddTaxRate (tax_of tax.now))) }
+fn tax_rate_row_text(alloc: Global, tax: &Tax) -> Result<String, AllocError>
+    ensures { IfOk result (λ row. string_bytes row ≡ model.row_text (AddTaxRate (abstract_tax_rate tax.now))) }
 {
     format!(in alloc;
         "taxrate\x1f{}\x1f{}\x1f{}",
@@ -126,45 +126,45 @@ fn tax_rate_text(alloc: Global, tax: &Tax) -> Result<String, AllocError>
 
 // Returns the row that adds a tax of a customer, its fields joined by byte 31. Fails if memory runs
 // out.
-fn customer_tax_text(alloc: Global, pays: &CustomerTax) -> Result<String, AllocError>
-    ensures { IfOk result (λ row. string_bytes row ≡ model.row_text (AddCustomerTax (customer_tax_of pays.now))) }
+fn customer_tax_row_text(alloc: Global, pays: &CustomerTax) -> Result<String, AllocError>
+    ensures { IfOk result (λ row. string_bytes row ≡ model.row_text (AddCustomerTax (abstract_customer_tax pays.now))) }
 {
     format!(in alloc; "custtax\x1f{}\x1f{}", pays.customer.get(), pays.tax.get())
 }
 
 /// Returns the row that adds a record of reference data, its fields joined by byte 31. Fails if
 /// memory runs out.
-pub fn reference_text(alloc: Global, reference: &Reference) -> Result<String, AllocError>
-    ensures { IfOk result (λ row. string_bytes row ≡ model.row_text (books.adding_command reference.now)) }
+pub fn reference_row_text(alloc: Global, reference: &Reference) -> Result<String, AllocError>
+    ensures { IfOk result (λ row. string_bytes row ≡ model.row_text (books.command_adding_record reference.now)) }
 {
     match reference {
-        Reference::Broker(broker) => broker_text(alloc, broker),
-        Reference::Customer(customer) => customer_text(alloc, customer),
-        Reference::Account(account) => account_text(alloc, account),
-        Reference::Permission(permission) => permission_text(alloc, permission),
-        Reference::Security(listing) => security_text(alloc, listing),
-        Reference::Charge(charge) => charge_text(alloc, charge),
-        Reference::Band(band) => band_text(alloc, band),
-        Reference::TaxRate(tax) => tax_rate_text(alloc, tax),
-        Reference::CustomerTax(pays) => customer_tax_text(alloc, pays),
+        Reference::Broker(broker) => broker_row_text(alloc, broker),
+        Reference::Customer(customer) => customer_row_text(alloc, customer),
+        Reference::Account(account) => account_row_text(alloc, account),
+        Reference::Permission(permission) => permission_row_text(alloc, permission),
+        Reference::Security(listing) => listing_row_text(alloc, listing),
+        Reference::Charge(charge) => charge_row_text(alloc, charge),
+        Reference::Band(band) => band_row_text(alloc, band),
+        Reference::TaxRate(tax) => tax_rate_row_text(alloc, tax),
+        Reference::CustomerTax(pays) => customer_tax_row_text(alloc, pays),
     }
 }
 
 /// Returns the row of a command, as it is stored under a key: its fields, the kind first, joined by
 /// byte 31. Fails with `Memory` only.
 pub fn row_text(alloc: Global, command: &Command) -> Result<String, Fault>
-    ensures row { IfOk result (λ row. string_bytes row ≡ model.row_text (command_of command.now)) }
+    ensures row { IfOk result (λ row. string_bytes row ≡ model.row_text (abstract_command command.now)) }
     ensures fault { OnErr result (result ≡ Err Memory) }
 {
     let row = match command {
-        Command::Add(reference) => reference_text(alloc, reference),
-        Command::Order(order) => order_text(alloc, order),
-        Command::Feed(feed) => feed_text(alloc, feed.ticks()),
-        Command::Cancel(trade) => cancel_text(alloc, *trade),
-        Command::Complete(completion) => result_text(alloc, completion),
-        Command::Update(update) => update_text(alloc, update),
-        Command::Move(movement) => movement_text(alloc, movement),
-        Command::OneDay(day) => return oneday_text(alloc, *day),
+        Command::Add(reference) => reference_row_text(alloc, reference),
+        Command::Order(order) => order_row_text(alloc, order),
+        Command::Feed(feed) => feed_row_text(alloc, feed.ticks()),
+        Command::Cancel(trade) => cancel_row_text(alloc, *trade),
+        Command::Complete(completion) => result_row_text(alloc, completion),
+        Command::Update(update) => update_row_text(alloc, update),
+        Command::Move(movement) => movement_row_text(alloc, movement),
+        Command::OneDay(day) => return settlement_day_row_text(alloc, *day),
     };
     Ok(row?)
 }

@@ -4,7 +4,7 @@
 ghost use Rattle.std.specs.Prelude.{◌≡◌, ◌∷◌, ◌++◌, IfOk, OnOk, decimal, string_bytes};
 ghost use Rattle.brk_model.specs.Commands.{ChangeCashNames, ChangeCashTypes, ChangeExecutors};
 ghost use Rattle.brk_model.specs.Rows as model;
-ghost use Rattle.brk_orders.specs.Records.{update_of};
+ghost use Rattle.brk_orders.specs.Records.{text_update_command};
 
 use brk_money::Id;
 use brk_orders::{Span, Update};
@@ -12,7 +12,7 @@ use brk_ref::Symbol;
 use std::alloc::{AllocError, Global};
 
 // Appends byte 31 and the id of a trade. Fails if memory runs out.
-fn add_trade(row: &mut String, trade: Id) -> Result<(), AllocError>
+fn append_trade_after_separator(row: &mut String, trade: Id) -> Result<(), AllocError>
     ensures { OnOk result (string_bytes row.new ≡ string_bytes row.old ++ 31 ∷ decimal trade) }
 {
     write!(row, "\x1f{}", trade.get())
@@ -20,19 +20,19 @@ fn add_trade(row: &mut String, trade: Id) -> Result<(), AllocError>
 
 // Returns the row that updates the executors' names of trades, its fields joined by byte 31. Fails
 // if memory runs out.
-fn upname_text(alloc: Global, trades: &[Id]) -> Result<String, AllocError>
+fn executor_update_row_text(alloc: Global, trades: &[Id]) -> Result<String, AllocError>
     ensures { IfOk result (λ row. string_bytes row ≡ model.row_text (ChangeExecutors trades.now)) }
 {
     let mut row = String::from_str(alloc, "upname")?;
     for trade in trades {
-        add_trade(&mut row, *trade)?;
+        append_trade_after_separator(&mut row, *trade)?;
     }
     Ok(row)
 }
 
 // Returns the row that updates the cash types of an account, its fields joined by byte 31. Fails if
 // memory runs out.
-fn upcash_text(alloc: Global, account: Id, span: Span) -> Result<String, AllocError>
+fn cash_type_update_row_text(alloc: Global, account: Id, span: Span) -> Result<String, AllocError>
     ensures { IfOk result (λ row. string_bytes row ≡ model.row_text (ChangeCashTypes account span.first span.last)) }
 {
     format!(in alloc;
@@ -45,7 +45,11 @@ fn upcash_text(alloc: Global, account: Id, span: Span) -> Result<String, AllocEr
 
 // Returns the row that updates the cash texts of a symbol, its fields joined by byte 31. Fails if
 // memory runs out.
-fn uptext_text(alloc: Global, symbol: &Symbol, span: Span) -> Result<String, AllocError>
+fn cash_text_update_row_text(
+    alloc: Global,
+    symbol: &Symbol,
+    span: Span,
+) -> Result<String, AllocError>
     ensures { IfOk result (λ row. string_bytes row ≡ model.row_text (ChangeCashNames symbol.now span.first span.last)) }
 {
     format!(in alloc;
@@ -57,12 +61,12 @@ fn uptext_text(alloc: Global, symbol: &Symbol, span: Span) -> Result<String, All
 }
 
 /// Returns the row of a text update, its fields joined by byte 31. Fails if memory runs out.
-pub fn update_text(alloc: Global, update: &Update) -> Result<String, AllocError>
-    ensures { IfOk result (λ row. string_bytes row ≡ model.row_text (update_of update.now)) }
+pub fn update_row_text(alloc: Global, update: &Update) -> Result<String, AllocError>
+    ensures { IfOk result (λ row. string_bytes row ≡ model.row_text (text_update_command update.now)) }
 {
     match update {
-        Update::Executors(trades) => upname_text(alloc, trades.ids()),
-        Update::CashTypes { account, span } => upcash_text(alloc, *account, *span),
-        Update::CashNames { symbol, span } => uptext_text(alloc, symbol, *span),
+        Update::Executors(trades) => executor_update_row_text(alloc, trades.ids()),
+        Update::CashTypes { account, span } => cash_type_update_row_text(alloc, *account, *span),
+        Update::CashNames { symbol, span } => cash_text_update_row_text(alloc, symbol, *span),
     }
 }

@@ -1,5 +1,5 @@
 -- A command over what was read: it fails, is answered again, is refused, or is booked.
-use Rattle.brk_model.specs.Form.{has_texts}
+use Rattle.brk_model.specs.Form.{has_utf8_texts}
 use Rattle.std.specs.Prelude.{IfSome}
 use Rattle.std.proofs.Common.{◌≡◌, ◌∙◌, ℕ, Bool, true, false, List, if◌then◌else◌, Result, Ok, Err, IfOk, OnErr, None, Some, Option, refl, sym, ap, subst, inl}
 use Rattle.sqlite_trees.specs.declared.store.Store.{Ghosts}
@@ -15,31 +15,31 @@ use Rattle.brk_model.specs.Commands.{Again, Answer, Command, Done, Refused, Repl
 use Rattle.brk_model.specs.Sheets.{sheets}
 use Rattle.brk_model.specs.Step.{step}
 use Rattle.brk_model.specs.Tables.{Tables}
-use Rattle.brk_model.specs.Tests.{next_stamp}
+use Rattle.brk_model.specs.Tests.{stamp_of_next_command}
 use Rattle.brk_model.specs.Records.{Key, Kept}
 use Rattle.brk_model.specs.Rows.{row_text}
 use Rattle.brk_money.specs.declared.refusal.Refusal.TheVariants.{KeyReused}
 use Rattle.std.specs.Prelude.{bytes_eq}
-use Rattle.brk_model.specs.Run.{MayFail}
-use Rattle.brk_model.specs.Keyed.{acted, keeping, keyed_step, repeated}
-use Rattle.brk_changes.specs.Changes.{after_changes}
+use Rattle.brk_model.specs.Run.{IsCallFault}
+use Rattle.brk_model.specs.Keyed.{answer_and_base_of_step, base_with_stored_reply, keyed_step, answer_to_repeated_row}
+use Rattle.brk_changes.specs.Changes.{tables_after_changes}
 use Rattle.brk_plans.specs.declared.plan.Plan.{Plan}
 use Rattle.brk_sql.proofs.Inside.{clean_before}
-use Rattle.brk_plans.specs.Replies.{reply_of}
+use Rattle.brk_plans.specs.Replies.{abstract_reply}
 use Rattle.brk_book_theorems.specs.Books.{BooksInvariant}
-use Rattle.brk_trade_theorems.specs.Plans.{DoesCommand}
-use Rattle.brk_book_theorems.specs.Steps.{base_then}
+use Rattle.brk_trade_theorems.specs.Plans.{PlanImplementsCommand}
+use Rattle.brk_book_theorems.specs.Steps.{base_after_command}
 use Rattle.brk_book_theorems.proofs.Keepers.{books_kept}
-use Rattle.brk_invariant_theorems.specs.InForm.{IsInForm, IsKeyInForm}
+use Rattle.brk_invariant_theorems.specs.InForm.{MeetsAuditFormats, IsWellFormedKey}
 use Rattle.brk_invariant_theorems.specs.Sound.{AuditInvariant}
 use Rattle.brk_invariant_theorems.proofs.SoundSteps.{keyed_sound}
-use Rattle.brk_store.specs.Holds.{AreTreesOf, Holds, ApplyPost, ReadPost}
+use Rattle.brk_store.specs.Holds.{AreTreesOfRows, HoldsRows, ApplyPost, ReadPost}
 use Rattle.brk_decisions.specs.Decisions.{Decides}
 use Rattle.brk_decisions.proofs.Looking.{none_then, same_then}
-use Rattle.brk_commit.specs.Answers.{WasBooked, answer_of}
+use Rattle.brk_commit.specs.Answers.{BooksCommand, model_answer}
 use Rattle.brk_commit.specs.Booked.{CallPost, MayBeCommitted, base_after_call}
 use Rattle.brk_store.specs.Audited.{Represents}
-use Rattle.brk_commit.specs.Keys.{IsSought, kept_in, with_key}
+use Rattle.brk_commit.specs.Keys.{ReadKeptRowPost, kept_row_under_key, with_stored_command}
 use Rattle.brk_commit.specs.declared.answer.Answer as booked
 use Rattle.brk_commit.specs.declared.answer.Answer.TheVariants as given
 use Rattle.brk_commit.proofs.Kept.{rows_with_key, steps_again, steps_anew}
@@ -48,13 +48,13 @@ use Rattle.brk_commit.proofs.Seen.{still_kept, IsSeen, seen, seen_both, sought_n
 
 -- what is known of the tables where a command is decided on, whose key is not kept
 abbrev pub Known : ℕ → Command → Option Key → Result Plan Refusal → Tables → Type 0
-Known now command key planned t = (None ≡ kept_in t key) × Decides now command planned t
+Known now command key planned t = (None ≡ kept_row_under_key t key) × Decides now command planned t
 
 -- it is known after two reads
-pub known : {S E : Type 0} (g : Ghosts S) (old first mid : Held S) (now : ℕ) (command : Command) (key : Option Key) (planned : Result Plan Refusal) → IsSought g old first key (Ok None)
+pub known : {S E : Type 0} (g : Ghosts S) (old first mid : Held S) (now : ℕ) (command : Command) (key : Option Key) (planned : Result Plan Refusal) → ReadKeptRowPost g old first key (Ok None)
     → ReadPost {E = E} g first mid (Ok planned) (Decides now command) → IsSeen g old mid (Known now command key planned)
 known g old first mid now command key planned sought decided =
-    seen_both g old first mid (λ t. None ≡ kept_in t key) (Decides now command planned) (sought_none g old first key sought) (seen g first mid planned (Decides now command) decided)
+    seen_both g old first mid (λ t. None ≡ kept_row_under_key t key) (Decides now command planned) (sought_none g old first key sought) (seen g first mid planned (Decides now command) decided)
 
 pub same_fault : {V : Type 0} (fault other : Fault) (result : Result V Fault) → result ≡ Err fault → result ≡ Err other → fault ≡ other
 same_fault fault other result is was = cc
@@ -64,18 +64,18 @@ not_done true line reply e = absurd (let f = e in cc)
 not_done false line reply e = absurd (let f = e in cc)
 
 -- what a kept key is answered with is never that it was done now
-never_done : (base : Base) (command : Command) (k : Kept) (answer : booked.Answer) → repeated base command k ≡ (answer_of answer, base) → WasBooked (Ok answer) → ⊥
-never_done base command k (given.Done reply) e done = not_done (bytes_eq k.row_text (row_text command)) k.line (reply_of reply) (ap (λ (x : Answer × Base). x.0) e)
+never_done : (base : Base) (command : Command) (k : Kept) (answer : booked.Answer) → answer_to_repeated_row base command k ≡ (model_answer answer, base) → BooksCommand (Ok answer) → ⊥
+never_done base command k (given.Done reply) e done = not_done (bytes_eq k.row_text (row_text command)) k.line (abstract_reply reply) (ap (λ (x : Answer × Base). x.0) e)
 never_done base command k (given.Again line) e done = done
 never_done base command k (given.Refused refusal) e done = done
 
-module _ {S : Type 0} (g : Ghosts S) (old mid : Held S) (now : ℕ) (command : Command) (key : Option Key) (formed : IsInForm command × IfSome key IsKeyInForm) where
+module _ {S : Type 0} (g : Ghosts S) (old mid : Held S) (now : ℕ) (command : Command) (key : Option Key) (formed : MeetsAuditFormats command × IfSome key IsWellFormedKey) where
   -- the base after the command is sound
   sound_after : (base : Base) → Represents g old base → (after : Base) (answer : Answer) → keyed_step base now command key ≡ (answer, after) → AuditInvariant after
   sound_after base keeps after answer e = subst AuditInvariant (ap (λ (x : Answer × Base). x.1) e) (keyed_sound base now command key keeps.sound keeps.books formed.0 formed.1)
 
   -- what was read is of no use
-  pub fails : (P : Tables → Type 0) → IsSeen g old mid P → (fault : Fault) → MayFail fault → CallPost g old mid now command key (Err fault)
+  pub fails : (P : Tables → Type 0) → IsSeen g old mid P → (fault : Fault) → IsCallFault fault → CallPost g old mid now command key (Err fault)
   fails P seen fault may = record {
     answered = λ clean. tt;
     kept = λ base keeps. still_kept g old mid base (seen.kept (sheets base)) keeps;
@@ -89,13 +89,13 @@ module _ {S : Type 0} (g : Ghosts S) (old mid : Held S) (now : ℕ) (command : C
   }
 
   -- its key is kept
-  pub repeats : (k : Kept) (answer : booked.Answer) → ((base : Base) → repeated base command k ≡ (answer_of answer, base)) → IsSeen g old mid (λ t. Some k ≡ kept_in t key)
+  pub repeats : (k : Kept) (answer : booked.Answer) → ((base : Base) → answer_to_repeated_row base command k ≡ (model_answer answer, base)) → IsSeen g old mid (λ t. Some k ≡ kept_row_under_key t key)
       → CallPost g old mid now command key (Ok answer)
   repeats k answer told seen = record {
     answered = λ clean base keeps. (
       base,
       still_kept g old mid base (seen.kept (sheets base)) keeps,
-      steps_again base now command key k (answer_of answer, base) (seen.told clean (sheets base) keeps.rows) (told base),
+      steps_again base now command key k (model_answer answer, base) (seen.told clean (sheets base) keeps.rows) (told base),
     );
     kept = tt;
     fault = tt;
@@ -108,10 +108,10 @@ module _ {S : Type 0} (g : Ghosts S) (old mid : Held S) (now : ℕ) (command : C
   }
 
   -- its key is kept, and the answer may find no memory
-  pub repeats_or_fails : (k : Kept) (result : Result booked.Answer Fault) → IfOk result (λ answer. (base : Base) → repeated base command k ≡ (answer_of answer, base))
-      → OnErr result (result ≡ Err Memory) → IsSeen g old mid (λ t. Some k ≡ kept_in t key) → CallPost g old mid now command key result
+  pub repeats_or_fails : (k : Kept) (result : Result booked.Answer Fault) → IfOk result (λ answer. (base : Base) → answer_to_repeated_row base command k ≡ (model_answer answer, base))
+      → OnErr result (result ≡ Err Memory) → IsSeen g old mid (λ t. Some k ≡ kept_row_under_key t key) → CallPost g old mid now command key result
   repeats_or_fails k (Ok answer) told none seen = repeats k answer told seen
-  repeats_or_fails k (Err fault) none e seen = fails (λ t. Some k ≡ kept_in t key) seen fault (inl (same_fault fault Memory (Err fault) refl e))
+  repeats_or_fails k (Err fault) none e seen = fails (λ t. Some k ≡ kept_row_under_key t key) seen fault (inl (same_fault fault Memory (Err fault) refl e))
 
   -- it is refused
   pub refuses : (refusal : Refusal) → IsSeen g old mid (Known now command key (Err refusal)) → CallPost g old mid now command key (Ok (given.Refused refusal))
@@ -121,7 +121,7 @@ module _ {S : Type 0} (g : Ghosts S) (old mid : Held S) (now : ℕ) (command : C
         let refused : step base now command ≡ Err refusal = known.1 base keeps.books refl in (
           base,
           still_kept g old mid base (seen.kept (sheets base)) keeps,
-          steps_anew base now command key known.0 ∙ ap (acted base key command) refused,
+          steps_anew base now command key known.0 ∙ ap (answer_and_base_of_step base key command) refused,
         );
     kept = tt;
     fault = tt;
@@ -135,41 +135,41 @@ module _ {S : Type 0} (g : Ghosts S) (old mid : Held S) (now : ℕ) (command : C
 
   -- it is planned, and is kept with its plan
   module _ (plan : Plan) (seen : IsSeen g old mid (Known now command key (Ok plan))) (end : Held S) (kept : Plan) (reply : kept.reply ≡ plan.reply)
-      (rows : (t : Tables) → after_changes kept.changes.items t ≡ with_key key command (reply_of plan.reply) (after_changes plan.changes.items t)) where
-    clean_then : {r : Result (Unit {0}) Fault} → ApplyPost g mid end r (after_changes kept.changes.items) → HasCleanDisk (state g end) → HasCleanDisk (state g mid)
+      (rows : (t : Tables) → tables_after_changes kept.changes.items t ≡ with_stored_command key command (abstract_reply plan.reply) (tables_after_changes plan.changes.items t)) where
+    clean_then : {r : Result (Unit {0}) Fault} → ApplyPost g mid end r (tables_after_changes kept.changes.items) → HasCleanDisk (state g end) → HasCleanDisk (state g mid)
     clean_then applied = clean_before (state g mid) (state g end) _ applied.survives
 
     -- the changes lead to the tables after the command
-    lands : HasCleanDisk (state g mid) → (base : Base) → Represents g old base → (after : Base) × (sheets after ≡ after_changes kept.changes.items (sheets base)) × BooksInvariant after
-        × (keyed_step base now command key ≡ (answer_of (given.Done kept.reply), after)) × (has_texts (sheets after) ≡ true)
+    lands : HasCleanDisk (state g mid) → (base : Base) → Represents g old base → (after : Base) × (sheets after ≡ tables_after_changes kept.changes.items (sheets base)) × BooksInvariant after
+        × (keyed_step base now command key ≡ (model_answer (given.Done kept.reply), after)) × (has_utf8_texts (sheets after) ≡ true)
     lands clean base keeps =
         let known = seen.told clean (sheets base) keeps.rows in
-        let does : DoesCommand base now command plan = known.1 base keeps.books refl in
+        let does : PlanImplementsCommand base now command plan = known.1 base keeps.books refl in
         let new = known.0 in
-        let after = base_then base now command in
-        let told = reply_of plan.reply in
-        let all : after_changes kept.changes.items (sheets base) ≡ sheets (keeping key command told after) =
-        rows (sheets base) ∙ ap (with_key key command told) (sym does.rows) ∙ sym (rows_with_key base (next_stamp base now) command key told new) in (
-          keeping key command told after,
+        let after = base_after_command base now command in
+        let told = abstract_reply plan.reply in
+        let all : tables_after_changes kept.changes.items (sheets base) ≡ sheets (base_with_stored_reply key command told after) =
+        rows (sheets base) ∙ ap (with_stored_command key command told) (sym does.rows) ∙ sym (rows_with_key base (stamp_of_next_command base now) command key told new) in (
+          base_with_stored_reply key command told after,
           sym all,
           books_kept after key command told does.kept,
-          steps_anew base now command key new ∙ ap (acted base key command) does.steps ∙ ap (λ reply. (answer_of (given.Done reply), keeping key command told after)) (sym reply),
-          ap has_texts (sym all) ∙ changes_keep_texts (sheets base) kept.changes.items keeps.texts,
+          steps_anew base now command key new ∙ ap (answer_and_base_of_step base key command) does.steps ∙ ap (λ reply. (model_answer (given.Done reply), base_with_stored_reply key command told after)) (sym reply),
+          ap has_utf8_texts (sym all) ∙ changes_keep_texts (sheets base) kept.changes.items keeps.texts,
         )
 
     -- and so do the trees that a crash may leave
-    comes : HasCleanDisk (state g mid) → (base : Base) → Represents g old base → (trees : Trees) → AreTreesOf (after_changes kept.changes.items (sheets base)) trees
-        → AreTreesOf (sheets (base_after_call base now command key)) trees
+    comes : HasCleanDisk (state g mid) → (base : Base) → Represents g old base → (trees : Trees) → AreTreesOfRows (tables_after_changes kept.changes.items (sheets base)) trees
+        → AreTreesOfRows (sheets (base_after_call base now command key)) trees
     comes clean base keeps trees are =
         let l = lands clean base keeps in
-        subst (λ t. AreTreesOf t trees) (sym l.1 ∙ ap (λ (x : Answer × Base). sheets x.1) (sym l.3)) are
+        subst (λ t. AreTreesOfRows t trees) (sym l.1 ∙ ap (λ (x : Answer × Base). sheets x.1) (sym l.3)) are
 
-    texts_come : HasCleanDisk (state g mid) → (base : Base) → Represents g old base → has_texts (sheets (base_after_call base now command key)) ≡ true
+    texts_come : HasCleanDisk (state g mid) → (base : Base) → Represents g old base → has_utf8_texts (sheets (base_after_call base now command key)) ≡ true
     texts_come clean base keeps =
         let l = lands clean base keeps in
-        ap (λ (x : Answer × Base). has_texts (sheets x.1)) l.3 ∙ l.4
+        ap (λ (x : Answer × Base). has_utf8_texts (sheets x.1)) l.3 ∙ l.4
 
-    come : {r : Result (Unit {0}) Fault} → (applied : ApplyPost g mid end r (after_changes kept.changes.items)) → Survives (state g old) (state g end) (MayBeCommitted g old now command key)
+    come : {r : Result (Unit {0}) Fault} → (applied : ApplyPost g mid end r (tables_after_changes kept.changes.items)) → Survives (state g old) (state g end) (MayBeCommitted g old now command key)
     come applied =
         none_then (state g old) (state g mid) (state g end) (MayBeCommitted g old now command key) seen.survives
         (survives_weaker (state g mid) (state g end) _ _ (λ clean trees may.
@@ -180,7 +180,7 @@ module _ {S : Type 0} (g : Ghosts S) (old mid : Held S) (now : ℕ) (command : C
         )) applied.survives)
 
     -- the changes failed
-    pub books_none : (fault : Fault) → MayFail fault → ApplyPost {V = Unit {0}} g mid end (Err fault) (after_changes kept.changes.items) → CallPost g old end now command key (Err fault)
+    pub books_none : (fault : Fault) → IsCallFault fault → ApplyPost {V = Unit {0}} g mid end (Err fault) (tables_after_changes kept.changes.items) → CallPost g old end now command key (Err fault)
     books_none fault may applied =
         let clean_mid = clean_before (state g mid) (state g end) _ applied.survives in
         record {
@@ -196,13 +196,13 @@ module _ {S : Type 0} (g : Ghosts S) (old mid : Held S) (now : ℕ) (command : C
         }
 
     -- they are made
-    pub books_it : (x : Unit {0}) → ApplyPost {E = Fault} g mid end (Ok x) (after_changes kept.changes.items) → CallPost g old end now command key (Ok (given.Done kept.reply))
+    pub books_it : (x : Unit {0}) → ApplyPost {E = Fault} g mid end (Ok x) (tables_after_changes kept.changes.items) → CallPost g old end now command key (Ok (given.Done kept.reply))
     books_it x applied =
         let clean_mid = clean_before (state g mid) (state g end) _ applied.survives in
         record {
           answered = λ clean base keeps.
               let l = lands (clean_mid clean) base keeps in
-              (l.0, record { books = l.2; sound = sound_after base keeps l.0 (answer_of (given.Done kept.reply)) l.3; texts = l.4; rows = subst (Holds g end) (sym l.1) (applied.made (sheets base) (seen.kept (sheets base) keeps.rows)) }, l.3);
+              (l.0, record { books = l.2; sound = sound_after base keeps l.0 (model_answer (given.Done kept.reply)) l.3; texts = l.4; rows = subst (HoldsRows g end) (sym l.1) (applied.made (sheets base) (seen.kept (sheets base) keeps.rows)) }, l.3);
           kept = tt;
           fault = tt;
           survives = come applied;

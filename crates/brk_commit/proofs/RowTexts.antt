@@ -1,20 +1,20 @@
 -- Changes of rows leave texts of no form in UTF-8: each comes from a `String`.
-use Rattle.brk_model.specs.Form.{has_texts}
+use Rattle.brk_model.specs.Form.{has_utf8_texts}
 use Rattle.std.proofs.Common.{◌≡◌, ◌==◌, Bool, true, List, [], ◌∷◌, Some, refl}
 use Rattle.std.specs.Prelude.{◌&&◌, string_bytes}
 use Rattle.std.specs.List.{AllByRecursion, list_all}
 use Rattle.std.specs.Str.{is_utf8}
 use Rattle.std.proofs.lemmas.Bool.{and_from, and_parts}
-use Rattle.brk_model.specs.Keys.{kept_key, move_key, row_before, trade_key}
+use Rattle.brk_model.specs.Keys.{kept_key, move_key, is_row_key_less, trade_key}
 use Rattle.brk_model.specs.Records.{Kept}
-use Rattle.brk_model.specs.LookupView.{is_cash_of}
-use Rattle.brk_model.specs.Tables.{CashRow, MoveRow, Tables, TradeRow, no_rows}
-use Rattle.brk_changes.specs.Changes.{after_change, after_changes}
-use Rattle.brk_changes.specs.Rows.{move_row_of, trade_row_of}
+use Rattle.brk_model.specs.LookupView.{is_cash_row_of_trade}
+use Rattle.brk_model.specs.Tables.{CashRow, MoveRow, Tables, TradeRow, tables_without_rows}
+use Rattle.brk_changes.specs.Changes.{tables_after_change, tables_after_changes}
+use Rattle.brk_changes.specs.Rows.{abstract_move_row, abstract_trade_row}
 use Rattle.brk_changes.specs.declared.change.Change.{Change}
 use Rattle.brk_changes.specs.declared.change.Change.TheVariants.{AddBroker, AddCustomer, AddAccount, AddPermission, AddSecurity, AddLastTrade, AddCharge, AddBand, AddTaxRate, AddCustomerTax, AddTrade, SetStatus, AddHistory, AddRequest, RemoveRequest, SetLastTrade, CompleteTrade, AddLot, SetLot, RemoveLot, AddLotChange, AddSummary, SetSummary, RemoveSummary, AddSettlement, AddMove, SetBalance, SetBrokerNumbers, SetExecutor, SetCashType, SetCashName, SetRule, Keep, SetLast}
 use Rattle.brk_money.specs.declared.status.Status.TheVariants.{Completed}
-use Rattle.brk_ref.specs.Records.{kept_of}
+use Rattle.brk_ref.specs.Records.{abstract_kept_row}
 use Rattle.brk_book_theorems.proofs.Order.{All-insert}
 use Rattle.brk_book_theorems.proofs.Places.{All-updated}
 use Rattle.brk_audit_theorems.proofs.AgainStatus.{all_list}
@@ -44,7 +44,7 @@ record InText (t : Tables) : Type 0 where
 
 -- ---- one change, some changes
 
-changed : (t : Tables) (change : Change) → InText t → InText (after_change change t)
+changed : (t : Tables) (change : Change) → InText t → InText (tables_after_change change t)
 changed t (AddBroker broker) h = record { kept = h.kept; names = h.names; cash = h.cash; moves = h.moves }
 changed t (AddCustomer customer) h = record { kept = h.kept; names = h.names; cash = h.cash; moves = h.moves }
 changed t (AddAccount account) h = record { kept = h.kept; names = h.names; cash = h.cash; moves = h.moves }
@@ -55,7 +55,7 @@ changed t (AddCharge charge) h = record { kept = h.kept; names = h.names; cash =
 changed t (AddBand band) h = record { kept = h.kept; names = h.names; cash = h.cash; moves = h.moves }
 changed t (AddTaxRate tax) h = record { kept = h.kept; names = h.names; cash = h.cash; moves = h.moves }
 changed t (AddCustomerTax pays) h = record { kept = h.kept; names = h.names; cash = h.cash; moves = h.moves }
-changed t (AddTrade row) h = record { kept = h.kept; names = All-insert IsNamedInText (row_before trade_key) (trade_row_of row) t.trades (text_is_utf8 row.executor) h.names; cash = h.cash; moves = h.moves }
+changed t (AddTrade row) h = record { kept = h.kept; names = All-insert IsNamedInText (is_row_key_less trade_key) (abstract_trade_row row) t.trades (text_is_utf8 row.executor) h.names; cash = h.cash; moves = h.moves }
 changed t (SetStatus trade status stamp) h = record {
   kept = h.kept;
   names = All-updated IsNamedInText (λ r. r.id == trade) (λ r. record r { status = status; stamp = stamp }) t.trades (λ r e. e) h.names;
@@ -81,7 +81,7 @@ changed t (SetSummary row) h = record { kept = h.kept; names = h.names; cash = h
 changed t (RemoveSummary account symbol) h = record { kept = h.kept; names = h.names; cash = h.cash; moves = h.moves }
 changed t (AddSettlement row) h = record { kept = h.kept; names = h.names; cash = h.cash; moves = h.moves }
 changed t (AddMove row) h =
-    record { kept = h.kept; names = h.names; cash = h.cash; moves = All-insert IsMovedInText (row_before move_key) (move_row_of row) t.moves (text_is_utf8 row.name) h.moves }
+    record { kept = h.kept; names = h.names; cash = h.cash; moves = All-insert IsMovedInText (is_row_key_less move_key) (abstract_move_row row) t.moves (text_is_utf8 row.name) h.moves }
 changed t (SetBalance account balance) h = record { kept = h.kept; names = h.names; cash = h.cash; moves = h.moves }
 changed t (SetBrokerNumbers broker trades commissions) h = record { kept = h.kept; names = h.names; cash = h.cash; moves = h.moves }
 changed t (SetExecutor trade executor) h = record {
@@ -95,11 +95,11 @@ changed t (SetCashName trade name) h = record {
   kept = h.kept;
   names = h.names;
   cash = h.cash;
-  moves = All-updated IsMovedInText (is_cash_of trade) (λ r. record r { name = string_bytes name }) t.moves (λ r e. text_is_utf8 name) h.moves;
+  moves = All-updated IsMovedInText (is_cash_row_of_trade trade) (λ r. record r { name = string_bytes name }) t.moves (λ r e. text_is_utf8 name) h.moves;
 }
 changed t (SetRule day) h = record { kept = h.kept; names = h.names; cash = h.cash; moves = h.moves }
 changed t (Keep kept) h = record {
-  kept = All-insert IsKeptInText (row_before kept_key) (kept_of kept) t.kept
+  kept = All-insert IsKeptInText (is_row_key_less kept_key) (abstract_kept_row kept) t.kept
       (and_from (is_utf8 (string_bytes kept.row_text)) (is_utf8 (string_bytes kept.line)) (text_is_utf8 kept.row_text) (text_is_utf8 kept.line)) h.kept;
   names = h.names;
   cash = h.cash;
@@ -107,13 +107,13 @@ changed t (Keep kept) h = record {
 }
 changed t (SetLast stamp) h = record { kept = h.kept; names = h.names; cash = h.cash; moves = h.moves }
 
-all_changed : (t : Tables) (changes : List Change) → InText t → InText (after_changes changes t)
+all_changed : (t : Tables) (changes : List Change) → InText t → InText (tables_after_changes changes t)
 all_changed t [] h = h
-all_changed t (change ∷ changes) h = all_changed (after_change change t) changes (changed t change h)
+all_changed t (change ∷ changes) h = all_changed (tables_after_change change t) changes (changed t change h)
 
 -- ---- as a test
 
-in_text : (t : Tables) → has_texts t ≡ true → InText t
+in_text : (t : Tables) → has_utf8_texts t ≡ true → InText t
 in_text t e =
     let kept : Bool = list_all kept_in_text t.kept in
     let names : Bool = list_all (λ (r : TradeRow). is_utf8 r.executor) t.trades in
@@ -129,10 +129,10 @@ in_text t e =
       moves = list_all_true (λ (r : MoveRow). is_utf8 r.name) t.moves all.1;
     }
 
-pub changes_keep_texts : (t : Tables) (changes : List Change) → has_texts t ≡ true → has_texts (after_changes changes t) ≡ true
+pub changes_keep_texts : (t : Tables) (changes : List Change) → has_utf8_texts t ≡ true → has_utf8_texts (tables_after_changes changes t) ≡ true
 changes_keep_texts t changes e =
     let h = all_changed t changes (in_text t e) in
-    let after = after_changes changes t in
+    let after = tables_after_changes changes t in
     let kept : Bool = list_all kept_in_text after.kept in
     let names : Bool = list_all (λ (r : TradeRow). is_utf8 r.executor) after.trades in
     let cash : Bool = list_all (λ (r : CashRow). is_utf8 r.name) after.cash in
@@ -143,5 +143,5 @@ changes_keep_texts t changes e =
     (all_list (λ (r : CashRow). is_utf8 r.name) after.cash h.cash))
     (all_list (λ (r : MoveRow). is_utf8 r.name) after.moves h.moves)
 
-pub no_rows_have_texts : has_texts no_rows ≡ true
+pub no_rows_have_texts : has_utf8_texts tables_without_rows ≡ true
 no_rows_have_texts = refl

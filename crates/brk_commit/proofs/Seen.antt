@@ -8,13 +8,13 @@ use Rattle.brk_model.specs.Base.{Base}
 use Rattle.brk_model.specs.Records.{Key}
 use Rattle.brk_model.specs.Sheets.{sheets}
 use Rattle.brk_model.specs.Tables.{Tables}
-use Rattle.brk_ref.specs.Records.{kept_of}
+use Rattle.brk_ref.specs.Records.{abstract_kept_row}
 use Rattle.brk_ref.specs.declared.key.Kept as row
 use Rattle.brk_sql.proofs.Inside.{clean_before}
-use Rattle.brk_store.specs.Holds.{Holds, ReadPost, IsSame}
+use Rattle.brk_store.specs.Holds.{HoldsRows, ReadPost, WasOpenAndIsUnchanged}
 use Rattle.brk_decisions.proofs.Looking.{none_then, same_then}
 use Rattle.brk_store.specs.Audited.{Represents}
-use Rattle.brk_commit.specs.Keys.{IsSought, kept_in}
+use Rattle.brk_commit.specs.Keys.{ReadKeptRowPost, kept_row_under_key}
 
 -- a call that does nothing
 pub still : (s : State) → Survives s s (λ _. ⊥)
@@ -22,14 +22,14 @@ still s = record { clean = omega arith; shield = λ x. x; counts = omega arith; 
 
 module _ {S : Type 0} (g : Ghosts S) where
   -- books are kept where the rows are
-  pub still_kept : (old new : Held S) (base : Base) → (Holds g old (sheets base) → Holds g new (sheets base)) → Represents g old base → Represents g new base
+  pub still_kept : (old new : Held S) (base : Base) → (HoldsRows g old (sheets base) → HoldsRows g new (sheets base)) → Represents g old base → Represents g new base
   still_kept old new base rows keeps = record { books = keeps.books; sound = keeps.sound; texts = keeps.texts; rows = rows keeps.rows }
 
   -- nothing was changed, and this is so of whatever rows the store holds
   pub record IsSeen (old new : Held S) (P : Tables → Type 0) : Type 0 where
-    pub told : HasCleanDisk (state g new) → (t : Tables) → Holds g old t → P t
-    pub kept : (t : Tables) → Holds g old t → Holds g new t
-    pub same : HasCleanDisk (state g new) → IsTrue (state g new).is_open → IsSame (state g old) (state g new)
+    pub told : HasCleanDisk (state g new) → (t : Tables) → HoldsRows g old t → P t
+    pub kept : (t : Tables) → HoldsRows g old t → HoldsRows g new t
+    pub same : HasCleanDisk (state g new) → IsTrue (state g new).is_open → WasOpenAndIsUnchanged (state g old) (state g new)
     pub clean : HasCleanDisk (state g new) → HasCleanDisk (state g old)
     pub survives : Survives (state g old) (state g new) (λ _. ⊥)
 
@@ -51,11 +51,11 @@ module _ {S : Type 0} (g : Ghosts S) where
       record { told = λ clean t holds. all t; kept = λ t holds. holds; same = λ clean o. record { was_open = o; now = refl; committed = refl }; clean = λ clean. clean; survives = still (state g store) }
 
   -- nothing is kept under the key
-  pub sought_none : (old new : Held S) (key : Option Key) → IsSought g old new key (Ok None) → IsSeen old new (λ t. None ≡ kept_in t key)
-  sought_none old new None s = subst (λ n. IsSeen old n (λ t. None ≡ kept_in t None)) (sym s.0) (seen_still old (λ t. None ≡ kept_in t None) (λ t. refl))
-  sought_none old new (Some key) s = seen old new None (λ kept t. option_map kept_of kept ≡ kept_in t (Some key)) s
+  pub sought_none : (old new : Held S) (key : Option Key) → ReadKeptRowPost g old new key (Ok None) → IsSeen old new (λ t. None ≡ kept_row_under_key t key)
+  sought_none old new None s = subst (λ n. IsSeen old n (λ t. None ≡ kept_row_under_key t None)) (sym s.0) (seen_still old (λ t. None ≡ kept_row_under_key t None) (λ t. refl))
+  sought_none old new (Some key) s = seen old new None (λ kept t. option_map abstract_kept_row kept ≡ kept_row_under_key t (Some key)) s
 
   -- this row is
-  pub sought_some : (old new : Held S) (key : Option Key) (k : row.Kept) → IsSought g old new key (Ok (Some k)) → IsSeen old new (λ t. Some (kept_of k) ≡ kept_in t key)
+  pub sought_some : (old new : Held S) (key : Option Key) (k : row.Kept) → ReadKeptRowPost g old new key (Ok (Some k)) → IsSeen old new (λ t. Some (abstract_kept_row k) ≡ kept_row_under_key t key)
   sought_some old new None k s = let other = s.1 in absurd (cc)
-  sought_some old new (Some key) k s = seen old new (Some k) (λ kept t. option_map kept_of kept ≡ kept_in t (Some key)) s
+  sought_some old new (Some key) k s = seen old new (Some k) (λ kept t. option_map abstract_kept_row kept ≡ kept_row_under_key t (Some key)) s

@@ -1,5 +1,5 @@
 -- The postcondition of a call that executes a command.
-use Rattle.brk_model.specs.Form.{has_texts}
+use Rattle.brk_model.specs.Form.{has_utf8_texts}
 use Rattle.std.specs.Prelude.{◌≡◌, ℕ, Option, Result, IfOk, IfErr, IfSome, OnErr, IsTrue}
 use Rattle.sqlite_trees.specs.declared.store.Store.{Ghosts}
 use Rattle.sqlite.specs.Held.{Held, state}
@@ -11,11 +11,11 @@ use Rattle.brk_model.specs.Sheets.{sheets}
 use Rattle.brk_model.specs.Commands.{Command}
 use Rattle.brk_model.specs.Records.{Key}
 use Rattle.brk_model.specs.Keyed.{keyed_step}
-use Rattle.brk_model.specs.Run.{MayFail}
-use Rattle.brk_invariant_theorems.specs.InForm.{IsInForm, IsKeyInForm}
+use Rattle.brk_model.specs.Run.{IsCallFault}
+use Rattle.brk_invariant_theorems.specs.InForm.{MeetsAuditFormats, IsWellFormedKey}
 use Rattle.brk_store.specs.Audited.{Represents}
-use Rattle.brk_store.specs.Holds.{AreTreesOf, IsSame, OnlyCrashState}
-use Rattle.brk_commit.specs.Answers.{BookedNothing, WasBooked, answer_of}
+use Rattle.brk_store.specs.Holds.{AreTreesOfRows, WasOpenAndIsUnchanged, CrashStatesSatisfy}
+use Rattle.brk_commit.specs.Answers.{BooksNothing, BooksCommand, model_answer}
 use Rattle.brk_commit.specs.declared.answer.Answer as booked
 
 -- For every base that the store represented before the call, `answer` is the answer of the model's
@@ -23,11 +23,11 @@ use Rattle.brk_commit.specs.declared.answer.Answer as booked
 -- after this step.
 abbrev pub RefinesStep : {S : Type 0} → Ghosts S → Held S → Held S → ℕ → Command → Option Key → booked.Answer → Type 0
 RefinesStep g old new now command key answer =
-    (base : Base) → Represents g old base → (after : Base) × Represents g new after × (keyed_step base now command key ≡ (answer_of answer, after))
+    (base : Base) → Represents g old base → (after : Base) × Represents g new after × (keyed_step base now command key ≡ (model_answer answer, after))
 
 -- The store `new` represents every base that the store `old` represents.
-abbrev pub StillKeeps : {S : Type 0} → Ghosts S → Held S → Held S → Type 0
-StillKeeps g old new = (base : Base) → Represents g old base → Represents g new base
+abbrev pub PreservesRepresentation : {S : Type 0} → Ghosts S → Held S → Held S → Type 0
+PreservesRepresentation g old new = (base : Base) → Represents g old base → Represents g new base
 
 -- The base after the command was executed on `base` at the clock reading `now` under its key, or
 -- without one.
@@ -38,8 +38,8 @@ base_after_call base now command key = (keyed_step base now command key).1
 -- base after the command, and these have texts in UTF-8.
 abbrev pub MayBeCommitted : {S : Type 0} → Ghosts S → Held S → ℕ → Command → Option Key → Trees → Type 0
 MayBeCommitted g old now command key trees =
-    IsTrue (state g old).is_open × ((base : Base) → Represents g old base → AreTreesOf (sheets (base_after_call base now command key)) trees)
-    × ((base : Base) → Represents g old base → IsTrue (has_texts (sheets (base_after_call base now command key))))
+    IsTrue (state g old).is_open × ((base : Base) → Represents g old base → AreTreesOfRows (sheets (base_after_call base now command key)) trees)
+    × ((base : Base) → Represents g old base → IsTrue (has_utf8_texts (sheets (base_after_call base now command key))))
 
 -- The postcondition of a call that executes a command: at `Ok` it refines the model's step with the
 -- key of the command; at an error it leaves the open store unchanged, although a crash may expose
@@ -48,20 +48,20 @@ pub record CallPost {S : Type 0} (g : Ghosts S) (old new : Held S) (now : ℕ) (
   -- At `Ok` the call refines the step. Says nothing if the disk assumption fails.
   pub answered : HasCleanDisk (state g new) → IfOk result (RefinesStep g old new now command key)
   -- At an error the store represents every base that it represented.
-  pub kept : OnErr result (StillKeeps g old new)
+  pub kept : OnErr result (PreservesRepresentation g old new)
   -- The error is `Memory` or `Store`.
-  pub fault : IfErr result MayFail
+  pub fault : IfErr result IsCallFault
   -- A crash exposes a state that a crash before the call could expose, or the tables after the
   -- command.
   pub survives : Survives (state g old) (state g new) (MayBeCommitted g old now command key)
   -- At `Done` a crash exposes only the tables after the command.
-  pub durable : HasCleanDisk (state g new) → WasBooked result → (base : Base) → Represents g old base → OnlyCrashState g new (AreTreesOf (sheets (base_after_call base now command key)))
+  pub durable : HasCleanDisk (state g new) → BooksCommand result → (base : Base) → Represents g old base → CrashStatesSatisfy g new (AreTreesOfRows (sheets (base_after_call base now command key)))
   -- At `Done` the store was open, is open, and has committed its current state.
-  pub opened : HasCleanDisk (state g new) → WasBooked result → IsTrue (state g old).is_open × IsTrue (state g new).is_open × ((state g new).committed ≡ (state g new).now)
+  pub opened : HasCleanDisk (state g new) → BooksCommand result → IsTrue (state g old).is_open × IsTrue (state g new).is_open × ((state g new).committed ≡ (state g new).now)
   -- If the result is a refusal, a stored reply or a fault, and the database is open after the call,
   -- it was open before and is unchanged.
-  pub same : HasCleanDisk (state g new) → IsTrue (state g new).is_open → BookedNothing result → IsSame (state g old) (state g new)
+  pub same : HasCleanDisk (state g new) → IsTrue (state g new).is_open → BooksNothing result → WasOpenAndIsUnchanged (state g old) (state g new)
   -- If the disk assumption holds after the call, it held before.
   pub clean : HasCleanDisk (state g new) → HasCleanDisk (state g old)
   -- The command and its key are well-formed.
-  pub in_form : IsInForm command × IfSome key IsKeyInForm
+  pub in_form : MeetsAuditFormats command × IfSome key IsWellFormedKey

@@ -2,15 +2,15 @@
 
 ghost use Rattle.std.specs.Prelude.{IfSome};
 ghost use Rattle.std.specs.Option.{option_copied};
-ghost use Rattle.brk_commands.specs.Commands.{command_of};
-ghost use Rattle.brk_commit.specs.Keys.{key_for};
+ghost use Rattle.brk_commands.specs.Commands.{abstract_command};
+ghost use Rattle.brk_commit.specs.Keys.{optional_model_key};
 ghost use Rattle.brk_commit.specs.Booked.{CallPost};
-ghost use Rattle.brk_invariant_theorems.specs.InForm.{IsInForm, IsKeyInForm};
+ghost use Rattle.brk_invariant_theorems.specs.InForm.{MeetsAuditFormats, IsWellFormedKey};
 
 use crate::answer::Answer;
-use crate::deciding::decide;
-use crate::in_form::{command_is_in_form, key_is_in_form};
-use crate::keeping::{find_kept, keep, repeat};
+use crate::deciding::decide_command;
+use crate::in_form::{command_is_well_formed, key_is_well_formed};
+use crate::keeping::{answer_retry, read_kept_row, store_under_key};
 use brk_commands::Command;
 use brk_money::{Fault, Stamp};
 use brk_ref::Key;
@@ -19,13 +19,13 @@ use sqlite::Alter;
 use std::alloc::Global;
 
 // States that a command and its key are well-formed. Proof-only: does nothing at run time.
-fn are_in_form(command: &Command, key: Option<&Key>)
-    ensures command { IsInForm (command_of command.now) }
-    ensures key { IfSome (key_for (option_copied key.entry)) IsKeyInForm }
+fn command_and_key_are_well_formed(command: &Command, key: Option<&Key>)
+    ensures command { MeetsAuditFormats (abstract_command command.now) }
+    ensures key { IfSome (optional_model_key (option_copied key.entry)) IsWellFormedKey }
 {
-    command_is_in_form(command);
+    command_is_well_formed(command);
     if let Some(key) = key {
-        key_is_in_form(key);
+        key_is_well_formed(key);
     }
 }
 
@@ -53,15 +53,15 @@ pub fn book<S: Alter>(
     command: &Command,
     key: Option<&Key>,
 ) -> Result<Answer, Fault>
-    ensures called { CallPost S.Store store.old store.new now (command_of command.now) (key_for (option_copied key.entry)) result }
+    ensures called { CallPost S.Store store.old store.new now (abstract_command command.now) (optional_model_key (option_copied key.entry)) result }
 {
-    are_in_form(command, key);
-    if let Some(kept) = find_kept(store, key)? {
-        return repeat(alloc, command, kept);
+    command_and_key_are_well_formed(command, key);
+    if let Some(kept) = read_kept_row(store, key)? {
+        return answer_retry(alloc, command, kept);
     }
-    match decide(alloc, store, now, command)? {
+    match decide_command(alloc, store, now, command)? {
         Ok(plan) => {
-            let plan = keep(alloc, plan, command, key)?;
+            let plan = store_under_key(alloc, plan, command, key)?;
             store.apply(&plan.changes)?;
             Ok(Answer::Done(plan.reply))
         }

@@ -1,9 +1,9 @@
 //! Decisions on commands, each kind by its own function.
 
 ghost use Rattle.std.specs.Prelude.{IfErr};
-ghost use Rattle.brk_commands.specs.Commands.{command_of};
+ghost use Rattle.brk_commands.specs.Commands.{abstract_command};
 ghost use Rattle.brk_decisions.specs.Decisions.{Decides};
-ghost use Rattle.brk_model.specs.Run.{MayFail};
+ghost use Rattle.brk_model.specs.Run.{IsCallFault};
 ghost use Rattle.brk_store.specs.Holds.{ReadPost};
 
 use brk_commands::Command;
@@ -20,14 +20,14 @@ use std::alloc::Global;
 
 // Decides on a command at the clock reading `now`: returns its plan, or the refusal. Changes
 // nothing. Fails with `Memory` or `Store` only.
-pub(crate) fn decide<S: Alter>(
+pub(crate) fn decide_command<S: Alter>(
     alloc: Global,
     store: &mut Store<S>,
     now: Stamp,
     command: &Command,
 ) -> Planned<Plan>
-    ensures read { ReadPost S.Store store.old store.new result (Decides now (command_of command.now)) }
-    ensures fault { IfErr result MayFail }
+    ensures read { ReadPost S.Store store.old store.new result (Decides now (abstract_command command.now)) }
+    ensures fault { IfErr result IsCallFault }
 {
     match command {
         Command::Add(reference) => decide_reference(alloc, store, now, reference),

@@ -2,18 +2,18 @@
 
 ghost use Rattle.std.specs.Prelude.{◌≡◌, IfOk, IfErr, OnErr, Err};
 ghost use Rattle.std.specs.Option.{option_copied};
-ghost use Rattle.brk_commands.specs.Commands.{command_of};
-ghost use Rattle.brk_commit.specs.Answers.{answer_of};
-ghost use Rattle.brk_commit.specs.Keys.{key_for};
-ghost use Rattle.brk_commit.specs.Keys.{IsSought, with_key};
+ghost use Rattle.brk_commands.specs.Commands.{abstract_command};
+ghost use Rattle.brk_commit.specs.Answers.{model_answer};
+ghost use Rattle.brk_commit.specs.Keys.{optional_model_key};
+ghost use Rattle.brk_commit.specs.Keys.{ReadKeptRowPost, with_stored_command};
 ghost use Rattle.brk_model.specs.Base.{Base};
-ghost use Rattle.brk_model.specs.Keyed.{repeated};
-ghost use Rattle.brk_model.specs.Run.{MayFail};
+ghost use Rattle.brk_model.specs.Keyed.{answer_to_repeated_row};
+ghost use Rattle.brk_model.specs.Run.{IsCallFault};
 ghost use Rattle.brk_model.specs.Tables.{Tables};
 ghost use Rattle.brk_money.specs.declared.fault.Fault.TheVariants.{Memory};
-ghost use Rattle.brk_changes.specs.Changes.{after_changes};
-ghost use Rattle.brk_plans.specs.Replies.{reply_of};
-ghost use Rattle.brk_ref.specs.Records.{kept_of};
+ghost use Rattle.brk_changes.specs.Changes.{tables_after_changes};
+ghost use Rattle.brk_plans.specs.Replies.{abstract_reply};
+ghost use Rattle.brk_ref.specs.Records.{abstract_kept_row};
 
 use crate::answer::Answer;
 use brk_commands::{Command, line_text, row_text};
@@ -26,12 +26,12 @@ use std::alloc::Global;
 
 // Reads the row of KEPT under a key. Returns `None` if there is no key or no such row. Fails with
 // `Memory` or `Store` only.
-pub(crate) fn find_kept<S: Alter>(
+pub(crate) fn read_kept_row<S: Alter>(
     store: &mut Store<S>,
     key: Option<&Key>,
 ) -> Result<Option<Kept>, Fault>
-    ensures sought { IsSought S.Store store.old store.new (key_for (option_copied key.entry)) result }
-    ensures fault { IfErr result MayFail }
+    ensures sought { ReadKeptRowPost S.Store store.old store.new (optional_model_key (option_copied key.entry)) result }
+    ensures fault { IfErr result IsCallFault }
 {
     match key {
         Some(key) => store.kept(key),
@@ -41,8 +41,8 @@ pub(crate) fn find_kept<S: Alter>(
 
 // Returns the answer to a command under whose key `kept` is stored: the stored reply if the command
 // is the same, otherwise refusal 19. Fails with `Memory` only.
-pub(crate) fn repeat(alloc: Global, command: &Command, kept: Kept) -> Result<Answer, Fault>
-    ensures answer { IfOk result (λ answer. (base : Base) → repeated base (command_of command.now) (kept_of kept) ≡ (answer_of answer, base)) }
+pub(crate) fn answer_retry(alloc: Global, command: &Command, kept: Kept) -> Result<Answer, Fault>
+    ensures answer { IfOk result (λ answer. (base : Base) → answer_to_repeated_row base (abstract_command command.now) (abstract_kept_row kept) ≡ (model_answer answer, base)) }
     ensures fault { OnErr result (result ≡ Err Memory) }
 {
     let row = row_text(alloc, command)?;
@@ -55,15 +55,15 @@ pub(crate) fn repeat(alloc: Global, command: &Command, kept: Kept) -> Result<Ans
 
 // Returns the plan with one more change, which stores the command and its reply under the key;
 // without a key, the plan itself. Fails with `Memory` only.
-pub(crate) fn keep(
+pub(crate) fn store_under_key(
     alloc: Global,
     plan: Plan,
     command: &Command,
     key: Option<&Key>,
 ) -> Result<Plan, Fault>
     ensures reply { IfOk result (λ kept. kept.reply ≡ plan.reply) }
-    ensures rows { IfOk result (λ kept. (t : Tables) → after_changes kept.changes.items t
-        ≡ with_key (key_for (option_copied key.entry)) (command_of command.now) (reply_of plan.reply) (after_changes plan.changes.items t)) }
+    ensures rows { IfOk result (λ kept. (t : Tables) → tables_after_changes kept.changes.items t
+        ≡ with_stored_command (optional_model_key (option_copied key.entry)) (abstract_command command.now) (abstract_reply plan.reply) (tables_after_changes plan.changes.items t)) }
     ensures fault { OnErr result (result ≡ Err Memory) }
 {
     let Some(key) = key else {

@@ -10,4 +10,4 @@ mod keeping;
 
 pub use answer::Answer;
 pub use booking::book;
-pub use in_form::{command_is_in_form, key_is_in_form};
+pub use in_form::{command_is_well_formed, key_is_well_formed};

@@ -6,8 +6,8 @@ use Rattle.sqlite.specs.Held.{Held, state}
 use Rattle.sqlite.specs.State.{HasCleanDisk}
 use Rattle.brk_money.specs.declared.fault.Fault.{Fault}
 use Rattle.brk_model.specs.Tables.{Tables}
-use Rattle.brk_store.specs.Holds.{Holds, ReadPost}
-use Rattle.brk_store.specs.Kept.{IsKept, clean_at}
+use Rattle.brk_store.specs.Holds.{HoldsRows, ReadPost}
+use Rattle.brk_store.specs.Kept.{IsUnchangedByReads, clean_at}
 use Rattle.brk_store.proofs.Retelling.{retold}
 use Rattle.brk_decisions.proofs.Looking.{none_then, same_then}
 
@@ -21,8 +21,8 @@ module _ {S : Type 0} (g : Ghosts S) (old mid : Held S) where
 
 module _ {S : Type 0} (g : Ghosts S) (old mid end : Held S) where
   -- an answer that follows from what was read, and from what was read on in a store that is kept
-  pub decided_on : {V X E : Type 0} (v : V) (P : V → Tables → Type 0) (R : X → Tables → Type 0) (result : Result X Fault) → ReadPost {E = E} g old mid (Ok v) P → IsKept g mid end
-      → (HasCleanDisk (state g end) → IfOk result (λ x. (t : Tables) → Holds g mid t → P v t → R x t)) → ReadPost g old end result R
+  pub decided_on : {V X E : Type 0} (v : V) (P : V → Tables → Type 0) (R : X → Tables → Type 0) (result : Result X Fault) → ReadPost {E = E} g old mid (Ok v) P → IsUnchangedByReads g mid end
+      → (HasCleanDisk (state g end) → IfOk result (λ x. (t : Tables) → HoldsRows g mid t → P v t → R x t)) → ReadPost g old end result R
   decided_on {V} {X} v P R result read on tell = record {
     told = λ clean. answered (clean_at mid end on clean) result (tell clean);
     opened = λ clean. was_open (read.opened (clean_at mid end on clean)) result;
@@ -30,7 +30,7 @@ module _ {S : Type 0} (g : Ghosts S) (old mid end : Held S) where
     same = λ clean o. let s = on.same clean o in same_then (state g old) (state g mid) (state g end) (read.same (clean_at mid end on clean) s.was_open) s;
     survives = none_then (state g old) (state g mid) (state g end) (λ _. ⊥) read.survives on.survives;
   } where
-    answered : HasCleanDisk (state g mid) → (r : Result X Fault) → IfOk r (λ x. (t : Tables) → Holds g mid t → P v t → R x t) → IfOk r (λ x. (t : Tables) → Holds g old t → R x t)
+    answered : HasCleanDisk (state g mid) → (r : Result X Fault) → IfOk r (λ x. (t : Tables) → HoldsRows g mid t → P v t → R x t) → IfOk r (λ x. (t : Tables) → HoldsRows g old t → R x t)
     answered clean (Ok x) tell = λ t h. tell t (read.kept t h) (read.told clean t h)
     answered clean (Err fault) tell = tt
 
@@ -41,8 +41,8 @@ module _ {S : Type 0} (g : Ghosts S) (old mid end : Held S) where
 -- ---- what is known of a store by another name
 
 module _ {S : Type 0} (g : Ghosts S) (old mid end : Held S) (same : mid ≡ end) where
-  pub kept_at : IsKept g old mid → IsKept g old end
-  kept_at k = subst (λ (h : Held S). IsKept g old h) same k
+  pub kept_at : IsUnchangedByReads g old mid → IsUnchangedByReads g old end
+  kept_at k = subst (λ (h : Held S). IsUnchangedByReads g old h) same k
 
   pub read_at : {V E : Type 0} (result : Result V E) (Told : V → Tables → Type 0) → ReadPost g old mid result Told → ReadPost g old end result Told
   read_at result Told read = subst (λ (h : Held S). ReadPost g old h result Told) same read

@@ -6,9 +6,9 @@ use Rattle.sqlite.specs.State.{State, Survives}
 use Rattle.sqlite.proofs.StateLemmas.{survives_then}
 use Rattle.brk_model.specs.Tables.{Tables}
 use Rattle.brk_sql.proofs.Inside.{clean_before}
-use Rattle.brk_store.specs.Holds.{ReadPost, IsSame}
+use Rattle.brk_store.specs.Holds.{ReadPost, WasOpenAndIsUnchanged}
 
-pub same_then : (a b c : State) → IsSame a b → IsSame b c → IsSame a c
+pub same_then : (a b c : State) → WasOpenAndIsUnchanged a b → WasOpenAndIsUnchanged b c → WasOpenAndIsUnchanged a c
 same_then a b c f s = record { was_open = f.was_open; now = s.now ∙ f.now; committed = s.committed ∙ f.committed }
 
 pub none_then : (a b c : State) (P : _) → Survives a b (λ _. ⊥) → Survives b c P → Survives a c P

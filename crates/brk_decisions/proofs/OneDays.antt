@@ -3,7 +3,7 @@ use Rattle.std.proofs.Common.{◌≡◌, ◌≤◌, ◌∙◌, ℕ, Option, Resu
 use Rattle.std.specs.Prelude.{MatchResult, Some}
 use Rattle.sqlite_trees.specs.declared.store.Store.{Ghosts}
 use Rattle.sqlite.specs.Held.{Held}
-use Rattle.brk_money.specs.Moments.{last_stamp}
+use Rattle.brk_money.specs.Moments.{greatest_stamp}
 use Rattle.brk_money.specs.declared.fault.Fault.{Fault}
 use Rattle.brk_money.specs.declared.refusal.Refusal.{Refusal}
 use Rattle.brk_model.specs.Base.{Base}
@@ -11,10 +11,10 @@ use Rattle.brk_model.specs.Commands.{SetOneDay}
 use Rattle.brk_model.specs.Sheets.{sheets}
 use Rattle.brk_model.specs.Tables.{Tables}
 use Rattle.brk_model.specs.Tests.{first_refusal}
-use Rattle.brk_plans.specs.OneDay.{IsOneDay, one_day_tests}
+use Rattle.brk_plans.specs.OneDay.{IsSettlementDayPlan, settlement_day_checks}
 use Rattle.brk_plans.specs.declared.plan.Plan.{Plan}
 use Rattle.brk_book_theorems.specs.Books.{BooksInvariant}
-use Rattle.brk_trade_theorems.specs.MovePlans.{IsReadForOneDay}
+use Rattle.brk_trade_theorems.specs.MovePlans.{PlanSettlementDayPrecondition}
 use Rattle.brk_trade_theorems.proofs.MovePlanning.{one_day_plan_does, one_day_refused}
 use Rattle.brk_store.specs.Holds.{ReadPost}
 use Rattle.brk_decisions.specs.Decisions.{Decides}
@@ -31,8 +31,8 @@ last_and_rule g old mid end rule last at_last at_rule =
     read_both g old mid end {H = Fault} last rule rule (λ last t. last ≡ t.last) (λ rule t. rule ≡ t.rule) (λ r. Known r last) (λ t e f. (e, f)) at_last at_rule
 
 -- a settlement day's plan sets it, and its refusal is that of the command
-module _ (day : ℕ) (rule last : Option ℕ) (now : ℕ) (moment : now ≤ last_stamp) where
-  looked_up : (t : Tables) → Known rule last t → (base : Base) → BooksInvariant base → t ≡ sheets base → IsReadForOneDay base rule last now
+module _ (day : ℕ) (rule last : Option ℕ) (now : ℕ) (moment : now ≤ greatest_stamp) where
+  looked_up : (t : Tables) → Known rule last t → (base : Base) → BooksInvariant base → t ≡ sheets base → PlanSettlementDayPrecondition base rule last now
   looked_up t known base books e = record {
     books = books;
     rule_read = known.1 ∙ ap (λ x. x.rule) e;
@@ -41,7 +41,7 @@ module _ (day : ℕ) (rule last : Option ℕ) (now : ℕ) (moment : now ≤ last
   }
 
   pub one_day_decided : (result : Result (Result Plan Refusal) Fault)
-      → IfOk result (λ planned. MatchResult planned (IsOneDay day rule last now) (λ refusal. first_refusal (one_day_tests day rule last now) ≡ Some refusal))
+      → IfOk result (λ planned. MatchResult planned (IsSettlementDayPlan day rule last now) (λ refusal. first_refusal (settlement_day_checks day rule last now) ≡ Some refusal))
       → IfOk result (λ planned. (t : Tables) → Known rule last t → Decides now (SetOneDay day) planned t)
   one_day_decided (Ok (Ok plan)) p = λ t known base books e. one_day_plan_does base day rule last now plan (looked_up t known base books e) p
   one_day_decided (Ok (Err refusal)) p = λ t known base books e. one_day_refused base day rule last now refusal (looked_up t known base books e) p

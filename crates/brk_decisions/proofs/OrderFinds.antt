@@ -4,35 +4,35 @@ use Rattle.std.proofs.lemmas.List.{map-append, take_more}
 use Rattle.std.proofs.lemmas.Int.{ints}
 use Rattle.std.specs.Prelude.{IfSome, MatchOption, option_to_list}
 use Rattle.std.specs.Option.{option_map_or}
-use Rattle.brk_model.specs.Joins.{account_in, security_in}
+use Rattle.brk_model.specs.Joins.{account_row_with_id, security_row_with_symbol}
 use Rattle.brk_model.specs.Lists.{total_by}
 use Rattle.brk_model.specs.PositionView.{asset_total}
 use Rattle.brk_model.specs.Records.{Customer}
 use Rattle.brk_model.specs.Tables.{AccountRow, LastTradeRow, Tables}
-use Rattle.brk_money.specs.OrderTypes.{kind_of}
+use Rattle.brk_money.specs.OrderTypes.{trade_type_of_order}
 use Rattle.brk_money.specs.declared.refusal.Refusal.TheVariants.{NoAccount}
 use Rattle.brk_orders.specs.declared.order.Order.{Order}
 use Rattle.brk_model.specs.Orders.{permitted}
-use Rattle.brk_ref.specs.Records.{account_row_of, customer_of, executor_of}
+use Rattle.brk_ref.specs.Records.{abstract_account_row, abstract_customer, abstract_executor}
 use Rattle.brk_ref.specs.declared.account.AccountRow as ref
 use Rattle.brk_ref.specs.declared.customer.Customer as customer
-use Rattle.brk_changes.specs.Rows.{summary_row_of}
+use Rattle.brk_changes.specs.Rows.{abstract_summary_row}
 use Rattle.brk_trade.specs.declared.order.OrderFound.{OrderFound}
 use Rattle.brk_changes.specs.declared.summary_row.SummaryRow.{SummaryRow}
-use Rattle.brk_book_theorems.specs.OrderReads.{IfCustomer, charge_in}
-use Rattle.brk_trade_theorems.specs.OrderPlans.{IsFoundForEstimate, order_account}
-use Rattle.brk_book_theorems.specs.Reads.{rates_of_customer}
-use Rattle.brk_book_theorems.specs.TradeReads.{band_in, permission_in}
-use Rattle.brk_decisions.specs.Finds.{AreAmounts, AreTested, IsCustomer, IsOrderFoundOf, found_of, no_facts, worth_in}
+use Rattle.brk_book_theorems.specs.OrderReads.{CustomerOfAccountSatisfies, charge_of_type_and_tier}
+use Rattle.brk_trade_theorems.specs.OrderPlans.{EstimateFactsMatchTables, order_account_of_row}
+use Rattle.brk_book_theorems.specs.Reads.{rate_sum_of_customer}
+use Rattle.brk_book_theorems.specs.TradeReads.{band_of_quantity, permission_for_tax_id}
+use Rattle.brk_decisions.specs.Finds.{AreEstimateAmounts, AreOrderFacts, IsCustomerWithId, AreEstimateFactsOf, order_facts_of, no_account_facts, market_value_of_summary}
 use Rattle.brk_decisions.specs.declared.tested.OrderFacts.{OrderFacts}
 use Rattle.brk_decisions.specs.declared.amounts.Amounts.{Amounts}
 
 not_none : {X : Type 0} (x : X) → Some x ≡ None → ⊥
 not_none x e = absurd (cc)
 
-pub no_account : (t : Tables) (order : Order) → None ≡ account_in t order.account → IsFoundForEstimate t order no_facts
+pub no_account : (t : Tables) (order : Order) → None ≡ account_row_with_id t order.account → EstimateFactsMatchTables t order no_account_facts
 no_account t order e = record {
-  account = ap (option_map order_account) e;
+  account = ap (option_map order_account_of_row) e;
   last_price = λ p. absurd (not_none NoAccount p);
   is_permitted = λ p. absurd (not_none NoAccount p);
   charge = λ p. absurd (not_none NoAccount p);
@@ -42,30 +42,30 @@ no_account t order e = record {
   summary = λ p. absurd (not_none NoAccount p);
 }
 
-module _ (t : Tables) (account : ℕ) (a : ref.AccountRow) (c : customer.Customer) (there : Some (account_row_of a) ≡ account_in t account) (k : IsCustomer t a.account.customer c) where
-  if_account : (holds : AccountRow → Type 0) → holds (account_row_of a) → IfSome (account_in t account) holds
+module _ (t : Tables) (account : ℕ) (a : ref.AccountRow) (c : customer.Customer) (there : Some (abstract_account_row a) ≡ account_row_with_id t account) (k : IsCustomerWithId t a.account.customer c) where
+  if_account : (holds : AccountRow → Type 0) → holds (abstract_account_row a) → IfSome (account_row_with_id t account) holds
   if_account holds h = subst (λ x. IfSome x holds) there h
 
-  if_customer : (holds : Customer → Type 0) → holds (customer_of c) → IfCustomer t account holds
+  if_customer : (holds : Customer → Type 0) → holds (abstract_customer c) → CustomerOfAccountSatisfies t account holds
   if_customer holds h = if_account (λ a. IfSome (find (λ r. r.id == a.customer) t.customers) holds) (subst (λ x. IfSome x holds) (sym k) h)
 
-pub all_found : (t : Tables) (order : Order) (a : ref.AccountRow) (c : customer.Customer) (tested : OrderFacts) (amounts : Amounts) → IsCustomer t a.account.customer c
-    → AreTested t order c tested → AreAmounts t a order amounts → IsOrderFoundOf t order a (found_of a tested amounts)
+pub all_found : (t : Tables) (order : Order) (a : ref.AccountRow) (c : customer.Customer) (tested : OrderFacts) (amounts : Amounts) → IsCustomerWithId t a.account.customer c
+    → AreOrderFacts t order c tested → AreEstimateAmounts t a order amounts → AreEstimateFactsOf t order a (order_facts_of a tested amounts)
 all_found t order a c tested amounts k x y there = record {
-  account = ap (option_map order_account) there;
+  account = ap (option_map order_account_of_row) there;
   last_price = λ p. x.last_price;
   is_permitted = λ p. if_customer t order.account a c there k
-      (λ c. tested.is_permitted ≡ permitted c (permission_in t order.account order.executor.tax_id) (executor_of order.executor)) x.is_permitted;
-  charge = λ p. if_customer t order.account a c there k (λ c. tested.charge ≡ charge_in t (kind_of order.order_type) c.tier) x.charge;
+      (λ c. tested.is_permitted ≡ permitted c (permission_for_tax_id t order.account order.executor.tax_id) (abstract_executor order.executor)) x.is_permitted;
+  charge = λ p. if_customer t order.account a c there k (λ c. tested.charge ≡ charge_of_type_and_tier t (trade_type_of_order order.order_type) c.tier) x.charge;
   rate = λ p. if_customer t order.account a c there k
-      (λ c. IfSome (security_in t order.symbol) (λ s. tested.rate ≡ option_map (λ b. b.rate) (band_in t c.tier (kind_of order.order_type) s.exchange order.qty))) x.rate;
-  rates = λ p. if_account t order.account a c there k (λ a. amounts.rates ≡ rates_of_customer t a.customer) y.rates;
+      (λ c. IfSome (security_row_with_symbol t order.symbol) (λ s. tested.rate ≡ option_map (λ b. b.rate) (band_of_quantity t c.tier (trade_type_of_order order.order_type) s.exchange order.qty))) x.rate;
+  rates = λ p. if_account t order.account a c there k (λ a. amounts.rates ≡ rate_sum_of_customer t a.customer) y.rates;
   assets = λ p. if_account t order.account a c there k (λ a. amounts.assets ≡ a.balance +ℤ asset_total t a) y.assets;
   summary = λ p. y.summary;
 }
 
 -- the last trade is no part of an estimate
-pub with_last_trade : (t : Tables) (order : Order) (found : OrderFound) (last : Option ℕ) → IsFoundForEstimate t order found → IsFoundForEstimate t order (record found { last_trade = last })
+pub with_last_trade : (t : Tables) (order : Order) (found : OrderFound) (last : Option ℕ) → EstimateFactsMatchTables t order found → EstimateFactsMatchTables t order (record found { last_trade = last })
 with_last_trade t order found last k = record {
   account = k.account;
   last_price = k.last_price;
@@ -89,11 +89,11 @@ unfolding total_by
 total_by-none f = refl
 
 pub worth_more : (t : Tables) (rows : List SummaryRow) (i : ℕ) (row : SummaryRow) → i < length rows → row ≡ get_or rows i row
-    → total_by (worth_in t) (map summary_row_of (take i rows)) +ℤ worth_in t (summary_row_of row) ≡ total_by (worth_in t) (map summary_row_of (take (i + 1) rows))
+    → total_by (market_value_of_summary t) (map abstract_summary_row (take i rows)) +ℤ market_value_of_summary t (abstract_summary_row row) ≡ total_by (market_value_of_summary t) (map abstract_summary_row (take (i + 1) rows))
 worth_more t rows i row inside is =
-    sym (total_by-more (worth_in t) (map summary_row_of (take i rows)) (summary_row_of row))
-    ∙ ap (total_by (worth_in t)) (sym (map-append summary_row_of (take i rows) (row ∷ []))
-    ∙ ap (map summary_row_of) (ap (λ z. take i rows ++ z ∷ []) is ∙ sym (take_more rows i row inside)))
+    sym (total_by-more (market_value_of_summary t) (map abstract_summary_row (take i rows)) (abstract_summary_row row))
+    ∙ ap (total_by (market_value_of_summary t)) (sym (map-append abstract_summary_row (take i rows) (row ∷ []))
+    ∙ ap (map abstract_summary_row) (ap (λ z. take i rows ++ z ∷ []) is ∙ sym (take_more rows i row inside)))
 
 -- a price that was found
 pub price_there : (o : Option LastTradeRow) (price : ℕ) → Some price ≡ option_map (λ r. r.price) o → option_map_or (λ r. r.price) o 0 ≡ price

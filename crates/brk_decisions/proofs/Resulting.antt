@@ -3,54 +3,54 @@ use Rattle.std.proofs.Common.{◌≡◌, ◌≤◌, ◌<◌, ◌∙◌, ℕ, Lis
 use Rattle.std.specs.Prelude.{IfSome, MatchResult}
 use Rattle.sqlite_trees.specs.declared.store.Store.{Ghosts}
 use Rattle.sqlite.specs.Held.{Held}
-use Rattle.brk_lots.specs.Lots.{from_end}
+use Rattle.brk_lots.specs.Lots.{list_in_closing_order}
 use Rattle.brk_lots.specs.declared.lot.Lot.{Lot}
 use Rattle.brk_model.specs.Base.{Base}
 use Rattle.brk_model.specs.Commands.{CompleteTrade}
-use Rattle.brk_model.specs.Joins.{trade_in}
+use Rattle.brk_model.specs.Joins.{trade_row_with_id}
 use Rattle.brk_model.specs.Sheets.{sheets}
 use Rattle.brk_model.specs.Tables.{Tables}
-use Rattle.brk_money.specs.Moments.{last_stamp}
+use Rattle.brk_money.specs.Moments.{greatest_stamp}
 use Rattle.brk_money.specs.declared.fault.Fault.{Fault}
 use Rattle.brk_money.specs.declared.refusal.Refusal.{Refusal}
 use Rattle.brk_money.specs.declared.refusal.Refusal.TheVariants.{NoTrade}
-use Rattle.brk_trade.specs.Results.{IsCompleted, IsRefused}
+use Rattle.brk_trade.specs.Results.{CompletesExistingTrade, IsResultRefusal}
 use Rattle.brk_trade.specs.declared.result_found.ResultFound.{ResultFound}
 use Rattle.brk_plans.specs.declared.plan.Plan.{Plan}
 use Rattle.brk_book_theorems.specs.Books.{BooksInvariant}
-use Rattle.brk_trade_theorems.specs.ResultPlans.{IsFoundForResult, IsReadForResult}
+use Rattle.brk_trade_theorems.specs.ResultPlans.{ResultFactsMatchTables, PlanResultPrecondition}
 use Rattle.brk_trade_theorems.proofs.ResultDoing.{result_plan_does}
 use Rattle.brk_trade_theorems.proofs.ResultRefusing.{result_refused}
 use Rattle.brk_store.specs.Holds.{ReadPost}
 use Rattle.brk_decisions.specs.Decisions.{Decides}
-use Rattle.brk_decisions.specs.ResultFinds.{IsFoundAt, lots_met}
+use Rattle.brk_decisions.specs.ResultFinds.{AreResultFactsForId, ArePositionLots}
 use Rattle.brk_decisions.proofs.Looking.{read_both}
 
 -- what is planned over lots is planned over those of them that are known to be given
 planned_over : (found : Option ResultFound) (price : ℕ) (given known : List Lot → Type 0) (last : Option ℕ) (now : ℕ) → ((ls : List Lot) → known ls → given ls) → (result : Result Plan Refusal)
-    → MatchResult result (IsCompleted found price given last now) (IsRefused found price given last now) → MatchResult result (IsCompleted found price known last now) (IsRefused found price known last now)
+    → MatchResult result (CompletesExistingTrade found price given last now) (IsResultRefusal found price given last now) → MatchResult result (CompletesExistingTrade found price known last now) (IsResultRefusal found price known last now)
 planned_over None price given known last now is_given (Ok plan) p = p
 planned_over None price given known last now is_given (Err refusal) p = p
 planned_over (Some found) price given known last now is_given (Ok plan) p = record {
   stamp = p.stamp;
   closing = p.closing;
   stamped = p.stamped;
-  closes = λ ls met. p.closes ls ((is_given (from_end found.trade.is_lifo ls) met.0.0, met.0.1), met.1, met.2);
+  closes = λ ls met. p.closes ls ((is_given (list_in_closing_order found.trade.is_lifo ls) met.0.0, met.0.1), met.1, met.2);
   accepted = p.accepted;
   told = p.told;
   changes = p.changes;
 }
 planned_over (Some found) price given known last now is_given (Err refusal) p = record {
   early = p.early;
-  late = λ ls stamp met. p.late ls stamp ((is_given (from_end found.trade.is_lifo ls) met.0.0, met.0.1), met.1, met.2);
+  late = λ ls stamp met. p.late ls stamp ((is_given (list_in_closing_order found.trade.is_lifo ls) met.0.0, met.0.1), met.1, met.2);
 }
 
 -- and so it is over the lots of whatever tables are held
 pub result_over : (found : Option ResultFound) (price : ℕ) (given : List Lot → Type 0) (last : Option ℕ) (now : ℕ) (Held : Tables → Type 0)
-    → ((t : Tables) → Held t → (ls : List Lot) → lots_met t found ls → given ls) → (result : Result (Result Plan Refusal) Fault)
-    → IfOk result (λ planned. MatchResult planned (IsCompleted found price given last now) (IsRefused found price given last now))
-    → IfOk result (λ planned. (t : Tables) → Held t → MatchResult planned (IsCompleted found price (lots_met t found) last now) (IsRefused found price (lots_met t found) last now))
-result_over found price given last now Held is_given (Ok result) p = λ t held. planned_over found price given (lots_met t found) last now (is_given t held) result p
+    → ((t : Tables) → Held t → (ls : List Lot) → ArePositionLots t found ls → given ls) → (result : Result (Result Plan Refusal) Fault)
+    → IfOk result (λ planned. MatchResult planned (CompletesExistingTrade found price given last now) (IsResultRefusal found price given last now))
+    → IfOk result (λ planned. (t : Tables) → Held t → MatchResult planned (CompletesExistingTrade found price (ArePositionLots t found) last now) (IsResultRefusal found price (ArePositionLots t found) last now))
+result_over found price given last now Held is_given (Ok result) p = λ t held. planned_over found price given (ArePositionLots t found) last now (is_given t held) result p
 result_over found price given last now Held is_given (Err fault) p = tt
 
 -- of no trade it is, whatever is held
@@ -62,25 +62,25 @@ none_over Held (Err fault) p = tt
 
 -- the last stamp, and what was found for a result
 abbrev pub Known : ℕ → Option ℕ → Option ResultFound → Tables → Type 0
-Known id last found t = (last ≡ t.last) × IsFoundAt t id found
+Known id last found t = (last ≡ t.last) × AreResultFactsForId t id found
 
 -- they are known after two reads
 pub last_and_found : {S E F : Type 0} (g : Ghosts S) (old mid end : Held S) (id : ℕ) (last : Option ℕ) (found : Option ResultFound)
-    → ReadPost {E = E} g old mid (Ok last) (λ last t. last ≡ t.last) → ReadPost {E = F} g mid end (Ok found) (λ found t. IsFoundAt t id found) → ReadPost {E = Fault} g old end (Ok found) (Known id last)
+    → ReadPost {E = E} g old mid (Ok last) (λ last t. last ≡ t.last) → ReadPost {E = F} g mid end (Ok found) (λ found t. AreResultFactsForId t id found) → ReadPost {E = Fault} g old end (Ok found) (Known id last)
 last_and_found g old mid end id last found at_last at_found =
-    read_both g old mid end {H = Fault} last found found (λ last t. last ≡ t.last) (λ found t. IsFoundAt t id found) (Known id last) (λ t e f. (e, f)) at_last at_found
+    read_both g old mid end {H = Fault} last found found (λ last t. last ≡ t.last) (λ found t. AreResultFactsForId t id found) (Known id last) (λ t e f. (e, f)) at_last at_found
 
 -- a trade that was found is of some shares
 abbrev pub HasShares : Option ResultFound → Type 0
 HasShares found = IfSome found (λ f. 0 < f.trade.qty)
 
 -- a result's plan does it, and its refusal is that of the command
-module _ (id price : ℕ) (last : Option ℕ) (now : ℕ) (moment : now ≤ last_stamp) where
+module _ (id price : ℕ) (last : Option ℕ) (now : ℕ) (moment : now ≤ greatest_stamp) where
   looked_up : (found : Option ResultFound) → HasShares found → (t : Tables) → Known id last found t → (base : Base) → BooksInvariant base → t ≡ sheets base
-      → IsReadForResult base id found (lots_met (sheets base) found) last now
+      → PlanResultPrecondition base id found (ArePositionLots (sheets base) found) last now
   looked_up None shares t known base books e = record {
     books = books;
-    trade_read = ap (λ x. trade_in x id) (sym e) ∙ known.1.trade;
+    trade_read = ap (λ x. trade_row_with_id x id) (sym e) ∙ known.1.trade;
     looked_up = tt;
     lots_read = tt;
     some_shares = tt;
@@ -89,8 +89,8 @@ module _ (id price : ℕ) (last : Option ℕ) (now : ℕ) (moment : now ≤ last
   }
   looked_up (Some f) shares t known base books e = record {
     books = books;
-    trade_read = ap (λ x. trade_in x id) (sym e) ∙ known.1.trade;
-    looked_up = subst (λ x. IsFoundForResult x f) e known.1.read.read;
+    trade_read = ap (λ x. trade_row_with_id x id) (sym e) ∙ known.1.trade;
+    looked_up = subst (λ x. ResultFactsMatchTables x f) e known.1.read.read;
     lots_read = λ p. refl;
     some_shares = shares;
     last_read = known.0 ∙ ap (λ x. x.last) e;
@@ -98,16 +98,16 @@ module _ (id price : ℕ) (last : Option ℕ) (now : ℕ) (moment : now ≤ last
   }
 
   planned : (found : Option ResultFound) → HasShares found → (t : Tables) → Known id last found t → (result : Result Plan Refusal)
-      → MatchResult result (IsCompleted found price (lots_met t found) last now) (IsRefused found price (lots_met t found) last now) → Decides now (CompleteTrade id price) result t
+      → MatchResult result (CompletesExistingTrade found price (ArePositionLots t found) last now) (IsResultRefusal found price (ArePositionLots t found) last now) → Decides now (CompleteTrade id price) result t
   planned found shares t known (Ok plan) p base books e =
-      result_plan_does base id price found (lots_met (sheets base) found) last now plan (looked_up found shares t known base books e)
-      (subst (λ x. IsCompleted found price (lots_met x found) last now plan) e p)
+      result_plan_does base id price found (ArePositionLots (sheets base) found) last now plan (looked_up found shares t known base books e)
+      (subst (λ x. CompletesExistingTrade found price (ArePositionLots x found) last now plan) e p)
   planned found shares t known (Err refusal) p base books e =
-      result_refused base id price found (lots_met (sheets base) found) last now refusal (looked_up found shares t known base books e)
-      (subst (λ x. IsRefused found price (lots_met x found) last now refusal) e p)
+      result_refused base id price found (ArePositionLots (sheets base) found) last now refusal (looked_up found shares t known base books e)
+      (subst (λ x. IsResultRefusal found price (ArePositionLots x found) last now refusal) e p)
 
   pub result_decided : (found : Option ResultFound) → HasShares found → (Held : Tables → Type 0) → (result : Result (Result Plan Refusal) Fault)
-      → IfOk result (λ planned. (t : Tables) → Held t → MatchResult planned (IsCompleted found price (lots_met t found) last now) (IsRefused found price (lots_met t found) last now))
+      → IfOk result (λ planned. (t : Tables) → Held t → MatchResult planned (CompletesExistingTrade found price (ArePositionLots t found) last now) (IsResultRefusal found price (ArePositionLots t found) last now))
       → IfOk result (λ planned. (t : Tables) → Held t → Known id last found t → Decides now (CompleteTrade id price) planned t)
   result_decided found shares Held (Ok result) p = λ t held known. planned found shares t known result (p t held)
   result_decided found shares Held (Err fault) p = tt

@@ -10,26 +10,27 @@ use Rattle.brk_model.specs.Rows.{estimate_fields}
 use Rattle.brk_model.specs.Sheets.{sheets}
 use Rattle.brk_model.specs.Step.{step}
 use Rattle.brk_model.specs.Tables.{Tables}
-use Rattle.brk_plans.specs.Replies.{estimate_with}
+use Rattle.brk_plans.specs.Replies.{estimate_from_model}
 use Rattle.brk_plans.specs.declared.estimate.Estimate.{Estimate}
-use Rattle.brk_plans.specs.Replies.{estimate_of}
+use Rattle.brk_plans.specs.Replies.{abstract_estimate}
 use Rattle.brk_plans.specs.declared.plan.Plan.{Plan}
 use Rattle.brk_book_theorems.specs.Books.{BooksInvariant}
-use Rattle.brk_trade_theorems.specs.Plans.{DoesCommand}
+use Rattle.brk_trade_theorems.specs.Plans.{PlanImplementsCommand}
 
 -- For every base that satisfies the books invariant and whose tables are the rows `t`: a plan does
--- the model's step for `command` at the clock reading `now` (`DoesCommand`), and a refusal is the
--- one with which this step refuses the command. Vacuous if `t` are the tables of no such base.
+-- the model's step for `command` at the clock reading `now` (`PlanImplementsCommand`), and a
+-- refusal is the one with which this step refuses the command. Vacuous if `t` are the tables of no
+-- such base.
 abbrev pub Decides : ℕ → Command → Result Plan Refusal → Tables → Type 0
 Decides now command planned t =
-    (base : Base) → BooksInvariant base → t ≡ sheets base → MatchResult planned (DoesCommand base now command) (λ refusal. step base now command ≡ Err refusal)
+    (base : Base) → BooksInvariant base → t ≡ sheets base → MatchResult planned (PlanImplementsCommand base now command) (λ refusal. step base now command ≡ Err refusal)
 
 -- For every base that satisfies the books invariant and whose tables are the rows `t`: the estimate
 -- equals that of the model for the order and is the view of the order's query, or the refusal is
 -- that of this query. Vacuous if `t` are the tables of no such base.
-abbrev pub IsEstimateTold : Order → Result Estimate Refusal → Tables → Type 0
-IsEstimateTold order planned t =
+abbrev pub IsEstimateOfModel : Order → Result Estimate Refusal → Tables → Type 0
+IsEstimateOfModel order planned t =
     (base : Base) → BooksInvariant base → t ≡ sheets base
     → MatchResult planned
-    (λ e. (e ≡ estimate_with (estimate base order)) × (ask base (EstimateOf order) ≡ Ok (estimate_fields (estimate_of e) ∷ [])))
+    (λ e. (e ≡ estimate_from_model (estimate base order)) × (ask base (EstimateOf order) ≡ Ok (estimate_fields (abstract_estimate e) ∷ [])))
     (λ refusal. ask base (EstimateOf order) ≡ Err refusal)

@@ -1,60 +1,60 @@
 -- The facts in the tables that decide on an order.
 use Rattle.std.specs.Prelude.{◌≡◌, ℕ, ◌==◌, ◌+ℤ◌, ◌*ℤ◌, ℤ, pos, false, filter, find, Some, None, IfSome, option_map}
-use Rattle.brk_model.specs.Joins.{account_in, price_in, security_in}
+use Rattle.brk_model.specs.Joins.{account_row_with_id, last_price_in_tables, security_row_with_symbol}
 use Rattle.brk_model.specs.Lists.{total_by}
 use Rattle.brk_model.specs.Orders.{permitted}
 use Rattle.brk_model.specs.Tables.{SummaryRow, Tables}
-use Rattle.brk_money.specs.OrderTypes.{kind_of}
+use Rattle.brk_money.specs.OrderTypes.{trade_type_of_order}
 use Rattle.brk_orders.specs.declared.order.Order.{Order}
-use Rattle.brk_ref.specs.Records.{account_row_of, customer_of, executor_of}
+use Rattle.brk_ref.specs.Records.{abstract_account_row, abstract_customer, abstract_executor}
 use Rattle.brk_ref.specs.declared.account.AccountRow.{AccountRow}
 use Rattle.brk_ref.specs.declared.customer.Customer.{Customer}
 use Rattle.brk_trade.specs.declared.order.OrderFound.{OrderFound}
-use Rattle.brk_trade_theorems.specs.OrderPlans.{IsFoundForEstimate}
-use Rattle.brk_book_theorems.specs.OrderReads.{charge_in, last_price_in}
-use Rattle.brk_book_theorems.specs.Reads.{rates_of_customer}
-use Rattle.brk_book_theorems.specs.TradeReads.{band_in, permission_in, summary_in}
+use Rattle.brk_trade_theorems.specs.OrderPlans.{EstimateFactsMatchTables}
+use Rattle.brk_book_theorems.specs.OrderReads.{charge_of_type_and_tier, last_price_of_symbol}
+use Rattle.brk_book_theorems.specs.Reads.{rate_sum_of_customer}
+use Rattle.brk_book_theorems.specs.TradeReads.{band_of_quantity, permission_for_tax_id, summary_row_of_position}
 use Rattle.brk_decisions.specs.declared.tested.OrderFacts.{OrderFacts}
 use Rattle.brk_decisions.specs.declared.amounts.Amounts.{Amounts}
 
 -- The customer with the id `id` exists in the tables, and its row equals `customer`.
-abbrev pub IsCustomer : Tables → ℕ → Customer → Type 0
-IsCustomer t id customer = find (λ r. r.id == id) t.customers ≡ Some (customer_of customer)
+abbrev pub IsCustomerWithId : Tables → ℕ → Customer → Type 0
+IsCustomerWithId t id customer = find (λ r. r.id == id) t.customers ≡ Some (abstract_customer customer)
 
 -- The facts on which an order of the customer is tested, last price, permission, charge and
 -- commission rate, agree with the tables. The rate is specified only if the order's security
 -- exists.
-pub record AreTested (t : Tables) (order : Order) (customer : Customer) (tested : OrderFacts) : Type 0 where
-  pub last_price : tested.last_price ≡ last_price_in t order.symbol
-  pub is_permitted : tested.is_permitted ≡ permitted (customer_of customer) (permission_in t order.account order.executor.tax_id) (executor_of order.executor)
-  pub charge : tested.charge ≡ charge_in t (kind_of order.order_type) customer.tier
-  pub rate : IfSome (security_in t order.symbol) (λ s. tested.rate ≡ option_map (λ b. b.rate) (band_in t customer.tier (kind_of order.order_type) s.exchange order.qty))
+pub record AreOrderFacts (t : Tables) (order : Order) (customer : Customer) (tested : OrderFacts) : Type 0 where
+  pub last_price : tested.last_price ≡ last_price_of_symbol t order.symbol
+  pub is_permitted : tested.is_permitted ≡ permitted (abstract_customer customer) (permission_for_tax_id t order.account order.executor.tax_id) (abstract_executor order.executor)
+  pub charge : tested.charge ≡ charge_of_type_and_tier t (trade_type_of_order order.order_type) customer.tier
+  pub rate : IfSome (security_row_with_symbol t order.symbol) (λ s. tested.rate ≡ option_map (λ b. b.rate) (band_of_quantity t customer.tier (trade_type_of_order order.order_type) s.exchange order.qty))
 
 -- The market value of a holding summary: its shares times the last price of its symbol. Shares sold
 -- short count below 0.
-abbrev pub worth_in : Tables → SummaryRow → ℤ
-worth_in t row = row.qty *ℤ pos (price_in t row.symbol)
+abbrev pub market_value_of_summary : Tables → SummaryRow → ℤ
+market_value_of_summary t row = row.qty *ℤ pos (last_price_in_tables t row.symbol)
 
 -- The market value of all holding summaries of an account, at last prices.
-abbrev pub worth_of : Tables → ℕ → ℤ
-worth_of t account = total_by (worth_in t) (filter (λ row. row.account == account) t.summaries)
+abbrev pub market_value_of_account : Tables → ℕ → ℤ
+market_value_of_account t account = total_by (market_value_of_summary t) (filter (λ row. row.account == account) t.summaries)
 
 -- The amounts for the estimate of an order of the account agree with the tables: the sum of the
 -- customer's tax rates, the account's balance plus the market value of its holdings, and its shares
 -- in the order's security.
-pub record AreAmounts (t : Tables) (account : AccountRow) (order : Order) (amounts : Amounts) : Type 0 where
-  pub rates : amounts.rates ≡ rates_of_customer t account.account.customer
-  pub assets : amounts.assets ≡ account.balance +ℤ worth_of t account.account.id
-  pub summary : amounts.summary ≡ option_map (λ r. r.qty) (summary_in t order.account order.symbol)
+pub record AreEstimateAmounts (t : Tables) (account : AccountRow) (order : Order) (amounts : Amounts) : Type 0 where
+  pub rates : amounts.rates ≡ rate_sum_of_customer t account.account.customer
+  pub assets : amounts.assets ≡ account.balance +ℤ market_value_of_account t account.account.id
+  pub summary : amounts.summary ≡ option_map (λ r. r.qty) (summary_row_of_position t order.account order.symbol)
 
 -- The facts for the decision on an order whose account does not exist.
-abbrev pub no_facts : OrderFound
-no_facts = record { account = None; last_price = None; is_permitted = false; charge = None; rate = None; rates = 0; assets = pos 0; summary = None; last_trade = None }
+abbrev pub no_account_facts : OrderFound
+no_account_facts = record { account = None; last_price = None; is_permitted = false; charge = None; rate = None; rates = 0; assets = pos 0; summary = None; last_trade = None }
 
 -- The facts for the decision on an order of the account: its broker and tax status, the facts
 -- `tested` and the amounts `amounts`, and no last trade.
-abbrev pub found_of : AccountRow → OrderFacts → Amounts → OrderFound
-found_of account tested amounts = record {
+abbrev pub order_facts_of : AccountRow → OrderFacts → Amounts → OrderFound
+order_facts_of account tested amounts = record {
   account = Some (record { broker = account.account.broker; tax_status = account.account.tax_status });
   last_price = tested.last_price;
   is_permitted = tested.is_permitted;
@@ -66,7 +66,7 @@ found_of account tested amounts = record {
   last_trade = None;
 }
 
--- The facts that the estimate of the order needs agree with the tables (`IsFoundForEstimate`).
--- Vacuous if `account` is not the row of the order's account.
-abbrev pub IsOrderFoundOf : Tables → Order → AccountRow → OrderFound → Type 0
-IsOrderFoundOf t order account found = Some (account_row_of account) ≡ account_in t order.account → IsFoundForEstimate t order found
+-- The facts that the estimate of the order needs agree with the tables
+-- (`EstimateFactsMatchTables`). Vacuous if `account` is not the row of the order's account.
+abbrev pub AreEstimateFactsOf : Tables → Order → AccountRow → OrderFound → Type 0
+AreEstimateFactsOf t order account found = Some (abstract_account_row account) ≡ account_row_with_id t order.account → EstimateFactsMatchTables t order found

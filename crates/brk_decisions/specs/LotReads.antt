@@ -3,13 +3,13 @@ use Rattle.std.specs.Prelude.{List}
 use Rattle.sqlite_trees.specs.declared.store.Store.{Ghosts}
 use Rattle.sqlite.specs.Held.{state}
 use Rattle.sqlite.specs.State.{HasCleanDisk}
-use Rattle.brk_lots.specs.Sources.{AsTold}
+use Rattle.brk_lots.specs.Sources.{IsFaithfulRemainder}
 use Rattle.brk_lots.specs.declared.lot.Lot.{Lot}
-use Rattle.brk_store.specs.Resting.{Rests, lent}
+use Rattle.brk_store.specs.Resting.{AreRemainingLots, borrowed_store}
 use Rattle.brk_store.specs.declared.pages.Page.{Page}
 use Rattle.brk_store.specs.declared.pages.Pages.{Pages}
 
 -- The lots `ls` are those that the source of pages `old` had yet to return, and the disk assumption
 -- holds in the store of the source `new`, which is the same source after its reads.
-abbrev pub LotsGiven : {S : Type 0} → Ghosts S → (old new : Pages S Page) → List Lot → Type 0
-LotsGiven g old new ls = AsTold (HasCleanDisk (state g (lent new).now)) (Rests g old) ls
+abbrev pub AreLotsBeforeReads : {S : Type 0} → Ghosts S → (old new : Pages S Page) → List Lot → Type 0
+AreLotsBeforeReads g old new ls = IsFaithfulRemainder (HasCleanDisk (state g (borrowed_store new).now)) (AreRemainingLots g old) ls

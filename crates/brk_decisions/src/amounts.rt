@@ -1,15 +1,15 @@
 //! The amounts that the estimate of an order needs.
 
 ghost use Rattle.std.specs.Prelude.{◌≡◌, ◌+ℤ◌, ◌*ℤ◌, IfErr, IfSome, pos};
-ghost use Rattle.brk_book_theorems.specs.Reads.{rates_of_customer};
-ghost use Rattle.brk_decisions.specs.Finds.{AreAmounts, worth_in, worth_of};
-ghost use Rattle.brk_model.specs.Run.{MayFail};
+ghost use Rattle.brk_book_theorems.specs.Reads.{rate_sum_of_customer};
+ghost use Rattle.brk_decisions.specs.Finds.{AreEstimateAmounts, market_value_of_summary, market_value_of_account};
+ghost use Rattle.brk_model.specs.Run.{IsCallFault};
 ghost use Rattle.brk_store.specs.Holds.{ReadPost};
-ghost use Rattle.brk_changes.specs.Rows.{summary_row_of};
+ghost use Rattle.brk_changes.specs.Rows.{abstract_summary_row};
 
-use crate::known::known_price;
-use crate::summary_finding::find_summary;
-use crate::terms::sum_rates;
+use crate::known::require_last_price;
+use crate::summary_finding::read_summary_shares;
+use crate::terms::sum_tax_rates;
 use brk_money::{Cents, Fault, Id, Price, TaxRate, Wide};
 use brk_orders::Order;
 use brk_ref::AccountRow;
@@ -32,22 +32,22 @@ pub struct Amounts {
 
 // Returns the sum of the tax rates that a customer pays. Changes nothing. Fails with `Memory` or
 // `Store` only; with `Store` also if the sum exceeds the greatest rate.
-pub(crate) fn find_rates<S: Alter>(
+pub(crate) fn read_tax_rate_sum<S: Alter>(
     alloc: Global,
     store: &mut Store<S>,
     customer: Id,
 ) -> Result<TaxRate, Fault>
-    ensures read { ReadPost S.Store store.old store.new result (λ rates t. rates ≡ rates_of_customer t customer) }
-    ensures fault { IfErr result MayFail }
+    ensures read { ReadPost S.Store store.old store.new result (λ rates t. rates ≡ rate_sum_of_customer t customer) }
+    ensures fault { IfErr result IsCallFault }
 {
-    match sum_rates(alloc, store, customer)? {
+    match sum_tax_rates(alloc, store, customer)? {
         Some(rates) => Ok(rates),
         None => Err(Fault::Store),
     }
 }
 
 // Returns an amount plus the market value of a summary at a price, or `None` if it overflows.
-fn with_worth(amount: Wide, row: &SummaryRow, price: Price) -> Option<Wide>
+fn add_market_value(amount: Wide, row: &SummaryRow, price: Price) -> Option<Wide>
     ensures { IfSome result (λ sum. sum ≡ amount +ℤ row.now.qty *ℤ pos price) }
 {
     let Some(worth) = i128::from(row.qty).checked_mul(i128::from(price.get())) else {
@@ -61,12 +61,16 @@ fn with_worth(amount: Wide, row: &SummaryRow, price: Price) -> Option<Wide>
 
 // Returns an amount plus the market value of a summary at the last price of its symbol. Changes
 // nothing. Fails with `Memory` or `Store` only.
-fn add_worth<S: Alter>(store: &mut Store<S>, amount: Wide, row: &SummaryRow) -> Result<Wide, Fault>
-    ensures read { ReadPost S.Store store.old store.new result (λ sum t. sum ≡ amount +ℤ worth_in t (summary_row_of row.now)) }
-    ensures fault { IfErr result MayFail }
+fn add_value_at_last_price<S: Alter>(
+    store: &mut Store<S>,
+    amount: Wide,
+    row: &SummaryRow,
+) -> Result<Wide, Fault>
+    ensures read { ReadPost S.Store store.old store.new result (λ sum t. sum ≡ amount +ℤ market_value_of_summary t (abstract_summary_row row.now)) }
+    ensures fault { IfErr result IsCallFault }
 {
-    let price = known_price(store, &row.symbol)?;
-    match with_worth(amount, row, price) {
+    let price = require_last_price(store, &row.symbol)?;
+    match add_market_value(amount, row, price) {
         Some(sum) => Ok(sum),
         None => Err(Fault::Store),
     }
@@ -74,21 +78,25 @@ fn add_worth<S: Alter>(store: &mut Store<S>, amount: Wide, row: &SummaryRow) -> 
 
 /// Returns the market value of an account's holdings at last prices, in cents. Shares sold short
 /// count below 0. Changes nothing. Fails with `Memory` or `Store` only.
-pub fn sum_worth<S: Alter>(alloc: Global, store: &mut Store<S>, account: Id) -> Result<Wide, Fault>
-    ensures read { ReadPost S.Store store.old store.new result (λ worth t. worth ≡ worth_of t account) }
-    ensures fault { IfErr result MayFail }
+pub fn read_holdings_value<S: Alter>(
+    alloc: Global,
+    store: &mut Store<S>,
+    account: Id,
+) -> Result<Wide, Fault>
+    ensures read { ReadPost S.Store store.old store.new result (λ worth t. worth ≡ market_value_of_account t account) }
+    ensures fault { IfErr result IsCallFault }
 {
     let mut total = Wide::new(0);
     let rows = store.summaries_of(alloc, account)?;
     for row in &rows {
-        let sum = add_worth(store, total, row)?;
+        let sum = add_value_at_last_price(store, total, row)?;
         total = sum;
     }
     Ok(total)
 }
 
 // Returns a balance plus a market value, or `None` if it overflows.
-fn with_balance(balance: Cents, worth: Wide) -> Option<Wide>
+fn add_balance_to_value(balance: Cents, worth: Wide) -> Option<Wide>
     ensures { IfSome result (λ assets. assets ≡ balance +ℤ worth) }
 {
     match i128::from(balance.get()).checked_add(worth.get()) {
@@ -99,16 +107,16 @@ fn with_balance(balance: Cents, worth: Wide) -> Option<Wide>
 
 // Returns an account's balance plus the market value of its holdings, in cents. Changes nothing.
 // Fails with `Memory` or `Store` only.
-fn find_assets<S: Alter>(
+fn read_assets<S: Alter>(
     alloc: Global,
     store: &mut Store<S>,
     account: &AccountRow,
 ) -> Result<Wide, Fault>
-    ensures read { ReadPost S.Store store.old store.new result (λ assets t. assets ≡ account.now.balance +ℤ worth_of t account.now.account.id) }
-    ensures fault { IfErr result MayFail }
+    ensures read { ReadPost S.Store store.old store.new result (λ assets t. assets ≡ account.now.balance +ℤ market_value_of_account t account.now.account.id) }
+    ensures fault { IfErr result IsCallFault }
 {
-    let worth = sum_worth(alloc, store, account.account.id)?;
-    match with_balance(account.balance, worth) {
+    let worth = read_holdings_value(alloc, store, account.account.id)?;
+    match add_balance_to_value(account.balance, worth) {
         Some(assets) => Ok(assets),
         None => Err(Fault::Store),
     }
@@ -116,18 +124,18 @@ fn find_assets<S: Alter>(
 
 // Reads the amounts that the estimate of an order of an account needs. Fails with `Memory` or
 // `Store` only.
-pub(crate) fn find_amounts<S: Alter>(
+pub(crate) fn read_estimate_amounts<S: Alter>(
     alloc: Global,
     store: &mut Store<S>,
     account: &AccountRow,
     order: &Order,
 ) -> Result<Amounts, Fault>
-    ensures read { ReadPost S.Store store.old store.new result (λ amounts t. AreAmounts t account.now order.now amounts) }
-    ensures fault { IfErr result MayFail }
+    ensures read { ReadPost S.Store store.old store.new result (λ amounts t. AreEstimateAmounts t account.now order.now amounts) }
+    ensures fault { IfErr result IsCallFault }
 {
-    let rates = find_rates(alloc, store, account.account.customer)?;
-    let assets = find_assets(alloc, store, account)?;
-    let summary = find_summary(store, order.account, &order.symbol)?;
+    let rates = read_tax_rate_sum(alloc, store, account.account.customer)?;
+    let assets = read_assets(alloc, store, account)?;
+    let summary = read_summary_shares(store, order.account, &order.symbol)?;
     Ok(Amounts {
         rates,
         assets,

@@ -3,8 +3,8 @@
 ghost use Rattle.std.specs.Prelude.{◌≡◌, IfErr, option_map};
 ghost use Rattle.brk_decisions.specs.Decisions.{Decides};
 ghost use Rattle.brk_model.specs.Commands.{CancelTrade};
-ghost use Rattle.brk_model.specs.Joins.{trade_in};
-ghost use Rattle.brk_model.specs.Run.{MayFail};
+ghost use Rattle.brk_model.specs.Joins.{trade_row_with_id};
+ghost use Rattle.brk_model.specs.Run.{IsCallFault};
 ghost use Rattle.brk_store.specs.Holds.{ReadPost};
 
 use brk_money::{Fault, Id, Planned, Stamp, Status};
@@ -15,9 +15,9 @@ use std::alloc::Global;
 
 // Returns the status of a trade, or `None` if the trade does not exist. Changes nothing. Fails with
 // `Memory` or `Store` only.
-fn status_of<S: Alter>(store: &mut Store<S>, trade: Id) -> Result<Option<Status>, Fault>
-    ensures read { ReadPost S.Store store.old store.new result (λ status t. status ≡ option_map (λ r. r.status) (trade_in t trade)) }
-    ensures fault { IfErr result MayFail }
+fn read_trade_status<S: Alter>(store: &mut Store<S>, trade: Id) -> Result<Option<Status>, Fault>
+    ensures read { ReadPost S.Store store.old store.new result (λ status t. status ≡ option_map (λ r. r.status) (trade_row_with_id t trade)) }
+    ensures fault { IfErr result IsCallFault }
 {
     match store.trade(trade)? {
         Some(row) => Ok(Some(row.status)),
@@ -36,10 +36,10 @@ pub fn decide_cancel<S: Alter>(
     trade: Id,
 ) -> Planned<Plan>
     ensures read { ReadPost S.Store store.old store.new result (Decides now (CancelTrade trade)) }
-    ensures fault { IfErr result MayFail }
+    ensures fault { IfErr result IsCallFault }
 {
     let _moment = now.get();
     let last = store.last()?;
-    let status = status_of(store, trade)?;
+    let status = read_trade_status(store, trade)?;
     plan_cancel(alloc, trade, status, last, now)
 }

@@ -1,41 +1,41 @@
 //! Decisions on market feeds.
 
 ghost use Rattle.std.specs.Prelude.{◌≡◌, IfErr, IfSome, option_map};
-ghost use Rattle.brk_trade_theorems.specs.TradePlans.{AreQuotes, IsQuote};
-ghost use Rattle.brk_book_theorems.specs.TradeReads.{last_trade_in};
+ghost use Rattle.brk_trade_theorems.specs.TradePlans.{AreQuotesOfTicks, IsQuoteOfTick};
+ghost use Rattle.brk_book_theorems.specs.TradeReads.{last_trade_row_of_symbol};
 ghost use Rattle.brk_decisions.specs.Decisions.{Decides};
 ghost use Rattle.brk_model.specs.Commands.{FeedTicks};
-ghost use Rattle.brk_model.specs.Run.{MayFail};
-ghost use Rattle.brk_orders.specs.Records.{ticks_of};
-ghost use Rattle.brk_ref.specs.Records.{last_trade_of};
+ghost use Rattle.brk_model.specs.Run.{IsCallFault};
+ghost use Rattle.brk_orders.specs.Records.{abstract_ticks};
+ghost use Rattle.brk_ref.specs.Records.{abstract_last_trade_row};
 ghost use Rattle.brk_store.specs.Holds.{ReadPost};
-ghost use Rattle.brk_plans.specs.Feed.{held, held_of};
+ghost use Rattle.brk_plans.specs.Feed.{states_of_quotes, state_of_quote};
 
 use brk_money::{Fault, Planned, Stamp, TradeType};
 use brk_orders::{Feed, Tick};
 use brk_store::Store;
-use brk_trade::{Plan, Quote, has_no_quote, plan_feed, quote_with, span_of};
+use brk_trade::{Plan, Quote, create_quote, has_no_quote, plan_feed, price_span_of_ticks};
 use sqlite::Alter;
 use std::alloc::Global;
 
 // Returns the quote of a tick's symbol, or `None` if the symbol has no last trade. The quote has
 // the pending requests that some price of the feed's ticks may trigger, read by one selection for
 // each type. Changes nothing. Fails with `Memory` or `Store` only.
-fn quote_of<S: Alter>(
+fn read_quote<S: Alter>(
     alloc: Global,
     store: &mut Store<S>,
     tick: &Tick,
     ticks: &[Tick],
 ) -> Result<Option<Quote>, Fault>
     ensures read { ReadPost S.Store store.old store.new result (λ quote t.
-        (option_map (λ q. last_trade_of q.last) quote ≡ last_trade_in t tick.now.symbol)
-        × IfSome quote (λ q. IsQuote t tick.now ticks.now (held_of q))) }
-    ensures fault { IfErr result MayFail }
+        (option_map (λ q. abstract_last_trade_row q.last) quote ≡ last_trade_row_of_symbol t tick.now.symbol)
+        × IfSome quote (λ q. IsQuoteOfTick t tick.now ticks.now (state_of_quote q))) }
+    ensures fault { IfErr result IsCallFault }
 {
     let Some(last) = store.last_trade(&tick.symbol)? else {
         return Ok(None);
     };
-    let span = span_of(tick, ticks);
+    let span = price_span_of_ticks(tick, ticks);
     let losses = store.requests_at_or_above(alloc, &tick.symbol, TradeType::StopLoss, span.lowest)?;
     let sells = store.requests_at_or_below(
         alloc,
@@ -44,7 +44,7 @@ fn quote_of<S: Alter>(
         span.highest,
     )?;
     let buys = store.requests_at_or_above(alloc, &tick.symbol, TradeType::LimitBuy, span.lowest)?;
-    let quote = quote_with(last, losses, sells, buys)?;
+    let quote = create_quote(last, losses, sells, buys)?;
     Ok(Some(quote))
 }
 
@@ -55,14 +55,14 @@ fn read_market<S: Alter>(
     store: &mut Store<S>,
     ticks: &[Tick],
 ) -> Result<(Option<Stamp>, Vec<Quote>), Fault>
-    ensures read { ReadPost S.Store store.old store.new result (λ market t. (market.0 ≡ t.last) × AreQuotes t ticks.now ticks.now (held market.1.items)) }
-    ensures fault { IfErr result MayFail }
+    ensures read { ReadPost S.Store store.old store.new result (λ market t. (market.0 ≡ t.last) × AreQuotesOfTicks t ticks.now ticks.now (states_of_quotes market.1.items)) }
+    ensures fault { IfErr result IsCallFault }
 {
     let last = store.last()?;
     let mut quotes = Vec::new(alloc);
     for tick in ticks {
         if has_no_quote(&quotes, tick) {
-            if let Some(quote) = quote_of(alloc, store, tick, ticks)? {
+            if let Some(quote) = read_quote(alloc, store, tick, ticks)? {
                 quotes.push(quote)?;
             }
         }
@@ -79,8 +79,8 @@ pub fn decide_feed<S: Alter>(
     now: Stamp,
     feed: &Feed,
 ) -> Planned<Plan>
-    ensures read { ReadPost S.Store store.old store.new result (Decides now (FeedTicks (ticks_of feed.now))) }
-    ensures fault { IfErr result MayFail }
+    ensures read { ReadPost S.Store store.old store.new result (Decides now (FeedTicks (abstract_ticks feed.now))) }
+    ensures fault { IfErr result IsCallFault }
 {
     let _moment = now.get();
     let (last, quotes) = read_market(alloc, store, feed.ticks())?;

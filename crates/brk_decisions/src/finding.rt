@@ -1,14 +1,14 @@
 //! Reads of the facts that decide on a reference record.
 
 ghost use Rattle.std.specs.Prelude.{◌≡◌, IfErr};
-ghost use Rattle.brk_model.specs.Run.{MayFail};
-ghost use Rattle.brk_trade_theorems.specs.Found.{IsFound, IsFoundForAccount};
-ghost use Rattle.brk_book_theorems.specs.Reads.{accounts_of, finds_account, finds_broker, finds_customer, finds_security, finds_tax_id, finds_tax_rate};
+ghost use Rattle.brk_model.specs.Run.{IsCallFault};
+ghost use Rattle.brk_trade_theorems.specs.Found.{ReferenceFactsMatchTables, AccountFactsMatchTables};
+ghost use Rattle.brk_book_theorems.specs.Reads.{account_count_of_customer, contains_account, contains_broker, contains_customer, contains_security, contains_tax_id, contains_tax_rate};
 ghost use Rattle.brk_store.specs.Holds.{ReadPost};
 
 use crate::terms::{
-    find_for_band, find_for_charge, find_for_customer_tax, find_for_permission, is_security_there,
-    is_tax_there,
+    read_band_facts, read_charge_facts, read_customer_tax_facts, read_permission_facts,
+    security_exists, tax_exists,
 };
 use brk_money::{Fault, Id};
 use brk_ref::{Account, Broker, Customer, Symbol, TaxId};
@@ -31,33 +31,33 @@ pub(crate) const NOTHING: ReferenceFacts = ReferenceFacts {
 };
 
 // Returns true if the broker exists. Changes nothing. Fails with `Memory` or `Store` only.
-fn is_broker_there<S: Alter>(store: &mut Store<S>, id: Id) -> Result<bool, Fault>
-    ensures read { ReadPost S.Store store.old store.new result (λ there t. there ≡ finds_broker t id) }
-    ensures fault { IfErr result MayFail }
+fn broker_exists<S: Alter>(store: &mut Store<S>, id: Id) -> Result<bool, Fault>
+    ensures read { ReadPost S.Store store.old store.new result (λ there t. there ≡ contains_broker t id) }
+    ensures fault { IfErr result IsCallFault }
 {
     Ok(store.broker(id)?.is_some())
 }
 
 // Returns true if the customer exists. Changes nothing. Fails with `Memory` or `Store` only.
-pub(crate) fn is_customer_there<S: Alter>(store: &mut Store<S>, id: Id) -> Result<bool, Fault>
-    ensures read { ReadPost S.Store store.old store.new result (λ there t. there ≡ finds_customer t id) }
-    ensures fault { IfErr result MayFail }
+pub(crate) fn customer_exists<S: Alter>(store: &mut Store<S>, id: Id) -> Result<bool, Fault>
+    ensures read { ReadPost S.Store store.old store.new result (λ there t. there ≡ contains_customer t id) }
+    ensures fault { IfErr result IsCallFault }
 {
     Ok(store.customer(id)?.is_some())
 }
 
 // Returns true if a customer has the tax id. Changes nothing. Fails with `Memory` or `Store` only.
-fn is_tax_id_there<S: Alter>(store: &mut Store<S>, tax_id: &TaxId) -> Result<bool, Fault>
-    ensures read { ReadPost S.Store store.old store.new result (λ there t. there ≡ finds_tax_id t tax_id.now) }
-    ensures fault { IfErr result MayFail }
+fn tax_id_exists<S: Alter>(store: &mut Store<S>, tax_id: &TaxId) -> Result<bool, Fault>
+    ensures read { ReadPost S.Store store.old store.new result (λ there t. there ≡ contains_tax_id t tax_id.now) }
+    ensures fault { IfErr result IsCallFault }
 {
     Ok(store.customer_by_tax_id(tax_id)?.is_some())
 }
 
 // Returns true if the account exists. Changes nothing. Fails with `Memory` or `Store` only.
-pub(crate) fn is_account_there<S: Alter>(store: &mut Store<S>, id: Id) -> Result<bool, Fault>
-    ensures read { ReadPost S.Store store.old store.new result (λ there t. there ≡ finds_account t id) }
-    ensures fault { IfErr result MayFail }
+pub(crate) fn account_exists<S: Alter>(store: &mut Store<S>, id: Id) -> Result<bool, Fault>
+    ensures read { ReadPost S.Store store.old store.new result (λ there t. there ≡ contains_account t id) }
+    ensures fault { IfErr result IsCallFault }
 {
     Ok(store.account(id)?.is_some())
 }
@@ -69,31 +69,34 @@ fn count_accounts<S: Alter>(
     store: &mut Store<S>,
     customer: Id,
 ) -> Result<usize, Fault>
-    ensures read { ReadPost S.Store store.old store.new result (λ count t. count ≡ accounts_of t customer) }
-    ensures fault { IfErr result MayFail }
+    ensures read { ReadPost S.Store store.old store.new result (λ count t. count ≡ account_count_of_customer t customer) }
+    ensures fault { IfErr result IsCallFault }
 {
     Ok(store.accounts_of(alloc, customer)?.len())
 }
 
 // Reads the facts that decide on a broker. Fails with `Memory` or `Store` only.
-fn find_for_broker<S: Alter>(store: &mut Store<S>, broker: &Broker) -> Result<ReferenceFacts, Fault>
-    ensures read { ReadPost S.Store store.old store.new result (λ found t. found.same_id ≡ finds_broker t broker.now.id) }
-    ensures fault { IfErr result MayFail }
+fn read_broker_facts<S: Alter>(
+    store: &mut Store<S>,
+    broker: &Broker,
+) -> Result<ReferenceFacts, Fault>
+    ensures read { ReadPost S.Store store.old store.new result (λ found t. found.same_id ≡ contains_broker t broker.now.id) }
+    ensures fault { IfErr result IsCallFault }
 {
-    let same_id = is_broker_there(store, broker.id)?;
+    let same_id = broker_exists(store, broker.id)?;
     Ok(ReferenceFacts { same_id, ..NOTHING })
 }
 
 // Reads the facts that decide on a customer. Fails with `Memory` or `Store` only.
-fn find_for_customer<S: Alter>(
+fn read_customer_facts<S: Alter>(
     store: &mut Store<S>,
     customer: &Customer,
 ) -> Result<ReferenceFacts, Fault>
-    ensures read { ReadPost S.Store store.old store.new result (λ found t. (found.same_id ≡ finds_customer t customer.now.id) × (found.same_tax_id ≡ finds_tax_id t customer.now.tax_id)) }
-    ensures fault { IfErr result MayFail }
+    ensures read { ReadPost S.Store store.old store.new result (λ found t. (found.same_id ≡ contains_customer t customer.now.id) × (found.same_tax_id ≡ contains_tax_id t customer.now.tax_id)) }
+    ensures fault { IfErr result IsCallFault }
 {
-    let same_id = is_customer_there(store, customer.id)?;
-    let same_tax_id = is_tax_id_there(store, &customer.tax_id)?;
+    let same_id = customer_exists(store, customer.id)?;
+    let same_tax_id = tax_id_exists(store, &customer.tax_id)?;
     Ok(ReferenceFacts {
         same_id,
         same_tax_id,
@@ -102,17 +105,17 @@ fn find_for_customer<S: Alter>(
 }
 
 // Reads the facts that decide on an account. Fails with `Memory` or `Store` only.
-fn find_for_account<S: Alter>(
+fn read_account_facts<S: Alter>(
     alloc: Global,
     store: &mut Store<S>,
     account: &Account,
 ) -> Result<ReferenceFacts, Fault>
-    ensures read { ReadPost S.Store store.old store.new result (λ found t. IsFoundForAccount t account.now.id account.now.customer account.now.broker found) }
-    ensures fault { IfErr result MayFail }
+    ensures read { ReadPost S.Store store.old store.new result (λ found t. AccountFactsMatchTables t account.now.id account.now.customer account.now.broker found) }
+    ensures fault { IfErr result IsCallFault }
 {
-    let same_id = is_account_there(store, account.id)?;
-    let customer = is_customer_there(store, account.customer)?;
-    let broker = is_broker_there(store, account.broker)?;
+    let same_id = account_exists(store, account.id)?;
+    let customer = customer_exists(store, account.customer)?;
+    let broker = broker_exists(store, account.broker)?;
     let accounts = count_accounts(alloc, store, account.customer)?;
     Ok(ReferenceFacts {
         same_id,
@@ -124,44 +127,44 @@ fn find_for_account<S: Alter>(
 }
 
 // Reads the facts that decide on a security. Fails with `Memory` or `Store` only.
-fn find_for_security<S: Alter>(
+fn read_new_security_facts<S: Alter>(
     store: &mut Store<S>,
     symbol: &Symbol,
 ) -> Result<ReferenceFacts, Fault>
-    ensures read { ReadPost S.Store store.old store.new result (λ found t. found.same_id ≡ finds_security t symbol.now) }
-    ensures fault { IfErr result MayFail }
+    ensures read { ReadPost S.Store store.old store.new result (λ found t. found.same_id ≡ contains_security t symbol.now) }
+    ensures fault { IfErr result IsCallFault }
 {
-    let same_id = is_security_there(store, symbol)?;
+    let same_id = security_exists(store, symbol)?;
     Ok(ReferenceFacts { same_id, ..NOTHING })
 }
 
 // Reads the facts that decide on a tax rate. Fails with `Memory` or `Store` only.
-fn find_for_tax<S: Alter>(store: &mut Store<S>, id: Id) -> Result<ReferenceFacts, Fault>
-    ensures read { ReadPost S.Store store.old store.new result (λ found t. found.same_id ≡ finds_tax_rate t id) }
-    ensures fault { IfErr result MayFail }
+fn read_tax_facts<S: Alter>(store: &mut Store<S>, id: Id) -> Result<ReferenceFacts, Fault>
+    ensures read { ReadPost S.Store store.old store.new result (λ found t. found.same_id ≡ contains_tax_rate t id) }
+    ensures fault { IfErr result IsCallFault }
 {
-    let same_id = is_tax_there(store, id)?;
+    let same_id = tax_exists(store, id)?;
     Ok(ReferenceFacts { same_id, ..NOTHING })
 }
 
 /// Reads the facts that decide on a reference record. Fails with `Memory` or `Store` only.
-pub(crate) fn find_for<S: Alter>(
+pub(crate) fn read_reference_facts<S: Alter>(
     alloc: Global,
     store: &mut Store<S>,
     reference: &Reference,
 ) -> Result<ReferenceFacts, Fault>
-    ensures read { ReadPost S.Store store.old store.new result (λ found t. IsFound t reference.now found) }
-    ensures fault { IfErr result MayFail }
+    ensures read { ReadPost S.Store store.old store.new result (λ found t. ReferenceFactsMatchTables t reference.now found) }
+    ensures fault { IfErr result IsCallFault }
 {
     match reference {
-        Reference::Broker(broker) => find_for_broker(store, broker),
-        Reference::Customer(customer) => find_for_customer(store, customer),
-        Reference::Account(account) => find_for_account(alloc, store, account),
-        Reference::Permission(permission) => find_for_permission(store, permission),
-        Reference::Security(listing) => find_for_security(store, &listing.security.symbol),
-        Reference::Charge(charge) => find_for_charge(store, charge),
-        Reference::Band(band) => find_for_band(alloc, store, band),
-        Reference::TaxRate(tax) => find_for_tax(store, tax.id),
-        Reference::CustomerTax(pays) => find_for_customer_tax(alloc, store, pays),
+        Reference::Broker(broker) => read_broker_facts(store, broker),
+        Reference::Customer(customer) => read_customer_facts(store, customer),
+        Reference::Account(account) => read_account_facts(alloc, store, account),
+        Reference::Permission(permission) => read_permission_facts(store, permission),
+        Reference::Security(listing) => read_new_security_facts(store, &listing.security.symbol),
+        Reference::Charge(charge) => read_charge_facts(store, charge),
+        Reference::Band(band) => read_band_facts(alloc, store, band),
+        Reference::TaxRate(tax) => read_tax_facts(store, tax.id),
+        Reference::CustomerTax(pays) => read_customer_tax_facts(alloc, store, pays),
     }
 }

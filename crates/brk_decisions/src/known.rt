@@ -1,13 +1,13 @@
 //! Reads of rows that another row names. If the row does not exist, the fault is `Store`.
 
 ghost use Rattle.std.specs.Prelude.{◌≡◌, IfErr};
-ghost use Rattle.brk_decisions.specs.Finds.{IsCustomer};
-ghost use Rattle.brk_decisions.specs.ResultFinds.{AreTotalsOfBroker, IsAccountWith, IsSecurity};
-ghost use Rattle.brk_model.specs.Joins.{price_in};
-ghost use Rattle.brk_model.specs.Run.{MayFail};
+ghost use Rattle.brk_decisions.specs.Finds.{IsCustomerWithId};
+ghost use Rattle.brk_decisions.specs.ResultFinds.{AreTotalsOfBroker, IsAccountWithId, IsSecurityWithSymbol};
+ghost use Rattle.brk_model.specs.Joins.{last_price_in_tables};
+ghost use Rattle.brk_model.specs.Run.{IsCallFault};
 ghost use Rattle.brk_store.specs.Holds.{ReadPost};
 
-use crate::tested::find_price;
+use crate::tested::read_last_price;
 use brk_money::{Fault, Id, Price};
 use brk_ref::{AccountRow, Customer, Security, Symbol};
 use brk_store::Store;
@@ -16,9 +16,9 @@ use sqlite::Alter;
 
 // Returns the customer with an id. Changes nothing. Fails with `Memory` or `Store` only; with
 // `Store` also if there is none.
-pub(crate) fn known_customer<S: Alter>(store: &mut Store<S>, id: Id) -> Result<Customer, Fault>
-    ensures read { ReadPost S.Store store.old store.new result (λ customer t. IsCustomer t id customer) }
-    ensures fault { IfErr result MayFail }
+pub(crate) fn require_customer<S: Alter>(store: &mut Store<S>, id: Id) -> Result<Customer, Fault>
+    ensures read { ReadPost S.Store store.old store.new result (λ customer t. IsCustomerWithId t id customer) }
+    ensures fault { IfErr result IsCallFault }
 {
     match store.customer(id)? {
         Some(customer) => Ok(customer),
@@ -28,9 +28,9 @@ pub(crate) fn known_customer<S: Alter>(store: &mut Store<S>, id: Id) -> Result<C
 
 // Returns the account with an id. Changes nothing. Fails with `Memory` or `Store` only; with
 // `Store` also if there is none.
-pub(crate) fn known_account<S: Alter>(store: &mut Store<S>, id: Id) -> Result<AccountRow, Fault>
-    ensures read { ReadPost S.Store store.old store.new result (λ account t. IsAccountWith t id account) }
-    ensures fault { IfErr result MayFail }
+pub(crate) fn require_account<S: Alter>(store: &mut Store<S>, id: Id) -> Result<AccountRow, Fault>
+    ensures read { ReadPost S.Store store.old store.new result (λ account t. IsAccountWithId t id account) }
+    ensures fault { IfErr result IsCallFault }
 {
     match store.account(id)? {
         Some(account) => Ok(account),
@@ -40,9 +40,12 @@ pub(crate) fn known_account<S: Alter>(store: &mut Store<S>, id: Id) -> Result<Ac
 
 // Returns the totals of the broker with an id. Changes nothing. Fails with `Memory` or `Store`
 // only; with `Store` also if there is none.
-pub(crate) fn known_numbers<S: Alter>(store: &mut Store<S>, id: Id) -> Result<BrokerNumbers, Fault>
+pub(crate) fn require_broker_totals<S: Alter>(
+    store: &mut Store<S>,
+    id: Id,
+) -> Result<BrokerNumbers, Fault>
     ensures read { ReadPost S.Store store.old store.new result (λ numbers t. AreTotalsOfBroker t id numbers) }
-    ensures fault { IfErr result MayFail }
+    ensures fault { IfErr result IsCallFault }
 {
     match store.broker_numbers(id)? {
         Some(numbers) => Ok(numbers),
@@ -52,11 +55,14 @@ pub(crate) fn known_numbers<S: Alter>(store: &mut Store<S>, id: Id) -> Result<Br
 
 // Returns the last price of a symbol. Changes nothing. Fails with `Memory` or `Store` only; with
 // `Store` also if there is none.
-pub(crate) fn known_price<S: Alter>(store: &mut Store<S>, symbol: &Symbol) -> Result<Price, Fault>
-    ensures read { ReadPost S.Store store.old store.new result (λ price t. price ≡ price_in t symbol.now) }
-    ensures fault { IfErr result MayFail }
+pub(crate) fn require_last_price<S: Alter>(
+    store: &mut Store<S>,
+    symbol: &Symbol,
+) -> Result<Price, Fault>
+    ensures read { ReadPost S.Store store.old store.new result (λ price t. price ≡ last_price_in_tables t symbol.now) }
+    ensures fault { IfErr result IsCallFault }
 {
-    match find_price(store, symbol)? {
+    match read_last_price(store, symbol)? {
         Some(price) => Ok(price),
         None => Err(Fault::Store),
     }
@@ -64,12 +70,12 @@ pub(crate) fn known_price<S: Alter>(store: &mut Store<S>, symbol: &Symbol) -> Re
 
 // Returns the security with a symbol. Changes nothing. Fails with `Memory` or `Store` only; with
 // `Store` also if there is none.
-pub(crate) fn known_security<S: Alter>(
+pub(crate) fn require_security<S: Alter>(
     store: &mut Store<S>,
     symbol: &Symbol,
 ) -> Result<Security, Fault>
-    ensures read { ReadPost S.Store store.old store.new result (λ security t. IsSecurity t symbol.now security) }
-    ensures fault { IfErr result MayFail }
+    ensures read { ReadPost S.Store store.old store.new result (λ security t. IsSecurityWithSymbol t symbol.now security) }
+    ensures fault { IfErr result IsCallFault }
 {
     match store.security(symbol)? {
         Some(security) => Ok(security),

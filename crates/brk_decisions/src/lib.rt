@@ -21,7 +21,7 @@ mod terms;
 mod tested;
 mod trades_finding;
 
-pub use amounts::sum_worth;
+pub use amounts::read_holdings_value;
 pub use cancel::decide_cancel;
 pub use estimate::decide_estimate;
 pub use feed::decide_feed;
@@ -30,4 +30,4 @@ pub use one_day::decide_oneday;
 pub use order::decide_order;
 pub use reference::decide_reference;
 pub use result::decide_result;
-pub use trades_finding::find_trades;
+pub use trades_finding::read_trades_by_ids;

@@ -2,11 +2,11 @@
 
 ghost use Rattle.std.specs.Prelude.{IfErr};
 ghost use Rattle.brk_decisions.specs.Decisions.{Decides};
-ghost use Rattle.brk_model.specs.Run.{MayFail};
-ghost use Rattle.brk_orders.specs.Records.{movement_of};
+ghost use Rattle.brk_model.specs.Run.{IsCallFault};
+ghost use Rattle.brk_orders.specs.Records.{movement_command};
 ghost use Rattle.brk_store.specs.Holds.{ReadPost};
 
-use crate::movement_finding::find_for_move;
+use crate::movement_finding::read_movement_facts;
 use brk_money::{Planned, Stamp};
 use brk_orders::Movement;
 use brk_store::Store;
@@ -24,11 +24,11 @@ pub fn decide_move<S: Alter>(
     now: Stamp,
     movement: &Movement,
 ) -> Planned<Plan>
-    ensures read { ReadPost S.Store store.old store.new result (Decides now (movement_of movement.now)) }
-    ensures fault { IfErr result MayFail }
+    ensures read { ReadPost S.Store store.old store.new result (Decides now (movement_command movement.now)) }
+    ensures fault { IfErr result IsCallFault }
 {
     let _moment = now.get();
     let last = store.last()?;
-    let found = find_for_move(store, movement)?;
+    let found = read_movement_facts(store, movement)?;
     plan_move(alloc, movement, &found, last, now)
 }

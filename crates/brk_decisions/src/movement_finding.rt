@@ -1,8 +1,8 @@
 //! The reads that decide a deposit or a withdrawal.
 
 ghost use Rattle.std.specs.Prelude.{IfErr};
-ghost use Rattle.brk_trade_theorems.specs.MovePlans.{IsFoundForMove};
-ghost use Rattle.brk_model.specs.Run.{MayFail};
+ghost use Rattle.brk_trade_theorems.specs.MovePlans.{MovementFactsMatchTables};
+ghost use Rattle.brk_model.specs.Run.{IsCallFault};
 ghost use Rattle.brk_store.specs.Holds.{ReadPost};
 
 use brk_money::Fault;
@@ -13,16 +13,16 @@ use sqlite::Alter;
 
 /// Reads the facts that decide a deposit or a withdrawal. Fails with `Memory` or `Store` only; with
 /// `Store` also if no number is left for a cash row.
-pub(crate) fn find_for_move<S: Alter>(
+pub(crate) fn read_movement_facts<S: Alter>(
     store: &mut Store<S>,
     movement: &Movement,
 ) -> Result<MoveFound, Fault>
-    ensures read { ReadPost S.Store store.old store.new result (λ found t. IsFoundForMove t movement.now found) }
-    ensures fault { IfErr result MayFail }
+    ensures read { ReadPost S.Store store.old store.new result (λ found t. MovementFactsMatchTables t movement.now found) }
+    ensures fault { IfErr result IsCallFault }
 {
     let balance = store.balance_of(movement.account)?;
-    let has_all_movements = store.has_all_movements()?;
-    let next = store.next_move()?;
+    let has_all_movements = store.has_maximum_movements()?;
+    let next = store.next_cash_row_number()?;
     Ok(MoveFound {
         balance,
         has_all_movements,

@@ -3,7 +3,7 @@
 ghost use Rattle.std.specs.Prelude.{IfErr};
 ghost use Rattle.brk_decisions.specs.Decisions.{Decides};
 ghost use Rattle.brk_model.specs.Commands.{SetOneDay};
-ghost use Rattle.brk_model.specs.Run.{MayFail};
+ghost use Rattle.brk_model.specs.Run.{IsCallFault};
 ghost use Rattle.brk_store.specs.Holds.{ReadPost};
 
 use brk_money::{Day, Planned, Stamp};
@@ -23,10 +23,10 @@ pub fn decide_oneday<S: Alter>(
     day: Day,
 ) -> Planned<Plan>
     ensures read { ReadPost S.Store store.old store.new result (Decides now (SetOneDay day)) }
-    ensures fault { IfErr result MayFail }
+    ensures fault { IfErr result IsCallFault }
 {
     let _moment = now.get();
     let last = store.last()?;
-    let rule = store.one_day()?;
+    let rule = store.settlement_day()?;
     plan_oneday(alloc, day, rule, last, now)
 }

@@ -2,20 +2,20 @@
 
 ghost use Rattle.std.specs.Prelude.{◌≡◌, ◌+◌, ◌++◌, ◌∷◌, [], false, Some, IfErr, IfOk, OnErr, MatchResult};
 ghost use Rattle.brk_decisions.specs.Decisions.{Decides};
-ghost use Rattle.brk_decisions.specs.LotReads.{LotsGiven};
+ghost use Rattle.brk_decisions.specs.LotReads.{AreLotsBeforeReads};
 ghost use Rattle.brk_lots.specs.Against.{closes_lots};
 ghost use Rattle.brk_model.specs.Commands.{PlaceOrder};
-ghost use Rattle.brk_model.specs.Run.{MayFail};
+ghost use Rattle.brk_model.specs.Run.{IsCallFault};
 ghost use Rattle.brk_model.specs.Tests.{first_refusal};
-ghost use Rattle.brk_orders.specs.Records.{order_of};
-ghost use Rattle.brk_plans.specs.Reference.{clock_test};
+ghost use Rattle.brk_orders.specs.Records.{abstract_order};
+ghost use Rattle.brk_plans.specs.Reference.{later_stamp_check};
 ghost use Rattle.brk_store.specs.Holds.{ReadPost};
-ghost use Rattle.brk_store.specs.Kept.{IsKept};
-ghost use Rattle.brk_store.specs.Resting.{lent, rows_read_by};
-ghost use Rattle.brk_trade.specs.Estimates.{OrderAsksFew};
-ghost use Rattle.brk_trade.specs.Orders.{IsOrdered, order_fact_tests, terms_of, trades_test};
+ghost use Rattle.brk_store.specs.Kept.{IsUnchangedByReads};
+ghost use Rattle.brk_store.specs.Resting.{borrowed_store, number_of_rows_read};
+ghost use Rattle.brk_trade.specs.Estimates.{OrderReadsFewLots};
+ghost use Rattle.brk_trade.specs.Orders.{IsOrderPlan, order_checks, terms_of_order, trade_id_is_left_check};
 
-use crate::order_finding::find_for_order;
+use crate::order_finding::read_order_facts;
 use brk_money::{Planned, Stamp};
 use brk_orders::Order;
 use brk_store::{LotPages, Store};
@@ -26,7 +26,7 @@ use std::alloc::Global;
 // Plans an order from the facts that were read and from `lots`, the lots of the position. Of these
 // it reads at most 16 rows more than the lots that the order would touch, also if it fails. Fails
 // with `Memory` or `Store` only.
-fn plan_over<S: Alter>(
+fn plan_order_over_lots<S: Alter>(
     alloc: Global,
     order: &Order,
     found: &OrderFound,
@@ -34,15 +34,15 @@ fn plan_over<S: Alter>(
     last: Option<Stamp>,
     now: Stamp,
 ) -> Planned<Plan>
-    ensures same_reference { (lent lots.new).ghost_name ≡ (lent lots.old).ghost_name }
-    ensures kept { IsKept S.Store (lent lots.old).now (lent lots.new).now }
+    ensures same_reference { (borrowed_store lots.new).ghost_name ≡ (borrowed_store lots.old).ghost_name }
+    ensures kept { IsUnchangedByReads S.Store (borrowed_store lots.old).now (borrowed_store lots.new).now }
     ensures planned { IfOk result (λ planned. MatchResult planned
-        (IsOrdered order.now found.now (LotsGiven S.Store lots.old lots.new) last now)
-        (λ refusal. first_refusal (order_fact_tests found.now ++ trades_test found.now.last_trade ∷ clock_test last now ∷ []) ≡ Some refusal)) }
+        (IsOrderPlan order.now found.now (AreLotsBeforeReads S.Store lots.old lots.new) last now)
+        (λ refusal. first_refusal (order_checks found.now ++ trade_id_is_left_check found.now.last_trade ∷ later_stamp_check last now ∷ []) ≡ Some refusal)) }
     ensures refused { IfOk result (λ planned. OnErr planned (lots.new ≡ lots.old)) }
-    ensures rows { OrderAsksFew (terms_of order.now found.now) (LotsGiven S.Store lots.old lots.new) (rows_read_by lots.old + 15) (rows_read_by lots.new) }
-    ensures unmet { closes_lots (terms_of order.now found.now).side (terms_of order.now found.now).held ≡ false → lots.new ≡ lots.old }
-    ensures fault { IfErr result MayFail }
+    ensures rows { OrderReadsFewLots (terms_of_order order.now found.now) (AreLotsBeforeReads S.Store lots.old lots.new) (number_of_rows_read lots.old + 15) (number_of_rows_read lots.new) }
+    ensures unmet { closes_lots (terms_of_order order.now found.now).side (terms_of_order order.now found.now).held ≡ false → lots.new ≡ lots.old }
+    ensures fault { IfErr result IsCallFault }
 {
     plan_order(alloc, order, found, lots, last, now)
 }
@@ -58,12 +58,12 @@ pub fn decide_order<S: Alter>(
     now: Stamp,
     order: &Order,
 ) -> Planned<Plan>
-    ensures read { ReadPost S.Store store.old store.new result (Decides now (PlaceOrder (order_of order.now))) }
-    ensures fault { IfErr result MayFail }
+    ensures read { ReadPost S.Store store.old store.new result (Decides now (PlaceOrder (abstract_order order.now))) }
+    ensures fault { IfErr result IsCallFault }
 {
     let _moment = now.get();
     let last = store.last()?;
-    let found = find_for_order(alloc, store, order)?;
+    let found = read_order_facts(alloc, store, order)?;
     let mut lots = store.lot_pages(alloc, order.account, &order.symbol, order.is_lifo);
-    plan_over(alloc, order, &found, &mut lots, last, now)
+    plan_order_over_lots(alloc, order, &found, &mut lots, last, now)
 }

@@ -1,14 +1,14 @@
 //! Reads of the facts that decide on an order.
 
 ghost use Rattle.std.specs.Prelude.{◌≡◌, IfErr};
-ghost use Rattle.brk_trade_theorems.specs.OrderPlans.{IsFoundForEstimate, IsFoundForOrder};
-ghost use Rattle.brk_decisions.specs.Finds.{IsOrderFoundOf, found_of, no_facts};
-ghost use Rattle.brk_model.specs.Run.{MayFail};
+ghost use Rattle.brk_trade_theorems.specs.OrderPlans.{EstimateFactsMatchTables, OrderFactsMatchTables};
+ghost use Rattle.brk_decisions.specs.Finds.{AreEstimateFactsOf, order_facts_of, no_account_facts};
+ghost use Rattle.brk_model.specs.Run.{IsCallFault};
 ghost use Rattle.brk_store.specs.Holds.{ReadPost};
 
-use crate::amounts::{Amounts, find_amounts};
-use crate::known::known_customer;
-use crate::tested::{OrderFacts, find_tested};
+use crate::amounts::{Amounts, read_estimate_amounts};
+use crate::known::require_customer;
+use crate::tested::{OrderFacts, read_order_test_facts};
 use brk_money::{Fault, TaxRate, Wide};
 use brk_orders::Order;
 use brk_ref::AccountRow;
@@ -18,8 +18,8 @@ use sqlite::Alter;
 use std::alloc::Global;
 
 // Returns the facts for an order whose account does not exist.
-fn nothing() -> OrderFound
-    ensures { result ≡ no_facts }
+fn facts_without_account() -> OrderFound
+    ensures { result ≡ no_account_facts }
 {
     OrderFound {
         account: None,
@@ -35,8 +35,8 @@ fn nothing() -> OrderFound
 }
 
 // Returns the facts for an order of the account, except the last trade.
-fn found_of(account: &AccountRow, tested: OrderFacts, amounts: Amounts) -> OrderFound
-    ensures { result ≡ found_of account.now tested amounts }
+fn order_facts_of(account: &AccountRow, tested: OrderFacts, amounts: Amounts) -> OrderFound
+    ensures { result ≡ order_facts_of account.now tested amounts }
 {
     OrderFound {
         account: Some(OrderAccount {
@@ -56,49 +56,49 @@ fn found_of(account: &AccountRow, tested: OrderFacts, amounts: Amounts) -> Order
 
 // Reads the facts that decide on the estimate of an order of an account. Fails with `Memory` or
 // `Store` only.
-fn find_of_account<S: Alter>(
+fn read_order_account_facts<S: Alter>(
     alloc: Global,
     store: &mut Store<S>,
     order: &Order,
     account: &AccountRow,
 ) -> Result<OrderFound, Fault>
-    ensures read { ReadPost S.Store store.old store.new result (λ found t. IsOrderFoundOf t order.now account.now found) }
-    ensures fault { IfErr result MayFail }
+    ensures read { ReadPost S.Store store.old store.new result (λ found t. AreEstimateFactsOf t order.now account.now found) }
+    ensures fault { IfErr result IsCallFault }
 {
-    let customer = known_customer(store, account.account.customer)?;
-    let tested = find_tested(alloc, store, order, &customer)?;
-    let amounts = find_amounts(alloc, store, account, order)?;
-    Ok(found_of(account, tested, amounts))
+    let customer = require_customer(store, account.account.customer)?;
+    let tested = read_order_test_facts(alloc, store, order, &customer)?;
+    let amounts = read_estimate_amounts(alloc, store, account, order)?;
+    Ok(order_facts_of(account, tested, amounts))
 }
 
 /// Reads the facts that decide on the estimate of an order. Fails with `Memory` or `Store` only.
-pub(crate) fn find_for_estimate<S: Alter>(
+pub(crate) fn read_estimate_facts<S: Alter>(
     alloc: Global,
     store: &mut Store<S>,
     order: &Order,
 ) -> Result<OrderFound, Fault>
-    ensures read { ReadPost S.Store store.old store.new result (λ found t. IsFoundForEstimate t order.now found) }
-    ensures fault { IfErr result MayFail }
+    ensures read { ReadPost S.Store store.old store.new result (λ found t. EstimateFactsMatchTables t order.now found) }
+    ensures fault { IfErr result IsCallFault }
 {
     match store.account(order.account)? {
         Some(account) => {
-            let found = find_of_account(alloc, store, order, &account)?;
+            let found = read_order_account_facts(alloc, store, order, &account)?;
             Ok(found)
         }
-        None => Ok(nothing()),
+        None => Ok(facts_without_account()),
     }
 }
 
 /// Reads the facts that decide on an order. Fails with `Memory` or `Store` only.
-pub(crate) fn find_for_order<S: Alter>(
+pub(crate) fn read_order_facts<S: Alter>(
     alloc: Global,
     store: &mut Store<S>,
     order: &Order,
 ) -> Result<OrderFound, Fault>
-    ensures read { ReadPost S.Store store.old store.new result (λ found t. IsFoundForOrder t order.now found) }
-    ensures fault { IfErr result MayFail }
+    ensures read { ReadPost S.Store store.old store.new result (λ found t. OrderFactsMatchTables t order.now found) }
+    ensures fault { IfErr result IsCallFault }
 {
-    let found = find_for_estimate(alloc, store, order)?;
+    let found = read_estimate_facts(alloc, store, order)?;
     let last_trade = store.last_trade_id()?;
     Ok(OrderFound {
         last_trade,

@@ -1,14 +1,14 @@
 //! The facts of a trade's account, its customer and its broker that decide on a result.
 
 ghost use Rattle.std.specs.Prelude.{IfErr, IfSome};
-ghost use Rattle.brk_decisions.specs.ResultFinds.{AreParties};
-ghost use Rattle.brk_model.specs.Joins.{account_in};
-ghost use Rattle.brk_model.specs.Run.{MayFail};
+ghost use Rattle.brk_decisions.specs.ResultFinds.{ArePartiesOfAccount};
+ghost use Rattle.brk_model.specs.Joins.{account_row_with_id};
+ghost use Rattle.brk_model.specs.Run.{IsCallFault};
 ghost use Rattle.brk_store.specs.Holds.{ReadPost};
-ghost use Rattle.brk_ref.specs.Records.{account_row_of};
+ghost use Rattle.brk_ref.specs.Records.{abstract_account_row};
 
-use crate::amounts::find_rates;
-use crate::known::{known_account, known_customer, known_numbers};
+use crate::amounts::read_tax_rate_sum;
+use crate::known::{require_account, require_broker_totals, require_customer};
 use brk_money::{Fault, Id, TaxRate};
 use brk_ref::{AccountRow, Tier};
 use brk_store::Store;
@@ -29,17 +29,17 @@ pub struct Parties {
 }
 
 // Reads the facts of an account, its customer and its broker. Fails with `Memory` or `Store` only.
-fn parties_of<S: Alter>(
+fn read_parties_of_account<S: Alter>(
     alloc: Global,
     store: &mut Store<S>,
     row: &AccountRow,
 ) -> Result<Parties, Fault>
-    ensures read { ReadPost S.Store store.old store.new result (λ parties t. AreParties t (account_row_of row.now) parties) }
-    ensures fault { IfErr result MayFail }
+    ensures read { ReadPost S.Store store.old store.new result (λ parties t. ArePartiesOfAccount t (abstract_account_row row.now) parties) }
+    ensures fault { IfErr result IsCallFault }
 {
-    let customer = known_customer(store, row.account.customer)?;
-    let rates = find_rates(alloc, store, row.account.customer)?;
-    let broker = known_numbers(store, row.account.broker)?;
+    let customer = require_customer(store, row.account.customer)?;
+    let rates = read_tax_rate_sum(alloc, store, row.account.customer)?;
+    let broker = require_broker_totals(store, row.account.broker)?;
     let account = ResultAccount {
         broker: row.account.broker,
         tax_status: row.account.tax_status,
@@ -55,15 +55,15 @@ fn parties_of<S: Alter>(
 
 /// Reads the facts of the account with an id, its customer and its broker. Fails with `Memory` or
 /// `Store` only; with `Store` also if one of them does not exist.
-pub(crate) fn find_parties<S: Alter>(
+pub(crate) fn read_parties<S: Alter>(
     alloc: Global,
     store: &mut Store<S>,
     account: Id,
 ) -> Result<Parties, Fault>
-    ensures read { ReadPost S.Store store.old store.new result (λ parties t. IfSome (account_in t account) (λ a. AreParties t a parties)) }
-    ensures fault { IfErr result MayFail }
+    ensures read { ReadPost S.Store store.old store.new result (λ parties t. IfSome (account_row_with_id t account) (λ a. ArePartiesOfAccount t a parties)) }
+    ensures fault { IfErr result IsCallFault }
 {
-    let row = known_account(store, account)?;
-    let parties = parties_of(alloc, store, &row)?;
+    let row = require_account(store, account)?;
+    let parties = read_parties_of_account(alloc, store, &row)?;
     Ok(parties)
 }

@@ -1,12 +1,12 @@
 //! Decisions on reference records.
 
 ghost use Rattle.std.specs.Prelude.{IfErr};
-ghost use Rattle.brk_plans.specs.Commands.{adding_command};
+ghost use Rattle.brk_plans.specs.Commands.{command_adding_record};
 ghost use Rattle.brk_decisions.specs.Decisions.{Decides};
-ghost use Rattle.brk_model.specs.Run.{MayFail};
+ghost use Rattle.brk_model.specs.Run.{IsCallFault};
 ghost use Rattle.brk_store.specs.Holds.{ReadPost};
 
-use crate::finding::find_for;
+use crate::finding::read_reference_facts;
 use brk_money::{Planned, Stamp};
 use brk_store::Store;
 use brk_trade::{Plan, Reference, plan_reference};
@@ -23,11 +23,11 @@ pub fn decide_reference<S: Alter>(
     now: Stamp,
     reference: &Reference,
 ) -> Planned<Plan>
-    ensures read { ReadPost S.Store store.old store.new result (Decides now (adding_command reference.now)) }
-    ensures fault { IfErr result MayFail }
+    ensures read { ReadPost S.Store store.old store.new result (Decides now (command_adding_record reference.now)) }
+    ensures fault { IfErr result IsCallFault }
 {
     let _moment = now.get();
     let last = store.last()?;
-    let found = find_for(alloc, store, reference)?;
+    let found = read_reference_facts(alloc, store, reference)?;
     plan_reference(alloc, reference, found, last, now)
 }

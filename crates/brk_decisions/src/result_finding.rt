@@ -1,15 +1,15 @@
 //! Reads of the facts that decide on a result.
 
 ghost use Rattle.std.specs.Prelude.{◌<◌, IfErr, IfOk, IfSome};
-ghost use Rattle.brk_decisions.specs.ResultFinds.{IsFoundAt, IsResultFoundOf, IsListedAs, IsPosting};
-ghost use Rattle.brk_model.specs.Joins.{security_in};
-ghost use Rattle.brk_model.specs.Run.{MayFail};
+ghost use Rattle.brk_decisions.specs.ResultFinds.{AreResultFactsForId, AreResultFactsOf, AreSecurityFacts, ArePostingFacts};
+ghost use Rattle.brk_model.specs.Joins.{security_row_with_symbol};
+ghost use Rattle.brk_model.specs.Run.{IsCallFault};
 ghost use Rattle.brk_store.specs.Holds.{ReadPost};
 
-use crate::known::known_security;
-use crate::parties::find_parties;
-use crate::summary_finding::find_summary;
-use crate::tested::find_band_rate;
+use crate::known::require_security;
+use crate::parties::read_parties;
+use crate::summary_finding::read_summary_shares;
+use crate::tested::read_band_rate;
 use brk_money::{Day, Fault, Id, MoveId, Rate};
 use brk_ref::{Name, Tier};
 use brk_store::Store;
@@ -28,17 +28,17 @@ pub struct SecurityFacts {
 
 // Reads the facts of a trade's security, for a customer's tier. Fails with `Memory` or `Store`
 // only.
-fn find_listed<S: Alter>(
+fn read_security_facts<S: Alter>(
     alloc: Global,
     store: &mut Store<S>,
     trade: &TradeRow,
     tier: Tier,
 ) -> Result<SecurityFacts, Fault>
-    ensures read { ReadPost S.Store store.old store.new result (λ listed t. IfSome (security_in t trade.now.symbol) (λ s. IsListedAs t trade.now tier s listed)) }
-    ensures fault { IfErr result MayFail }
+    ensures read { ReadPost S.Store store.old store.new result (λ listed t. IfSome (security_row_with_symbol t trade.now.symbol) (λ s. AreSecurityFacts t trade.now tier s listed)) }
+    ensures fault { IfErr result IsCallFault }
 {
-    let security = known_security(store, &trade.symbol)?;
-    let rate = find_band_rate(
+    let security = require_security(store, &trade.symbol)?;
+    let rate = read_band_rate(
         alloc,
         store,
         tier,
@@ -63,31 +63,31 @@ pub struct Posting {
 
 // Reads the settlement day and the number of the next cash row. Fails with `Memory` or `Store`
 // only; with `Store` also if no number is left.
-fn find_posting<S: Alter>(store: &mut Store<S>) -> Result<Posting, Fault>
-    ensures read { ReadPost S.Store store.old store.new result (λ posting t. IsPosting t posting) }
-    ensures fault { IfErr result MayFail }
+fn read_posting_facts<S: Alter>(store: &mut Store<S>) -> Result<Posting, Fault>
+    ensures read { ReadPost S.Store store.old store.new result (λ posting t. ArePostingFacts t posting) }
+    ensures fault { IfErr result IsCallFault }
 {
-    let rule = store.one_day()?;
-    let next = store.next_move()?;
+    let rule = store.settlement_day()?;
+    let next = store.next_cash_row_number()?;
     Ok(Posting { rule, next })
 }
 
 // Reads the facts that decide on a result of a trade that exists. Fails with `Memory` or `Store`
 // only.
-fn find_of_trade<S: Alter>(
+fn read_facts_of_trade<S: Alter>(
     alloc: Global,
     store: &mut Store<S>,
     trade: TradeRow,
 ) -> Result<ResultFound, Fault>
-    ensures read { ReadPost S.Store store.old store.new result (λ found t. IsResultFoundOf t trade found) }
+    ensures read { ReadPost S.Store store.old store.new result (λ found t. AreResultFactsOf t trade found) }
     ensures some_shares { IfOk result (λ found. 0 < found.trade.qty) }
-    ensures fault { IfErr result MayFail }
+    ensures fault { IfErr result IsCallFault }
 {
     let _shares = trade.qty.get();
-    let parties = find_parties(alloc, store, trade.account)?;
-    let listed = find_listed(alloc, store, &trade, parties.tier)?;
-    let summary = find_summary(store, trade.account, &trade.symbol)?;
-    let posting = find_posting(store)?;
+    let parties = read_parties(alloc, store, trade.account)?;
+    let listed = read_security_facts(alloc, store, &trade, parties.tier)?;
+    let summary = read_summary_shares(store, trade.account, &trade.symbol)?;
+    let posting = read_posting_facts(store)?;
     Ok(ResultFound {
         trade,
         account: parties.account,
@@ -104,18 +104,18 @@ fn find_of_trade<S: Alter>(
 /// Reads the facts that decide on a result of a trade, or returns `None` if the trade does not
 /// exist. Fails with `Memory` or `Store` only; with `Store` also if its account, customer, broker
 /// or security does not exist, or if no number is left for a cash row.
-pub(crate) fn find_for_result<S: Alter>(
+pub(crate) fn read_result_facts<S: Alter>(
     alloc: Global,
     store: &mut Store<S>,
     trade: Id,
 ) -> Result<Option<ResultFound>, Fault>
-    ensures read { ReadPost S.Store store.old store.new result (λ found t. IsFoundAt t trade found) }
+    ensures read { ReadPost S.Store store.old store.new result (λ found t. AreResultFactsForId t trade found) }
     ensures some_shares { IfOk result (λ found. IfSome found (λ f. 0 < f.trade.qty)) }
-    ensures fault { IfErr result MayFail }
+    ensures fault { IfErr result IsCallFault }
 {
     match store.trade(trade)? {
         Some(row) => {
-            let found = find_of_trade(alloc, store, row)?;
+            let found = read_facts_of_trade(alloc, store, row)?;
             Ok(Some(found))
         }
         None => Ok(None),

@@ -1,8 +1,8 @@
 //! The number of shares of a security that an account holds in all.
 
 ghost use Rattle.std.specs.Prelude.{◌≡◌, IfErr, option_map};
-ghost use Rattle.brk_book_theorems.specs.TradeReads.{summary_in};
-ghost use Rattle.brk_model.specs.Run.{MayFail};
+ghost use Rattle.brk_book_theorems.specs.TradeReads.{summary_row_of_position};
+ghost use Rattle.brk_model.specs.Run.{IsCallFault};
 ghost use Rattle.brk_store.specs.Holds.{ReadPost};
 
 use brk_money::{Fault, Id};
@@ -12,19 +12,19 @@ use brk_trade::SummaryRow;
 use sqlite::Alter;
 
 // Returns the number of shares of a summary.
-fn qty_of(summary: &SummaryRow) -> i64
+fn shares_of_summary(summary: &SummaryRow) -> i64
     ensures { result ≡ summary.now.qty }
 {
     summary.qty
 }
 
 // Returns the number of shares of a summary, or `None` if there is none.
-fn shares_in(summary: Option<SummaryRow>) -> Option<i64>
+fn shares_of_optional_summary(summary: Option<SummaryRow>) -> Option<i64>
     ensures { result ≡ option_map (λ r. r.qty) summary }
 {
     match summary {
         Some(row) => {
-            let qty = qty_of(&row);
+            let qty = shares_of_summary(&row);
             Some(qty)
         }
         None => None,
@@ -33,14 +33,14 @@ fn shares_in(summary: Option<SummaryRow>) -> Option<i64>
 
 // Returns the number of shares of a security that an account holds in all, or `None` if there is no
 // row. Changes nothing. Fails with `Memory` or `Store` only.
-pub(crate) fn find_summary<S: Alter>(
+pub(crate) fn read_summary_shares<S: Alter>(
     store: &mut Store<S>,
     account: Id,
     symbol: &Symbol,
 ) -> Result<Option<i64>, Fault>
-    ensures read { ReadPost S.Store store.old store.new result (λ qty t. qty ≡ option_map (λ r. r.qty) (summary_in t account symbol.now)) }
-    ensures fault { IfErr result MayFail }
+    ensures read { ReadPost S.Store store.old store.new result (λ qty t. qty ≡ option_map (λ r. r.qty) (summary_row_of_position t account symbol.now)) }
+    ensures fault { IfErr result IsCallFault }
 {
     let summary = store.summary_of(account, symbol)?;
-    Ok(shares_in(summary))
+    Ok(shares_of_optional_summary(summary))
 }

@@ -1,14 +1,14 @@
 //! Reads of the facts that decide on terms: permissions, securities, charges, bands and taxes.
 
 ghost use Rattle.std.specs.Prelude.{◌≡◌, ◌==◌, ◌≤◌, IfErr, SomeIff, Some, filter, map};
-ghost use Rattle.brk_trade_theorems.specs.Found.{IsFoundForTax};
-ghost use Rattle.brk_book_theorems.specs.Reads.{finds_account, finds_charge, has_overlap, finds_permission, finds_security, finds_tax_rate, pays_tax, rate_of, rates_of_customer, tax_rate_of};
+ghost use Rattle.brk_trade_theorems.specs.Found.{CustomerTaxFactsMatchTables};
+ghost use Rattle.brk_book_theorems.specs.Reads.{contains_account, contains_charge, overlaps_some_band, contains_permission, contains_security, contains_tax_rate, pays_tax, rate_by_tax_id, rate_sum_of_customer, tax_rate_with_id};
 ghost use Rattle.brk_model.specs.Limits.{greatest_tax_rate};
-ghost use Rattle.brk_model.specs.Run.{MayFail};
-ghost use Rattle.brk_ref.specs.Records.{band_of, tax_of};
+ghost use Rattle.brk_model.specs.Run.{IsCallFault};
+ghost use Rattle.brk_ref.specs.Records.{abstract_band, abstract_tax_rate};
 ghost use Rattle.brk_store.specs.Holds.{ReadPost};
 
-use crate::finding::{NOTHING, is_account_there, is_customer_there};
+use crate::finding::{NOTHING, account_exists, customer_exists};
 use brk_money::{Fault, Id, TaxRate, TradeType};
 use brk_ref::{Band, Charge, CustomerTax, Permission, Symbol, Tax, TaxId, Tier, overlaps, tax_sum};
 use brk_store::Store;
@@ -18,67 +18,67 @@ use std::alloc::Global;
 
 // Returns true if the account has a permission for the tax id. Changes nothing. Fails with `Memory`
 // or `Store` only.
-fn is_permission_there<S: Alter>(
+fn permission_exists<S: Alter>(
     store: &mut Store<S>,
     account: Id,
     tax_id: &TaxId,
 ) -> Result<bool, Fault>
-    ensures read { ReadPost S.Store store.old store.new result (λ there t. there ≡ finds_permission t account tax_id.now) }
-    ensures fault { IfErr result MayFail }
+    ensures read { ReadPost S.Store store.old store.new result (λ there t. there ≡ contains_permission t account tax_id.now) }
+    ensures fault { IfErr result IsCallFault }
 {
     Ok(store.permission(account, tax_id)?.is_some())
 }
 
 // Returns true if the security exists. Changes nothing. Fails with `Memory` or `Store` only.
-pub(crate) fn is_security_there<S: Alter>(
+pub(crate) fn security_exists<S: Alter>(
     store: &mut Store<S>,
     symbol: &Symbol,
 ) -> Result<bool, Fault>
-    ensures read { ReadPost S.Store store.old store.new result (λ there t. there ≡ finds_security t symbol.now) }
-    ensures fault { IfErr result MayFail }
+    ensures read { ReadPost S.Store store.old store.new result (λ there t. there ≡ contains_security t symbol.now) }
+    ensures fault { IfErr result IsCallFault }
 {
     Ok(store.security(symbol)?.is_some())
 }
 
 // Returns true if the charge exists. Changes nothing. Fails with `Memory` or `Store` only.
-pub(crate) fn is_charge_there<S: Alter>(
+pub(crate) fn charge_exists<S: Alter>(
     store: &mut Store<S>,
     kind: TradeType,
     tier: Tier,
 ) -> Result<bool, Fault>
-    ensures read { ReadPost S.Store store.old store.new result (λ there t. there ≡ finds_charge t kind tier) }
-    ensures fault { IfErr result MayFail }
+    ensures read { ReadPost S.Store store.old store.new result (λ there t. there ≡ contains_charge t kind tier) }
+    ensures fault { IfErr result IsCallFault }
 {
     Ok(store.charge(kind, tier)?.is_some())
 }
 
 // Returns true if a band shares a quantity with the given band. Changes nothing. Fails with
 // `Memory` or `Store` only.
-pub(crate) fn is_overlap_there<S: Alter>(
+pub(crate) fn overlapping_band_exists<S: Alter>(
     alloc: Global,
     store: &mut Store<S>,
     band: &Band,
 ) -> Result<bool, Fault>
-    ensures read { ReadPost S.Store store.old store.new result (λ there t. there ≡ has_overlap t (band_of band.now)) }
-    ensures fault { IfErr result MayFail }
+    ensures read { ReadPost S.Store store.old store.new result (λ there t. there ≡ overlaps_some_band t (abstract_band band.now)) }
+    ensures fault { IfErr result IsCallFault }
 {
     let bands = store.bands_for(alloc, band.tier, band.kind, &band.exchange)?;
     Ok(overlaps(&bands, band))
 }
 
 // Returns true if the tax exists. Changes nothing. Fails with `Memory` or `Store` only.
-pub(crate) fn is_tax_there<S: Alter>(store: &mut Store<S>, id: Id) -> Result<bool, Fault>
-    ensures read { ReadPost S.Store store.old store.new result (λ there t. there ≡ finds_tax_rate t id) }
-    ensures fault { IfErr result MayFail }
+pub(crate) fn tax_exists<S: Alter>(store: &mut Store<S>, id: Id) -> Result<bool, Fault>
+    ensures read { ReadPost S.Store store.old store.new result (λ there t. there ≡ contains_tax_rate t id) }
+    ensures fault { IfErr result IsCallFault }
 {
     Ok(store.tax_rate(id)?.is_some())
 }
 
 // Returns the rate of a tax, or `None` if the tax does not exist. Changes nothing. Fails with
 // `Memory` or `Store` only.
-fn find_rate<S: Alter>(store: &mut Store<S>, tax: Id) -> Result<Option<TaxRate>, Fault>
-    ensures read { ReadPost S.Store store.old store.new result (λ rate t. rate ≡ rate_of t tax) }
-    ensures fault { IfErr result MayFail }
+fn read_tax_rate_of<S: Alter>(store: &mut Store<S>, tax: Id) -> Result<Option<TaxRate>, Fault>
+    ensures read { ReadPost S.Store store.old store.new result (λ rate t. rate ≡ rate_by_tax_id t tax) }
+    ensures fault { IfErr result IsCallFault }
 {
     match store.tax_rate(tax)? {
         Some(tax) => Ok(Some(tax.rate)),
@@ -87,19 +87,23 @@ fn find_rate<S: Alter>(store: &mut Store<S>, tax: Id) -> Result<Option<TaxRate>,
 }
 
 // Returns true if the customer pays the tax. Changes nothing. Fails with `Memory` or `Store` only.
-fn is_tax_paid<S: Alter>(store: &mut Store<S>, customer: Id, tax: Id) -> Result<bool, Fault>
+fn customer_pays_tax<S: Alter>(store: &mut Store<S>, customer: Id, tax: Id) -> Result<bool, Fault>
     ensures read { ReadPost S.Store store.old store.new result (λ there t. there ≡ pays_tax t customer tax) }
-    ensures fault { IfErr result MayFail }
+    ensures fault { IfErr result IsCallFault }
 {
     Ok(store.customer_tax(customer, tax)?.is_some())
 }
 
 // Returns the taxes that a customer pays. Changes nothing. Fails with `Memory` or `Store` only;
 // with `Store` also if one of them does not exist.
-fn taxes_of<S: Alter>(alloc: Global, store: &mut Store<S>, customer: Id) -> Result<Vec<Tax>, Fault>
+fn read_taxes_of_customer<S: Alter>(
+    alloc: Global,
+    store: &mut Store<S>,
+    customer: Id,
+) -> Result<Vec<Tax>, Fault>
     ensures read { ReadPost S.Store store.old store.new result (λ taxes t.
-        map (λ tax. Some (tax_of tax)) taxes.items ≡ map (λ r. tax_rate_of t r.tax) (filter (λ r. r.customer == customer) t.customer_taxes)) }
-    ensures fault { IfErr result MayFail }
+        map (λ tax. Some (abstract_tax_rate tax)) taxes.items ≡ map (λ r. tax_rate_with_id t r.tax) (filter (λ r. r.customer == customer) t.customer_taxes)) }
+    ensures fault { IfErr result IsCallFault }
 {
     let mut taxes = Vec::new(alloc);
     let rows = store.customer_taxes_of(alloc, customer)?;
@@ -114,29 +118,29 @@ fn taxes_of<S: Alter>(alloc: Global, store: &mut Store<S>, customer: Id) -> Resu
 
 // Returns the sum of the tax rates that a customer pays, or `None` if it exceeds the greatest rate.
 // Changes nothing. Fails with `Memory` or `Store` only.
-pub(crate) fn sum_rates<S: Alter>(
+pub(crate) fn sum_tax_rates<S: Alter>(
     alloc: Global,
     store: &mut Store<S>,
     customer: Id,
 ) -> Result<Option<TaxRate>, Fault>
-    ensures read { ReadPost S.Store store.old store.new result (λ rates t. SomeIff rates (rates_of_customer t customer ≤ greatest_tax_rate) (rates_of_customer t customer)) }
-    ensures fault { IfErr result MayFail }
+    ensures read { ReadPost S.Store store.old store.new result (λ rates t. SomeIff rates (rate_sum_of_customer t customer ≤ greatest_tax_rate) (rate_sum_of_customer t customer)) }
+    ensures fault { IfErr result IsCallFault }
 {
-    let taxes = taxes_of(alloc, store, customer)?;
+    let taxes = read_taxes_of_customer(alloc, store, customer)?;
     Ok(tax_sum(&taxes))
 }
 
 // Reads the facts that decide on a permission. Fails with `Memory` or `Store` only.
-pub(crate) fn find_for_permission<S: Alter>(
+pub(crate) fn read_permission_facts<S: Alter>(
     store: &mut Store<S>,
     permission: &Permission,
 ) -> Result<ReferenceFacts, Fault>
     ensures read { ReadPost S.Store store.old store.new result (λ found t.
-        (found.account ≡ finds_account t permission.now.account) × (found.same_id ≡ finds_permission t permission.now.account permission.now.tax_id)) }
-    ensures fault { IfErr result MayFail }
+        (found.account ≡ contains_account t permission.now.account) × (found.same_id ≡ contains_permission t permission.now.account permission.now.tax_id)) }
+    ensures fault { IfErr result IsCallFault }
 {
-    let account = is_account_there(store, permission.account)?;
-    let same_id = is_permission_there(store, permission.account, &permission.tax_id)?;
+    let account = account_exists(store, permission.account)?;
+    let same_id = permission_exists(store, permission.account, &permission.tax_id)?;
     Ok(ReferenceFacts {
         same_id,
         account,
@@ -145,27 +149,27 @@ pub(crate) fn find_for_permission<S: Alter>(
 }
 
 // Reads the facts that decide on a charge. Fails with `Memory` or `Store` only.
-pub(crate) fn find_for_charge<S: Alter>(
+pub(crate) fn read_charge_facts<S: Alter>(
     store: &mut Store<S>,
     charge: &Charge,
 ) -> Result<ReferenceFacts, Fault>
-    ensures read { ReadPost S.Store store.old store.new result (λ found t. found.same_id ≡ finds_charge t charge.now.kind charge.now.tier) }
-    ensures fault { IfErr result MayFail }
+    ensures read { ReadPost S.Store store.old store.new result (λ found t. found.same_id ≡ contains_charge t charge.now.kind charge.now.tier) }
+    ensures fault { IfErr result IsCallFault }
 {
-    let same_id = is_charge_there(store, charge.kind, charge.tier)?;
+    let same_id = charge_exists(store, charge.kind, charge.tier)?;
     Ok(ReferenceFacts { same_id, ..NOTHING })
 }
 
 // Reads the facts that decide on a band. Fails with `Memory` or `Store` only.
-pub(crate) fn find_for_band<S: Alter>(
+pub(crate) fn read_band_facts<S: Alter>(
     alloc: Global,
     store: &mut Store<S>,
     band: &Band,
 ) -> Result<ReferenceFacts, Fault>
-    ensures read { ReadPost S.Store store.old store.new result (λ found t. found.overlaps ≡ has_overlap t (band_of band.now)) }
-    ensures fault { IfErr result MayFail }
+    ensures read { ReadPost S.Store store.old store.new result (λ found t. found.overlaps ≡ overlaps_some_band t (abstract_band band.now)) }
+    ensures fault { IfErr result IsCallFault }
 {
-    let overlaps = is_overlap_there(alloc, store, band)?;
+    let overlaps = overlapping_band_exists(alloc, store, band)?;
     Ok(ReferenceFacts {
         overlaps,
         ..NOTHING
@@ -173,18 +177,18 @@ pub(crate) fn find_for_band<S: Alter>(
 }
 
 // Reads the facts that decide on a customer's tax. Fails with `Memory` or `Store` only.
-pub(crate) fn find_for_customer_tax<S: Alter>(
+pub(crate) fn read_customer_tax_facts<S: Alter>(
     alloc: Global,
     store: &mut Store<S>,
     pays: &CustomerTax,
 ) -> Result<ReferenceFacts, Fault>
-    ensures read { ReadPost S.Store store.old store.new result (λ found t. IsFoundForTax t pays.now.customer pays.now.tax found) }
-    ensures fault { IfErr result MayFail }
+    ensures read { ReadPost S.Store store.old store.new result (λ found t. CustomerTaxFactsMatchTables t pays.now.customer pays.now.tax found) }
+    ensures fault { IfErr result IsCallFault }
 {
-    let customer = is_customer_there(store, pays.customer)?;
-    let rate = find_rate(store, pays.tax)?;
-    let same_id = is_tax_paid(store, pays.customer, pays.tax)?;
-    let rates = sum_rates(alloc, store, pays.customer)?;
+    let customer = customer_exists(store, pays.customer)?;
+    let rate = read_tax_rate_of(store, pays.tax)?;
+    let same_id = customer_pays_tax(store, pays.customer, pays.tax)?;
+    let rates = sum_tax_rates(alloc, store, pays.customer)?;
     Ok(ReferenceFacts {
         same_id,
         customer,

@@ -1,14 +1,14 @@
 //! Reads of the facts that test an order of an account that exists.
 
 ghost use Rattle.std.specs.Prelude.{◌≡◌, IfErr, IfSome, option_map};
-ghost use Rattle.brk_money.specs.OrderTypes.{kind_of};
-ghost use Rattle.brk_book_theorems.specs.OrderReads.{charge_in, last_price_in};
-ghost use Rattle.brk_book_theorems.specs.TradeReads.{band_in, permission_in};
-ghost use Rattle.brk_decisions.specs.Finds.{AreTested};
-ghost use Rattle.brk_model.specs.Joins.{security_in};
+ghost use Rattle.brk_money.specs.OrderTypes.{trade_type_of_order};
+ghost use Rattle.brk_book_theorems.specs.OrderReads.{charge_of_type_and_tier, last_price_of_symbol};
+ghost use Rattle.brk_book_theorems.specs.TradeReads.{band_of_quantity, permission_for_tax_id};
+ghost use Rattle.brk_decisions.specs.Finds.{AreOrderFacts};
+ghost use Rattle.brk_model.specs.Joins.{security_row_with_symbol};
 ghost use Rattle.brk_model.specs.Orders.{permitted};
-ghost use Rattle.brk_model.specs.Run.{MayFail};
-ghost use Rattle.brk_ref.specs.Records.{customer_of, executor_of};
+ghost use Rattle.brk_model.specs.Run.{IsCallFault};
+ghost use Rattle.brk_ref.specs.Records.{abstract_customer, abstract_executor};
 ghost use Rattle.brk_store.specs.Holds.{ReadPost};
 
 use brk_money::{Fault, Id, Price, Qty, Rate, TradeType};
@@ -34,12 +34,12 @@ pub struct OrderFacts {
 
 // Returns the last price of a symbol, or `None` if there is none. Changes nothing. Fails with
 // `Memory` or `Store` only.
-pub(crate) fn find_price<S: Alter>(
+pub(crate) fn read_last_price<S: Alter>(
     store: &mut Store<S>,
     symbol: &Symbol,
 ) -> Result<Option<Price>, Fault>
-    ensures read { ReadPost S.Store store.old store.new result (λ price t. price ≡ last_price_in t symbol.now) }
-    ensures fault { IfErr result MayFail }
+    ensures read { ReadPost S.Store store.old store.new result (λ price t. price ≡ last_price_of_symbol t symbol.now) }
+    ensures fault { IfErr result IsCallFault }
 {
     match store.last_trade(symbol)? {
         Some(last) => Ok(Some(last.price)),
@@ -49,15 +49,15 @@ pub(crate) fn find_price<S: Alter>(
 
 // Returns true if an executor may order for an account of a customer. Changes nothing. Fails with
 // `Memory` or `Store` only.
-fn find_permission<S: Alter>(
+fn is_executor_permitted<S: Alter>(
     store: &mut Store<S>,
     account: Id,
     customer: &Customer,
     executor: &Executor,
 ) -> Result<bool, Fault>
     ensures read { ReadPost S.Store store.old store.new result (λ is_permitted t.
-        is_permitted ≡ permitted (customer_of customer.now) (permission_in t account executor.now.tax_id) (executor_of executor.now)) }
-    ensures fault { IfErr result MayFail }
+        is_permitted ≡ permitted (abstract_customer customer.now) (permission_for_tax_id t account executor.now.tax_id) (abstract_executor executor.now)) }
+    ensures fault { IfErr result IsCallFault }
 {
     let permission = store.permission(account, &executor.tax_id)?;
     Ok(permitted(customer, permission.as_slice(), executor))
@@ -65,13 +65,13 @@ fn find_permission<S: Alter>(
 
 // Returns the charge of a type and a tier, or `None` if there is none. Changes nothing. Fails with
 // `Memory` or `Store` only.
-fn find_charge<S: Alter>(
+fn read_charge_of_tier<S: Alter>(
     store: &mut Store<S>,
     kind: TradeType,
     tier: Tier,
 ) -> Result<Option<ChargeAmount>, Fault>
-    ensures read { ReadPost S.Store store.old store.new result (λ charge t. charge ≡ charge_in t kind tier) }
-    ensures fault { IfErr result MayFail }
+    ensures read { ReadPost S.Store store.old store.new result (λ charge t. charge ≡ charge_of_type_and_tier t kind tier) }
+    ensures fault { IfErr result IsCallFault }
 {
     match store.charge(kind, tier)? {
         Some(charge) => Ok(Some(charge.amount)),
@@ -81,7 +81,7 @@ fn find_charge<S: Alter>(
 
 // Returns the rate of a quantity for a tier, a type and an exchange, or `None` if there is none.
 // Changes nothing. Fails with `Memory` or `Store` only.
-pub(crate) fn find_band_rate<S: Alter>(
+pub(crate) fn read_band_rate<S: Alter>(
     alloc: Global,
     store: &mut Store<S>,
     tier: Tier,
@@ -89,8 +89,8 @@ pub(crate) fn find_band_rate<S: Alter>(
     exchange: &Exchange,
     qty: Qty,
 ) -> Result<Option<Rate>, Fault>
-    ensures read { ReadPost S.Store store.old store.new result (λ rate t. rate ≡ option_map (λ b. b.rate) (band_in t tier kind exchange.now qty)) }
-    ensures fault { IfErr result MayFail }
+    ensures read { ReadPost S.Store store.old store.new result (λ rate t. rate ≡ option_map (λ b. b.rate) (band_of_quantity t tier kind exchange.now qty)) }
+    ensures fault { IfErr result IsCallFault }
 {
     let bands = store.bands_for(alloc, tier, kind, exchange)?;
     Ok(band_for(&bands, qty))
@@ -98,19 +98,19 @@ pub(crate) fn find_band_rate<S: Alter>(
 
 // Returns the rate of an order for a tier, or `None` if there is none or its security does not
 // exist. Changes nothing. Fails with `Memory` or `Store` only.
-fn find_order_rate<S: Alter>(
+fn read_order_rate<S: Alter>(
     alloc: Global,
     store: &mut Store<S>,
     order: &Order,
     tier: Tier,
 ) -> Result<Option<Rate>, Fault>
     ensures read { ReadPost S.Store store.old store.new result (λ rate t.
-        IfSome (security_in t order.now.symbol) (λ s. rate ≡ option_map (λ b. b.rate) (band_in t tier (kind_of order.now.order_type) s.exchange order.now.qty))) }
-    ensures fault { IfErr result MayFail }
+        IfSome (security_row_with_symbol t order.now.symbol) (λ s. rate ≡ option_map (λ b. b.rate) (band_of_quantity t tier (trade_type_of_order order.now.order_type) s.exchange order.now.qty))) }
+    ensures fault { IfErr result IsCallFault }
 {
     match store.security(&order.symbol)? {
         Some(security) => {
-            let rate = find_band_rate(
+            let rate = read_band_rate(
                 alloc,
                 store,
                 tier,
@@ -126,20 +126,20 @@ fn find_order_rate<S: Alter>(
 
 // Reads the facts that test an order of an account that exists. Fails with `Memory` or `Store`
 // only.
-pub(crate) fn find_tested<S: Alter>(
+pub(crate) fn read_order_test_facts<S: Alter>(
     alloc: Global,
     store: &mut Store<S>,
     order: &Order,
     customer: &Customer,
 ) -> Result<OrderFacts, Fault>
-    ensures read { ReadPost S.Store store.old store.new result (λ tested t. AreTested t order.now customer.now tested) }
-    ensures fault { IfErr result MayFail }
+    ensures read { ReadPost S.Store store.old store.new result (λ tested t. AreOrderFacts t order.now customer.now tested) }
+    ensures fault { IfErr result IsCallFault }
 {
     let tier = customer.tier;
-    let last_price = find_price(store, &order.symbol)?;
-    let is_permitted = find_permission(store, order.account, customer, &order.executor)?;
-    let charge = find_charge(store, order.order_type.kind(), tier)?;
-    let rate = find_order_rate(alloc, store, order, tier)?;
+    let last_price = read_last_price(store, &order.symbol)?;
+    let is_permitted = is_executor_permitted(store, order.account, customer, &order.executor)?;
+    let charge = read_charge_of_tier(store, order.order_type.kind(), tier)?;
+    let rate = read_order_rate(alloc, store, order, tier)?;
     Ok(OrderFacts {
         last_price,
         is_permitted,

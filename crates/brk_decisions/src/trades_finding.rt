@@ -2,10 +2,10 @@
 
 ghost use Rattle.std.specs.Prelude.{◌≡◌, IfErr, MatchOption, is_none, true};
 ghost use Rattle.std.specs.List.{list_any};
-ghost use Rattle.brk_model.specs.Joins.{trade_in};
-ghost use Rattle.brk_model.specs.Run.{MayFail};
+ghost use Rattle.brk_model.specs.Joins.{trade_row_with_id};
+ghost use Rattle.brk_model.specs.Run.{IsCallFault};
 ghost use Rattle.brk_store.specs.Holds.{ReadPost};
-ghost use Rattle.brk_update_theorems.specs.Corrections.{AreTradesOf};
+ghost use Rattle.brk_update_theorems.specs.Corrections.{AreTradesWithIds};
 
 use brk_money::{Fault, Id};
 use brk_store::Store;
@@ -15,14 +15,14 @@ use std::alloc::Global;
 
 /// Returns the trades with these ids, in the order of the ids, or `None` if one of them does not
 /// exist. Changes nothing. Fails with `Memory` or `Store` only.
-pub fn find_trades<S: Alter>(
+pub fn read_trades_by_ids<S: Alter>(
     alloc: Global,
     store: &mut Store<S>,
     ids: &[Id],
 ) -> Result<Option<Vec<TradeRow>>, Fault>
     ensures read { ReadPost S.Store store.old store.new result (λ found t.
-        MatchOption found (list_any (λ id. is_none (trade_in t id)) ids.now ≡ true) (λ trades. AreTradesOf t ids.now trades.items)) }
-    ensures fault { IfErr result MayFail }
+        MatchOption found (list_any (λ id. is_none (trade_row_with_id t id)) ids.now ≡ true) (λ trades. AreTradesWithIds t ids.now trades.items)) }
+    ensures fault { IfErr result IsCallFault }
 {
     let _last = store.last()?;
     let mut trades = Vec::new(alloc);

@@ -6,27 +6,27 @@ use Rattle.brk_money.specs.declared.fault.Fault.{Fault}
 use Rattle.brk_money.specs.declared.refusal.Refusal.{Refusal}
 use Rattle.brk_model.specs.Base.{Base}
 use Rattle.brk_model.specs.Queries.{Query}
-use Rattle.brk_model.specs.Run.{MayFail}
+use Rattle.brk_model.specs.Run.{IsCallFault}
 use Rattle.brk_model.specs.Sheets.{sheets}
 use Rattle.brk_model.specs.Tables.{Tables}
-use Rattle.brk_view.specs.Carried.{CarriesRows}
+use Rattle.brk_view.specs.Carried.{HasRowsOfQuery}
 use Rattle.brk_view.specs.declared.view.View.{View}
 use Rattle.brk_sql.proofs.Inside.{clean_before}
 use Rattle.brk_store.specs.Audited.{Represents}
-use Rattle.brk_store.specs.Holds.{Holds, ReadPost}
-use Rattle.brk_queries.specs.Shows.{Shows}
+use Rattle.brk_store.specs.Holds.{HoldsRows, ReadPost}
+use Rattle.brk_queries.specs.Shows.{ShowsQueryResult}
 use Rattle.brk_desk.specs.Keeping.{AskPost}
 use Rattle.brk_commit.proofs.Seen.{still_kept}
 
 -- a view that was read carries its rows over each base whose books are kept
-carried_rows : {S : Type 0} (g : Ghosts S) (old : Held S) (query : Query) (seen : Result View Refusal) → ((t : Tables) → Holds g old t → Shows query seen t)
-    → IfOk seen (λ view. (base : Base) → Represents g old base → CarriesRows query view (sheets base))
+carried_rows : {S : Type 0} (g : Ghosts S) (old : Held S) (query : Query) (seen : Result View Refusal) → ((t : Tables) → HoldsRows g old t → ShowsQueryResult query seen t)
+    → IfOk seen (λ view. (base : Base) → Represents g old base → HasRowsOfQuery query view (sheets base))
 carried_rows g old query (Ok view) told = λ base keeps. (told (sheets base) keeps.rows).1 base keeps.books keeps.sound refl
 carried_rows g old query (Err refusal) told = tt
 
 -- what was read answers a query over each base whose books are kept
-pub is_asked : {S : Type 0} (g : Ghosts S) (old new : Held S) (query : Query) (result : Result (Result View Refusal) Fault) → ReadPost g old new result (Shows query)
-    → IfErr result MayFail → AskPost g old new query result
+pub is_asked : {S : Type 0} (g : Ghosts S) (old new : Held S) (query : Query) (result : Result (Result View Refusal) Fault) → ReadPost g old new result (ShowsQueryResult query)
+    → IfErr result IsCallFault → AskPost g old new query result
 is_asked g old new query (Ok seen) read may = record {
   answered = λ clean base keeps. (read.told clean (sheets base) keeps.rows).0 base keeps.books keeps.sound refl;
   carried = λ clean. carried_rows g old query seen (read.told clean);

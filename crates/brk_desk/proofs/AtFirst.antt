@@ -1,44 +1,44 @@
 -- What a store keeps at first: its rows are none, or they are what a stop left of a run.
-use Rattle.brk_model.specs.Form.{has_texts}
+use Rattle.brk_model.specs.Form.{has_utf8_texts}
 use Rattle.std.proofs.Common.{ℕ, List, [], ◌∷◌, ◌++◌, IsTrue, ap, inl, inr, subst, sym}
 use Rattle.std.specs.List.{AllByRecursion}
 use Rattle.sqlite_trees.specs.declared.store.Store.{Ghosts}
 use Rattle.sqlite.specs.Held.{Held}
-use Rattle.brk_model.specs.Adopted.{base_of}
+use Rattle.brk_model.specs.Adopted.{base_of_tables}
 use Rattle.brk_model.specs.Base.{Base, empty_base}
-use Rattle.brk_model.specs.Upgraded.{upgraded_from}
+use Rattle.brk_model.specs.Upgraded.{tables_upgraded_from_schema}
 use Rattle.brk_model.specs.Run.{Call, Do, Outcome}
-use Rattle.brk_model.specs.Tables.{Tables, no_rows}
-use Rattle.brk_changes.specs.Schemas.{schema_of}
+use Rattle.brk_model.specs.Tables.{Tables, tables_without_rows}
+use Rattle.brk_changes.specs.Schemas.{abstract_schema}
 use Rattle.brk_changes.specs.declared.schema.Schema as known
-use Rattle.brk_audit_theorems.specs.Passing.{Passes}
+use Rattle.brk_audit_theorems.specs.Passing.{PassesAudit}
 use Rattle.brk_book_theorems.proofs.Steps.{empty_books, empty_rows}
-use Rattle.brk_invariant_theorems.specs.Runs.{IsCallInForm}
+use Rattle.brk_invariant_theorems.specs.Runs.{CallMeetsAuditFormats}
 use Rattle.brk_invariant_theorems.proofs.SoundRuns.{Both, keyed_both, run_both}
 use Rattle.brk_invariant_theorems.proofs.SoundSteps.{empty_sound}
-use Rattle.brk_store.specs.Holds.{Holds}
+use Rattle.brk_store.specs.Holds.{HoldsRows}
 use Rattle.brk_store.specs.Audited.{Represents}
 use Rattle.brk_desk.specs.Stops.{MayBeRecovered}
 use Rattle.brk_desk.proofs.UpgradedRows.{are_upgraded}
 
-pub made_keeps : {S : Type 0} (g : Ghosts S) (store : Held S) → Holds g store no_rows → Represents g store empty_base
-made_keeps g store holds = record { books = empty_books; sound = empty_sound; texts = ap has_texts empty_rows; rows = subst (Holds g store) (sym empty_rows) holds }
+pub made_keeps : {S : Type 0} (g : Ghosts S) (store : Held S) → HoldsRows g store tables_without_rows → Represents g store empty_base
+made_keeps g store holds = record { books = empty_books; sound = empty_sound; texts = ap has_utf8_texts empty_rows; rows = subst (HoldsRows g store) (sym empty_rows) holds }
 
 -- the rows of whichever schema that passed, upgraded to the third
-pub upgraded_keeps : {S : Type 0} (g : Ghosts S) (store : Held S) (schema : known.Schema) (rows : Tables) → Holds g store (upgraded_from (schema_of schema) rows) → IsTrue (has_texts rows)
-    → Passes (schema_of schema) rows → Represents g store (base_of rows)
+pub upgraded_keeps : {S : Type 0} (g : Ghosts S) (store : Held S) (schema : known.Schema) (rows : Tables) → HoldsRows g store (tables_upgraded_from_schema (abstract_schema schema) rows) → IsTrue (has_utf8_texts rows)
+    → PassesAudit (abstract_schema schema) rows → Represents g store (base_of_tables rows)
 upgraded_keeps g store schema rows holds texts passes =
     let k = are_upgraded schema rows passes texts in
-    record { rows = subst (Holds g store) k.tables holds; books = k.books; sound = k.sound; texts = k.texts }
+    record { rows = subst (HoldsRows g store) k.tables holds; books = k.books; sound = k.sound; texts = k.texts }
 
 -- the calls before one of them, and it
-up_to : (earlier : List (ℕ × Call)) (call : ℕ × Call) (later : List (ℕ × Call)) → AllByRecursion IsCallInForm (earlier ++ call ∷ later) → AllByRecursion IsCallInForm earlier × IsCallInForm call
+up_to : (earlier : List (ℕ × Call)) (call : ℕ × Call) (later : List (ℕ × Call)) → AllByRecursion CallMeetsAuditFormats (earlier ++ call ∷ later) → AllByRecursion CallMeetsAuditFormats earlier × CallMeetsAuditFormats call
 up_to [] call later all = (tt, all.0)
 up_to (c ∷ cs) call later all = let rest = up_to cs call later all.1 in ((all.0, rest.0), rest.1)
 
 -- whatever may stand is in order and sound
-pub stands : (base : Base) (calls : List (ℕ × Call)) (outcomes : List Outcome) (after : Base) → AllByRecursion IsCallInForm calls → Both base → MayBeRecovered base calls outcomes after → Both after
+pub stands : (base : Base) (calls : List (ℕ × Call)) (outcomes : List Outcome) (after : Base) → AllByRecursion CallMeetsAuditFormats calls → Both base → MayBeRecovered base calls outcomes after → Both after
 stands base calls outcomes after formed both (inl ran) = run_both base calls outcomes after formed ran both
 stands base calls outcomes after formed both (inr way) =
-    let parts = up_to way.earlier (way.now, Do way.command way.key) way.later (subst (AllByRecursion IsCallInForm) way.calls_are formed) in
+    let parts = up_to way.earlier (way.now, Do way.command way.key) way.later (subst (AllByRecursion CallMeetsAuditFormats) way.calls_are formed) in
     subst Both (sym way.whole) (keyed_both way.before way.now way.command way.key (run_both base way.earlier way.told way.before parts.0 way.ran both) parts.1.0 parts.1.1)

@@ -4,30 +4,30 @@ use Rattle.sqlite_schema.specs.Names.{table_named}
 use Rattle.sqlite.specs.Effect.{Database}
 use Rattle.brk_model.specs.Schemas.{Schema}
 use Rattle.brk_model.specs.Tables.{Tables}
-use Rattle.brk_changes.specs.Schemas.{schema_of}
-use Rattle.brk_sql.specs.Desk.{Stands}
-use Rattle.brk_tables_schema.specs.Desk.{Which, has_table, name_of, shape}
-use Rattle.brk_tables_schema.specs.Made.{HasRowsIn, IsOf}
-use Rattle.brk_tables_scan.specs.Schemas.{IsDefined, IsMadeAlike}
+use Rattle.brk_changes.specs.Schemas.{abstract_schema}
+use Rattle.brk_sql.specs.Desk.{IsTableAt}
+use Rattle.brk_tables_schema.specs.Desk.{Which, has_table, table_name, shape}
+use Rattle.brk_tables_schema.specs.Made.{HasRowsInSchema, IsTableOfSchema}
+use Rattle.brk_tables_scan.specs.Schemas.{DeskNamesImplyDefinitions, HasDeskDefinitions}
 use Rattle.brk_tables_scan.proofs.Defined.{desk_is_defined, desk_is_there}
 use Rattle.brk_tables_scan.proofs.Listed.{same_name_at}
 
-module _ (a : Schema) (t : Tables) (db : Database) (has : HasRowsIn a t db) where
-  alike : IsMadeAlike a db
+module _ (a : Schema) (t : Tables) (db : Database) (has : HasRowsInSchema a t db) where
+  alike : HasDeskDefinitions a db
   alike = desk_is_defined a t db has (desk_is_there a t db has).tables
 
   -- a table that is found by its name is one of its schema
-  is_of : (w : Which) (at : ℕ) → table_named db.schema (name_of w) ≡ Some at → IsOf a w
+  is_of : (w : Which) (at : ℕ) → table_named db.schema (table_name w) ≡ Some at → IsTableOfSchema a w
   is_of w at named = by_test (has_table a w) refl
     where
-      by_test : (b : Bool) → has_table a w ≡ b → IsOf a w
+      by_test : (b : Bool) → has_table a w ≡ b → IsTableOfSchema a w
       by_test true e = e
       by_test false e = absurd (let clash : None ≡ Some at = sym (has.2 w e).0 ∙ named in cc)
 
-  named_at : (w : Which) (at n : ℕ) → Stands db.schema (shape w n) at → table_named db.schema (name_of w) ≡ Some at
+  named_at : (w : Which) (at n : ℕ) → IsTableAt db.schema (shape w n) at → table_named db.schema (table_name w) ≡ Some at
   named_at w at n s = ap (table_named db.schema) (same_name_at w 0 n) ∙ s.named
 
-  pub defined_over : (b : Schema) → IsMadeAlike b db
+  pub defined_over : (b : Schema) → HasDeskDefinitions b db
   defined_over b = record {
     sound = alike.sound;
     shaped = λ w of at table named found. alike.shaped w (is_of w at named) at table named found;
@@ -36,5 +36,5 @@ module _ (a : Schema) (t : Tables) (db : Database) (has : HasRowsIn a t db) wher
     keyed = λ w of at tree s. alike.keyed w (is_of w at (named_at w at tree s)) at tree s;
   }
 
-  pub defined_whole : IsDefined db
-  defined_whole schema _ = defined_over (schema_of schema)
+  pub defined_whole : DeskNamesImplyDefinitions db
+  defined_whole schema _ = defined_over (abstract_schema schema)

@@ -4,11 +4,11 @@ use Rattle.std.proofs.lemmas.List.{append-nil}
 use Rattle.sqlite_trees.specs.declared.store.Store.{Ghosts}
 use Rattle.sqlite.specs.Held.{Held}
 use Rattle.brk_io.proofs.Calls.{made_then}
-use Rattle.brk_io.specs.Calls.{AreMade}
+use Rattle.brk_io.specs.Calls.{IsCallSequence}
 use Rattle.brk_desk.proofs.Promise.{promise_kept}
 use Rattle.brk_desk.proofs.Running.{runs_more, runs_none}
 use Rattle.brk_desk.specs.Keeping.{OutcomePost, RunPost}
-use Rattle.brk_desk.specs.Runs.{IsRunOf, IsSomeRun}
+use Rattle.brk_desk.specs.Runs.{IsRunWithOutcomes, IsSomeDeskRun}
 use Rattle.brk_desk.specs.declared.call.Call.{Call}
 use Rattle.brk_desk.specs.declared.call.Outcome.{Outcome}
 
@@ -17,7 +17,7 @@ module _ {S : Type 0} (g : Ghosts S) where
   Made old now call outcome new = OutcomePost g old new now call outcome
 
   -- some calls more
-  runs_on : (a b c : Held S) (calls others : List (ℕ × Call)) (outcomes more : List Outcome) → RunPost g a b calls outcomes → AreMade Made b others more c → RunPost g a c (calls ++ others) (outcomes ++ more)
+  runs_on : (a b c : Held S) (calls others : List (ℕ × Call)) (outcomes more : List Outcome) → RunPost g a b calls outcomes → IsCallSequence Made b others more c → RunPost g a c (calls ++ others) (outcomes ++ more)
   runs_on a b c calls [] outcomes [] ran same =
       subst₂ (λ cs os. RunPost g a c cs os) (sym (append-nil calls)) (sym (append-nil outcomes)) (subst (λ d. RunPost g a d calls outcomes) (sym same) ran)
   runs_on a b c calls (x ∷ xs) outcomes (o ∷ os) ran (mid, is, made) =
@@ -26,23 +26,23 @@ module _ {S : Type 0} (g : Ghosts S) where
   runs_on a b c calls [] outcomes (o ∷ os) ran made = absurd made
   runs_on a b c calls (x ∷ xs) outcomes [] ran made = absurd made
 
-  pub run_of : (old new : Held S) (calls : List (ℕ × Call)) (outcomes : List Outcome) → AreMade Made old calls outcomes new → IsRunOf g old new calls outcomes
+  pub run_of : (old new : Held S) (calls : List (ℕ × Call)) (outcomes : List Outcome) → IsCallSequence Made old calls outcomes new → IsRunWithOutcomes g old new calls outcomes
   run_of old new calls outcomes made =
       let ran : RunPost g old new calls outcomes = runs_on old old new [] calls [] outcomes (runs_none g old) made in
       record { made = made; ran = ran; promised = promise_kept g old new calls outcomes ran }
 
-  pub not_run : (old new : Held S) → new ≡ old → IsSomeRun g old new
+  pub not_run : (old new : Held S) → new ≡ old → IsSomeDeskRun g old new
   not_run old new same = record { calls = []; outcomes = []; run = run_of old new [] [] same }
 
-  pub one_run : (old new : Held S) (now : ℕ) (call : Call) (outcome : Outcome) → OutcomePost g old new now call outcome → IsSomeRun g old new
+  pub one_run : (old new : Held S) (now : ℕ) (call : Call) (outcome : Outcome) → OutcomePost g old new now call outcome → IsSomeDeskRun g old new
   one_run old new now call outcome is = record { calls = (now, call) ∷ []; outcomes = outcome ∷ []; run = run_of old new ((now, call) ∷ []) (outcome ∷ []) (new, is, refl) }
 
   -- two runs, one after the other
-  pub runs_joined : (first mid last : Held S) (calls others : List (ℕ × Call)) (outcomes more : List Outcome) → IsRunOf g first mid calls outcomes → IsRunOf g mid last others more
-      → IsRunOf g first last (calls ++ others) (outcomes ++ more)
+  pub runs_joined : (first mid last : Held S) (calls others : List (ℕ × Call)) (outcomes more : List Outcome) → IsRunWithOutcomes g first mid calls outcomes → IsRunWithOutcomes g mid last others more
+      → IsRunWithOutcomes g first last (calls ++ others) (outcomes ++ more)
   runs_joined first mid last calls others outcomes more one two = run_of first last (calls ++ others) (outcomes ++ more) (made_then Made first mid last calls others outcomes more one.made two.made)
 
-  pub run_then : (first mid last : Held S) → IsSomeRun g first mid → IsSomeRun g mid last → IsSomeRun g first last
+  pub run_then : (first mid last : Held S) → IsSomeDeskRun g first mid → IsSomeDeskRun g mid last → IsSomeDeskRun g first last
   run_then first mid last one two = record {
     calls = one.calls ++ two.calls;
     outcomes = one.outcomes ++ two.outcomes;

@@ -8,7 +8,7 @@ use Rattle.sqlite.specs.State.{HasCleanDisk}
 use Rattle.brk_money.specs.declared.fault.Fault.{Fault}
 use Rattle.brk_model.specs.Base.{Base, empty_base}
 use Rattle.brk_model.specs.Commands.{Command}
-use Rattle.brk_model.specs.Form.{has_texts}
+use Rattle.brk_model.specs.Form.{has_utf8_texts}
 use Rattle.brk_model.specs.Records.{Key}
 use Rattle.brk_model.specs.Sheets.{sheets}
 use Rattle.brk_model.specs.Tables.{Tables}
@@ -17,14 +17,14 @@ use Rattle.brk_book_theorems.proofs.Steps.{empty_books, empty_rows}
 use Rattle.brk_invariant_theorems.proofs.SoundRuns.{keyed_both}
 use Rattle.brk_invariant_theorems.proofs.SoundSteps.{empty_sound}
 use Rattle.brk_store.specs.Audited.{AdoptPost, AuditPost, Represents}
-use Rattle.brk_store.specs.Holds.{AreTreesOf, CreatePost, OnlyCrashState}
+use Rattle.brk_store.specs.Holds.{AreTreesOfRows, CreatePost, CrashStatesSatisfy}
 use Rattle.brk_store.proofs.Found.{found_again}
 use Rattle.brk_store.proofs.Taking.{sound_books_pass, third_audited}
-use Rattle.brk_desk.specs.Answers.{outcome_of}
-use Rattle.brk_desk.specs.Commands.{call_of}
+use Rattle.brk_desk.specs.Answers.{model_outcome}
+use Rattle.brk_desk.specs.Commands.{model_call}
 use Rattle.brk_commit.specs.Booked.{CallPost, MayBeCommitted, base_after_call}
 use Rattle.brk_desk.specs.Keeping.{RunPost}
-use Rattle.brk_desk.specs.Reopening.{IsConsistent, IsJustOpened, IsReopened, IsRecovered, IsDurable}
+use Rattle.brk_desk.specs.Reopening.{IsConsistent, IsJustOpened, IsReopenedAfterCrash, IsRecovered, RepresentsDurableBase}
 use Rattle.brk_desk.specs.Stops.{MayBeRecovered}
 use Rattle.brk_commit.specs.declared.answer.Answer.{Answer}
 use Rattle.brk_desk.specs.declared.call.Call.{Call}
@@ -32,10 +32,10 @@ use Rattle.brk_desk.specs.declared.call.Outcome.{Outcome}
 use Rattle.brk_desk.proofs.AtFirst.{made_keeps, stands}
 use Rattle.brk_commit.proofs.Seen.{still_kept}
 
-pub made_stands : {S : Type 0} (g : Ghosts S) (conn store : Held S) → CreatePost g conn store (Ok tt) → HasCleanDisk (state g store) → IsDurable g store empty_base
+pub made_stands : {S : Type 0} (g : Ghosts S) (conn store : Held S) → CreatePost g conn store (Ok tt) → HasCleanDisk (state g store) → RepresentsDurableBase g store empty_base
 made_stands g conn store created clean = record {
   keeps = made_keeps g store created.made;
-  alone = λ trees may. subst (λ (t : Tables). AreTreesOf t trees) (sym empty_rows) (created.durable clean trees may);
+  alone = λ trees may. subst (λ (t : Tables). AreTreesOfRows t trees) (sym empty_rows) (created.durable clean trees may);
 }
 
 -- ---- what can be kept
@@ -58,11 +58,11 @@ Settles {S} g = (s : S) (db : Trees) → IsTrue (g.view s).is_open → g.recover
 
 module _ {S : Type 0} (g : Ghosts S) (settled : Settles g) where
   -- a connection opened over the tables of sound books in order keeps them
-  opened_keeps : (trees : Trees) (conn : Held S) (base : Base) → IsConsistent base → AreTreesOf (sheets base) trees → IsJustOpened g trees conn → Represents g conn base
+  opened_keeps : (trees : Trees) (conn : Held S) (base : Base) → IsConsistent base → AreTreesOfRows (sheets base) trees → IsJustOpened g trees conn → Represents g conn base
   opened_keeps trees conn base can are opened = record { books = can.books; sound = can.sound; texts = can.texts; rows = found_again g (sheets base) trees conn are opened.over }
 
   -- a connection that was just opened leaves its trees alone
-  pub leaves_alone : (trees : Trees) (conn : Held S) → IsJustOpened g trees conn → HasCleanDisk (state g conn) → OnlyCrashState g conn (λ left. left ≡ trees)
+  pub leaves_alone : (trees : Trees) (conn : Held S) → IsJustOpened g trees conn → HasCleanDisk (state g conn) → CrashStatesSatisfy g conn (λ left. left ≡ trees)
   leaves_alone trees conn opened clean left may =
       let o = opened.opens clean in
       settled conn.store left o.is_open may ∙ sym (ap (λ (db : Database). db.trees) o.clean) ∙ opened.over.same clean
@@ -73,19 +73,19 @@ module _ {S : Type 0} (g : Ghosts S) (settled : Settles g) where
     clean_conn = clean_before (state g conn) (state g store) (λ _. ⊥) audited.survives clean
 
     -- and an audit leaves them too
-    stays_alone : OnlyCrashState g store (λ left. left ≡ trees)
+    stays_alone : CrashStatesSatisfy g store (λ left. left ≡ trees)
     stays_alone left may = elim (audited.survives.crash clean left may) [ inl was ↦ leaves_alone trees conn opened clean_conn left was | inr none ↦ absurd none ]
 
     -- the books of a base whose tables they are stand
-    pub audited_stands : (base : Base) → IsConsistent base → AreTreesOf (sheets base) trees → IsDurable g store base
+    pub audited_stands : (base : Base) → IsConsistent base → AreTreesOfRows (sheets base) trees → RepresentsDurableBase g store base
     audited_stands base can are = record {
       keeps = still_kept g conn store base (audited.kept (sheets base)) (opened_keeps trees conn base can are opened);
-      alone = λ left m. subst (AreTreesOf (sheets base)) (sym (stays_alone left m)) are;
+      alone = λ left m. subst (AreTreesOfRows (sheets base)) (sym (stays_alone left m)) are;
     }
 
   -- over the tables of sound books in order
   pub taken_over : (trees : Trees) (conn store : Held S) (result : Result (Unit {0}) Fault) → IsJustOpened g trees conn → AdoptPost g conn store result → HasCleanDisk (state g store)
-      → (base : Base) → IsConsistent base → AreTreesOf (sheets base) trees → (May : Base → Type 0) → May base → IsRecovered g store result May
+      → (base : Base) → IsConsistent base → AreTreesOfRows (sheets base) trees → (May : Base → Type 0) → May base → IsRecovered g store result May
   taken_over trees conn store result opened adopted clean base can are May may = record {
     base = base;
     may = may;
@@ -106,11 +106,11 @@ module _ {S : Type 0} (g : Ghosts S) (settled : Settles g) where
   making_taken_over first left conn store made result trees created clean may opened adopted after =
       elim (created.survives.crash clean trees may) [
         | inl was ↦ inl was
-        | inr none ↦ inr (taken_over trees conn store result opened adopted after empty_base (record { books = empty_books; sound = empty_sound; texts = ap has_texts empty_rows })
-            (subst (λ (t : Tables). AreTreesOf t trees) (sym empty_rows) none) (λ base. base ≡ empty_base) refl)
+        | inr none ↦ inr (taken_over trees conn store result opened adopted after empty_base (record { books = empty_books; sound = empty_sound; texts = ap has_utf8_texts empty_rows })
+            (subst (λ (t : Tables). AreTreesOfRows t trees) (sym empty_rows) none) (λ base. base ≡ empty_base) refl)
       ]
 
-  module _ (first left conn store : Held S) (base : Base) (result : Result (Unit {0}) Fault) (at : IsDurable g first base) (clean : HasCleanDisk (state g left)) (again : IsReopened g left conn)
+  module _ (first left conn store : Held S) (base : Base) (result : Result (Unit {0}) Fault) (at : RepresentsDurableBase g first base) (clean : HasCleanDisk (state g left)) (again : IsReopenedAfterCrash g left conn)
       (adopted : AdoptPost g conn store result) (after : HasCleanDisk (state g store)) where
     -- a stop within a call
     pub call_taken_over : (now : ℕ) (command : Command) (key : Option Key) (answer : Result Answer Fault) → CallPost g first left now command key answer
@@ -127,8 +127,8 @@ module _ {S : Type 0} (g : Ghosts S) (settled : Settles g) where
 
     -- a stop within or behind a run
     pub run_taken_over : (calls : List (ℕ × Call)) (outcomes : List Outcome) → RunPost g first left calls outcomes
-        → IsRecovered g store result (MayBeRecovered base (map call_of calls) (map outcome_of outcomes))
+        → IsRecovered g store result (MayBeRecovered base (map model_call calls) (map model_outcome outcomes))
     run_taken_over calls outcomes run =
         let l = run.leaves clean base at.keeps at.alone again.0 again.1 in
-        let both = stands base (map call_of calls) (map outcome_of outcomes) l.0 run.in_form (at.keeps.books, at.keeps.sound) l.1 in
-        taken_over again.0 conn store result again.2 adopted after l.0 (record { books = both.0; sound = both.1; texts = l.3 }) l.2 (MayBeRecovered base (map call_of calls) (map outcome_of outcomes)) l.1
+        let both = stands base (map model_call calls) (map model_outcome outcomes) l.0 run.in_form (at.keeps.books, at.keeps.sound) l.1 in
+        taken_over again.0 conn store result again.2 adopted after l.0 (record { books = both.0; sound = both.1; texts = l.3 }) l.2 (MayBeRecovered base (map model_call calls) (map model_outcome outcomes)) l.1

@@ -1,14 +1,14 @@
 -- A run of calls, with one call more.
-use Rattle.brk_model.specs.Form.{has_texts}
+use Rattle.brk_model.specs.Form.{has_utf8_texts}
 use Rattle.std.proofs.Common.{◌≡◌, ◌∙◌, ◌+◌, ℕ, List, [], ◌∷◌, ◌++◌, map, length, Result, Ok, Err, IfErr, inl, inr, refl, sym, ap, subst, subst₂, IsTrue}
 use Rattle.std.proofs.lemmas.List.{length-append, map-append}
 use Rattle.std.specs.List.{AllByRecursion}
 use Rattle.sqlite_trees.specs.Tree.{Trees}
-use Rattle.brk_model.specs.Commands as model_answer
+use Rattle.brk_model.specs.Commands as model_commands
 use Rattle.brk_model.specs.Keyed.{keyed_step}
 use Rattle.brk_model.specs.Sheets.{sheets}
-use Rattle.brk_invariant_theorems.specs.Runs.{IsCallInForm}
-use Rattle.brk_store.specs.Holds.{AreTreesOf, IsSame, OnlyCrashState}
+use Rattle.brk_invariant_theorems.specs.Runs.{CallMeetsAuditFormats}
+use Rattle.brk_store.specs.Holds.{AreTreesOfRows, WasOpenAndIsUnchanged, CrashStatesSatisfy}
 use Rattle.brk_decisions.proofs.Looking.{same_then}
 use Rattle.brk_desk.specs.Stops.{AcknowledgesNothing, MayBeRecovered}
 use Rattle.brk_commit.proofs.Seen.{still}
@@ -22,31 +22,31 @@ use Rattle.brk_money.specs.declared.fault.Fault.{Fault}
 use Rattle.brk_money.specs.declared.refusal.Refusal.{Refusal}
 use Rattle.brk_model.specs.Base.{Base}
 use Rattle.brk_model.specs.Queries as model
-use Rattle.brk_model.specs.Run.{Answers, Ask, MayFail, Run}
-use Rattle.brk_view.specs.Queries.{query_of}
+use Rattle.brk_model.specs.Run.{IsOutcomeOfCall, Ask, IsCallFault, Run}
+use Rattle.brk_view.specs.Queries.{abstract_query}
 use Rattle.brk_view.specs.declared.view.View.{View}
-use Rattle.brk_commit.specs.Answers.{BookedNothing, answer_of}
-use Rattle.brk_desk.specs.Answers.{outcome_for, outcome_of, outcome_seen}
-use Rattle.brk_commands.specs.Commands.{command_of}
-use Rattle.brk_commit.specs.Keys.{key_for}
-use Rattle.brk_desk.specs.Commands.{call_of}
+use Rattle.brk_commit.specs.Answers.{BooksNothing, model_answer}
+use Rattle.brk_desk.specs.Answers.{outcome_of_command, model_outcome, outcome_of_query}
+use Rattle.brk_commands.specs.Commands.{abstract_command}
+use Rattle.brk_commit.specs.Keys.{optional_model_key}
+use Rattle.brk_desk.specs.Commands.{model_call}
 use Rattle.brk_commit.specs.Booked.{CallPost, MayBeCommitted, base_after_call}
 use Rattle.brk_store.specs.Audited.{Represents}
-use Rattle.brk_desk.specs.Keeping.{AcknowledgeNothing, AreRecoverable, AskPost, FailsAsKnown, MayBeExposed, OutcomePost, RunPost}
+use Rattle.brk_desk.specs.Keeping.{OutcomesAcknowledgeNothing, AreRecoverableTrees, AskPost, FailsWithMemoryOrStore, MayBeExposedAfterRun, OutcomePost, RunPost}
 use Rattle.brk_commit.specs.declared.answer.Answer as desk
 use Rattle.brk_desk.specs.declared.call.Call.{Call}
 use Rattle.brk_desk.specs.declared.call.Call.TheVariants as call
 use Rattle.brk_desk.specs.declared.call.Outcome.{Outcome}
 
-run_more : (base mid after : Base) (calls : List (ℕ × Call)) (outcomes : List Outcome) (x : ℕ × Call) (o : Outcome) → Run base (map call_of calls) (map outcome_of outcomes) mid
-    → Answers mid (call_of x).0 (call_of x).1 (outcome_of o) after → Run base (map call_of (calls ++ x ∷ [])) (map outcome_of (outcomes ++ o ∷ [])) after
-run_more base mid after [] [] x o r a = (after, subst (λ b. Answers b (call_of x).0 (call_of x).1 (outcome_of o) after) r a, refl)
+run_more : (base mid after : Base) (calls : List (ℕ × Call)) (outcomes : List Outcome) (x : ℕ × Call) (o : Outcome) → Run base (map model_call calls) (map model_outcome outcomes) mid
+    → IsOutcomeOfCall mid (model_call x).0 (model_call x).1 (model_outcome o) after → Run base (map model_call (calls ++ x ∷ [])) (map model_outcome (outcomes ++ o ∷ [])) after
+run_more base mid after [] [] x o r a = (after, subst (λ b. IsOutcomeOfCall b (model_call x).0 (model_call x).1 (model_outcome o) after) r a, refl)
 run_more base mid after (c ∷ cs) (p ∷ ps) x o r a = (r.0, r.1, run_more r.0 mid after cs ps x o r.2 a)
 run_more base mid after [] (p ∷ ps) x o r a = absurd r
 run_more base mid after (c ∷ cs) [] x o r a = absurd r
 
-formed_more : (calls : List (ℕ × Call)) (x : ℕ × Call) → AllByRecursion IsCallInForm (map call_of calls) → IsCallInForm (call_of x)
-    → AllByRecursion IsCallInForm (map call_of (calls ++ x ∷ []))
+formed_more : (calls : List (ℕ × Call)) (x : ℕ × Call) → AllByRecursion CallMeetsAuditFormats (map model_call calls) → CallMeetsAuditFormats (model_call x)
+    → AllByRecursion CallMeetsAuditFormats (map model_call (calls ++ x ∷ []))
 formed_more [] x all one = (one, tt)
 formed_more (c ∷ cs) x all one = (all.0, formed_more cs x all.1 one)
 
@@ -58,19 +58,19 @@ all_more : {X : Type 0} (P : X → Type 0) (xs : List X) (x : X) → AllByRecurs
 all_more P [] x all one = (one, tt)
 all_more P (y ∷ ys) x all one = (all.0, all_more P ys x all.1 one)
 
-quiet_more : (outcomes : List Outcome) (o : Outcome) → AcknowledgeNothing outcomes → AcknowledgesNothing (outcome_of o) → AcknowledgeNothing (outcomes ++ o ∷ [])
+quiet_more : (outcomes : List Outcome) (o : Outcome) → OutcomesAcknowledgeNothing outcomes → AcknowledgesNothing (model_outcome o) → OutcomesAcknowledgeNothing (outcomes ++ o ∷ [])
 quiet_more [] o all quiet = (quiet, tt)
 quiet_more (p ∷ ps) o all quiet = (all.0, quiet_more ps o all.1 quiet)
 
-quiet_before : (outcomes : List Outcome) (o : Outcome) → AcknowledgeNothing (outcomes ++ o ∷ []) → AcknowledgeNothing outcomes × AcknowledgesNothing (outcome_of o)
+quiet_before : (outcomes : List Outcome) (o : Outcome) → OutcomesAcknowledgeNothing (outcomes ++ o ∷ []) → OutcomesAcknowledgeNothing outcomes × AcknowledgesNothing (model_outcome o)
 quiet_before [] o all = (tt, all.0)
 quiet_before (p ∷ ps) o all = let more = quiet_before ps o all.1 in ((all.0, more.0), more.1)
 
-known_answer : (result : Result desk.Answer Fault) → IfErr result MayFail → FailsAsKnown (outcome_for result)
+known_answer : (result : Result desk.Answer Fault) → IfErr result IsCallFault → FailsWithMemoryOrStore (outcome_of_command result)
 known_answer (Ok answer) h = tt
 known_answer (Err fault) h = h
 
-known_view : (result : Result (Result View Refusal) Fault) → IfErr result MayFail → FailsAsKnown (outcome_seen result)
+known_view : (result : Result (Result View Refusal) Fault) → IfErr result IsCallFault → FailsWithMemoryOrStore (outcome_of_query result)
 known_view (Ok (Ok view)) h = tt
 known_view (Ok (Err refusal)) h = tt
 known_view (Err fault) h = h
@@ -80,11 +80,11 @@ survives_by : (a b : State) (P Q : Trees → Type 0) → Survives a b P → (Has
 survives_by a b P Q s only =
     record { clean = s.clean; shield = s.shield; counts = s.counts; limit = s.limit; closes = s.closes; crash = λ clean trees may. inr (only clean trees may) }
 
-mapped : (base after : Base) (calls : List (ℕ × Call)) (outcomes : List Outcome) (x : ℕ × Call) (o : Outcome) → MayBeRecovered base (map call_of calls ++ call_of x ∷ []) (map outcome_of outcomes ++ outcome_of o ∷ []) after
-    → MayBeRecovered base (map call_of (calls ++ x ∷ [])) (map outcome_of (outcomes ++ o ∷ [])) after
-mapped base after calls outcomes x o h = subst₂ (λ cs os. MayBeRecovered base cs os after) (sym (map-append call_of calls (x ∷ []))) (sym (map-append outcome_of outcomes (o ∷ []))) h
+mapped : (base after : Base) (calls : List (ℕ × Call)) (outcomes : List Outcome) (x : ℕ × Call) (o : Outcome) → MayBeRecovered base (map model_call calls ++ model_call x ∷ []) (map model_outcome outcomes ++ model_outcome o ∷ []) after
+    → MayBeRecovered base (map model_call (calls ++ x ∷ [])) (map model_outcome (outcomes ++ o ∷ [])) after
+mapped base after calls outcomes x o h = subst₂ (λ cs os. MayBeRecovered base cs os after) (sym (map-append model_call calls (x ∷ []))) (sym (map-append model_outcome outcomes (o ∷ []))) h
 
-quiet_view : (result : Result (Result View Refusal) Fault) → AcknowledgesNothing (outcome_of (outcome_seen result))
+quiet_view : (result : Result (Result View Refusal) Fault) → AcknowledgesNothing (model_outcome (outcome_of_query result))
 quiet_view (Ok (Ok view)) = tt
 quiet_view (Ok (Err refusal)) = tt
 quiet_view (Err fault) = tt
@@ -97,7 +97,7 @@ module _ {S : Type 0} (g : Ghosts S) where
     fault = tt;
     same = λ clean up quiet. record { was_open = up; now = refl; committed = refl };
     opened = λ clean up. up;
-    survives = survives_weaker (state g store) (state g store) (λ _. ⊥) (MayBeExposed g store [] []) (λ _ db none. absurd none) (still (state g store));
+    survives = survives_weaker (state g store) (state g store) (λ _. ⊥) (MayBeExposedAfterRun g store [] []) (λ _ db none. absurd none) (still (state g store));
     durable = λ clean base keeps loud. absurd (loud tt);
     leaves = λ clean base keeps only trees may. (base, inl refl, only trees may, keeps.texts);
     clean = λ clean. clean;
@@ -106,26 +106,26 @@ module _ {S : Type 0} (g : Ghosts S) where
 
   -- what came of a query is its answer over each base whose books were kept
   by_answer : (old new : Held S) (query : model.Query) (result : Result (Result View Refusal) Fault) (now : ℕ) (base : Base) → AskPost g old new query result
-      → HasCleanDisk (state g new) → Represents g old base → Answers base now (Ask query) (outcome_of (outcome_seen result)) base
+      → HasCleanDisk (state g new) → Represents g old base → IsOutcomeOfCall base now (Ask query) (model_outcome (outcome_of_query result)) base
   by_answer old new query (Ok (Ok view)) now base asked clean keeps = (asked.answered clean base keeps, refl)
   by_answer old new query (Ok (Err refusal)) now base asked clean keeps = (asked.answered clean base keeps, refl)
   by_answer old new query (Err fault) now base asked clean keeps = (asked.fault, refl)
 
   module _ (a b c : Held S) (calls : List (ℕ × Call)) (outcomes : List Outcome) (run : RunPost g a b calls outcomes) (now : ℕ) where
     -- one call more that acknowledges nothing leaves recoverable trees so
-    left_still : (made : Call) (o : Outcome) (base mid : Base) → Run base (map call_of calls) (map outcome_of outcomes) mid → Answers mid (call_of (now, made)).0 (call_of (now, made)).1 (outcome_of o) mid → AcknowledgesNothing (outcome_of o)
-        → (trees : Trees) → AreRecoverable base calls outcomes trees → AreRecoverable base (calls ++ (now, made) ∷ []) (outcomes ++ o ∷ []) trees
+    left_still : (made : Call) (o : Outcome) (base mid : Base) → Run base (map model_call calls) (map model_outcome outcomes) mid → IsOutcomeOfCall mid (model_call (now, made)).0 (model_call (now, made)).1 (model_outcome o) mid → AcknowledgesNothing (model_outcome o)
+        → (trees : Trees) → AreRecoverableTrees base calls outcomes trees → AreRecoverableTrees base (calls ++ (now, made) ∷ []) (outcomes ++ o ∷ []) trees
     left_still made o base mid ran told quiet trees l =
-        (l.0, mapped base l.0 calls outcomes (now, made) o (stands_still base mid (map call_of calls) (map outcome_of outcomes) (call_of (now, made)) (outcome_of o) ran told quiet l.0 l.1), l.2, l.3)
+        (l.0, mapped base l.0 calls outcomes (now, made) o (stands_still base mid (map model_call calls) (map model_outcome outcomes) (model_call (now, made)) (model_outcome o) ran told quiet l.0 l.1), l.2, l.3)
 
     -- one call more that acknowledges nothing, and may have committed trees of `Comes`
-    module _ (made : Call) (o : Outcome) (quiet : AcknowledgesNothing (outcome_of o)) (known : FailsAsKnown o) (formed : IsCallInForm (call_of (now, made))) (clean : HasCleanDisk (state g c) → HasCleanDisk (state g b))
-        (same : HasCleanDisk (state g c) → IsTrue (state g c).is_open → IsSame (state g b) (state g c))
-        (told : HasCleanDisk (state g c) → (mid : Base) → Represents g b mid → Represents g c mid × Answers mid (call_of (now, made)).0 (call_of (now, made)).1 (outcome_of o) mid) (Comes : Trees → Type 0)
+    module _ (made : Call) (o : Outcome) (quiet : AcknowledgesNothing (model_outcome o)) (known : FailsWithMemoryOrStore o) (formed : CallMeetsAuditFormats (model_call (now, made))) (clean : HasCleanDisk (state g c) → HasCleanDisk (state g b))
+        (same : HasCleanDisk (state g c) → IsTrue (state g c).is_open → WasOpenAndIsUnchanged (state g b) (state g c))
+        (told : HasCleanDisk (state g c) → (mid : Base) → Represents g b mid → Represents g c mid × IsOutcomeOfCall mid (model_call (now, made)).0 (model_call (now, made)).1 (model_outcome o) mid) (Comes : Trees → Type 0)
         (come : HasCleanDisk (state g c) → (trees : Trees) → Comes trees
-        → IsTrue (state g b).is_open × ((mid : Base) → Represents g b mid → (base : Base) → Run base (map call_of calls) (map outcome_of outcomes) mid → AreRecoverable base (calls ++ (now, made) ∷ []) (outcomes ++ o ∷ []) trees))
+        → IsTrue (state g b).is_open × ((mid : Base) → Represents g b mid → (base : Base) → Run base (map model_call calls) (map model_outcome outcomes) mid → AreRecoverableTrees base (calls ++ (now, made) ∷ []) (outcomes ++ o ∷ []) trees))
         (survives : Survives (state g b) (state g c) Comes) where
-      found : HasCleanDisk (state g c) → (base : Base) → Represents g a base → OnlyCrashState g b (AreRecoverable base calls outcomes) → OnlyCrashState g c (AreRecoverable base (calls ++ (now, made) ∷ []) (outcomes ++ o ∷ []))
+      found : HasCleanDisk (state g c) → (base : Base) → Represents g a base → CrashStatesSatisfy g b (AreRecoverableTrees base calls outcomes) → CrashStatesSatisfy g c (AreRecoverableTrees base (calls ++ (now, made) ∷ []) (outcomes ++ o ∷ []))
       found k base keeps before trees may =
           let r = run.ran (clean k) base keeps in
           elim (survives.crash k trees may) [
@@ -140,10 +140,10 @@ module _ {S : Type 0} (g : Ghosts S) where
             let r = run.ran (clean k) base keeps in
             let s = told k r.0 r.1 in
             (r.0, s.0, run_more base r.0 r.0 calls outcomes (now, made) o r.2 s.1);
-        fault = all_more FailsAsKnown outcomes o run.fault known;
+        fault = all_more FailsWithMemoryOrStore outcomes o run.fault known;
         same = λ k up all. let s = same k up in same_then (state g a) (state g b) (state g c) (run.same (clean k) s.was_open (quiet_before outcomes o all).0) s;
         opened = λ k up. run.opened (clean k) (same k up).was_open;
-        survives = survives_then (state g a) (state g b) (state g c) (MayBeExposed g a calls outcomes) Comes (MayBeExposed g a (calls ++ (now, made) ∷ []) (outcomes ++ o ∷ []))
+        survives = survives_then (state g a) (state g b) (state g c) (MayBeExposedAfterRun g a calls outcomes) Comes (MayBeExposedAfterRun g a (calls ++ (now, made) ∷ []) (outcomes ++ o ∷ []))
             (λ k trees before. (before.0, λ base keeps. let r = run.ran (clean k) base keeps in left_still made o base r.0 r.2 (told k r.0 r.1).1 quiet trees (before.1 base keeps)))
             (λ k trees comes.
             let at = come k trees comes in
@@ -156,30 +156,30 @@ module _ {S : Type 0} (g : Ghosts S) where
       }
 
     -- one command more that is booked
-    done_found : (command : _) (key : _) (reply : _) → CallPost g b c now (command_of command) (key_for key) (Ok (given.Done reply)) → HasCleanDisk (state g c) → (base : Base) → Represents g a base
-        → OnlyCrashState g c (AreRecoverable base (calls ++ (now, call.Do command key) ∷ []) (outcomes ++ outcome_for (Ok (given.Done reply)) ∷ []))
+    done_found : (command : _) (key : _) (reply : _) → CallPost g b c now (abstract_command command) (optional_model_key key) (Ok (given.Done reply)) → HasCleanDisk (state g c) → (base : Base) → Represents g a base
+        → CrashStatesSatisfy g c (AreRecoverableTrees base (calls ++ (now, call.Do command key) ∷ []) (outcomes ++ outcome_of_command (Ok (given.Done reply)) ∷ []))
     done_found command key reply called k base keeps trees may =
         let r = run.ran (called.clean k) base keeps in
         let s = called.answered k r.0 r.1 in (
           s.0,
-          inl (run_more base r.0 s.0 calls outcomes (now, call.Do command key) (outcome_for (Ok (given.Done reply))) r.2 s.2),
-          subst (λ x. AreTreesOf (sheets x) trees) (ap (λ (x : model_answer.Answer × Base). x.1) s.2) (called.durable k tt r.0 r.1 trees may),
+          inl (run_more base r.0 s.0 calls outcomes (now, call.Do command key) (outcome_of_command (Ok (given.Done reply))) r.2 s.2),
+          subst (λ x. AreTreesOfRows (sheets x) trees) (ap (λ (x : model_commands.Answer × Base). x.1) s.2) (called.durable k tt r.0 r.1 trees may),
           s.1.texts,
         )
 
-    by_done : (command : _) (key : _) (reply : _) → CallPost g b c now (command_of command) (key_for key) (Ok (given.Done reply))
-        → RunPost g a c (calls ++ (now, call.Do command key) ∷ []) (outcomes ++ outcome_for (Ok (given.Done reply)) ∷ [])
+    by_done : (command : _) (key : _) (reply : _) → CallPost g b c now (abstract_command command) (optional_model_key key) (Ok (given.Done reply))
+        → RunPost g a c (calls ++ (now, call.Do command key) ∷ []) (outcomes ++ outcome_of_command (Ok (given.Done reply)) ∷ [])
     by_done command key reply called = record {
-      count = as_many outcomes calls (outcome_for (Ok (given.Done reply))) (now, call.Do command key) run.count;
+      count = as_many outcomes calls (outcome_of_command (Ok (given.Done reply))) (now, call.Do command key) run.count;
       ran = λ k base keeps.
           let r = run.ran (called.clean k) base keeps in
           let s = called.answered k r.0 r.1 in
-          (s.0, s.1, run_more base r.0 s.0 calls outcomes (now, call.Do command key) (outcome_for (Ok (given.Done reply))) r.2 s.2);
-      fault = all_more FailsAsKnown outcomes (outcome_for (Ok (given.Done reply))) run.fault tt;
-      same = λ k up all. absurd (quiet_before outcomes (outcome_for (Ok (given.Done reply))) all).1;
+          (s.0, s.1, run_more base r.0 s.0 calls outcomes (now, call.Do command key) (outcome_of_command (Ok (given.Done reply))) r.2 s.2);
+      fault = all_more FailsWithMemoryOrStore outcomes (outcome_of_command (Ok (given.Done reply))) run.fault tt;
+      same = λ k up all. absurd (quiet_before outcomes (outcome_of_command (Ok (given.Done reply))) all).1;
       opened = λ k up. run.opened (called.clean k) (called.opened k tt).0;
-      survives = survives_by (state g a) (state g c) (λ _. Unit {0}) (MayBeExposed g a (calls ++ (now, call.Do command key) ∷ []) (outcomes ++ outcome_for (Ok (given.Done reply)) ∷ []))
-          (survives_then (state g a) (state g b) (state g c) (MayBeExposed g a calls outcomes) (MayBeCommitted g b now (command_of command) (key_for key)) (λ _. Unit {0}) (λ _ db may. tt) (λ _ db may. tt) run.survives called.survives)
+      survives = survives_by (state g a) (state g c) (λ _. Unit {0}) (MayBeExposedAfterRun g a (calls ++ (now, call.Do command key) ∷ []) (outcomes ++ outcome_of_command (Ok (given.Done reply)) ∷ []))
+          (survives_then (state g a) (state g b) (state g c) (MayBeExposedAfterRun g a calls outcomes) (MayBeCommitted g b now (abstract_command command) (optional_model_key key)) (λ _. Unit {0}) (λ _ db may. tt) (λ _ db may. tt) run.survives called.survives)
           (λ k trees may. (run.opened (called.clean k) (called.opened k tt).0, λ base keeps. done_found command key reply called k base keeps trees may));
       durable = λ k base keeps loud. done_found command key reply called k base keeps;
       leaves = λ k base keeps only. done_found command key reply called k base keeps;
@@ -188,53 +188,53 @@ module _ {S : Type 0} (g : Ghosts S) where
     }
 
     -- one command more that is answered without a change
-    quiet_told : (command : _) (key : _) (answer : desk.Answer) → AcknowledgesNothing (outcome_of (outcome_for (Ok answer))) → CallPost g b c now (command_of command) (key_for key) (Ok answer) → HasCleanDisk (state g c)
-        → (mid : Base) → Represents g b mid → Represents g c mid × (keyed_step mid now (command_of command) (key_for key) ≡ (answer_of answer, mid))
+    quiet_told : (command : _) (key : _) (answer : desk.Answer) → AcknowledgesNothing (model_outcome (outcome_of_command (Ok answer))) → CallPost g b c now (abstract_command command) (optional_model_key key) (Ok answer) → HasCleanDisk (state g c)
+        → (mid : Base) → Represents g b mid → Represents g c mid × (keyed_step mid now (abstract_command command) (optional_model_key key) ≡ (model_answer answer, mid))
     quiet_told command key answer quiet called k mid keeps =
         let s = called.answered k mid keeps in
-        let same : s.0 ≡ mid = quiet_leaves mid now (command_of command) (key_for key) (answer_of answer) s.0 s.2 quiet in
-        (subst (Represents g c) same s.1, subst (λ x. keyed_step mid now (command_of command) (key_for key) ≡ (answer_of answer, x)) same s.2)
+        let same : s.0 ≡ mid = quiet_leaves mid now (abstract_command command) (optional_model_key key) (model_answer answer) s.0 s.2 quiet in
+        (subst (Represents g c) same s.1, subst (λ x. keyed_step mid now (abstract_command command) (optional_model_key key) ≡ (model_answer answer, x)) same s.2)
 
-    by_quiet : (command : _) (key : _) (answer : desk.Answer) → AcknowledgesNothing (outcome_of (outcome_for (Ok answer))) → BookedNothing (Ok answer) → CallPost g b c now (command_of command) (key_for key) (Ok answer)
-        → RunPost g a c (calls ++ (now, call.Do command key) ∷ []) (outcomes ++ outcome_for (Ok answer) ∷ [])
+    by_quiet : (command : _) (key : _) (answer : desk.Answer) → AcknowledgesNothing (model_outcome (outcome_of_command (Ok answer))) → BooksNothing (Ok answer) → CallPost g b c now (abstract_command command) (optional_model_key key) (Ok answer)
+        → RunPost g a c (calls ++ (now, call.Do command key) ∷ []) (outcomes ++ outcome_of_command (Ok answer) ∷ [])
     by_quiet command key answer quiet booked called =
-        quiet_step (call.Do command key) (outcome_for (Ok answer)) quiet tt called.in_form called.clean (λ k up. called.same k up booked) (quiet_told command key answer quiet called) (MayBeCommitted g b now (command_of command) (key_for key))
+        quiet_step (call.Do command key) (outcome_of_command (Ok answer)) quiet tt called.in_form called.clean (λ k up. called.same k up booked) (quiet_told command key answer quiet called) (MayBeCommitted g b now (abstract_command command) (optional_model_key key))
         (λ k trees p. (
           p.0,
           λ mid keeps base ran.
               let e = (quiet_told command key answer quiet called k mid keeps).1 in
-              (mid, inl (run_more base mid mid calls outcomes (now, call.Do command key) (outcome_for (Ok answer)) ran e), subst (λ x. AreTreesOf (sheets x) trees) (ap (λ (x : model_answer.Answer × Base). x.1) e) (p.1 mid keeps), keeps.texts),
+              (mid, inl (run_more base mid mid calls outcomes (now, call.Do command key) (outcome_of_command (Ok answer)) ran e), subst (λ x. AreTreesOfRows (sheets x) trees) (ap (λ (x : model_commands.Answer × Base). x.1) e) (p.1 mid keeps), keeps.texts),
         ))
         called.survives
 
     -- one command more that failed
-    by_fault : (command : _) (key : _) (fault : Fault) → CallPost g b c now (command_of command) (key_for key) (Err fault) → RunPost g a c (calls ++ (now, call.Do command key) ∷ []) (outcomes ++ outcome_for (Err fault) ∷ [])
+    by_fault : (command : _) (key : _) (fault : Fault) → CallPost g b c now (abstract_command command) (optional_model_key key) (Err fault) → RunPost g a c (calls ++ (now, call.Do command key) ∷ []) (outcomes ++ outcome_of_command (Err fault) ∷ [])
     by_fault command key fault called =
-        quiet_step (call.Do command key) (outcome_for (Err fault)) tt called.fault called.in_form called.clean (λ k up. called.same k up tt) (λ k mid keeps. (called.kept mid keeps, (called.fault, refl)))
-        (MayBeCommitted g b now (command_of command) (key_for key))
+        quiet_step (call.Do command key) (outcome_of_command (Err fault)) tt called.fault called.in_form called.clean (λ k up. called.same k up tt) (λ k mid keeps. (called.kept mid keeps, (called.fault, refl)))
+        (MayBeCommitted g b now (abstract_command command) (optional_model_key key))
         (λ k trees p. (
           p.0,
           λ mid keeps base ran. (
-            base_after_call mid now (command_of command) (key_for key),
-            mapped base (base_after_call mid now (command_of command) (key_for key)) calls outcomes (now, call.Do command key) (outcome_for (Err fault))
-                (may_be_there base mid (map call_of calls) (map outcome_of outcomes) now (command_of command) (key_for key) fault ran),
+            base_after_call mid now (abstract_command command) (optional_model_key key),
+            mapped base (base_after_call mid now (abstract_command command) (optional_model_key key)) calls outcomes (now, call.Do command key) (outcome_of_command (Err fault))
+                (may_be_there base mid (map model_call calls) (map model_outcome outcomes) now (abstract_command command) (optional_model_key key) fault ran),
             p.1 mid keeps,
             p.2 mid keeps,
           ),
         ))
         called.survives
 
-    by_result : (command : _) (key : _) (result : Result desk.Answer Fault) → CallPost g b c now (command_of command) (key_for key) result
-        → RunPost g a c (calls ++ (now, call.Do command key) ∷ []) (outcomes ++ outcome_for result ∷ [])
+    by_result : (command : _) (key : _) (result : Result desk.Answer Fault) → CallPost g b c now (abstract_command command) (optional_model_key key) result
+        → RunPost g a c (calls ++ (now, call.Do command key) ∷ []) (outcomes ++ outcome_of_command result ∷ [])
     by_result command key (Ok (given.Done reply)) called = by_done command key reply called
     by_result command key (Ok (given.Again line)) called = by_quiet command key (given.Again line) tt tt called
     by_result command key (Ok (given.Refused refusal)) called = by_quiet command key (given.Refused refusal) tt tt called
     by_result command key (Err fault) called = by_fault command key fault called
 
-    by_view : (query : _) (result : Result (Result View Refusal) Fault) → AskPost g b c (query_of query) result
-        → RunPost g a c (calls ++ (now, call.Ask query) ∷ []) (outcomes ++ outcome_seen result ∷ [])
+    by_view : (query : _) (result : Result (Result View Refusal) Fault) → AskPost g b c (abstract_query query) result
+        → RunPost g a c (calls ++ (now, call.Ask query) ∷ []) (outcomes ++ outcome_of_query result ∷ [])
     by_view query result asked =
-        quiet_step (call.Ask query) (outcome_seen result) (quiet_view result) (known_view result asked.fault) tt asked.clean asked.same (λ k mid keeps. (asked.kept mid keeps, by_answer b c (query_of query) result now mid asked k keeps)) (λ _. ⊥)
+        quiet_step (call.Ask query) (outcome_of_query result) (quiet_view result) (known_view result asked.fault) tt asked.clean asked.same (λ k mid keeps. (asked.kept mid keeps, by_answer b c (abstract_query query) result now mid asked k keeps)) (λ _. ⊥)
         (λ k trees none. absurd none) asked.survives
 
     pub runs_more : (made : Call) (outcome : Outcome) → OutcomePost g b c now made outcome → RunPost g a c (calls ++ (now, made) ∷ []) (outcomes ++ outcome ∷ [])

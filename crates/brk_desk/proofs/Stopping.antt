@@ -6,15 +6,15 @@ use Rattle.brk_money.specs.declared.fault.Fault.{Fault}
 use Rattle.brk_model.specs.Base.{Base}
 use Rattle.brk_money.specs.declared.refusal.Refusal.{Refusal}
 use Rattle.brk_model.specs.Commands.{Answer, Command, Reply}
-use Rattle.brk_model.specs.Keyed.{acted, kept_for, keyed, keyed_step}
+use Rattle.brk_model.specs.Keyed.{answer_and_base_of_step, stored_row_with_optional_key, answer_by_stored_row, keyed_step}
 use Rattle.brk_model.specs.Records.{Kept, Key}
-use Rattle.brk_model.specs.Run.{Answers, Ask, Call, Did, Do, Outcome, Failed, NoView, Run, Saw}
+use Rattle.brk_model.specs.Run.{IsOutcomeOfCall, Ask, Call, Did, Do, Outcome, Failed, NoView, Run, Saw}
 use Rattle.brk_model.specs.Step.{step}
 use Rattle.brk_desk.specs.Stops.{AcknowledgesNothing, MayBeRecovered}
 
-pub run_then : (base mid after : Base) (calls : List (ℕ × Call)) (outcomes : List Outcome) (x : ℕ × Call) (o : Outcome) → Run base calls outcomes mid → Answers mid x.0 x.1 o after
+pub run_then : (base mid after : Base) (calls : List (ℕ × Call)) (outcomes : List Outcome) (x : ℕ × Call) (o : Outcome) → Run base calls outcomes mid → IsOutcomeOfCall mid x.0 x.1 o after
     → Run base (calls ++ x ∷ []) (outcomes ++ o ∷ []) after
-run_then base mid after [] [] x o r a = (after, subst (λ b. Answers b x.0 x.1 o after) r a, refl)
+run_then base mid after [] [] x o r a = (after, subst (λ b. IsOutcomeOfCall b x.0 x.1 o after) r a, refl)
 run_then base mid after (c ∷ cs) (p ∷ ps) x o r a = (r.0, r.1, run_then r.0 mid after cs ps x o r.2 a)
 run_then base mid after [] (p ∷ ps) x o r a = absurd r
 run_then base mid after (c ∷ cs) [] x o r a = absurd r
@@ -24,7 +24,7 @@ quiet_then [] o all q = (q, tt)
 quiet_then (p ∷ ps) o all q = (all.0, quiet_then ps o all.1 q)
 
 -- an outcome settles the base after it
-answers_once : (base : Base) (now : ℕ) (call : Call) (o : Outcome) (a b : Base) → Answers base now call o a → Answers base now call o b → a ≡ b
+answers_once : (base : Base) (now : ℕ) (call : Call) (o : Outcome) (a b : Base) → IsOutcomeOfCall base now call o a → IsOutcomeOfCall base now call o b → a ≡ b
 answers_once base now (Do command key) (Did answer) a b p q = ap (λ (x : Answer × Base). x.1) (sym p ∙ q)
 answers_once base now (Ask query) (Did answer) a b p q = absurd p
 answers_once base now (Ask query) (Saw view) a b p q = p.1 ∙ sym q.1
@@ -43,20 +43,20 @@ run_once base [] (o ∷ os) a b p q = absurd p
 run_once base (c ∷ cs) [] a b p q = absurd p
 
 -- a command that books nothing leaves the base
-acted_quiet : (base : Base) (key : Option Key) (command : Command) (r : Result (Reply × Base) Refusal) (answer : Answer) (after : Base) → acted base key command r ≡ (answer, after) → AcknowledgesNothing (Did answer) → after ≡ base
+acted_quiet : (base : Base) (key : Option Key) (command : Command) (r : Result (Reply × Base) Refusal) (answer : Answer) (after : Base) → answer_and_base_of_step base key command r ≡ (answer, after) → AcknowledgesNothing (Did answer) → after ≡ base
 acted_quiet base key command (Ok booked) answer after e quiet = absurd (subst (λ (x : Answer × Base). AcknowledgesNothing (Did x.0)) (sym e) quiet)
 acted_quiet base key command (Err refusal) answer after e quiet = ap (λ (x : Answer × Base). x.1) (sym e)
 
-keyed_quiet : (base : Base) (now : ℕ) (command : Command) (key : Option Key) (k : Option Kept) (answer : Answer) (after : Base) → keyed base now command key k ≡ (answer, after) → AcknowledgesNothing (Did answer) → after ≡ base
+keyed_quiet : (base : Base) (now : ℕ) (command : Command) (key : Option Key) (k : Option Kept) (answer : Answer) (after : Base) → answer_by_stored_row base now command key k ≡ (answer, after) → AcknowledgesNothing (Did answer) → after ≡ base
 keyed_quiet base now command key (Some k) answer after e quiet = ap (λ (x : Answer × Base). x.1) (sym e)
 keyed_quiet base now command key None answer after e quiet = acted_quiet base key command (step base now command) answer after e quiet
 
 pub quiet_leaves : (base : Base) (now : ℕ) (command : Command) (key : Option Key) (answer : Answer) (after : Base) → keyed_step base now command key ≡ (answer, after) → AcknowledgesNothing (Did answer) → after ≡ base
 unfolding keyed_step
-quiet_leaves base now command key answer after e quiet = keyed_quiet base now command key (kept_for base key) answer after e quiet
+quiet_leaves base now command key answer after e quiet = keyed_quiet base now command key (stored_row_with_optional_key base key) answer after e quiet
 
 -- after a run to a base, a call that acknowledges nothing leaves what may stand
-pub stands_still : (base mid : Base) (calls : List (ℕ × Call)) (outcomes : List Outcome) (x : ℕ × Call) (o : Outcome) → Run base calls outcomes mid → Answers mid x.0 x.1 o mid → AcknowledgesNothing o
+pub stands_still : (base mid : Base) (calls : List (ℕ × Call)) (outcomes : List Outcome) (x : ℕ × Call) (o : Outcome) → Run base calls outcomes mid → IsOutcomeOfCall mid x.0 x.1 o mid → AcknowledgesNothing o
     → (after : Base) → MayBeRecovered base calls outcomes after → MayBeRecovered base (calls ++ x ∷ []) (outcomes ++ o ∷ []) after
 stands_still base mid calls outcomes x o ran told quiet after (inl other) =
     inl (subst (Run base (calls ++ x ∷ []) (outcomes ++ o ∷ [])) (run_once base calls outcomes mid after ran other) (run_then base mid mid calls outcomes x o ran told))

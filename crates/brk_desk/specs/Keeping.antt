@@ -1,5 +1,5 @@
 -- The postconditions of a desk's calls: a query, a run and an audit.
-use Rattle.brk_model.specs.Form.{has_texts}
+use Rattle.brk_model.specs.Form.{has_utf8_texts}
 use Rattle.std.specs.Prelude.{◌≡◌, ℕ, List, None, map, length, Result, IfOk, IfErr, IsTrue}
 use Rattle.std.specs.List.{AllByRecursion}
 use Rattle.sqlite_trees.specs.declared.store.Store.{Ghosts}
@@ -8,31 +8,31 @@ use Rattle.sqlite.specs.Held.{Held, state}
 use Rattle.sqlite.specs.State.{HasCleanDisk, Survives}
 use Rattle.brk_money.specs.declared.fault.Fault.{Fault}
 use Rattle.brk_money.specs.declared.refusal.Refusal.{Refusal}
-use Rattle.brk_model.specs.Adopted.{base_of}
+use Rattle.brk_model.specs.Adopted.{base_of_tables}
 use Rattle.brk_model.specs.Ask.{ask}
 use Rattle.brk_model.specs.Base.{Base, empty_base}
-use Rattle.brk_model.specs.Upgraded.{upgraded_from}
+use Rattle.brk_model.specs.Upgraded.{tables_upgraded_from_schema}
 use Rattle.brk_model.specs.Schemas.{third_schema}
 use Rattle.brk_model.specs.Sheets.{sheets}
 use Rattle.brk_model.specs.Queries.{Query}
-use Rattle.brk_model.specs.Run.{MayFail, Run}
-use Rattle.brk_model.specs.Tables.{Tables, no_rows}
-use Rattle.brk_changes.specs.Schemas.{schema_of}
+use Rattle.brk_model.specs.Run.{IsCallFault, Run}
+use Rattle.brk_model.specs.Tables.{Tables, tables_without_rows}
+use Rattle.brk_changes.specs.Schemas.{abstract_schema}
 use Rattle.brk_changes.specs.declared.schema.Schema as known
-use Rattle.brk_book_theorems.specs.Runs.{RunAddsUp}
-use Rattle.brk_audit_theorems.specs.Passing.{Passes}
-use Rattle.brk_invariant_theorems.specs.Runs.{IsCallInForm}
-use Rattle.brk_store.specs.Audited.{AuditPost, OnAnswer, Represents}
-use Rattle.brk_store.specs.Holds.{AreTreesOf, Holds, IsSame, OnlyCrashState}
-use Rattle.brk_queries.specs.Shows.{seen_of}
-use Rattle.brk_view.specs.Carried.{CarriesRows}
-use Rattle.brk_view.specs.Queries.{query_of}
+use Rattle.brk_book_theorems.specs.Runs.{IsRunWithSumsAndTaxes}
+use Rattle.brk_audit_theorems.specs.Passing.{PassesAudit}
+use Rattle.brk_invariant_theorems.specs.Runs.{CallMeetsAuditFormats}
+use Rattle.brk_store.specs.Audited.{AuditPost, OnAuditAnswer, Represents}
+use Rattle.brk_store.specs.Holds.{AreTreesOfRows, HoldsRows, WasOpenAndIsUnchanged, CrashStatesSatisfy}
+use Rattle.brk_queries.specs.Shows.{model_query_result}
+use Rattle.brk_view.specs.Carried.{HasRowsOfQuery}
+use Rattle.brk_view.specs.Queries.{abstract_query}
 use Rattle.brk_view.specs.declared.view.View.{View}
-use Rattle.brk_commit.specs.Booked.{CallPost, StillKeeps}
-use Rattle.brk_desk.specs.Answers.{outcome_for, outcome_of, outcome_seen}
-use Rattle.brk_commands.specs.Commands.{command_of}
-use Rattle.brk_commit.specs.Keys.{key_for}
-use Rattle.brk_desk.specs.Commands.{call_of}
+use Rattle.brk_commit.specs.Booked.{CallPost, PreservesRepresentation}
+use Rattle.brk_desk.specs.Answers.{outcome_of_command, model_outcome, outcome_of_query}
+use Rattle.brk_commands.specs.Commands.{abstract_command}
+use Rattle.brk_commit.specs.Keys.{optional_model_key}
+use Rattle.brk_desk.specs.Commands.{model_call}
 use Rattle.brk_desk.specs.Stops.{AcknowledgesNothing, MayBeRecovered}
 use Rattle.brk_commit.specs.declared.answer.Answer as desk
 use Rattle.brk_desk.specs.declared.call.Call.{Call}
@@ -45,18 +45,18 @@ use Rattle.brk_desk.specs.declared.call.Outcome.TheVariants as came
 pub record AskPost {S : Type 0} (g : Ghosts S) (old new : Held S) (query : Query) (result : Result (Result View Refusal) Fault) : Type 0 where
   -- At `Ok` the result, a view or a refusal, equals that of the model for each base that the store
   -- represented. Vacuous if the disk assumption fails.
-  pub answered : HasCleanDisk (state g new) → IfOk result (λ seen. (base : Base) → Represents g old base → ask base query ≡ seen_of seen)
+  pub answered : HasCleanDisk (state g new) → IfOk result (λ seen. (base : Base) → Represents g old base → ask base query ≡ model_query_result seen)
   -- A returned view has the variant of the query, and carries the rows that the query selects from
   -- the tables of the base. Says nothing if the disk assumption fails.
-  pub carried : HasCleanDisk (state g new) → IfOk result (λ seen. IfOk seen (λ view. (base : Base) → Represents g old base → CarriesRows query view (sheets base)))
+  pub carried : HasCleanDisk (state g new) → IfOk result (λ seen. IfOk seen (λ view. (base : Base) → Represents g old base → HasRowsOfQuery query view (sheets base)))
   -- The store represents every base that it represented, whatever the result.
-  pub kept : StillKeeps g old new
+  pub kept : PreservesRepresentation g old new
   -- The error is `Memory` or `Store`.
-  pub fault : IfErr result MayFail
+  pub fault : IfErr result IsCallFault
   -- A crash exposes only states that a crash before the call could expose.
   pub survives : Survives (state g old) (state g new) (λ _. ⊥)
   -- If the database is open after the call, it was open before and is unchanged.
-  pub same : HasCleanDisk (state g new) → IsTrue (state g new).is_open → IsSame (state g old) (state g new)
+  pub same : HasCleanDisk (state g new) → IsTrue (state g new).is_open → WasOpenAndIsUnchanged (state g old) (state g new)
   -- If the disk assumption holds after the call, it held before.
   pub clean : HasCleanDisk (state g new) → HasCleanDisk (state g old)
 
@@ -64,30 +64,30 @@ pub record AskPost {S : Type 0} (g : Ghosts S) (old new : Held S) (query : Query
 -- `AskPost`, with the result that `outcome` carries.
 abbrev pub OutcomePost : {S : Type 0} → Ghosts S → Held S → Held S → ℕ → Call → Outcome → Type 0
 OutcomePost g old new now (call.Do command key) outcome =
-    (result : Result desk.Answer Fault) × (outcome ≡ outcome_for result) × CallPost g old new now (command_of command) (key_for key) result
+    (result : Result desk.Answer Fault) × (outcome ≡ outcome_of_command result) × CallPost g old new now (abstract_command command) (optional_model_key key) result
 OutcomePost g old new now (call.Ask query) outcome =
-    (result : Result (Result View Refusal) Fault) × (outcome ≡ outcome_seen result) × AskPost g old new (query_of query) result
+    (result : Result (Result View Refusal) Fault) × (outcome ≡ outcome_of_query result) × AskPost g old new (abstract_query query) result
 
 -- No outcome is `Done`: each is of a query, a refusal, a stored reply or a fault.
-abbrev pub AcknowledgeNothing : List Outcome → Type 0
-AcknowledgeNothing outcomes = AllByRecursion AcknowledgesNothing (map outcome_of outcomes)
+abbrev pub OutcomesAcknowledgeNothing : List Outcome → Type 0
+OutcomesAcknowledgeNothing outcomes = AllByRecursion AcknowledgesNothing (map model_outcome outcomes)
 
 -- If the outcome is a fault, it is `Memory` or `Store`. Vacuous otherwise.
-abbrev pub FailsAsKnown : Outcome → Type 0
-FailsAsKnown (came.Failed fault) = MayFail fault
-FailsAsKnown _ = Unit {0}
+abbrev pub FailsWithMemoryOrStore : Outcome → Type 0
+FailsWithMemoryOrStore (came.Failed fault) = IsCallFault fault
+FailsWithMemoryOrStore _ = Unit {0}
 
 -- The trees contain the tables of some base that a crash may expose after the calls from `base`
 -- (`MayBeRecovered`), with texts in UTF-8: it has every acknowledged command, and at most one more,
 -- which returned a fault and after which no change was acknowledged.
-abbrev pub AreRecoverable : Base → List (ℕ × Call) → List Outcome → Trees → Type 0
-AreRecoverable base calls outcomes trees =
-    (after : Base) × MayBeRecovered base (map call_of calls) (map outcome_of outcomes) after × AreTreesOf (sheets after) trees × IsTrue (has_texts (sheets after))
+abbrev pub AreRecoverableTrees : Base → List (ℕ × Call) → List Outcome → Trees → Type 0
+AreRecoverableTrees base calls outcomes trees =
+    (after : Base) × MayBeRecovered base (map model_call calls) (map model_outcome outcomes) after × AreTreesOfRows (sheets after) trees × IsTrue (has_utf8_texts (sheets after))
 
--- The store was open before the calls, and the trees are recoverable (`AreRecoverable`) after the
--- calls from each base that the store represented.
-abbrev pub MayBeExposed : {S : Type 0} → Ghosts S → Held S → List (ℕ × Call) → List Outcome → Trees → Type 0
-MayBeExposed g old calls outcomes trees = IsTrue (state g old).is_open × ((base : Base) → Represents g old base → AreRecoverable base calls outcomes trees)
+-- The store was open before the calls, and the trees are recoverable (`AreRecoverableTrees`) after
+-- the calls from each base that the store represented.
+abbrev pub MayBeExposedAfterRun : {S : Type 0} → Ghosts S → Held S → List (ℕ × Call) → List Outcome → Trees → Type 0
+MayBeExposedAfterRun g old calls outcomes trees = IsTrue (state g old).is_open × ((base : Base) → Represents g old base → AreRecoverableTrees base calls outcomes trees)
 
 -- The postcondition of a sequence of calls that were executed in order: one outcome for each call;
 -- and for every base that the store represented, the calls with their outcomes are a run of the
@@ -96,34 +96,34 @@ pub record RunPost {S : Type 0} (g : Ghosts S) (old new : Held S) (calls : List 
   pub count : length outcomes ≡ length calls
   -- Vacuous if the disk assumption fails after the calls.
   pub ran : HasCleanDisk (state g new) → (base : Base) → Represents g old base
-      → (after : Base) × Represents g new after × Run base (map call_of calls) (map outcome_of outcomes) after
+      → (after : Base) × Represents g new after × Run base (map model_call calls) (map model_outcome outcomes) after
   -- Each fault is `Memory` or `Store`.
-  pub fault : AllByRecursion FailsAsKnown outcomes
+  pub fault : AllByRecursion FailsWithMemoryOrStore outcomes
   -- If no outcome is `Done` and the database is open after the calls, it was open before and is
   -- unchanged.
-  pub same : HasCleanDisk (state g new) → IsTrue (state g new).is_open → AcknowledgeNothing outcomes → IsSame (state g old) (state g new)
+  pub same : HasCleanDisk (state g new) → IsTrue (state g new).is_open → OutcomesAcknowledgeNothing outcomes → WasOpenAndIsUnchanged (state g old) (state g new)
   -- The store is open after the calls only if it was open before.
   pub opened : HasCleanDisk (state g new) → IsTrue (state g new).is_open → IsTrue (state g old).is_open
   -- Crash safety: a crash exposes a state that a crash before the calls could expose, or
   -- recoverable trees.
-  pub survives : Survives (state g old) (state g new) (MayBeExposed g old calls outcomes)
+  pub survives : Survives (state g old) (state g new) (MayBeExposedAfterRun g old calls outcomes)
   -- If some outcome is `Done`, a crash exposes only recoverable trees.
-  pub durable : HasCleanDisk (state g new) → (base : Base) → Represents g old base → ¬ AcknowledgeNothing outcomes
-      → OnlyCrashState g new (AreRecoverable base calls outcomes)
+  pub durable : HasCleanDisk (state g new) → (base : Base) → Represents g old base → ¬ OutcomesAcknowledgeNothing outcomes
+      → CrashStatesSatisfy g new (AreRecoverableTrees base calls outcomes)
   -- If a crash before the calls exposes only the tables of `base`, a crash after them exposes only
   -- recoverable trees.
-  pub leaves : HasCleanDisk (state g new) → (base : Base) → Represents g old base → OnlyCrashState g old (AreTreesOf (sheets base))
-      → OnlyCrashState g new (AreRecoverable base calls outcomes)
+  pub leaves : HasCleanDisk (state g new) → (base : Base) → Represents g old base → CrashStatesSatisfy g old (AreTreesOfRows (sheets base))
+      → CrashStatesSatisfy g new (AreRecoverableTrees base calls outcomes)
   -- If the disk assumption holds after the calls, it held before.
   pub clean : HasCleanDisk (state g new) → HasCleanDisk (state g old)
   -- The commands and their keys are well-formed.
-  pub in_form : AllByRecursion IsCallInForm (map call_of calls)
+  pub in_form : AllByRecursion CallMeetsAuditFormats (map model_call calls)
 
 -- After the calls from `base` the store represents some base whose tables pass the audit of schema
 -- 3 and add up, and each result that was accepted was taxed on exactly the shares that it closed
--- (`RunAddsUp`).
+-- (`IsRunWithSumsAndTaxes`).
 abbrev pub ReachesAuditedState : {S : Type 0} → Ghosts S → Held S → Base → List (ℕ × Call) → List Outcome → Type 0
-ReachesAuditedState g new base calls outcomes = (after : Base) × Represents g new after × Passes third_schema (sheets after) × RunAddsUp base (map call_of calls) (map outcome_of outcomes) after
+ReachesAuditedState g new base calls outcomes = (after : Base) × Represents g new after × PassesAudit third_schema (sheets after) × IsRunWithSumsAndTaxes base (map model_call calls) (map model_outcome outcomes) after
 
 -- The guarantee of a run: under the disk assumption the calls reach an audited state
 -- (`ReachesAuditedState`) from any base that the store represented (`kept`); from the empty base,
@@ -132,13 +132,13 @@ ReachesAuditedState g new base calls outcomes = (after : Base) × Represents g n
 -- (`adopted`).
 pub record RunGuarantee {S : Type 0} (g : Ghosts S) (old new : Held S) (calls : List (ℕ × Call)) (outcomes : List Outcome) : Type 0 where
   pub kept : HasCleanDisk (state g new) → (base : Base) → Represents g old base → ReachesAuditedState g new base calls outcomes
-  pub made : HasCleanDisk (state g new) → Holds g old no_rows → ReachesAuditedState g new empty_base calls outcomes
-  pub adopted : HasCleanDisk (state g new) → (schema : known.Schema) (rows : Tables) → Holds g old (upgraded_from (schema_of schema) rows) → IsTrue (has_texts rows) → Passes (schema_of schema) rows
-      → ReachesAuditedState g new (base_of rows) calls outcomes
+  pub made : HasCleanDisk (state g new) → HoldsRows g old tables_without_rows → ReachesAuditedState g new empty_base calls outcomes
+  pub adopted : HasCleanDisk (state g new) → (schema : known.Schema) (rows : Tables) → HoldsRows g old (tables_upgraded_from_schema (abstract_schema schema) rows) → IsTrue (has_utf8_texts rows) → PassesAudit (abstract_schema schema) rows
+      → ReachesAuditedState g new (base_of_tables rows) calls outcomes
 
 -- The postcondition of an audit of the desk's store, which writes nothing. It never returns
 -- `Damaged` if the store represents a base.
 pub record DeskAuditPost {S : Type 0} (g : Ghosts S) (old new : Held S) (result : Result (Unit {0}) Fault) : Type 0 where
   pub audited : AuditPost g old new result
-  pub passes : HasCleanDisk (state g new) → (base : Base) → Represents g old base → OnAnswer result (λ failing. failing ≡ None)
-  pub kept : StillKeeps g old new
+  pub passes : HasCleanDisk (state g new) → (base : Base) → Represents g old base → OnAuditAnswer result (λ failing. failing ≡ None)
+  pub kept : PreservesRepresentation g old new

@@ -5,50 +5,50 @@ use Rattle.sqlite_trees.specs.Tree.{Trees}
 use Rattle.sqlite.specs.Held.{Held, state}
 use Rattle.sqlite.specs.State.{HasCleanDisk, Opens}
 use Rattle.brk_money.specs.declared.fault.Fault.{Fault}
-use Rattle.brk_model.specs.Adopted.{base_of}
+use Rattle.brk_model.specs.Adopted.{base_of_tables}
 use Rattle.brk_model.specs.Base.{Base}
-use Rattle.brk_model.specs.Form.{has_texts}
+use Rattle.brk_model.specs.Form.{has_utf8_texts}
 use Rattle.brk_model.specs.Sheets.{sheets}
 use Rattle.brk_model.specs.Tables.{Tables}
-use Rattle.brk_changes.specs.Schemas.{schema_of}
+use Rattle.brk_changes.specs.Schemas.{abstract_schema}
 use Rattle.brk_changes.specs.declared.schema.Schema as known
 use Rattle.brk_book_theorems.specs.Books.{BooksInvariant}
 use Rattle.brk_invariant_theorems.specs.Sound.{AuditInvariant}
-use Rattle.brk_store.specs.Audited.{Answered, OnAnswer, Represents}
-use Rattle.brk_store.specs.Holds.{AreTreesOf, IsOpenedOver, OnlyCrashState}
+use Rattle.brk_store.specs.Audited.{IsAuditOfStoredRows, OnAuditAnswer, Represents}
+use Rattle.brk_store.specs.Holds.{AreTreesOfRows, IsOpenedOverTrees, CrashStatesSatisfy}
 
 -- The base satisfies the books invariant and the audit invariant, and its texts are UTF-8.
 pub record IsConsistent (base : Base) : Type 0 where
   pub books : BooksInvariant base
   pub sound : AuditInvariant base
-  pub texts : IsTrue (has_texts (sheets base))
+  pub texts : IsTrue (has_utf8_texts (sheets base))
 
 -- The store represents the base, and a crash exposes only the tables of this base.
-pub record IsDurable {S : Type 0} (g : Ghosts S) (store : Held S) (base : Base) : Type 0 where
+pub record RepresentsDurableBase {S : Type 0} (g : Ghosts S) (store : Held S) (base : Base) : Type 0 where
   pub keeps : Represents g store base
-  pub alone : OnlyCrashState g store (AreTreesOf (sheets base))
+  pub alone : CrashStatesSatisfy g store (AreTreesOfRows (sheets base))
 
 -- The connection was just opened over these trees.
 pub record IsJustOpened {S : Type 0} (g : Ghosts S) (trees : Trees) (conn : Held S) : Type 0 where
-  pub over : IsOpenedOver g trees conn
+  pub over : IsOpenedOverTrees g trees conn
   pub opens : HasCleanDisk (state g conn) → Opens (state g conn)
 
 -- The connection was just opened over a state that a crash of the store `left` may expose.
-abbrev pub IsReopened : {S : Type 0} → Ghosts S → Held S → Held S → Type 0
-IsReopened g left conn = (trees : Trees) × (state g left).may_leave trees × IsJustOpened g trees conn
+abbrev pub IsReopenedAfterCrash : {S : Type 0} → Ghosts S → Held S → Held S → Type 0
+IsReopenedAfterCrash g left conn = (trees : Trees) × (state g left).may_leave trees × IsJustOpened g trees conn
 
 -- The database of `conn` has rows of some schema that pass the audit of this schema, with texts in
 -- UTF-8. `store` represents the base that these rows determine, and a crash exposes only the tables
 -- of this base.
-abbrev pub HasTakenOver : {S : Type 0} → Ghosts S → Held S → Held S → Type 0
-HasTakenOver g conn store = (schema : known.Schema) × (rows : Tables) × Answered (schema_of schema) rows (state g conn).now None × IsDurable g store (base_of rows)
+abbrev pub AdoptsPassingRows : {S : Type 0} → Ghosts S → Held S → Held S → Type 0
+AdoptsPassingRows g conn store = (schema : known.Schema) × (rows : Tables) × IsAuditOfStoredRows (abstract_schema schema) rows (state g conn).now None × RepresentsDurableBase g store (base_of_tables rows)
 
 -- The adoption with this result did not fail with `Damaged`; at `Ok` the store represents `base`,
 -- and a crash exposes only its tables. If it failed with `Memory` or `Store`, this says nothing of
 -- the store.
-pub record IsUpgradedOver {S : Type 0} (g : Ghosts S) (store : Held S) (result : Result (Unit {0}) Fault) (base : Base) : Type 0 where
-  pub undamaged : OnAnswer result (λ failing. failing ≡ None)
-  pub stands : OnOk result (IsDurable g store base)
+pub record AdoptsBaseUndamaged {S : Type 0} (g : Ghosts S) (store : Held S) (result : Result (Unit {0}) Fault) (base : Base) : Type 0 where
+  pub undamaged : OnAuditAnswer result (λ failing. failing ≡ None)
+  pub stands : OnOk result (RepresentsDurableBase g store base)
 
 -- The adoption with this result did not fail with `Damaged`, and the store, or the connection that
 -- was returned with `Memory` or `Store`, represents a base that satisfies `May`; a crash exposes
@@ -56,5 +56,5 @@ pub record IsUpgradedOver {S : Type 0} (g : Ghosts S) (store : Held S) (result :
 pub record IsRecovered {S : Type 0} (g : Ghosts S) (store : Held S) (result : Result (Unit {0}) Fault) (May : Base → Type 0) : Type 0 where
   pub base : Base
   pub may : May base
-  pub undamaged : OnAnswer result (λ failing. failing ≡ None)
-  pub stands : IsDurable g store base
+  pub undamaged : OnAuditAnswer result (λ failing. failing ≡ None)
+  pub stands : RepresentsDurableBase g store base

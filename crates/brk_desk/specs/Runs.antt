@@ -2,7 +2,7 @@
 use Rattle.std.specs.Prelude.{ℕ, List}
 use Rattle.sqlite_trees.specs.declared.store.Store.{Ghosts}
 use Rattle.sqlite.specs.Held.{Held}
-use Rattle.brk_io.specs.Calls.{AreMade}
+use Rattle.brk_io.specs.Calls.{IsCallSequence}
 use Rattle.brk_desk.specs.Keeping.{OutcomePost, RunPost, RunGuarantee}
 use Rattle.brk_desk.specs.declared.call.Call.{Call}
 use Rattle.brk_desk.specs.declared.call.Outcome.{Outcome}
@@ -10,16 +10,16 @@ use Rattle.brk_desk.specs.declared.call.Outcome.{Outcome}
 -- From the state `old` to the state `new` exactly these calls of the desk were executed, in order,
 -- with these outcomes. Only the field `made` states this; the fields `ran` and `promised` follow
 -- from it (`calls_in_order_are_a_run`).
-pub record IsRunOf {S : Type 0} (g : Ghosts S) (old new : Held S) (calls : List (ℕ × Call)) (outcomes : List Outcome) : Type 0 where
+pub record IsRunWithOutcomes {S : Type 0} (g : Ghosts S) (old new : Held S) (calls : List (ℕ × Call)) (outcomes : List Outcome) : Type 0 where
   -- Each call satisfies its postcondition from the state after the call before it: the first from
   -- `old`, and the last reaches `new`. Without calls `new` equals `old`.
-  pub made : AreMade (λ old now call outcome new. OutcomePost g old new now call outcome) old calls outcomes new
+  pub made : IsCallSequence (λ old now call outcome new. OutcomePost g old new now call outcome) old calls outcomes new
   pub ran : RunPost g old new calls outcomes
   pub promised : RunGuarantee g old new calls outcomes
 
 -- From the state `old` to the state `new` some calls of the desk were executed, in order, and
--- nothing else (`IsRunOf`).
-pub record IsSomeRun {S : Type 0} (g : Ghosts S) (old new : Held S) : Type 0 where
+-- nothing else (`IsRunWithOutcomes`).
+pub record IsSomeDeskRun {S : Type 0} (g : Ghosts S) (old new : Held S) : Type 0 where
   pub calls : List (ℕ × Call)
   pub outcomes : List Outcome
-  pub run : IsRunOf g old new calls outcomes
+  pub run : IsRunWithOutcomes g old new calls outcomes

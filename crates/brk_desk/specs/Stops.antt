@@ -16,7 +16,7 @@ AcknowledgesNothing _ = Unit {0}
 -- One of the calls is a command that returned a fault, no outcome after it is `Done`, and `after`
 -- is the base after this command is executed after the calls before it, which run from `base` with
 -- their outcomes.
-pub record IsUnacknowledged (base : Base) (calls : List (ℕ × Call)) (outcomes : List Outcome) (after : Base) : Type 0 where
+pub record HasUnacknowledgedCommand (base : Base) (calls : List (ℕ × Call)) (outcomes : List Outcome) (after : Base) : Type 0 where
   -- The calls before the command, the command with its clock reading and its key, and the calls
   -- after it.
   pub earlier : List (ℕ × Call)
@@ -36,6 +36,6 @@ pub record IsUnacknowledged (base : Base) (calls : List (ℕ × Call)) (outcomes
 
 -- A crash after the calls from `base` may expose the tables of `after`. Either `after` is the base
 -- after a run of the calls with these outcomes, or it has the change of one more command, which
--- returned a fault and after which no change was acknowledged (`IsUnacknowledged`).
+-- returned a fault and after which no change was acknowledged (`HasUnacknowledgedCommand`).
 abbrev pub MayBeRecovered : Base → List (ℕ × Call) → List Outcome → Base → Type 0
-MayBeRecovered base calls outcomes after = Run base calls outcomes after ⊎ IsUnacknowledged base calls outcomes after
+MayBeRecovered base calls outcomes after = Run base calls outcomes after ⊎ HasUnacknowledgedCommand base calls outcomes after

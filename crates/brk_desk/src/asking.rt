@@ -1,5 +1,5 @@
 ghost use Rattle.brk_desk.specs.Keeping.{AskPost};
-ghost use Rattle.brk_view.specs.Queries.{query_of};
+ghost use Rattle.brk_view.specs.Queries.{abstract_query};
 
 use brk_money::Planned;
 use brk_queries::view_of_query;
@@ -15,7 +15,7 @@ pub(crate) fn answer_query<S: Alter>(
     store: &mut Store<S>,
     query: &Query,
 ) -> Planned<View>
-    ensures asked { AskPost S.Store store.old store.new (query_of query.now) result }
+    ensures asked { AskPost S.Store store.old store.new (abstract_query query.now) result }
 {
     view_of_query(alloc, store, query)
 }

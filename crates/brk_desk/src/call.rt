@@ -1,5 +1,5 @@
 ghost use Rattle.std.specs.Prelude.{◌≡◌};
-ghost use Rattle.brk_desk.specs.Answers.{outcome_for, outcome_seen};
+ghost use Rattle.brk_desk.specs.Answers.{outcome_of_command, outcome_of_query};
 
 use brk_commands::Command;
 use brk_commit::Answer;
@@ -33,7 +33,7 @@ pub enum Outcome {
 impl Outcome {
     // Returns the outcome that carries the result of a command.
     pub(crate) fn of_command(answered: Result<Answer, Fault>) -> Outcome
-        ensures { result ≡ outcome_for answered }
+        ensures { result ≡ outcome_of_command answered }
     {
         match answered {
             Ok(answer) => Outcome::Did(answer),
@@ -43,7 +43,7 @@ impl Outcome {
 
     // Returns the outcome that carries the result of a query.
     pub(crate) fn of_query(seen: Planned<View>) -> Outcome
-        ensures { result ≡ outcome_seen seen }
+        ensures { result ≡ outcome_of_query seen }
     {
         match seen {
             Ok(Ok(view)) => Outcome::Saw(view),

@@ -3,11 +3,11 @@ use crate::call::{Call, Outcome};
 use brk_changes::{HoldingRow, MoveRow};
 use brk_commands::Command;
 use brk_commit::{Answer, book};
-use brk_explain_reads::{account_story, trade_story};
+use brk_explain_reads::{read_account_story, read_trade_story};
 use brk_explain_rows::{AccountStory, TradeStory};
 use brk_lots::Lot;
 use brk_money::{Fault, Id, Planned, Stamp};
-use brk_queries::{Head, find_head};
+use brk_queries::{Head, read_head_of_account};
 use brk_ref::Key;
 use brk_store::{Store, Visitor, WalkError};
 use brk_view::{Query, View};
@@ -40,24 +40,24 @@ impl<S: Alter + Drop> Drop for Desk<S> {
 impl<S: Alter> Desk<S> {
     ghost use Rattle.std.specs.Prelude.{◌≡◌, ◌≢◌, ◌++◌, List, Err, IfErr, OnOk, OnErr};
     ghost use Rattle.std.specs.Option.{option_copied};
-    ghost use Rattle.brk_commands.specs.Commands.{command_of};
-    ghost use Rattle.brk_commit.specs.Keys.{key_for};
+    ghost use Rattle.brk_commands.specs.Commands.{abstract_command};
+    ghost use Rattle.brk_commit.specs.Keys.{optional_model_key};
     ghost use Rattle.brk_commit.specs.Booked.{CallPost};
     ghost use Rattle.brk_desk.specs.Keeping.{AskPost, DeskAuditPost, OutcomePost};
-    ghost use Rattle.brk_desk.specs.Runs.{IsRunOf};
+    ghost use Rattle.brk_desk.specs.Runs.{IsRunWithOutcomes};
     ghost use Rattle.brk_desk.specs.declared.call.Outcome as came;
     ghost use Rattle.brk_money.specs.declared.fault.Condition.TheVariants.{NotEmpty};
     ghost use Rattle.brk_money.specs.declared.fault.Fault.TheVariants.{Damaged, Memory};
-    ghost use Rattle.brk_view.specs.Queries.{query_of};
+    ghost use Rattle.brk_view.specs.Queries.{abstract_query};
     ghost use Rattle.std.specs.Fn.{CalledAt};
-    ghost use Rattle.brk_changes.specs.Rows.{holding_row_of, move_row_of};
-    ghost use Rattle.brk_queries.specs.Heads.{IsHead};
-    ghost use Rattle.brk_explain_rows.specs.Stories.{IsAccountOf, IsStoryOf};
-    ghost use Rattle.brk_model.specs.Run.{MayFail};
-    ghost use Rattle.brk_model.specs.Statement.{lots_in};
-    ghost use Rattle.brk_store.specs.Calling.{CalledAtLot};
+    ghost use Rattle.brk_changes.specs.Rows.{abstract_holding_row, abstract_move_row};
+    ghost use Rattle.brk_queries.specs.Heads.{IsHeadOfAccount};
+    ghost use Rattle.brk_explain_rows.specs.Stories.{IsStoryOfAccount, IsStoryOfTrade};
+    ghost use Rattle.brk_model.specs.Run.{IsCallFault};
+    ghost use Rattle.brk_model.specs.Statement.{lot_rows_of_account};
+    ghost use Rattle.brk_store.specs.Calling.{IsCallWithLot};
     ghost use Rattle.brk_store.specs.Holds.{ReadPost};
-    ghost use Rattle.brk_store.specs.Walked.{CallsEach, WalkPost, cash_of};
+    ghost use Rattle.brk_store.specs.Walked.{CallsClosureOnEach, WalkPost, cash_rows_in_span};
 
     /// Creates a desk over a store, which is unchanged.
     pub fn new(store: Store<S>) -> Desk<S>
@@ -90,7 +90,7 @@ impl<S: Alter> Desk<S> {
         command: &Command,
         key: Option<&Key>,
     ) -> Result<Answer, Fault>
-        ensures called { CallPost S.Store self.old self.new now (command_of command.now) (key_for (option_copied key.entry)) result }
+        ensures called { CallPost S.Store self.old self.new now (abstract_command command.now) (optional_model_key (option_copied key.entry)) result }
     {
         book(alloc, &mut self.store, now, command, key)
     }
@@ -101,7 +101,7 @@ impl<S: Alter> Desk<S> {
     ///
     /// A crash exposes only states that a crash before the call could expose.
     pub fn ask(&mut self, alloc: Global, query: &Query) -> Planned<View>
-        ensures asked { AskPost S.Store self.old self.new (query_of query.now) result }
+        ensures asked { AskPost S.Store self.old self.new (abstract_query query.now) result }
     {
         answer_query(alloc, &mut self.store, query)
     }
@@ -125,7 +125,7 @@ impl<S: Alter> Desk<S> {
         out: &mut Vec<Outcome>,
     ) -> Result<(), Fault>
         ensures ran { OnOk result ((outcomes : List came.Outcome) × (out.new.items ≡ out.old.items ++ outcomes)
-            × IsRunOf S.Store self.old self.new calls.now outcomes) }
+            × IsRunWithOutcomes S.Store self.old self.new calls.now outcomes) }
         ensures fault { OnErr result (result ≡ Err Memory) }
         ensures unmade { OnErr result ((self.new ≡ self.old) × (out.new.items ≡ out.old.items)) }
     {
@@ -176,10 +176,10 @@ impl<S: Alter> Desk<S> {
     ///
     /// A crash exposes only states that a crash before the call could expose.
     pub fn head(&mut self, alloc: Global, account: Id) -> Result<Option<Head>, Fault>
-        ensures read { ReadPost S.Store self.old self.new result (IsHead account) }
-        ensures fault { IfErr result MayFail }
+        ensures read { ReadPost S.Store self.old self.new result (IsHeadOfAccount account) }
+        ensures fault { IfErr result IsCallFault }
     {
-        find_head(alloc, &mut self.store, account)
+        read_head_of_account(alloc, &mut self.store, account)
     }
 
     /// Returns the rows that the explanation of a trade needs, or `None` if the trade does not
@@ -191,10 +191,10 @@ impl<S: Alter> Desk<S> {
     ///
     /// A crash exposes only states that a crash before the call could expose.
     pub fn trade_story(&mut self, alloc: Global, trade: Id) -> Result<Option<TradeStory>, Fault>
-        ensures read { ReadPost S.Store self.old self.new result (IsStoryOf trade) }
-        ensures fault { IfErr result MayFail }
+        ensures read { ReadPost S.Store self.old self.new result (IsStoryOfTrade trade) }
+        ensures fault { IfErr result IsCallFault }
     {
-        trade_story(alloc, &mut self.store, trade)
+        read_trade_story(alloc, &mut self.store, trade)
     }
 
     /// Returns the row of an account and its holding summaries with last prices, or `None` if the
@@ -209,10 +209,10 @@ impl<S: Alter> Desk<S> {
         alloc: Global,
         account: Id,
     ) -> Result<Option<AccountStory>, Fault>
-        ensures read { ReadPost S.Store self.old self.new result (IsAccountOf account) }
-        ensures fault { IfErr result MayFail }
+        ensures read { ReadPost S.Store self.old self.new result (IsStoryOfAccount account) }
+        ensures fault { IfErr result IsCallFault }
     {
-        account_story(alloc, &mut self.store, account)
+        read_account_story(alloc, &mut self.store, account)
     }
 
     /// Passes the cash rows of an account with stamps from `from` to `to`, both included, to a
@@ -233,7 +233,7 @@ impl<S: Alter> Desk<S> {
         requires ready { V.ready visitor.old }
         ensures ready { V.ready visitor.new }
         ensures leads { V.leads visitor.old visitor.new }
-        ensures walked { WalkPost S.Store self.old self.new move_row_of (cash_of account from to) V.takes V.stops visitor.old visitor.new result }
+        ensures walked { WalkPost S.Store self.old self.new abstract_move_row (cash_rows_in_span account from to) V.takes V.stops visitor.old visitor.new result }
     {
         self.store.visit_cash::<E, V>(account, from, to, visitor)
     }
@@ -253,7 +253,7 @@ impl<S: Alter> Desk<S> {
         requires ready { V.ready visitor.old }
         ensures ready { V.ready visitor.new }
         ensures leads { V.leads visitor.old visitor.new }
-        ensures walked { WalkPost S.Store self.old self.new holding_row_of (λ t. lots_in t account) V.takes V.stops visitor.old visitor.new result }
+        ensures walked { WalkPost S.Store self.old self.new abstract_holding_row (λ t. lot_rows_of_account t account) V.takes V.stops visitor.old visitor.new result }
     {
         self.store.visit_lots::<E, V>(account, visitor)
     }
@@ -273,7 +273,7 @@ impl<S: Alter> Desk<S> {
         call: F,
     ) -> Result<(), E>
         requires callable { F.IsAlwaysCallable call }
-        ensures called { CallsEach S.Store self.old self.new move_row_of (cash_of account from to) (CalledAt F.FnMut) E.from_gives call result }
+        ensures called { CallsClosureOnEach S.Store self.old self.new abstract_move_row (cash_rows_in_span account from to) (CalledAt F.FnMut) E.from_gives call result }
     {
         self.store.walk_cash::<E, F>(account, from, to, call)
     }
@@ -291,7 +291,7 @@ impl<S: Alter> Desk<S> {
         call: F,
     ) -> Result<(), E>
         requires callable { F.IsAlwaysCallable call }
-        ensures called { CallsEach S.Store self.old self.new holding_row_of (λ t. lots_in t account) (CalledAtLot F.FnMut) E.from_gives call result }
+        ensures called { CallsClosureOnEach S.Store self.old self.new abstract_holding_row (λ t. lot_rows_of_account t account) (IsCallWithLot F.FnMut) E.from_gives call result }
     {
         self.store.walk_lots::<E, F>(account, call)
     }

@@ -2,22 +2,23 @@
 
 ghost use Rattle.std.specs.Prelude.{◌++◌, ℕ, List};
 ghost use Rattle.sqlite.specs.Held.{Held};
-ghost use Rattle.brk_io.specs.Calls.{AreMade};
+ghost use Rattle.brk_io.specs.Calls.{IsCallSequence};
 ghost use Rattle.brk_desk.specs.Keeping.{OutcomePost};
-ghost use Rattle.brk_desk.specs.Runs.{IsRunOf};
+ghost use Rattle.brk_desk.specs.Runs.{IsRunWithOutcomes};
 ghost use Rattle.brk_desk.specs.declared.call.Call as made;
 ghost use Rattle.brk_desk.specs.declared.call.Outcome as came;
 
 use sqlite::Alter;
 
-/// Proves that calls of a desk, executed in order with nothing between them, satisfy `IsRunOf`: the
-/// postcondition and the guarantee of a run follow from the postconditions of the single calls. So
-/// they hold whoever makes the calls: `Desk::run`, or a caller of `Desk::call` and `Desk::ask`.
+/// Proves that calls of a desk, executed in order with nothing between them, satisfy
+/// `IsRunWithOutcomes`: the postcondition and the guarantee of a run follow from the postconditions
+/// of the single calls. So they hold whoever makes the calls: `Desk::run`, or a caller of
+/// `Desk::call` and `Desk::ask`.
 ///
 /// `joined`: a run and a run after it are one run of all their calls.
 pub fn calls_in_order_are_a_run<S: Alter>()
     ensures made { (old new : Held S) (calls : List (ℕ × made.Call)) (outcomes : List came.Outcome)
-        → AreMade (λ before now call outcome after. OutcomePost S.Store before after now call outcome) old calls outcomes new → IsRunOf S.Store old new calls outcomes }
+        → IsCallSequence (λ before now call outcome after. OutcomePost S.Store before after now call outcome) old calls outcomes new → IsRunWithOutcomes S.Store old new calls outcomes }
     ensures joined { (old mid new : Held S) (calls others : List (ℕ × made.Call)) (outcomes more : List came.Outcome)
-        → IsRunOf S.Store old mid calls outcomes → IsRunOf S.Store mid new others more → IsRunOf S.Store old new (calls ++ others) (outcomes ++ more) }
+        → IsRunWithOutcomes S.Store old mid calls outcomes → IsRunWithOutcomes S.Store mid new others more → IsRunWithOutcomes S.Store old new (calls ++ others) (outcomes ++ more) }
 {}

@@ -5,23 +5,23 @@ ghost use Rattle.sqlite.specs.Held.{Held, state};
 ghost use Rattle.sqlite.specs.State.{HasCleanDisk};
 ghost use Rattle.sqlite_trees.specs.Tree.{Trees};
 ghost use Rattle.brk_money.specs.declared.fault.Fault as faults;
-ghost use Rattle.brk_desk.specs.Answers.{outcome_of};
-ghost use Rattle.brk_desk.specs.Commands.{call_of};
+ghost use Rattle.brk_desk.specs.Answers.{model_outcome};
+ghost use Rattle.brk_desk.specs.Commands.{model_call};
 ghost use Rattle.brk_commit.specs.Booked.{CallPost, base_after_call};
 ghost use Rattle.brk_desk.specs.Keeping.{RunPost};
-ghost use Rattle.brk_desk.specs.Reopening.{HasTakenOver, IsJustOpened, IsUpgradedOver, IsReopened, IsRecovered, IsDurable};
+ghost use Rattle.brk_desk.specs.Reopening.{AdoptsPassingRows, IsJustOpened, AdoptsBaseUndamaged, IsReopenedAfterCrash, IsRecovered, RepresentsDurableBase};
 ghost use Rattle.brk_desk.specs.Stops.{MayBeRecovered};
 ghost use Rattle.brk_commit.specs.declared.answer.Answer as given;
 ghost use Rattle.brk_desk.specs.declared.call.Call as made;
 ghost use Rattle.brk_desk.specs.declared.call.Outcome as came;
-ghost use Rattle.brk_model.specs.Adopted.{base_of};
+ghost use Rattle.brk_model.specs.Adopted.{base_of_tables};
 ghost use Rattle.brk_model.specs.Base.{Base, empty_base};
 ghost use Rattle.brk_model.specs.Commands.{Command};
 ghost use Rattle.brk_model.specs.Records.{Key};
 ghost use Rattle.brk_model.specs.Tables.{Tables};
-ghost use Rattle.brk_changes.specs.Schemas.{schema_of};
+ghost use Rattle.brk_changes.specs.Schemas.{abstract_schema};
 ghost use Rattle.brk_changes.specs.declared.schema.Schema.{Schema};
-ghost use Rattle.brk_store.specs.Audited.{Answered, AdoptPost, IsDefinedIn};
+ghost use Rattle.brk_store.specs.Audited.{IsAuditOfStoredRows, AdoptPost, StoreNamesImplyDefinitions};
 ghost use Rattle.brk_store.specs.Holds.{CreatePost};
 
 use sqlite::Alter;
@@ -33,9 +33,9 @@ use sqlite::Alter;
 /// `made`: once the tables were created, the store represents the empty base, and a crash exposes
 /// only its tables.
 ///
-/// `adopted`: once a database was adopted that had just been opened and satisfies `IsDefinedIn`,
-/// the store represents the base that its rows determine, and a crash exposes only the tables of
-/// this base.
+/// `adopted`: once a database was adopted that had just been opened and satisfies
+/// `StoreNamesImplyDefinitions`, the store represents the base that its rows determine, and a crash
+/// exposes only the tables of this base.
 ///
 /// `call`, `run`: after a crash in a call or in a run of such a store, the adopted store represents
 /// the base with every acknowledged command, or with one command more (`MayBeRecovered`). A crash
@@ -49,21 +49,21 @@ use sqlite::Alter;
 /// pass the audit of their schema, an older one included, a later adoption does not fail with
 /// `Damaged`. If it succeeds, the store represents the base that the same rows determine.
 pub fn every_crash_state_is_adopted<S: Alter>()
-    ensures made { (conn store : Held S) → CreatePost S.Store conn store (Ok tt) → HasCleanDisk (state S.Store store) → IsDurable S.Store store empty_base }
-    ensures adopted { (trees : Trees) (conn store : Held S) → IsJustOpened S.Store trees conn → IsDefinedIn S.Store conn → AdoptPost S.Store conn store (Ok tt)
-        → HasCleanDisk (state S.Store store) → HasTakenOver S.Store conn store }
+    ensures made { (conn store : Held S) → CreatePost S.Store conn store (Ok tt) → HasCleanDisk (state S.Store store) → RepresentsDurableBase S.Store store empty_base }
+    ensures adopted { (trees : Trees) (conn store : Held S) → IsJustOpened S.Store trees conn → StoreNamesImplyDefinitions S.Store conn → AdoptPost S.Store conn store (Ok tt)
+        → HasCleanDisk (state S.Store store) → AdoptsPassingRows S.Store conn store }
     ensures upgrading { (trees : Trees) (first left conn store : Held S) (stopped result : Result (Unit {0}) faults.Fault) (schema : Schema) (rows : Tables)
-        → IsJustOpened S.Store trees first → Answered (schema_of schema) rows (state S.Store first).now None → AdoptPost S.Store first left stopped → HasCleanDisk (state S.Store left)
-        → IsReopened S.Store left conn → AdoptPost S.Store conn store result → HasCleanDisk (state S.Store store) → IsUpgradedOver S.Store store result (base_of rows) }
+        → IsJustOpened S.Store trees first → IsAuditOfStoredRows (abstract_schema schema) rows (state S.Store first).now None → AdoptPost S.Store first left stopped → HasCleanDisk (state S.Store left)
+        → IsReopenedAfterCrash S.Store left conn → AdoptPost S.Store conn store result → HasCleanDisk (state S.Store store) → AdoptsBaseUndamaged S.Store store result (base_of_tables rows) }
     ensures making { (first left conn store : Held S) (created result : Result (Unit {0}) faults.Fault) (trees : Trees) → CreatePost S.Store first left created
         → HasCleanDisk (state S.Store left) → (state S.Store left).may_leave trees → IsJustOpened S.Store trees conn → AdoptPost S.Store conn store result
         → HasCleanDisk (state S.Store store) → (state S.Store first).may_leave trees ⊎ IsRecovered S.Store store result (λ base. base ≡ empty_base) }
     ensures call { (first left conn store : Held S) (base : Base) (result : Result (Unit {0}) faults.Fault) (now : ℕ) (command : Command) (key : Option Key)
-        (answer : Result given.Answer faults.Fault) → IsDurable S.Store first base → CallPost S.Store first left now command key answer → HasCleanDisk (state S.Store left)
-        → IsReopened S.Store left conn → AdoptPost S.Store conn store result → HasCleanDisk (state S.Store store)
+        (answer : Result given.Answer faults.Fault) → RepresentsDurableBase S.Store first base → CallPost S.Store first left now command key answer → HasCleanDisk (state S.Store left)
+        → IsReopenedAfterCrash S.Store left conn → AdoptPost S.Store conn store result → HasCleanDisk (state S.Store store)
         → IsRecovered S.Store store result (λ stood. (stood ≡ base) ⊎ (stood ≡ base_after_call base now command key)) }
     ensures run { (first left conn store : Held S) (base : Base) (result : Result (Unit {0}) faults.Fault) (calls : List (ℕ × made.Call)) (outcomes : List came.Outcome)
-        → IsDurable S.Store first base → RunPost S.Store first left calls outcomes → HasCleanDisk (state S.Store left) → IsReopened S.Store left conn
+        → RepresentsDurableBase S.Store first base → RunPost S.Store first left calls outcomes → HasCleanDisk (state S.Store left) → IsReopenedAfterCrash S.Store left conn
         → AdoptPost S.Store conn store result → HasCleanDisk (state S.Store store)
-        → IsRecovered S.Store store result (MayBeRecovered base (map call_of calls) (map outcome_of outcomes)) }
+        → IsRecovered S.Store store result (MayBeRecovered base (map model_call calls) (map model_outcome outcomes)) }
 {}

@@ -6,11 +6,11 @@ use Rattle.brk_money.specs.declared.fault.Fault.{Fault}
 use Rattle.brk_money.specs.declared.fault.Fault.TheVariants as fault
 
 -- The bytes of an error line: its two parts and a line feed.
-abbrev pub line_bytes : Bor (List ℕ) × Bor (List ℕ) → List ℕ
-line_bytes line = line.0.now ++ (line.1.now ++ (10 ∷ []))
+abbrev pub bytes_of_error_line : Bor (List ℕ) × Bor (List ℕ) → List ℕ
+bytes_of_error_line line = line.0.now ++ (line.1.now ++ (10 ∷ []))
 
 -- The error line of a fault of a desk.
-abbrev pub fault_line : Fault → List ℕ
-fault_line fault.Memory = codes "brk: fault: memory\n"
-fault_line fault.Store = codes "brk: fault: store\n"
-fault_line (fault.Damaged condition) = codes "brk: damaged: " ++ (condition_word condition ++ (10 ∷ []))
+abbrev pub error_line_of_fault : Fault → List ℕ
+error_line_of_fault fault.Memory = codes "brk: fault: memory\n"
+error_line_of_fault fault.Store = codes "brk: fault: store\n"
+error_line_of_fault (fault.Damaged condition) = codes "brk: damaged: " ++ (condition_word condition ++ (10 ∷ []))

@@ -8,9 +8,9 @@ abbrev pub ReceivesPrefix : Option (List ℕ) → Option (List ℕ) → List ℕ
 ReceivesPrefix old new text = (prefix : List ℕ) × (left : List ℕ) × Appends old new prefix × (text ≡ prefix ++ left)
 
 -- The sink received a prefix of `text`, and its last step, to the state `new`, was a failure.
-abbrev pub FailsWithin : {S : Type 0} → (S → Option (List ℕ)) → (S → S → Type 0) → S → S → List ℕ → Type 0
-FailsWithin {S} contents fails old new text = (last : S) × fails last new × ReceivesPrefix (contents old) (contents new) text
+abbrev pub SinkFailsWithinText : {S : Type 0} → (S → Option (List ℕ)) → (S → S → Type 0) → S → S → List ℕ → Type 0
+SinkFailsWithinText {S} contents fails old new text = (last : S) × fails last new × ReceivesPrefix (contents old) (contents new) text
 
 -- The sink received all of `text`, or it received a prefix and failed.
-abbrev pub ReceivesUnlessFailed : {S : Type 0} → (S → Option (List ℕ)) → (S → S → Type 0) → S → S → List ℕ → Type 0
-ReceivesUnlessFailed contents fails old new text = Appends (contents old) (contents new) text ⊎ FailsWithin contents fails old new text
+abbrev pub ReceivesTextOrFails : {S : Type 0} → (S → Option (List ℕ)) → (S → S → Type 0) → S → S → List ℕ → Type 0
+ReceivesTextOrFails contents fails old new text = Appends (contents old) (contents new) text ⊎ SinkFailsWithinText contents fails old new text

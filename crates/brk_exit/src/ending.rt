@@ -2,10 +2,10 @@ ghost use Rattle.std.specs.Prelude.{◌≡◌, OnErr, OnOk};
 ghost use Rattle.std.specs.Io.KnownBytes.{Appends};
 ghost use Rattle.brk_exit.specs.Ending as spec;
 ghost use Rattle.brk_exit.specs.Lines as line;
-ghost use Rattle.brk_exit.specs.Sinks.{FailsWithin, ReceivesUnlessFailed};
+ghost use Rattle.brk_exit.specs.Sinks.{SinkFailsWithinText, ReceivesTextOrFails};
 
 use crate::sink::Sink;
-use crate::telling::{Line, fault_line, write_line};
+use crate::telling::{Line, fault_error_line, send_line};
 use brk_args::UsageFault;
 use brk_http_engine::{FaultKind as StreamFault, ServeFault};
 use brk_io::{BatchFault, FaultKind, NotWritten};
@@ -35,8 +35,8 @@ pub enum Ending {
 }
 
 // Returns the error line of a batch that ended early.
-fn batch_line(kind: FaultKind) -> Line<'static>
-    ensures { line.line_bytes result ≡ spec.batch_line kind }
+fn batch_error_line(kind: FaultKind) -> Line<'static>
+    ensures { line.bytes_of_error_line result ≡ spec.error_line_of_batch kind }
 {
     match kind {
         FaultKind::BadHeader => ("brk: batch: ", "bad header"),
@@ -44,13 +44,13 @@ fn batch_line(kind: FaultKind) -> Line<'static>
         FaultKind::BadEnd => ("brk: batch: ", "bad end"),
         FaultKind::Read => ("brk: fault: ", "read"),
         FaultKind::Write => ("brk: fault: ", "write"),
-        FaultKind::Desk(fault) => fault_line(fault),
+        FaultKind::Desk(fault) => fault_error_line(fault),
     }
 }
 
 // Returns the error line of a stream that ended early.
-fn stream_line(kind: StreamFault) -> Line<'static>
-    ensures { line.line_bytes result ≡ spec.stream_line kind }
+fn stream_error_line(kind: StreamFault) -> Line<'static>
+    ensures { line.bytes_of_error_line result ≡ spec.error_line_of_stream kind }
 {
     match kind {
         StreamFault::Read => ("brk: fault: ", "read"),
@@ -60,8 +60,8 @@ fn stream_line(kind: StreamFault) -> Line<'static>
 }
 
 // Returns the exit status of a fault: 1 for `Damaged`, and 3 for `Memory` and `Store`.
-fn fault_status(fault: Fault) -> u8
-    ensures { result ≡ spec.fault_status fault }
+fn fault_exit_status(fault: Fault) -> u8
+    ensures { result ≡ spec.exit_status_of_fault fault }
 {
     match fault {
         Fault::Damaged(_) => 1,
@@ -70,36 +70,36 @@ fn fault_status(fault: Fault) -> u8
 }
 
 // Returns the exit status of a batch that ended early.
-fn batch_status(kind: FaultKind) -> u8
-    ensures { result ≡ spec.batch_status kind }
+fn batch_exit_status(kind: FaultKind) -> u8
+    ensures { result ≡ spec.exit_status_of_batch_fault kind }
 {
     match kind {
         FaultKind::BadHeader | FaultKind::NoEnd | FaultKind::BadEnd => 1,
         FaultKind::Read | FaultKind::Write => 3,
-        FaultKind::Desk(fault) => fault_status(fault),
+        FaultKind::Desk(fault) => fault_exit_status(fault),
     }
 }
 
 // Returns the exit status of a report that is refused or ended early.
-fn report_status(fault: &ReportFault) -> u8
-    ensures { result ≡ spec.report_status fault.now }
+fn report_exit_status(fault: &ReportFault) -> u8
+    ensures { result ≡ spec.exit_status_of_report_fault fault.now }
 {
     match fault {
         ReportFault::Refused(_) => 1,
-        ReportFault::Desk(fault) => fault_status(*fault),
+        ReportFault::Desk(fault) => fault_exit_status(*fault),
         ReportFault::Write => 3,
     }
 }
 
 // Returns the exit status of an ending.
-fn status(ending: &Ending) -> u8
+fn ending_exit_status(ending: &Ending) -> u8
     ensures { result ≡ spec.exit_status ending.now }
 {
     match ending {
         Ending::Done => 0,
-        Ending::Open(fault) => fault_status(*fault),
-        Ending::Batch(fault) => batch_status(fault.kind),
-        Ending::Report(fault) => report_status(fault),
+        Ending::Open(fault) => fault_exit_status(*fault),
+        Ending::Batch(fault) => batch_exit_status(fault.kind),
+        Ending::Report(fault) => report_exit_status(fault),
         Ending::Serve(_) => 3,
         Ending::Net => 3,
         Ending::Output => 3,
@@ -111,8 +111,8 @@ fn status(ending: &Ending) -> u8
 
 /// Returns the ending of the program after the database was closed. A fault of the close replaces
 /// the ending only if the job was done.
-pub fn after_close(ending: Ending, closed: Result<(), Fault>) -> Ending
-    ensures { result ≡ spec.after_close ending closed }
+pub fn merge_close_result(ending: Ending, closed: Result<(), Fault>) -> Ending
+    ensures { result ≡ spec.ending_after_close ending closed }
 {
     match (ending, closed) {
         (Ending::Done, Err(fault)) => Ending::Open(fault),
@@ -122,49 +122,49 @@ pub fn after_close(ending: Ending, closed: Result<(), Fault>) -> Ending
 
 // Sends the error line of a report to `errors`. If the sink fails, it has received a prefix of the
 // line.
-fn tell_report<S: Sink>(fault: &ReportFault, errors: &mut S) -> Result<(), NotWritten>
-    ensures ok { OnOk result (Appends (S.contents errors.old) (S.contents errors.new) (spec.report_line fault.now)) }
-    ensures err { OnErr result (FailsWithin S.contents S.fails errors.old errors.new (spec.report_line fault.now)) }
+fn send_report_line<S: Sink>(fault: &ReportFault, errors: &mut S) -> Result<(), NotWritten>
+    ensures ok { OnOk result (Appends (S.contents errors.old) (S.contents errors.new) (spec.error_line_of_report fault.now)) }
+    ensures err { OnErr result (SinkFailsWithinText S.contents S.fails errors.old errors.new (spec.error_line_of_report fault.now)) }
 {
     match fault {
         ReportFault::Refused(refusal) => {
             let mut buffer = Buffer::new();
-            write_line(errors, ("brk: refused: ", buffer.format(refusal.number())))
+            send_line(errors, ("brk: refused: ", buffer.format(refusal.number())))
         }
-        ReportFault::Desk(fault) => write_line(errors, fault_line(*fault)),
-        ReportFault::Write => write_line(errors, ("brk: fault: ", "write")),
+        ReportFault::Desk(fault) => send_line(errors, fault_error_line(*fault)),
+        ReportFault::Write => send_line(errors, ("brk: fault: ", "write")),
     }
 }
 
 // Sends the error text of a usage fault to `errors`; help has none. If the sink fails, it has
 // received a prefix of the text.
-fn tell_usage<S: Sink>(fault: &UsageFault, errors: &mut S) -> Result<(), NotWritten>
-    ensures ok { OnOk result (Appends (S.contents errors.old) (S.contents errors.new) (spec.usage_line fault.now)) }
-    ensures err { OnErr result (FailsWithin S.contents S.fails errors.old errors.new (spec.usage_line fault.now)) }
+fn send_usage_line<S: Sink>(fault: &UsageFault, errors: &mut S) -> Result<(), NotWritten>
+    ensures ok { OnOk result (Appends (S.contents errors.old) (S.contents errors.new) (spec.error_line_of_usage fault.now)) }
+    ensures err { OnErr result (SinkFailsWithinText S.contents S.fails errors.old errors.new (spec.error_line_of_usage fault.now)) }
 {
     match fault {
         UsageFault::Words(text) => errors.send(text.as_bytes()),
         UsageFault::Help(_) => Ok(()),
-        UsageFault::Day => write_line(errors, ("brk: usage: ", "day")),
-        UsageFault::Memory => write_line(errors, ("brk: fault: ", "memory")),
+        UsageFault::Day => send_line(errors, ("brk: usage: ", "day")),
+        UsageFault::Memory => send_line(errors, ("brk: fault: ", "memory")),
     }
 }
 
 /// Sends the error line of an ending to `errors`. Help and a job that is done have no line. If the
 /// sink fails, it has received a prefix of the line.
-pub fn tell<S: Sink>(ending: &Ending, errors: &mut S) -> Result<(), NotWritten>
+pub fn send_error_line<S: Sink>(ending: &Ending, errors: &mut S) -> Result<(), NotWritten>
     ensures ok { OnOk result (Appends (S.contents errors.old) (S.contents errors.new) (spec.error_line ending.now)) }
-    ensures err { OnErr result (FailsWithin S.contents S.fails errors.old errors.new (spec.error_line ending.now)) }
+    ensures err { OnErr result (SinkFailsWithinText S.contents S.fails errors.old errors.new (spec.error_line ending.now)) }
 {
     match ending {
         Ending::Done => Ok(()),
-        Ending::Open(fault) => write_line(errors, fault_line(*fault)),
-        Ending::Batch(fault) => write_line(errors, batch_line(fault.kind)),
-        Ending::Report(fault) => tell_report(fault, errors),
-        Ending::Serve(fault) => write_line(errors, stream_line(fault.kind)),
-        Ending::Net => write_line(errors, ("brk: fault: ", "net")),
-        Ending::Output => write_line(errors, ("brk: fault: ", "write")),
-        Ending::Usage(fault) => tell_usage(fault, errors),
+        Ending::Open(fault) => send_line(errors, fault_error_line(*fault)),
+        Ending::Batch(fault) => send_line(errors, batch_error_line(fault.kind)),
+        Ending::Report(fault) => send_report_line(fault, errors),
+        Ending::Serve(fault) => send_line(errors, stream_error_line(fault.kind)),
+        Ending::Net => send_line(errors, ("brk: fault: ", "net")),
+        Ending::Output => send_line(errors, ("brk: fault: ", "write")),
+        Ending::Usage(fault) => send_usage_line(fault, errors),
     }
 }
 
@@ -172,8 +172,8 @@ pub fn tell<S: Sink>(ending: &Ending, errors: &mut S) -> Result<(), NotWritten>
 /// on a failure of the sink. Help and a job that is done have no line.
 pub fn end_with<S: Sink>(ending: &Ending, errors: &mut S) -> u8
     ensures status { result ≡ spec.exit_status ending.now }
-    ensures line { ReceivesUnlessFailed S.contents S.fails errors.old errors.new (spec.error_line ending.now) }
+    ensures line { ReceivesTextOrFails S.contents S.fails errors.old errors.new (spec.error_line ending.now) }
 {
-    let _ = tell(ending, errors);
-    status(ending)
+    let _ = send_error_line(ending, errors);
+    ending_exit_status(ending)
 }

@@ -1,8 +1,8 @@
 ghost use Rattle.std.specs.Prelude.{ℕ, List, Option, None, OnErr, OnOk};
 ghost use Rattle.std.specs.Io.KnownBytes.{Appends};
-ghost use Rattle.brk_exit.specs.Sinks.{FailsWithin};
+ghost use Rattle.brk_exit.specs.Sinks.{SinkFailsWithinText};
 
-use brk_io::{NotWritten, write_out};
+use brk_io::{NotWritten, write_all_bytes};
 use std::io::Write;
 
 /// A receiver of bytes that may fail.
@@ -16,7 +16,7 @@ pub trait Sink {
     /// Sends all bytes. If the sink fails, it has received a prefix of them.
     fn send(&mut self, bytes: &[u8]) -> Result<(), NotWritten>
         ensures ok { OnOk result (Appends (contents self.old) (contents self.new) bytes.now) }
-        ensures err { OnErr result (FailsWithin contents fails self.old self.new bytes.now) };
+        ensures err { OnErr result (SinkFailsWithinText contents fails self.old self.new bytes.now) };
 }
 
 /// Every writer is a sink. `Write` specifies no failure, so any step of a writer may be one.
@@ -24,6 +24,6 @@ impl<W: Write> Sink for W {
     ghost contents = { W.contents };
 
     fn send(&mut self, bytes: &[u8]) -> Result<(), NotWritten> {
-        write_out(self, bytes)
+        write_all_bytes(self, bytes)
     }
 }

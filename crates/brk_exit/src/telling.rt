@@ -1,7 +1,7 @@
 ghost use Rattle.std.specs.Prelude.{◌≡◌, OnErr, OnOk};
 ghost use Rattle.std.specs.Io.KnownBytes.{Appends};
 ghost use Rattle.brk_exit.specs.Lines as spec;
-ghost use Rattle.brk_exit.specs.Sinks.{FailsWithin};
+ghost use Rattle.brk_exit.specs.Sinks.{SinkFailsWithinText};
 
 use crate::sink::Sink;
 use brk_io::NotWritten;
@@ -11,8 +11,8 @@ use brk_money::Fault;
 pub type Line<'a> = (&'a str, &'a str);
 
 /// Returns the error line of a fault of a desk.
-pub fn fault_line(fault: Fault) -> Line<'static>
-    ensures { spec.line_bytes result ≡ spec.fault_line fault }
+pub fn fault_error_line(fault: Fault) -> Line<'static>
+    ensures { spec.bytes_of_error_line result ≡ spec.error_line_of_fault fault }
 {
     match fault {
         Fault::Memory => ("brk: fault: ", "memory"),
@@ -22,9 +22,9 @@ pub fn fault_line(fault: Fault) -> Line<'static>
 }
 
 /// Sends an error line and a line feed. If the sink fails, it has received a prefix of them.
-pub fn write_line<S: Sink>(sink: &mut S, line: Line<'_>) -> Result<(), NotWritten>
-    ensures ok { OnOk result (Appends (S.contents sink.old) (S.contents sink.new) (spec.line_bytes line.entry)) }
-    ensures err { OnErr result (FailsWithin S.contents S.fails sink.old sink.new (spec.line_bytes line.entry)) }
+pub fn send_line<S: Sink>(sink: &mut S, line: Line<'_>) -> Result<(), NotWritten>
+    ensures ok { OnOk result (Appends (S.contents sink.old) (S.contents sink.new) (spec.bytes_of_error_line line.entry)) }
+    ensures err { OnErr result (SinkFailsWithinText S.contents S.fails sink.old sink.new (spec.bytes_of_error_line line.entry)) }
 {
     sink.send(line.0.as_bytes())?;
     sink.send(line.1.as_bytes())?;

@@ -3,9 +3,9 @@ use Rattle.std.proofs.Common.{◌≡◌, Global, List, [], ◌∷◌, ◌++◌, 
 use Rattle.std.specs.Prelude.{ℕ, Vec}
 use Rattle.brk_money.specs.Spelling.{Text}
 use Rattle.brk_money.specs.declared.fault.Fault.{Fault}
-use Rattle.brk_model.specs.Run.{MayFail}
-use Rattle.brk_model.specs.Statement.{lines_text}
-use Rattle.brk_report_lines.specs.Written.{BreaksIn, BreaksOff, WritesLines}
+use Rattle.brk_model.specs.Run.{IsCallFault}
+use Rattle.brk_model.specs.Statement.{text_of_lines}
+use Rattle.brk_report_lines.specs.Written.{FailsWithinLines, FailsWithinFirstLines, WritesLines}
 use Rattle.brk_report_lines.specs.declared.fault.LinesFault.{LinesFault}
 use Rattle.brk_report_lines.proofs.Composed.{breaks_off}
 
@@ -23,13 +23,13 @@ first_behind [] ys h = h
 first_behind (x ∷ xs) ys h = (x, xs ++ ys, refl)
 
 -- lines that may all be written, with others behind them
-pub breaks_off_before : (xs ys : List Text) (a b : Option Text) (e : LinesFault) → HasFirst ys → BreaksOff xs a b e → BreaksIn (xs ++ ys) a b e
-breaks_off_before xs ys a b e some h = subst (λ (l : List Text). BreaksIn (xs ++ l) a b e) some.2 (breaks_off xs some.0 some.1 a b e h)
+pub breaks_off_before : (xs ys : List Text) (a b : Option Text) (e : LinesFault) → HasFirst ys → FailsWithinFirstLines xs a b e → FailsWithinLines (xs ++ ys) a b e
+breaks_off_before xs ys a b e some h = subst (λ (l : List Text). FailsWithinLines (xs ++ l) a b e) some.2 (breaks_off xs some.0 some.1 a b e h)
 
 -- the text of lines is written
 pub text_written : {R : Type 0} (lines : List Text) (text : Result (Vec ℕ Global) Fault) (a b : Option Text) (r : Result R LinesFault) → HasFirst lines
-    → ((line : Text) (rest : List Text) → IfOk text (λ t. t.items ≡ lines_text (line ∷ rest)) → IfErr text MayFail → WritesLines (line ∷ rest) a b r)
-    → IfOk text (λ t. t.items ≡ lines_text lines) → IfErr text MayFail → WritesLines lines a b r
+    → ((line : Text) (rest : List Text) → IfOk text (λ t. t.items ≡ text_of_lines (line ∷ rest)) → IfErr text IsCallFault → WritesLines (line ∷ rest) a b r)
+    → IfOk text (λ t. t.items ≡ text_of_lines lines) → IfErr text IsCallFault → WritesLines lines a b r
 text_written lines text a b r some writes made fails =
     subst (λ (l : List Text). WritesLines l a b r) some.2
-    (writes some.0 some.1 (subst (λ (l : List Text). IfOk text (λ t. t.items ≡ lines_text l)) (sym some.2) made) fails)
+    (writes some.0 some.1 (subst (λ (l : List Text). IfOk text (λ t. t.items ≡ text_of_lines l)) (sym some.2) made) fails)

@@ -7,22 +7,22 @@ use Rattle.brk_money.specs.Spelling.{Text}
 use Rattle.brk_money.specs.declared.fault.Fault.{Fault}
 use Rattle.brk_money.specs.declared.refusal.Refusal.{Refusal}
 use Rattle.brk_money.specs.declared.refusal.Refusal.TheVariants.{NoAccount, NoTrade}
-use Rattle.brk_model.specs.Joins.{account_in, trade_in}
-use Rattle.brk_model.specs.Statement.{lines_text, lots_in}
+use Rattle.brk_model.specs.Joins.{account_row_with_id, trade_row_with_id}
+use Rattle.brk_model.specs.Statement.{text_of_lines, lot_rows_of_account}
 use Rattle.brk_model.specs.Tables.{AccountRow, Tables}
-use Rattle.brk_ref.specs.Records.{account_row_of}
-use Rattle.brk_explain_model.specs.AccountLines.{Held, account_bottom, account_end, account_lines, account_top, balance_part, held_in, held_line, held_lot_line, posted_in, posted_lines}
+use Rattle.brk_ref.specs.Records.{abstract_account_row}
+use Rattle.brk_explain_model.specs.AccountLines.{Held, holding_and_total_lines, account_total_lines, account_explanation_lines, account_header_lines, balance_header_lines, priced_holdings_of_account, holding_line, open_lot_line, account_cash_rows_by_stamp, cash_posting_lines}
 use Rattle.brk_explain_model.specs.Explain.{AccountOf, TradeOf, explanation}
-use Rattle.brk_explain_model.specs.TradeLines.{order_lines, party_lines, trade_lines}
+use Rattle.brk_explain_model.specs.TradeLines.{order_and_status_lines, title_and_party_lines, trade_explanation_lines}
 use Rattle.brk_explain_model.specs.Trades.{TradeStory}
-use Rattle.brk_explain_rows.specs.Stories.{IsAccountOf, IsStoryOf, held_of, trade_story_of}
+use Rattle.brk_explain_rows.specs.Stories.{IsStoryOfAccount, IsStoryOfTrade, abstract_priced_holding, abstract_trade_story}
 use Rattle.brk_explain_rows.specs.declared.account_story.AccountStory as account_story
 use Rattle.brk_explain_rows.specs.declared.story.TradeStory as trade_story
-use Rattle.brk_report_lines.specs.Written.{BreaksIn}
+use Rattle.brk_report_lines.specs.Written.{FailsWithinLines}
 use Rattle.brk_report_lines.specs.declared.fault.LinesFault.TheVariants.{Desk, Write}
 use Rattle.brk_report_lines.specs.declared.fault.ReportFault.TheVariants as report
-use Rattle.brk_explain.specs.Sections.{all_lines}
-use Rattle.brk_explain.specs.Told.{Tells}
+use Rattle.brk_explain.specs.Sections.{all_account_lines}
+use Rattle.brk_explain.specs.Told.{WritesLinesOrRefuses}
 use Rattle.brk_explain.proofs.Some.{HasFirst, first_behind}
 
 passes_found : {X : Type 0} (p : X → Bool) (xs : List X) (x : X) → find p xs ≡ Some x → p x ≡ true
@@ -35,16 +35,16 @@ passes_found p (y ∷ ys) x e = go (passes_found p ys x) (p y) refl
 
 -- ---- a trade
 
-pub trade_told : (t : Tables) (trade : ℕ) (story : trade_story.TradeStory) → IsStoryOf trade (Some story) t → explanation t (TradeOf trade) ≡ Ok (trade_lines (trade_story_of story))
+pub trade_told : (t : Tables) (trade : ℕ) (story : trade_story.TradeStory) → IsStoryOfTrade trade (Some story) t → explanation t (TradeOf trade) ≡ Ok (trade_explanation_lines (abstract_trade_story story))
 unfolding explanation
-trade_told t trade story h = rw h.1 (ap (λ (s : TradeStory). Ok (trade_lines s)) (sym h.2))
+trade_told t trade story h = rw h.1 (ap (λ (s : TradeStory). Ok (trade_explanation_lines s)) (sym h.2))
 
-pub no_trade : (t : Tables) (trade : ℕ) → trade_in t trade ≡ None → explanation t (TradeOf trade) ≡ Err NoTrade
+pub no_trade : (t : Tables) (trade : ℕ) → trade_row_with_id t trade ≡ None → explanation t (TradeOf trade) ≡ Err NoTrade
 unfolding explanation
 no_trade t trade none = rw none refl
 
-pub trade_first : (s : TradeStory) → HasFirst (trade_lines s)
-unfolding trade_lines order_lines party_lines
+pub trade_first : (s : TradeStory) → HasFirst (trade_explanation_lines s)
+unfolding trade_explanation_lines order_and_status_lines title_and_party_lines
 trade_first s = (_, _, refl)
 
 -- ---- an account
@@ -52,44 +52,44 @@ trade_first s = (_, _, refl)
 five_parts : (a b c d e : List Text) → (((a ++ b) ++ c) ++ d) ++ e ≡ a ++ (b ++ (c ++ (d ++ e)))
 five_parts a b c d e = append_assoc ((a ++ b) ++ c) d e ∙ append_assoc (a ++ b) c (d ++ e) ∙ append_assoc a b (c ++ (d ++ e))
 
-pub account_told : (t : Tables) (account : ℕ) (story : account_story.AccountStory) → IsAccountOf account (Some story) t → explanation t (AccountOf account) ≡ Ok (all_lines t account story)
-unfolding explanation account_lines
+pub account_told : (t : Tables) (account : ℕ) (story : account_story.AccountStory) → IsStoryOfAccount account (Some story) t → explanation t (AccountOf account) ≡ Ok (all_account_lines t account story)
+unfolding explanation account_explanation_lines
 account_told t account story h =
-    let a = account_row_of story.account in
+    let a = abstract_account_row story.account in
     let id : a.id ≡ account = eqb-true a.id account (passes_found (λ (r : AccountRow). r.id == account) t.accounts a h.0) in
     let lines : ℕ → List Held → List Text =
     λ n held.
-    account_top a ++ posted_lines a.opening (posted_in t n) ++ balance_part a ++ map held_lot_line (lots_in t n) ++ account_bottom a held (length (posted_in t n)) (length (lots_in t n)) in
+    account_header_lines a ++ cash_posting_lines a.opening (account_cash_rows_by_stamp t n) ++ balance_header_lines a ++ map open_lot_line (lot_rows_of_account t n) ++ holding_and_total_lines a held (length (account_cash_rows_by_stamp t n)) (length (lot_rows_of_account t n)) in
     rw h.0
-    (ap (λ (n : ℕ). Ok (lines n (held_in t n))) id ∙ ap (λ (held : List Held). Ok (lines account held)) (sym h.1)
+    (ap (λ (n : ℕ). Ok (lines n (priced_holdings_of_account t n))) id ∙ ap (λ (held : List Held). Ok (lines account held)) (sym h.1)
     ∙ ap (λ (l : List Text). Ok l)
-    (five_parts (account_top a) (posted_lines a.opening (posted_in t account)) (balance_part a) (map held_lot_line (lots_in t account))
-    (account_bottom a (map held_of story.held.items) (length (posted_in t account)) (length (lots_in t account)))))
+    (five_parts (account_header_lines a) (cash_posting_lines a.opening (account_cash_rows_by_stamp t account)) (balance_header_lines a) (map open_lot_line (lot_rows_of_account t account))
+    (holding_and_total_lines a (map abstract_priced_holding story.held.items) (length (account_cash_rows_by_stamp t account)) (length (lot_rows_of_account t account)))))
 
-pub no_account : (t : Tables) (account : ℕ) → account_in t account ≡ None → explanation t (AccountOf account) ≡ Err NoAccount
+pub no_account : (t : Tables) (account : ℕ) → account_row_with_id t account ≡ None → explanation t (AccountOf account) ≡ Err NoAccount
 unfolding explanation
 no_account t account none = rw none refl
 
-pub top_first : (a : AccountRow) → HasFirst (account_top a)
-unfolding account_top
+pub top_first : (a : AccountRow) → HasFirst (account_header_lines a)
+unfolding account_header_lines
 top_first a = (_, _, refl)
 
-pub balance_first : (a : AccountRow) → HasFirst (balance_part a)
-unfolding balance_part
+pub balance_first : (a : AccountRow) → HasFirst (balance_header_lines a)
+unfolding balance_header_lines
 balance_first a = (_, _, refl)
 
-pub bottom_first : (a : AccountRow) (held : List Held) (cash lots : ℕ) → HasFirst (account_bottom a held cash lots)
-unfolding account_end
-bottom_first a held cash lots = first_behind (map held_line held) _ (_, _, refl)
+pub bottom_first : (a : AccountRow) (held : List Held) (cash lots : ℕ) → HasFirst (holding_and_total_lines a held cash lots)
+unfolding account_total_lines
+bottom_first a held cash lots = first_behind (map holding_line held) _ (_, _, refl)
 
 -- ---- what was written
 
 module _ (told : Result (List Text) Refusal) (lines : List Text) (is : told ≡ Ok lines) (a b : Option Text) where
-  pub tells_all : Appends a b (lines_text lines) → Tells told a b (Ok tt)
+  pub tells_all : Appends a b (text_of_lines lines) → WritesLinesOrRefuses told a b (Ok tt)
   tells_all h = (lines, is, h)
 
-  pub tells_fault : (f : Fault) → BreaksIn lines a b (Desk f) → Tells told a b (Err (report.Desk f))
+  pub tells_fault : (f : Fault) → FailsWithinLines lines a b (Desk f) → WritesLinesOrRefuses told a b (Err (report.Desk f))
   tells_fault f h = (h.0, inr (lines, is, h.1))
 
-  pub tells_write : BreaksIn lines a b Write → Tells told a b (Err report.Write)
+  pub tells_write : FailsWithinLines lines a b Write → WritesLinesOrRefuses told a b (Err report.Write)
   tells_write h = (lines, is, h)

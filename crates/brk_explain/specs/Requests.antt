@@ -4,6 +4,6 @@ use Rattle.brk_explain.specs.declared.parse.Explain as asked
 use Rattle.brk_explain.specs.declared.parse.Explain.TheVariants as form
 
 -- The model's object of an explanation for the program's one.
-abbrev pub explain_of : asked.Explain → Explain
-explain_of (form.Trade id) = TradeOf id
-explain_of (form.Account id) = AccountOf id
+abbrev pub abstract_explain_request : asked.Explain → Explain
+abstract_explain_request (form.Trade id) = TradeOf id
+abstract_explain_request (form.Account id) = AccountOf id

@@ -5,11 +5,11 @@ use Rattle.sqlite_trees.specs.declared.store.Store.{Ghosts}
 use Rattle.sqlite.specs.Held.{Held}
 use Rattle.brk_money.specs.Spelling.{Text}
 use Rattle.brk_money.specs.declared.refusal.Refusal.{Refusal}
-use Rattle.brk_model.specs.Run.{MayFail}
-use Rattle.brk_model.specs.Statement.{lines_text}
+use Rattle.brk_model.specs.Run.{IsCallFault}
+use Rattle.brk_model.specs.Statement.{text_of_lines}
 use Rattle.brk_model.specs.Tables.{Tables}
-use Rattle.brk_report.specs.Stated.{Keeps, OverRows}
-use Rattle.brk_report_lines.specs.Written.{WroteFirst, WrotePart}
+use Rattle.brk_report.specs.Stated.{PreservesDesk, HoldsForStoredTables}
+use Rattle.brk_report_lines.specs.Written.{WroteWholeLinesNotLast, WroteWholeLinesAndPart}
 use Rattle.brk_report_lines.specs.declared.fault.ReportFault.{ReportFault}
 use Rattle.brk_report_lines.specs.declared.fault.ReportFault.TheVariants.{Refused, Desk, Write}
 
@@ -17,17 +17,17 @@ use Rattle.brk_report_lines.specs.declared.fault.ReportFault.TheVariants.{Refuse
 -- lines, and the writer got exactly these. `Refused`: `told` is this refusal. `Desk`: the writer
 -- got nothing, or, if `told` is lines, whole lines from the first on without the last one. `Write`:
 -- `told` is lines, and the writer got whole lines from the first on and a part of the next one.
-abbrev pub Tells : Result (List Text) Refusal → Option Text → Option Text → Result (Unit {0}) ReportFault → Type 0
-Tells told old new (Ok u) = (lines : List Text) × (told ≡ Ok lines) × Appends old new (lines_text lines)
-Tells told old new (Err (Refused refusal)) = told ≡ Err refusal
-Tells told old new (Err (Desk fault)) = MayFail fault × (Appends old new [] ⊎ ((lines : List Text) × (told ≡ Ok lines) × WroteFirst lines old new))
-Tells told old new (Err Write) = (lines : List Text) × (told ≡ Ok lines) × WrotePart lines old new
+abbrev pub WritesLinesOrRefuses : Result (List Text) Refusal → Option Text → Option Text → Result (Unit {0}) ReportFault → Type 0
+WritesLinesOrRefuses told old new (Ok u) = (lines : List Text) × (told ≡ Ok lines) × Appends old new (text_of_lines lines)
+WritesLinesOrRefuses told old new (Err (Refused refusal)) = told ≡ Err refusal
+WritesLinesOrRefuses told old new (Err (Desk fault)) = IsCallFault fault × (Appends old new [] ⊎ ((lines : List Text) × (told ≡ Ok lines) × WroteWholeLinesNotLast lines old new))
+WritesLinesOrRefuses told old new (Err Write) = (lines : List Text) × (told ≡ Ok lines) × WroteWholeLinesAndPart lines old new
 
 -- The postcondition of writing the lines that `told` gives for the tables of a desk, or of
 -- returning its refusal. The desk is unchanged.
-pub record IsTold {S : Type 0} (g : Ghosts S) (old new : Held S) (told : Tables → Result (List Text) Refusal) (before after : Option Text) (result : Result (Unit {0}) ReportFault) : Type 0 where
+pub record WriteLinesPost {S : Type 0} (g : Ghosts S) (old new : Held S) (told : Tables → Result (List Text) Refusal) (before after : Option Text) (result : Result (Unit {0}) ReportFault) : Type 0 where
   -- The output is as specified for the rows that the store holds, whatever they are.
-  pub written : OverRows g old new (λ t. Tells (told t) before after result)
-  pub keeps : Keeps g old new
+  pub written : HoldsForStoredTables g old new (λ t. WritesLinesOrRefuses (told t) before after result)
+  pub keeps : PreservesDesk g old new
   -- Nothing is written at a refusal.
   pub unwritten : (refusal : _) → result ≡ Err (Refused refusal) → after ≡ before

@@ -8,4 +8,4 @@ pub mod visitors;
 
 pub use brk_report_lines::ReportFault;
 pub use explaining::explain;
-pub use parse::{Explain, parse_explain};
+pub use parse::{Explain, parse_explain_request};

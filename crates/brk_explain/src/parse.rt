@@ -1,8 +1,8 @@
 ghost use Rattle.std.specs.Prelude.{◌≡◌, ◌∷◌};
-ghost use Rattle.brk_explain.specs.Requests.{explain_of};
+ghost use Rattle.brk_explain.specs.Requests.{abstract_explain_request};
 ghost use Rattle.brk_explain_model.specs.Explain as model;
-ghost use Rattle.brk_model.specs.Parse.{read_as};
-ghost use Rattle.brk_ref.specs.Fields.{ParsesAs, texts};
+ghost use Rattle.brk_model.specs.Parse.{read_and_wrap};
+ghost use Rattle.brk_ref.specs.Fields.{ParsesAs, texts_of_fields};
 
 use brk_money::{Id, Refusal};
 use brk_ref::parse_id;
@@ -17,8 +17,8 @@ pub enum Explain {
 }
 
 // Parses the only word as an id. Refuses another number of words or a malformed id with `BadText`.
-fn parse_only_id(words: &[&[u8]]) -> Result<Id, Refusal>
-    ensures { ParsesAs (λ id. id) result (model.read_only_id (texts words.now)) }
+fn parse_single_id(words: &[&[u8]]) -> Result<Id, Refusal>
+    ensures { ParsesAs (λ id. id) result (model.read_single_id (texts_of_fields words.now)) }
 {
     let [id] = words else {
         return Err(Refusal::BadText);
@@ -30,47 +30,47 @@ fn parse_only_id(words: &[&[u8]]) -> Result<Id, Refusal>
 }
 
 // Parses the words after `trade`: the id of a trade. Refuses any others with `BadText`.
-fn parse_trade(words: &[&[u8]]) -> Result<Explain, Refusal>
-    ensures { ParsesAs explain_of result (read_as model.TradeOf model.read_only_id (texts words.now)) }
+fn parse_trade_request(words: &[&[u8]]) -> Result<Explain, Refusal>
+    ensures { ParsesAs abstract_explain_request result (read_and_wrap model.TradeOf model.read_single_id (texts_of_fields words.now)) }
 {
-    match parse_only_id(words) {
+    match parse_single_id(words) {
         Ok(id) => Ok(Explain::Trade(id)),
         Err(refusal) => Err(refusal),
     }
 }
 
 // Parses the words after `account`: the id of an account. Refuses any others with `BadText`.
-fn parse_account(words: &[&[u8]]) -> Result<Explain, Refusal>
-    ensures { ParsesAs explain_of result (read_as model.AccountOf model.read_only_id (texts words.now)) }
+fn parse_account_request(words: &[&[u8]]) -> Result<Explain, Refusal>
+    ensures { ParsesAs abstract_explain_request result (read_and_wrap model.AccountOf model.read_single_id (texts_of_fields words.now)) }
 {
-    match parse_only_id(words) {
+    match parse_single_id(words) {
         Ok(id) => Ok(Explain::Account(id)),
         Err(refusal) => Err(refusal),
     }
 }
 
 // Parses the words after `form`, or refuses an unknown form with `BadText`.
-#[tactic(auto, unfolding(brk_explain_model::specs::Explain::explain_words))]
-fn parse_form(form: &[u8], words: &[&[u8]]) -> Result<Explain, Refusal>
-    ensures { ParsesAs explain_of result (model.explain_words (form.now ∷ texts words.now)) }
+#[tactic(auto, unfolding(brk_explain_model::specs::Explain::read_explain_request))]
+fn parse_request_form(form: &[u8], words: &[&[u8]]) -> Result<Explain, Refusal>
+    ensures { ParsesAs abstract_explain_request result (model.read_explain_request (form.now ∷ texts_of_fields words.now)) }
 {
     if form == b"trade".as_slice() {
-        return parse_trade(words);
+        return parse_trade_request(words);
     }
     if form == b"account".as_slice() {
-        return parse_account(words);
+        return parse_account_request(words);
     }
     Err(Refusal::BadText)
 }
 
 /// Parses the words of a command line: `trade ID` or `account ID`. Refuses an unknown form, a wrong
 /// number of words or a malformed id with `BadText`. Never allocates.
-#[tactic(auto, unfolding(brk_explain_model::specs::Explain::explain_words))]
-pub fn parse_explain(words: &[&[u8]]) -> Result<Explain, Refusal>
-    ensures { ParsesAs explain_of result (model.explain_words (texts words.now)) }
+#[tactic(auto, unfolding(brk_explain_model::specs::Explain::read_explain_request))]
+pub fn parse_explain_request(words: &[&[u8]]) -> Result<Explain, Refusal>
+    ensures { ParsesAs abstract_explain_request result (model.read_explain_request (texts_of_fields words.now)) }
 {
     let [form, rest @ ..] = words else {
         return Err(Refusal::BadText);
     };
-    parse_form(form, rest)
+    parse_request_form(form, rest)
 }

@@ -2,11 +2,11 @@
 //! desk.
 
 ghost use Rattle.std.specs.Prelude.{◌≡◌, length};
-ghost use Rattle.brk_explain.specs.Sections.{WritesRows, cash_lines, lot_lines};
-ghost use Rattle.brk_explain_model.specs.AccountLines.{posted_in};
-ghost use Rattle.brk_model.specs.Statement.{lots_in};
-ghost use Rattle.brk_report.specs.Stated.{Keeps, OverRows};
-ghost use Rattle.brk_report.specs.Stops.{fault_of};
+ghost use Rattle.brk_explain.specs.Sections.{WritesCountedLines, account_cash_lines, account_lot_lines};
+ghost use Rattle.brk_explain_model.specs.AccountLines.{account_cash_rows_by_stamp};
+ghost use Rattle.brk_model.specs.Statement.{lot_rows_of_account};
+ghost use Rattle.brk_report.specs.Stated.{PreservesDesk, HoldsForStoredTables};
+ghost use Rattle.brk_report.specs.Stops.{fault_of_walk_error};
 
 use crate::visitors::{LotRows, PostedRows};
 use brk_desk::{Desk, WalkError};
@@ -17,8 +17,8 @@ use std::alloc::Global;
 use std::io::Write;
 
 // Returns the fault with which writing lines fails if its walk failed.
-fn broken(stop: WalkError<LinesFault>) -> LinesFault
-    ensures { result ≡ fault_of stop }
+fn fault_from_walk_error(stop: WalkError<LinesFault>) -> LinesFault
+    ensures { result ≡ fault_of_walk_error stop }
 {
     match stop {
         WalkError::Failed(fault) => LinesFault::Desk(fault),
@@ -28,15 +28,15 @@ fn broken(stop: WalkError<LinesFault>) -> LinesFault
 
 /// Writes a line for each cash row of an account, with the balance after it, from the balance
 /// `opening`. Returns the number of cash rows. Fails with `Desk` or `Write`.
-pub(crate) fn write_posted<W: Write, S: Alter>(
+pub(crate) fn write_cash_posting_lines<W: Write, S: Alter>(
     alloc: Global,
     desk: &mut Desk<S>,
     account: Id,
     opening: Cents,
     writer: &mut W,
 ) -> Result<u64, LinesFault>
-    ensures keeps { Keeps S.Store desk.old desk.new }
-    ensures written { OverRows S.Store desk.old desk.new (λ t. WritesRows (cash_lines t account opening) (length (posted_in t account)) (W.contents writer.old) (W.contents writer.new) result) }
+    ensures keeps { PreservesDesk S.Store desk.old desk.new }
+    ensures written { HoldsForStoredTables S.Store desk.old desk.new (λ t. WritesCountedLines (account_cash_lines t account opening) (length (account_cash_rows_by_stamp t account)) (W.contents writer.old) (W.contents writer.new) result) }
 {
     let mut rows = PostedRows {
         alloc,
@@ -47,20 +47,20 @@ pub(crate) fn write_posted<W: Write, S: Alter>(
     let last = Stamp::nearest(Stamp::GREATEST);
     match desk.visit_cash(account, Stamp::nearest(0), last, &mut rows) {
         Ok(()) => Ok(rows.count),
-        Err(stop) => Err(broken(stop)),
+        Err(stop) => Err(fault_from_walk_error(stop)),
     }
 }
 
 /// Writes a line for each lot of an account, and returns the number of lots. Fails with `Desk` or
 /// `Write`.
-pub(crate) fn write_lots<W: Write, S: Alter>(
+pub(crate) fn write_open_lot_lines<W: Write, S: Alter>(
     alloc: Global,
     desk: &mut Desk<S>,
     account: Id,
     writer: &mut W,
 ) -> Result<u64, LinesFault>
-    ensures keeps { Keeps S.Store desk.old desk.new }
-    ensures written { OverRows S.Store desk.old desk.new (λ t. WritesRows (lot_lines t account) (length (lots_in t account)) (W.contents writer.old) (W.contents writer.new) result) }
+    ensures keeps { PreservesDesk S.Store desk.old desk.new }
+    ensures written { HoldsForStoredTables S.Store desk.old desk.new (λ t. WritesCountedLines (account_lot_lines t account) (length (lot_rows_of_account t account)) (W.contents writer.old) (W.contents writer.new) result) }
 {
     let mut rows = LotRows {
         alloc,
@@ -69,6 +69,6 @@ pub(crate) fn write_lots<W: Write, S: Alter>(
     };
     match desk.visit_lots(account, &mut rows) {
         Ok(()) => Ok(rows.count),
-        Err(stop) => Err(broken(stop)),
+        Err(stop) => Err(fault_from_walk_error(stop)),
     }
 }

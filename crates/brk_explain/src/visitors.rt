@@ -6,14 +6,14 @@ ghost use Rattle.brk_report_lines.specs.declared.fault.LinesFault.TheVariants.{D
 
 use brk_changes::{HoldingRow, MoveRow};
 use brk_desk::Visitor;
-use brk_explain_lines::{held_lot_line, posted_line};
+use brk_explain_lines::{cash_posting_text, open_lot_text};
 use brk_money::{Cents, Fault, Wide};
 use brk_report_lines::{LinesFault, write_line};
 use std::alloc::Global;
 use std::io::Write;
 
 // Returns `total` plus `amount`. Fails with `Desk(Store)` if the sum does not fit.
-fn added(total: Wide, amount: Cents) -> Result<Wide, LinesFault>
+fn total_plus_amount(total: Wide, amount: Cents) -> Result<Wide, LinesFault>
     ensures sum { IfOk result (λ sum. sum ≡ total +ℤ amount) }
     ensures fault { OnErr result (result ≡ Err (Desk fault.Store)) }
 {
@@ -36,26 +36,26 @@ impl<W: Write> Visitor<MoveRow, LinesFault> for PostedRows<'_, W> {
     ghost use Rattle.std.specs.Prelude.{◌≡◌, ◌+◌, ◌+ℤ◌, [], ◌∷◌, refl};
     ghost use Rattle.std.proofs.Common.{◌∙◌};
     ghost use Rattle.std.specs.Io.KnownBytes.{Appends};
-    ghost use Rattle.brk_changes.specs.Rows.{move_row_of};
-    ghost use Rattle.brk_explain_model.specs.AccountLines.{posted_line};
-    ghost use Rattle.brk_report_lines.specs.Written.{BreaksIn, ended};
+    ghost use Rattle.brk_changes.specs.Rows.{abstract_move_row};
+    ghost use Rattle.brk_explain_model.specs.AccountLines.{cash_posting_line};
+    ghost use Rattle.brk_report_lines.specs.Written.{FailsWithinLines, line_with_line_feed};
 
     ghost ready = { λ _. Unit {0} };
 
     ghost leads = { λ p q. q.writer.ghost_name ≡ p.writer.ghost_name };
 
-    ghost takes = { λ p r q. (q.balance ≡ p.balance +ℤ r.amount) × (q.count ≡ p.count + 1) × Appends (W.contents p.writer.now) (W.contents q.writer.now) (ended (posted_line (move_row_of r) (p.balance +ℤ r.amount))) };
+    ghost takes = { λ p r q. (q.balance ≡ p.balance +ℤ r.amount) × (q.count ≡ p.count + 1) × Appends (W.contents p.writer.now) (W.contents q.writer.now) (line_with_line_feed (cash_posting_line (abstract_move_row r) (p.balance +ℤ r.amount))) };
 
-    ghost stops = { λ p r e q. BreaksIn (posted_line (move_row_of r) (p.balance +ℤ r.amount) ∷ []) (W.contents p.writer.now) (W.contents q.writer.now) e };
+    ghost stops = { λ p r e q. FailsWithinLines (cash_posting_line (abstract_move_row r) (p.balance +ℤ r.amount) ∷ []) (W.contents p.writer.now) (W.contents q.writer.now) e };
 
     /// Writes the line of the cash row with the balance after it, and counts it. Fails with `Desk`
     /// or `Write`; the balance and the count are then unchanged.
     fn visit(&mut self, item: &MoveRow) -> Result<(), LinesFault> {
-        let balance = added(self.balance, item.amount)?;
+        let balance = total_plus_amount(self.balance, item.amount)?;
         let Some(count) = self.count.checked_add(1) else {
             return Err(LinesFault::Desk(Fault::Store));
         };
-        write_line(self.writer, posted_line(self.alloc, item, balance))?;
+        write_line(self.writer, cash_posting_text(self.alloc, item, balance))?;
         self.balance = balance;
         self.count = count;
         Ok(())
@@ -78,17 +78,17 @@ impl<W: Write> Visitor<HoldingRow, LinesFault> for LotRows<'_, W> {
     ghost use Rattle.std.specs.Prelude.{◌≡◌, ◌+◌, [], ◌∷◌, refl};
     ghost use Rattle.std.proofs.Common.{◌∙◌};
     ghost use Rattle.std.specs.Io.KnownBytes.{Appends};
-    ghost use Rattle.brk_changes.specs.Rows.{holding_row_of};
-    ghost use Rattle.brk_explain_model.specs.AccountLines.{held_lot_line};
-    ghost use Rattle.brk_report_lines.specs.Written.{BreaksIn, ended};
+    ghost use Rattle.brk_changes.specs.Rows.{abstract_holding_row};
+    ghost use Rattle.brk_explain_model.specs.AccountLines.{open_lot_line};
+    ghost use Rattle.brk_report_lines.specs.Written.{FailsWithinLines, line_with_line_feed};
 
     ghost ready = { λ _. Unit {0} };
 
     ghost leads = { λ p q. q.writer.ghost_name ≡ p.writer.ghost_name };
 
-    ghost takes = { λ p r q. (q.count ≡ p.count + 1) × Appends (W.contents p.writer.now) (W.contents q.writer.now) (ended (held_lot_line (holding_row_of r))) };
+    ghost takes = { λ p r q. (q.count ≡ p.count + 1) × Appends (W.contents p.writer.now) (W.contents q.writer.now) (line_with_line_feed (open_lot_line (abstract_holding_row r))) };
 
-    ghost stops = { λ p r e q. BreaksIn (held_lot_line (holding_row_of r) ∷ []) (W.contents p.writer.now) (W.contents q.writer.now) e };
+    ghost stops = { λ p r e q. FailsWithinLines (open_lot_line (abstract_holding_row r) ∷ []) (W.contents p.writer.now) (W.contents q.writer.now) e };
 
     /// Writes the line of the lot, and counts it. Fails with `Desk` or `Write`; the count is then
     /// unchanged.
@@ -96,7 +96,7 @@ impl<W: Write> Visitor<HoldingRow, LinesFault> for LotRows<'_, W> {
         let Some(count) = self.count.checked_add(1) else {
             return Err(LinesFault::Desk(Fault::Store));
         };
-        write_line(self.writer, held_lot_line(self.alloc, item))?;
+        write_line(self.writer, open_lot_text(self.alloc, item))?;
         self.count = count;
         Ok(())
     }

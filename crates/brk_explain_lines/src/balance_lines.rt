@@ -1,16 +1,18 @@
 //! The lines of the balance before and after a completed trade, and its last line.
 
 ghost use Rattle.std.specs.Prelude.{◌≡◌, ◌++◌, Err, IfErr, OnErr, OnOk, option_map};
-ghost use Rattle.brk_changes.specs.Rows.{move_row_of};
+ghost use Rattle.brk_changes.specs.Rows.{abstract_move_row};
 ghost use Rattle.brk_explain_model.specs.TradeLines as lines;
-ghost use Rattle.brk_explain_rows.specs.Stories.{order_story_of, result_story_of};
-ghost use Rattle.brk_model.specs.Run.{MayFail};
-ghost use Rattle.brk_model.specs.Statement.{lines_text};
+ghost use Rattle.brk_explain_rows.specs.Stories.{abstract_order_story, abstract_result_story};
+ghost use Rattle.brk_model.specs.Run.{IsCallFault};
+ghost use Rattle.brk_model.specs.Statement.{text_of_lines};
 ghost use Rattle.brk_money.specs.declared.fault.Fault.TheVariants.{Memory};
-ghost use Rattle.brk_report_lines.specs.Written.{ended};
+ghost use Rattle.brk_report_lines.specs.Written.{line_with_line_feed};
 
-use crate::facts::{fact_line, money_line, put_count, put_number};
-use crate::sums::{cash_moved, plus};
+use crate::facts::{
+    put_labeled_amount_line, put_labeled_number, put_labeled_value_line, put_number,
+};
+use crate::sums::{add_amounts, balance_change_of_trade};
 use brk_changes::MoveRow;
 use brk_explain_rows::{OrderStory, ResultStory};
 use brk_money::{Fault, Wide};
@@ -18,15 +20,15 @@ use std::alloc::Global;
 
 // Appends the line of the cash row of a trade, or of `none` if it has none. Fails with `Memory`
 // only.
-#[tactic(auto, unfolding(brk_explain_model::specs::TradeLines::cash_row_line))]
-fn cash_row_line(out: &mut Vec<u8>, row: &Option<MoveRow>) -> Result<(), Fault>
-    ensures ok { OnOk result (out.new.items ≡ out.old.items ++ ended (lines.cash_row_line (option_map move_row_of row.now))) }
+#[tactic(auto, unfolding(brk_explain_model::specs::TradeLines::trade_cash_row_line))]
+fn put_cash_row_line(out: &mut Vec<u8>, row: &Option<MoveRow>) -> Result<(), Fault>
+    ensures ok { OnOk result (out.new.items ≡ out.old.items ++ line_with_line_feed (lines.trade_cash_row_line (option_map abstract_move_row row.now))) }
     ensures fault { OnErr result (result ≡ Err Memory) }
 {
     let Some(row) = row else {
-        return fact_line(out, "Cash row", b"none");
+        return put_labeled_value_line(out, "Cash row", b"none");
     };
-    put_count(out, "Cash row", row.id.get())?;
+    put_labeled_number(out, "Cash row", row.id.get())?;
     out.push(b' ')?;
     out.extend_from_slice(row.name.as_bytes())?;
     out.push(b'\n')?;
@@ -35,33 +37,38 @@ fn cash_row_line(out: &mut Vec<u8>, row: &Option<MoveRow>) -> Result<(), Fault>
 
 /// Appends the lines of the cash row and of the balance before and after a completed trade. Fails
 /// with `Memory` or `Store`.
-#[tactic(auto, unfolding(brk_explain_model::specs::TradeLines::balance_lines))]
-pub(crate) fn balance_lines(
+#[tactic(auto, unfolding(brk_explain_model::specs::TradeLines::trade_balance_lines))]
+pub(crate) fn put_balance_lines(
     alloc: Global,
     out: &mut Vec<u8>,
     order: &OrderStory,
     story: &ResultStory,
 ) -> Result<(), Fault>
-    ensures ok { OnOk result (out.new.items ≡ out.old.items ++ lines_text (lines.balance_lines (order_story_of order.now) (result_story_of story.now))) }
-    ensures fault { IfErr result MayFail }
+    ensures ok { OnOk result (out.new.items ≡ out.old.items ++ text_of_lines (lines.trade_balance_lines (abstract_order_story order.now) (abstract_result_story story.now))) }
+    ensures fault { IfErr result IsCallFault }
 {
     let opening = Wide::from(order.account.account.opening);
-    let moved = cash_moved(story);
-    let before = plus(opening, story.cash_before)?;
-    let after = plus(before, moved)?;
-    cash_row_line(out, &story.cash)?;
-    money_line(alloc, out, "Opening", opening)?;
-    money_line(alloc, out, "Cash before", story.cash_before)?;
-    money_line(alloc, out, "Balance before", before)?;
-    money_line(alloc, out, "Cash moved", moved)?;
-    money_line(alloc, out, "Balance after", after)?;
+    let moved = balance_change_of_trade(story);
+    let before = add_amounts(opening, story.cash_before)?;
+    let after = add_amounts(before, moved)?;
+    put_cash_row_line(out, &story.cash)?;
+    put_labeled_amount_line(alloc, out, "Opening", opening)?;
+    put_labeled_amount_line(alloc, out, "Cash before", story.cash_before)?;
+    put_labeled_amount_line(alloc, out, "Balance before", before)?;
+    put_labeled_amount_line(alloc, out, "Cash moved", moved)?;
+    put_labeled_amount_line(alloc, out, "Balance after", after)?;
     Ok(())
 }
 
 // Appends the last line of the explanation of a completed trade, with the numbers of status
 // changes, closed lots and earlier cash rows. Fails with `Memory` only.
-fn counts_line(out: &mut Vec<u8>, statuses: usize, lots: usize, cash: u64) -> Result<(), Fault>
-    ensures ok { OnOk result (out.new.items ≡ out.old.items ++ ended (lines.counts_line statuses lots cash)) }
+fn put_trade_counts_line(
+    out: &mut Vec<u8>,
+    statuses: usize,
+    lots: usize,
+    cash: u64,
+) -> Result<(), Fault>
+    ensures ok { OnOk result (out.new.items ≡ out.old.items ++ line_with_line_feed (lines.trade_counts_line statuses lots cash)) }
     ensures fault { OnErr result (result ≡ Err Memory) }
 {
     out.extend_from_slice(b"Statuses ")?;
@@ -76,16 +83,16 @@ fn counts_line(out: &mut Vec<u8>, statuses: usize, lots: usize, cash: u64) -> Re
 
 /// Appends the last line of the explanation of a completed trade, with its counts. Fails with
 /// `Memory` only.
-#[tactic(auto, unfolding(brk_explain_model::specs::TradeLines::counts_lines))]
-pub(crate) fn counts_lines(
+#[tactic(auto, unfolding(brk_explain_model::specs::TradeLines::trade_counts_lines))]
+pub(crate) fn put_trade_counts_lines(
     out: &mut Vec<u8>,
     order: &OrderStory,
     story: &ResultStory,
 ) -> Result<(), Fault>
-    ensures ok { OnOk result (out.new.items ≡ out.old.items ++ lines_text (lines.counts_lines (order_story_of order.now) (result_story_of story.now))) }
+    ensures ok { OnOk result (out.new.items ≡ out.old.items ++ text_of_lines (lines.trade_counts_lines (abstract_order_story order.now) (abstract_result_story story.now))) }
     ensures fault { OnErr result (result ≡ Err Memory) }
 {
-    counts_line(
+    put_trade_counts_line(
         out,
         order.statuses.len(),
         story.closings.len(),

@@ -3,110 +3,118 @@
 ghost use Rattle.std.specs.Prelude.{◌≡◌, ◌++◌, Err, OnErr, OnOk, decimal};
 ghost use Rattle.brk_explain_model.specs.Texts as texts;
 ghost use Rattle.brk_money.specs.declared.fault.Fault.TheVariants.{Memory};
-ghost use Rattle.brk_report_lines.specs.Written.{ended};
+ghost use Rattle.brk_report_lines.specs.Written.{line_with_line_feed};
 
 use brk_money::{Fault, Wide, write_cents};
-use brk_report_lines::{put_left, put_right};
+use brk_report_lines::{put_left_aligned, put_right_aligned};
 use itoa::Buffer;
 use std::alloc::Global;
 
 /// Appends a label, left-aligned in 15 places, a space and a text.
-#[tactic(auto, unfolding(brk_explain_model::specs::Texts::words))]
-pub(crate) fn put_words(out: &mut Vec<u8>, label: &str, text: &[u8]) -> Result<(), Fault>
-    ensures ok { OnOk result (out.new.items ≡ out.old.items ++ texts.words label.now text.now) }
+#[tactic(auto, unfolding(brk_explain_model::specs::Texts::labeled_text))]
+pub(crate) fn put_labeled_text(out: &mut Vec<u8>, label: &str, text: &[u8]) -> Result<(), Fault>
+    ensures ok { OnOk result (out.new.items ≡ out.old.items ++ texts.labeled_text label.now text.now) }
     ensures fault { OnErr result (result ≡ Err Memory) }
 {
-    put_left(out, 15, label.as_bytes())?;
+    put_left_aligned(out, 15, label.as_bytes())?;
     out.push(b' ')?;
     out.extend_from_slice(text)?;
     Ok(())
 }
 
 /// Appends a label, left-aligned in 15 places, a space and a value, right-aligned in 22 places.
-#[tactic(auto, unfolding(brk_explain_model::specs::Texts::fact))]
-pub(crate) fn put_fact(out: &mut Vec<u8>, label: &str, value: &[u8]) -> Result<(), Fault>
-    ensures ok { OnOk result (out.new.items ≡ out.old.items ++ texts.fact label.now value.now) }
+#[tactic(auto, unfolding(brk_explain_model::specs::Texts::labeled_value))]
+pub(crate) fn put_labeled_value(out: &mut Vec<u8>, label: &str, value: &[u8]) -> Result<(), Fault>
+    ensures ok { OnOk result (out.new.items ≡ out.old.items ++ texts.labeled_value label.now value.now) }
     ensures fault { OnErr result (result ≡ Err Memory) }
 {
-    put_left(out, 15, label.as_bytes())?;
+    put_left_aligned(out, 15, label.as_bytes())?;
     out.push(b' ')?;
-    put_right(out, 22, value)
+    put_right_aligned(out, 22, value)
 }
 
 /// Appends a label and a number, right-aligned in 22 places.
-#[tactic(auto, unfolding(brk_explain_model::specs::Texts::count))]
-pub(crate) fn put_count(out: &mut Vec<u8>, label: &str, n: u64) -> Result<(), Fault>
-    ensures ok { OnOk result (out.new.items ≡ out.old.items ++ texts.count label.now n) }
+#[tactic(auto, unfolding(brk_explain_model::specs::Texts::labeled_number))]
+pub(crate) fn put_labeled_number(out: &mut Vec<u8>, label: &str, n: u64) -> Result<(), Fault>
+    ensures ok { OnOk result (out.new.items ≡ out.old.items ++ texts.labeled_number label.now n) }
     ensures fault { OnErr result (result ≡ Err Memory) }
 {
     let mut buffer = Buffer::new();
-    put_fact(out, label, buffer.format(n).as_bytes())
+    put_labeled_value(out, label, buffer.format(n).as_bytes())
 }
 
 /// Appends a label and an amount, right-aligned in 22 places.
-#[tactic(auto, unfolding(brk_explain_model::specs::Texts::money))]
-pub(crate) fn put_money(
+#[tactic(auto, unfolding(brk_explain_model::specs::Texts::labeled_amount))]
+pub(crate) fn put_labeled_amount(
     alloc: Global,
     out: &mut Vec<u8>,
     label: &str,
     amount: Wide,
 ) -> Result<(), Fault>
-    ensures ok { OnOk result (out.new.items ≡ out.old.items ++ texts.money label.now amount) }
+    ensures ok { OnOk result (out.new.items ≡ out.old.items ++ texts.labeled_amount label.now amount) }
     ensures fault { OnErr result (result ≡ Err Memory) }
 {
     let mut cents = Vec::new(alloc);
     write_cents(&mut cents, amount)?;
-    put_fact(out, label, cents.as_slice())
+    put_labeled_value(out, label, cents.as_slice())
 }
 
 /// Appends the line of a label and a text, with its line feed.
-pub(crate) fn words_line(out: &mut Vec<u8>, label: &str, text: &[u8]) -> Result<(), Fault>
-    ensures ok { OnOk result (out.new.items ≡ out.old.items ++ ended (texts.words label.now text.now)) }
+pub(crate) fn put_labeled_text_line(
+    out: &mut Vec<u8>,
+    label: &str,
+    text: &[u8],
+) -> Result<(), Fault>
+    ensures ok { OnOk result (out.new.items ≡ out.old.items ++ line_with_line_feed (texts.labeled_text label.now text.now)) }
     ensures fault { OnErr result (result ≡ Err Memory) }
 {
-    put_words(out, label, text)?;
+    put_labeled_text(out, label, text)?;
     out.push(b'\n')?;
     Ok(())
 }
 
 /// Appends the line of a label and a value, with its line feed.
-pub(crate) fn fact_line(out: &mut Vec<u8>, label: &str, value: &[u8]) -> Result<(), Fault>
-    ensures ok { OnOk result (out.new.items ≡ out.old.items ++ ended (texts.fact label.now value.now)) }
+pub(crate) fn put_labeled_value_line(
+    out: &mut Vec<u8>,
+    label: &str,
+    value: &[u8],
+) -> Result<(), Fault>
+    ensures ok { OnOk result (out.new.items ≡ out.old.items ++ line_with_line_feed (texts.labeled_value label.now value.now)) }
     ensures fault { OnErr result (result ≡ Err Memory) }
 {
-    put_fact(out, label, value)?;
+    put_labeled_value(out, label, value)?;
     out.push(b'\n')?;
     Ok(())
 }
 
 /// Appends the line of a label and a number, with its line feed.
-pub(crate) fn count_line(out: &mut Vec<u8>, label: &str, n: u64) -> Result<(), Fault>
-    ensures ok { OnOk result (out.new.items ≡ out.old.items ++ ended (texts.count label.now n)) }
+pub(crate) fn put_labeled_number_line(out: &mut Vec<u8>, label: &str, n: u64) -> Result<(), Fault>
+    ensures ok { OnOk result (out.new.items ≡ out.old.items ++ line_with_line_feed (texts.labeled_number label.now n)) }
     ensures fault { OnErr result (result ≡ Err Memory) }
 {
-    put_count(out, label, n)?;
+    put_labeled_number(out, label, n)?;
     out.push(b'\n')?;
     Ok(())
 }
 
 /// Appends the line of a label and an amount, with its line feed.
-pub(crate) fn money_line(
+pub(crate) fn put_labeled_amount_line(
     alloc: Global,
     out: &mut Vec<u8>,
     label: &str,
     amount: Wide,
 ) -> Result<(), Fault>
-    ensures ok { OnOk result (out.new.items ≡ out.old.items ++ ended (texts.money label.now amount)) }
+    ensures ok { OnOk result (out.new.items ≡ out.old.items ++ line_with_line_feed (texts.labeled_amount label.now amount)) }
     ensures fault { OnErr result (result ≡ Err Memory) }
 {
-    put_money(alloc, out, label, amount)?;
+    put_labeled_amount(alloc, out, label, amount)?;
     out.push(b'\n')?;
     Ok(())
 }
 
 /// Appends a text and a line feed.
-pub(crate) fn text_line(out: &mut Vec<u8>, text: &[u8]) -> Result<(), Fault>
-    ensures ok { OnOk result (out.new.items ≡ out.old.items ++ ended text.now) }
+pub(crate) fn put_text_line(out: &mut Vec<u8>, text: &[u8]) -> Result<(), Fault>
+    ensures ok { OnOk result (out.new.items ≡ out.old.items ++ line_with_line_feed text.now) }
     ensures fault { OnErr result (result ≡ Err Memory) }
 {
     out.extend_from_slice(text)?;

@@ -14,5 +14,8 @@ mod tax_lines;
 pub mod trade;
 mod waiting_lines;
 
-pub use account::{account_bottom, account_top, balance_part, held_lot_line, posted_line};
-pub use trade::trade_text;
+pub use account::{
+    account_header_text, balance_header_text, cash_posting_text, holding_and_total_text,
+    open_lot_text,
+};
+pub use trade::trade_explanation_text;

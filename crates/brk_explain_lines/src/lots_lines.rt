@@ -1,20 +1,21 @@
 //! The lines of the lots that a completed trade closed and opened, and of its gain.
 
 ghost use Rattle.std.specs.Prelude.{◌≡◌, ◌++◌, Err, IfErr, OnErr, OnOk, map, nat_abs, option_map};
-ghost use Rattle.brk_changes.specs.Rows.{lot_change_of, trade_row_of};
+ghost use Rattle.brk_changes.specs.Rows.{abstract_lot_change_row, abstract_trade_row};
 ghost use Rattle.brk_explain_model.specs.TradeLines as lines;
 ghost use Rattle.brk_explain_model.specs.Trades as trades;
-ghost use Rattle.brk_explain_rows.specs.Stories.{closing_row_of, order_story_of, result_story_of};
-ghost use Rattle.brk_model.specs.Run.{MayFail};
-ghost use Rattle.brk_model.specs.Statement.{lines_text};
+ghost use Rattle.brk_explain_rows.specs.Stories.{abstract_closing, abstract_order_story, abstract_result_story};
+ghost use Rattle.brk_model.specs.Run.{IsCallFault};
+ghost use Rattle.brk_model.specs.Statement.{text_of_lines};
 ghost use Rattle.brk_money.specs.declared.fault.Fault.TheVariants.{Memory};
-ghost use Rattle.brk_report_lines.specs.Written.{ended};
+ghost use Rattle.brk_report_lines.specs.Written.{line_with_line_feed};
 
-use crate::facts::{count_line, money_line, text_line};
-use crate::moments::moment;
-use crate::starts::{put_row_start, put_shares, put_value};
+use crate::facts::{put_labeled_amount_line, put_labeled_number_line, put_text_line};
+use crate::moments::format_timestamp;
+use crate::starts::{put_leading_row_columns, put_shares_column, put_value_column};
 use crate::sums::{
-    amount, bought_for, buy_total, gain_total, sell_total, sold_for, taken, taken_total,
+    buy_value_of_closing, buy_value_of_closings, realised_gain_of_closings, sell_value_of_closing,
+    sell_value_of_closings, shares_of_closing, total_closed_shares, wide_amount_of_cents,
 };
 use brk_changes::{LotChange, TradeRow};
 use brk_explain_rows::{Closing, OrderStory, ResultStory};
@@ -22,35 +23,39 @@ use brk_money::{Fault, Price, Side, Wide};
 use std::alloc::Global;
 
 // Appends the line of the price, and the column headings of the lots. Fails with `Memory` only.
-#[tactic(auto, unfolding(brk_explain_model::specs::TradeLines::price_lines))]
-fn price_lines(alloc: Global, out: &mut Vec<u8>, story: &ResultStory) -> Result<(), Fault>
-    ensures ok { OnOk result (out.new.items ≡ out.old.items ++ lines_text (lines.price_lines (result_story_of story.now))) }
+#[tactic(auto, unfolding(brk_explain_model::specs::TradeLines::price_and_lot_header_lines))]
+fn put_price_and_lot_header_lines(
+    alloc: Global,
+    out: &mut Vec<u8>,
+    story: &ResultStory,
+) -> Result<(), Fault>
+    ensures ok { OnOk result (out.new.items ≡ out.old.items ++ text_of_lines (lines.price_and_lot_header_lines (abstract_result_story story.now))) }
     ensures fault { OnErr result (result ≡ Err Memory) }
 {
-    money_line(alloc, out, "Price", Wide::from(story.price))?;
-    text_line(
+    put_labeled_amount_line(alloc, out, "Price", Wide::from(story.price))?;
+    put_text_line(
         out,
         b"#      opened                            lot      shares      price       bought for         sold for        left",
     )
 }
 
 // Appends the line of a closing by a trade on a side at a price. Fails with `Memory` or `Store`.
-#[tactic(auto, unfolding(brk_explain_model::specs::TradeLines::closing_line))]
-fn closing_line(
+#[tactic(auto, unfolding(brk_explain_model::specs::TradeLines::closed_lot_line))]
+fn put_closed_lot_line(
     alloc: Global,
     out: &mut Vec<u8>,
     side: Side,
     price: Price,
     closing: &Closing,
 ) -> Result<(), Fault>
-    ensures ok { OnOk result (out.new.items ≡ out.old.items ++ ended (lines.closing_line side price (closing_row_of closing.now))) }
-    ensures fault { IfErr result MayFail }
+    ensures ok { OnOk result (out.new.items ≡ out.old.items ++ line_with_line_feed (lines.closed_lot_line side price (abstract_closing closing.now))) }
+    ensures fault { IfErr result IsCallFault }
 {
-    let moment = moment(alloc, closing.stamp)?;
-    let bought = amount(bought_for(side, price, closing))?;
-    let sold = amount(sold_for(side, price, closing))?;
-    let shares = i128::from(taken(closing));
-    put_row_start(
+    let moment = format_timestamp(alloc, closing.stamp)?;
+    let bought = wide_amount_of_cents(buy_value_of_closing(side, price, closing))?;
+    let sold = wide_amount_of_cents(sell_value_of_closing(side, price, closing))?;
+    let shares = i128::from(shares_of_closing(closing));
+    put_leading_row_columns(
         alloc,
         out,
         "Closed",
@@ -59,44 +64,44 @@ fn closing_line(
         shares,
         closing.price,
     )?;
-    put_value(alloc, out, bought)?;
-    put_value(alloc, out, sold)?;
-    put_shares(out, closing.after)?;
+    put_value_column(alloc, out, bought)?;
+    put_value_column(alloc, out, sold)?;
+    put_shares_column(out, closing.after)?;
     out.push(b'\n')?;
     Ok(())
 }
 
 // Appends a line for each closing by a trade on a side at a price. Fails with `Memory` or `Store`.
-fn closing_lines(
+fn put_closed_lot_lines(
     alloc: Global,
     out: &mut Vec<u8>,
     side: Side,
     price: Price,
     closings: &[Closing],
 ) -> Result<(), Fault>
-    ensures ok { OnOk result (out.new.items ≡ out.old.items ++ lines_text (map (lines.closing_line side price) (map closing_row_of closings.now))) }
-    ensures fault { IfErr result MayFail }
+    ensures ok { OnOk result (out.new.items ≡ out.old.items ++ text_of_lines (map (lines.closed_lot_line side price) (map abstract_closing closings.now))) }
+    ensures fault { IfErr result IsCallFault }
 {
     for closing in closings {
-        closing_line(alloc, out, side, price, closing)?;
+        put_closed_lot_line(alloc, out, side, price, closing)?;
     }
     Ok(())
 }
 
 // Appends the line of the lot that a trade opened at a price. Fails with `Memory` only.
-#[tactic(auto, unfolding(brk_explain_model::specs::TradeLines::own_lot_line))]
-fn own_lot_line(
+#[tactic(auto, unfolding(brk_explain_model::specs::TradeLines::opened_lot_line))]
+fn put_opened_lot_line(
     alloc: Global,
     out: &mut Vec<u8>,
     trade: &TradeRow,
     price: Price,
     lot: &LotChange,
 ) -> Result<(), Fault>
-    ensures ok { OnOk result (out.new.items ≡ out.old.items ++ ended (lines.own_lot_line (trade_row_of trade.now) price (lot_change_of lot.now))) }
+    ensures ok { OnOk result (out.new.items ≡ out.old.items ++ line_with_line_feed (lines.opened_lot_line (abstract_trade_row trade.now) price (abstract_lot_change_row lot.now))) }
     ensures fault { OnErr result (result ≡ Err Memory) }
 {
-    let moment = moment(alloc, trade.stamp)?;
-    put_row_start(
+    let moment = format_timestamp(alloc, trade.stamp)?;
+    put_leading_row_columns(
         alloc,
         out,
         "Opened",
@@ -111,26 +116,26 @@ fn own_lot_line(
 
 // Appends the line of the lot that a trade opened at a price, or nothing if it opened none. Fails
 // with `Memory` only.
-#[tactic(auto, unfolding(brk_explain_model::specs::TradeLines::own_lot_lines))]
-fn own_lot_lines(
+#[tactic(auto, unfolding(brk_explain_model::specs::TradeLines::opened_lot_lines))]
+fn put_opened_lot_lines(
     alloc: Global,
     out: &mut Vec<u8>,
     trade: &TradeRow,
     price: Price,
     lot: &Option<LotChange>,
 ) -> Result<(), Fault>
-    ensures ok { OnOk result (out.new.items ≡ out.old.items ++ lines_text (lines.own_lot_lines (trade_row_of trade.now) price (option_map lot_change_of lot.now))) }
+    ensures ok { OnOk result (out.new.items ≡ out.old.items ++ text_of_lines (lines.opened_lot_lines (abstract_trade_row trade.now) price (option_map abstract_lot_change_row lot.now))) }
     ensures fault { OnErr result (result ≡ Err Memory) }
 {
     match lot {
-        Some(lot) => own_lot_line(alloc, out, trade, price, lot),
+        Some(lot) => put_opened_lot_line(alloc, out, trade, price, lot),
         None => Ok(()),
     }
 }
 
 // Returns the number of shares of the lot that a trade opened; 0 if it opened none.
-fn opened(story: &ResultStory) -> u64
-    ensures { result ≡ nat_abs (trades.opened (result_story_of story.now)) }
+fn count_of_opened_shares(story: &ResultStory) -> u64
+    ensures { result ≡ nat_abs (trades.opened_quantity (abstract_result_story story.now)) }
 {
     match &story.own_lot {
         Some(lot) => lot.after.unsigned_abs(),
@@ -140,53 +145,53 @@ fn opened(story: &ResultStory) -> u64
 
 // Appends the lines of the number of closed shares and of the number of opened shares. Fails with
 // `Memory` or `Store`.
-#[tactic(auto, unfolding(brk_explain_model::specs::TradeLines::shares_lines))]
-fn shares_lines(out: &mut Vec<u8>, story: &ResultStory) -> Result<(), Fault>
-    ensures ok { OnOk result (out.new.items ≡ out.old.items ++ lines_text (lines.shares_lines (result_story_of story.now))) }
-    ensures fault { IfErr result MayFail }
+#[tactic(auto, unfolding(brk_explain_model::specs::TradeLines::share_count_lines))]
+fn put_share_count_lines(out: &mut Vec<u8>, story: &ResultStory) -> Result<(), Fault>
+    ensures ok { OnOk result (out.new.items ≡ out.old.items ++ text_of_lines (lines.share_count_lines (abstract_result_story story.now))) }
+    ensures fault { IfErr result IsCallFault }
 {
-    let closed = taken_total(&story.closings)?;
-    count_line(out, "Shares closed", closed)?;
-    count_line(out, "Shares opened", opened(story))
+    let closed = total_closed_shares(&story.closings)?;
+    put_labeled_number_line(out, "Shares closed", closed)?;
+    put_labeled_number_line(out, "Shares opened", count_of_opened_shares(story))
 }
 
 // Appends the lines of the buy value, the sell value and the realised gain of the closed shares.
 // Fails with `Memory` or `Store`.
-#[tactic(auto, unfolding(brk_explain_model::specs::TradeLines::gain_lines))]
-fn gain_lines(
+#[tactic(auto, unfolding(brk_explain_model::specs::TradeLines::realised_gain_lines))]
+fn put_realised_gain_lines(
     alloc: Global,
     out: &mut Vec<u8>,
     order: &OrderStory,
     story: &ResultStory,
 ) -> Result<(), Fault>
-    ensures ok { OnOk result (out.new.items ≡ out.old.items ++ lines_text (lines.gain_lines (order_story_of order.now) (result_story_of story.now))) }
-    ensures fault { IfErr result MayFail }
+    ensures ok { OnOk result (out.new.items ≡ out.old.items ++ text_of_lines (lines.realised_gain_lines (abstract_order_story order.now) (abstract_result_story story.now))) }
+    ensures fault { IfErr result IsCallFault }
 {
     let side = order.trade.kind.side();
-    let bought = buy_total(side, story.price, &story.closings)?;
-    let sold = sell_total(side, story.price, &story.closings)?;
-    let gain = gain_total(side, story.price, &story.closings)?;
-    money_line(alloc, out, "BUY", bought)?;
-    money_line(alloc, out, "SELL", sold)?;
-    money_line(alloc, out, "Realised gain", gain)
+    let bought = buy_value_of_closings(side, story.price, &story.closings)?;
+    let sold = sell_value_of_closings(side, story.price, &story.closings)?;
+    let gain = realised_gain_of_closings(side, story.price, &story.closings)?;
+    put_labeled_amount_line(alloc, out, "BUY", bought)?;
+    put_labeled_amount_line(alloc, out, "SELL", sold)?;
+    put_labeled_amount_line(alloc, out, "Realised gain", gain)
 }
 
 /// Appends the lines of the price, of the lots that a trade closed and opened, of the numbers of
 /// shares, and of the realised gain. Fails with `Memory` or `Store`.
-#[tactic(auto, unfolding(brk_explain_model::specs::TradeLines::lots_lines, brk_explain_model::specs::TradeLines::closing_lines))]
-pub(crate) fn lots_lines(
+#[tactic(auto, unfolding(brk_explain_model::specs::TradeLines::lot_and_gain_lines, brk_explain_model::specs::TradeLines::closed_lot_lines))]
+pub(crate) fn put_lot_and_gain_lines(
     alloc: Global,
     out: &mut Vec<u8>,
     order: &OrderStory,
     story: &ResultStory,
 ) -> Result<(), Fault>
-    ensures ok { OnOk result (out.new.items ≡ out.old.items ++ lines_text (lines.lots_lines (order_story_of order.now) (result_story_of story.now))) }
-    ensures fault { IfErr result MayFail }
+    ensures ok { OnOk result (out.new.items ≡ out.old.items ++ text_of_lines (lines.lot_and_gain_lines (abstract_order_story order.now) (abstract_result_story story.now))) }
+    ensures fault { IfErr result IsCallFault }
 {
     let side = order.trade.kind.side();
-    price_lines(alloc, out, story)?;
-    closing_lines(alloc, out, side, story.price, &story.closings)?;
-    own_lot_lines(alloc, out, &order.trade, story.price, &story.own_lot)?;
-    shares_lines(out, story)?;
-    gain_lines(alloc, out, order, story)
+    put_price_and_lot_header_lines(alloc, out, story)?;
+    put_closed_lot_lines(alloc, out, side, story.price, &story.closings)?;
+    put_opened_lot_lines(alloc, out, &order.trade, story.price, &story.own_lot)?;
+    put_share_count_lines(out, story)?;
+    put_realised_gain_lines(alloc, out, order, story)
 }

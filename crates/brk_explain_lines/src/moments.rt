@@ -1,7 +1,7 @@
 //! The text of a moment. The functions fail with `Memory` only.
 
 ghost use Rattle.std.specs.Prelude.{◌≡◌, ◌++◌, ◌<◌, Err, IfOk, OnErr, OnOk};
-ghost use Rattle.brk_explain_model.specs.Texts.{clock_text, moment_text};
+ghost use Rattle.brk_explain_model.specs.Texts.{time_of_day_text, timestamp_text};
 ghost use Rattle.brk_money.specs.Spelling.{padded_decimal};
 ghost use Rattle.brk_money.specs.declared.fault.Fault.TheVariants.{Memory};
 
@@ -10,7 +10,7 @@ use std::alloc::Global;
 
 // Appends a number below 100 in two decimal digits.
 #[tactic(auto, using(crate::proofs::Padded::two))]
-fn put_two(out: &mut Vec<u8>, n: u8) -> Result<(), Fault>
+fn put_two_digits(out: &mut Vec<u8>, n: u8) -> Result<(), Fault>
     requires { n < 100 }
     ensures ok { OnOk result (out.new.items ≡ out.old.items ++ padded_decimal 2 n) }
     ensures fault { OnErr result (result ≡ Err Memory) }
@@ -22,7 +22,7 @@ fn put_two(out: &mut Vec<u8>, n: u8) -> Result<(), Fault>
 
 // Appends a number below 1000 in three decimal digits.
 #[tactic(auto, using(crate::proofs::Padded::three))]
-fn put_three(out: &mut Vec<u8>, n: u16) -> Result<(), Fault>
+fn put_three_digits(out: &mut Vec<u8>, n: u16) -> Result<(), Fault>
     requires { n < 1000 }
     ensures ok { OnOk result (out.new.items ≡ out.old.items ++ padded_decimal 3 n) }
     ensures fault { OnErr result (result ≡ Err Memory) }
@@ -37,30 +37,30 @@ fn put_three(out: &mut Vec<u8>, n: u16) -> Result<(), Fault>
 }
 
 // Appends the time of day of a number of milliseconds after midnight, below 86,400,000.
-#[tactic(auto, unfolding(brk_explain_model::specs::Texts::clock_text))]
-fn put_clock(out: &mut Vec<u8>, millis: u32) -> Result<(), Fault>
+#[tactic(auto, unfolding(brk_explain_model::specs::Texts::time_of_day_text))]
+fn put_time_of_day(out: &mut Vec<u8>, millis: u32) -> Result<(), Fault>
     requires { millis < 86400000 }
-    ensures ok { OnOk result (out.new.items ≡ out.old.items ++ clock_text millis) }
+    ensures ok { OnOk result (out.new.items ≡ out.old.items ++ time_of_day_text millis) }
     ensures fault { OnErr result (result ≡ Err Memory) }
 {
-    put_two(out, (millis / 3_600_000) as u8)?;
+    put_two_digits(out, (millis / 3_600_000) as u8)?;
     out.push(b':')?;
-    put_two(out, (millis / 60_000 % 60) as u8)?;
+    put_two_digits(out, (millis / 60_000 % 60) as u8)?;
     out.push(b':')?;
-    put_two(out, (millis / 1000 % 60) as u8)?;
+    put_two_digits(out, (millis / 1000 % 60) as u8)?;
     out.push(b'.')?;
-    put_three(out, (millis % 1000) as u16)
+    put_three_digits(out, (millis % 1000) as u16)
 }
 
 /// Returns the timestamp of a stamp in UTC, such as `2024-03-01 09:05:00.021`.
-#[tactic(auto, unfolding(brk_explain_model::specs::Texts::moment_text))]
-pub fn moment(alloc: Global, stamp: Stamp) -> Result<Vec<u8>, Fault>
-    ensures ok { IfOk result (λ text. text.items ≡ moment_text stamp) }
+#[tactic(auto, unfolding(brk_explain_model::specs::Texts::timestamp_text))]
+pub fn format_timestamp(alloc: Global, stamp: Stamp) -> Result<Vec<u8>, Fault>
+    ensures ok { IfOk result (λ text. text.items ≡ timestamp_text stamp) }
     ensures fault { OnErr result (result ≡ Err Memory) }
 {
     let mut text = Vec::new(alloc);
     write_day(&mut text, day_of(stamp))?;
     text.push(b' ')?;
-    put_clock(&mut text, (stamp.get() as u64 % 86_400_000) as u32)?;
+    put_time_of_day(&mut text, (stamp.get() as u64 % 86_400_000) as u32)?;
     Ok(text)
 }

@@ -1,30 +1,33 @@
 //! The lines of a trade as ordered. The functions fail with `Memory` only.
 
 ghost use Rattle.std.specs.Prelude.{◌≡◌, ◌++◌, Err, OnErr, OnOk, map};
-ghost use Rattle.brk_changes.specs.Rows.{history_row_of};
+ghost use Rattle.brk_changes.specs.Rows.{abstract_history_row};
 ghost use Rattle.brk_explain_model.specs.TradeLines as lines;
-ghost use Rattle.brk_explain_rows.specs.Stories.{order_story_of};
-ghost use Rattle.brk_model.specs.Rows.{cash_word};
-ghost use Rattle.brk_model.specs.Statement.{lines_text};
+ghost use Rattle.brk_explain_rows.specs.Stories.{abstract_order_story};
+ghost use Rattle.brk_model.specs.Rows.{cash_or_margin_word};
+ghost use Rattle.brk_model.specs.Statement.{text_of_lines};
 ghost use Rattle.brk_money.specs.declared.fault.Fault.TheVariants.{Memory};
-ghost use Rattle.brk_report_lines.specs.Written.{ended};
+ghost use Rattle.brk_report_lines.specs.Written.{line_with_line_feed};
 
-use crate::facts::{count_line, money_line, put_count, put_number, put_words, words_line};
-use crate::moments::moment;
+use crate::facts::{
+    put_labeled_amount_line, put_labeled_number, put_labeled_number_line, put_labeled_text,
+    put_labeled_text_line, put_number,
+};
+use crate::moments::format_timestamp;
 use brk_changes::HistoryRow;
 use brk_explain_rows::OrderStory;
 use brk_money::{Fault, Wide};
-use brk_report_lines::put_left;
+use brk_report_lines::put_left_aligned;
 use std::alloc::Global;
 
 // Appends the line of a status change: its timestamp, and the code and the name of the status.
-#[tactic(auto, unfolding(brk_explain_model::specs::TradeLines::status_line))]
-fn status_line(alloc: Global, out: &mut Vec<u8>, row: &HistoryRow) -> Result<(), Fault>
-    ensures ok { OnOk result (out.new.items ≡ out.old.items ++ ended (lines.status_line (history_row_of row.now))) }
+#[tactic(auto, unfolding(brk_explain_model::specs::TradeLines::status_change_line))]
+fn put_status_line(alloc: Global, out: &mut Vec<u8>, row: &HistoryRow) -> Result<(), Fault>
+    ensures ok { OnOk result (out.new.items ≡ out.old.items ++ line_with_line_feed (lines.status_change_line (abstract_history_row row.now))) }
     ensures fault { OnErr result (result ≡ Err Memory) }
 {
-    let moment = moment(alloc, row.stamp)?;
-    put_left(out, 6, b"Status")?;
+    let moment = format_timestamp(alloc, row.stamp)?;
+    put_left_aligned(out, 6, b"Status")?;
     out.push(b' ')?;
     out.extend_from_slice(&moment)?;
     out.push(b' ')?;
@@ -36,19 +39,19 @@ fn status_line(alloc: Global, out: &mut Vec<u8>, row: &HistoryRow) -> Result<(),
 }
 
 // Appends a line for each status change.
-fn status_lines(alloc: Global, out: &mut Vec<u8>, rows: &[HistoryRow]) -> Result<(), Fault>
-    ensures ok { OnOk result (out.new.items ≡ out.old.items ++ lines_text (map lines.status_line (map history_row_of rows.now))) }
+fn put_status_lines(alloc: Global, out: &mut Vec<u8>, rows: &[HistoryRow]) -> Result<(), Fault>
+    ensures ok { OnOk result (out.new.items ≡ out.old.items ++ text_of_lines (map lines.status_change_line (map abstract_history_row rows.now))) }
     ensures fault { OnErr result (result ≡ Err Memory) }
 {
     for row in rows {
-        status_line(alloc, out, row)?;
+        put_status_line(alloc, out, row)?;
     }
     Ok(())
 }
 
 // Appends the title of the explanation of a trade, with its id.
-fn title_line(out: &mut Vec<u8>, order: &OrderStory) -> Result<(), Fault>
-    ensures ok { OnOk result (out.new.items ≡ out.old.items ++ ended (lines.title_line (order_story_of order.now))) }
+fn put_trade_title_line(out: &mut Vec<u8>, order: &OrderStory) -> Result<(), Fault>
+    ensures ok { OnOk result (out.new.items ≡ out.old.items ++ line_with_line_feed (lines.trade_title_line (abstract_order_story order.now))) }
     ensures fault { OnErr result (result ≡ Err Memory) }
 {
     out.extend_from_slice(b"Trade ")?;
@@ -59,11 +62,11 @@ fn title_line(out: &mut Vec<u8>, order: &OrderStory) -> Result<(), Fault>
 }
 
 // Appends the line of the account of a trade: its id and its name.
-fn account_line(out: &mut Vec<u8>, order: &OrderStory) -> Result<(), Fault>
-    ensures ok { OnOk result (out.new.items ≡ out.old.items ++ ended (lines.account_line (order_story_of order.now))) }
+fn put_account_line(out: &mut Vec<u8>, order: &OrderStory) -> Result<(), Fault>
+    ensures ok { OnOk result (out.new.items ≡ out.old.items ++ line_with_line_feed (lines.trade_account_line (abstract_order_story order.now))) }
     ensures fault { OnErr result (result ≡ Err Memory) }
 {
-    put_count(out, "Account", order.trade.account.get())?;
+    put_labeled_number(out, "Account", order.trade.account.get())?;
     out.push(b' ')?;
     out.extend_from_slice(order.account.account.name.as_str().as_bytes())?;
     out.push(b'\n')?;
@@ -72,26 +75,26 @@ fn account_line(out: &mut Vec<u8>, order: &OrderStory) -> Result<(), Fault>
 
 // Appends the title, and the lines of the account, the customer, the broker and the executor of a
 // trade.
-#[tactic(auto, unfolding(brk_explain_model::specs::TradeLines::party_lines))]
-fn party_lines(out: &mut Vec<u8>, order: &OrderStory) -> Result<(), Fault>
-    ensures ok { OnOk result (out.new.items ≡ out.old.items ++ lines_text (lines.party_lines (order_story_of order.now))) }
+#[tactic(auto, unfolding(brk_explain_model::specs::TradeLines::title_and_party_lines))]
+fn put_title_and_party_lines(out: &mut Vec<u8>, order: &OrderStory) -> Result<(), Fault>
+    ensures ok { OnOk result (out.new.items ≡ out.old.items ++ text_of_lines (lines.title_and_party_lines (abstract_order_story order.now))) }
     ensures fault { OnErr result (result ≡ Err Memory) }
 {
     let account = &order.account.account;
-    title_line(out, order)?;
-    account_line(out, order)?;
-    count_line(out, "Customer", account.customer.get())?;
-    count_line(out, "Broker", account.broker.get())?;
-    words_line(out, "Executor", order.trade.executor.as_bytes())?;
+    put_trade_title_line(out, order)?;
+    put_account_line(out, order)?;
+    put_labeled_number_line(out, "Customer", account.customer.get())?;
+    put_labeled_number_line(out, "Broker", account.broker.get())?;
+    put_labeled_text_line(out, "Executor", order.trade.executor.as_bytes())?;
     Ok(())
 }
 
 // Appends the line of the type of a trade: its code and its name.
-fn type_line(out: &mut Vec<u8>, order: &OrderStory) -> Result<(), Fault>
-    ensures ok { OnOk result (out.new.items ≡ out.old.items ++ ended (lines.type_line (order_story_of order.now))) }
+fn put_trade_type_line(out: &mut Vec<u8>, order: &OrderStory) -> Result<(), Fault>
+    ensures ok { OnOk result (out.new.items ≡ out.old.items ++ line_with_line_feed (lines.trade_type_line (abstract_order_story order.now))) }
     ensures fault { OnErr result (result ≡ Err Memory) }
 {
-    put_words(out, "Type", order.trade.kind.code().as_bytes())?;
+    put_labeled_text(out, "Type", order.trade.kind.code().as_bytes())?;
     out.push(b' ')?;
     out.extend_from_slice(order.trade.kind.name().as_bytes())?;
     out.push(b'\n')?;
@@ -99,13 +102,13 @@ fn type_line(out: &mut Vec<u8>, order: &OrderStory) -> Result<(), Fault>
 }
 
 // Appends the line of the security of a trade: its symbol and its name.
-fn security_line(alloc: Global, out: &mut Vec<u8>, order: &OrderStory) -> Result<(), Fault>
-    ensures ok { OnOk result (out.new.items ≡ out.old.items ++ ended (lines.security_line (order_story_of order.now))) }
+fn put_security_line(alloc: Global, out: &mut Vec<u8>, order: &OrderStory) -> Result<(), Fault>
+    ensures ok { OnOk result (out.new.items ≡ out.old.items ++ line_with_line_feed (lines.trade_security_line (abstract_order_story order.now))) }
     ensures fault { OnErr result (result ≡ Err Memory) }
 {
     let mut security = Vec::new(alloc);
-    put_left(&mut security, 15, order.trade.symbol.as_str().as_bytes())?;
-    put_words(out, "Security", &security)?;
+    put_left_aligned(&mut security, 15, order.trade.symbol.as_str().as_bytes())?;
+    put_labeled_text(out, "Security", &security)?;
     out.push(b' ')?;
     out.extend_from_slice(order.security.name.as_str().as_bytes())?;
     out.push(b'\n')?;
@@ -113,16 +116,16 @@ fn security_line(alloc: Global, out: &mut Vec<u8>, order: &OrderStory) -> Result
 }
 
 // Returns `cash` for a cash trade and `margin` for a margin trade.
-fn settles_by(is_cash: bool) -> &'static str
-    ensures { result.now ≡ cash_word is_cash }
+fn settlement_word(is_cash: bool) -> &'static str
+    ensures { result.now ≡ cash_or_margin_word is_cash }
 {
     if is_cash { "cash" } else { "margin" }
 }
 
 // Returns the words for the order in which a trade closes lots: last in first out if `is_lifo`,
 // otherwise first in first out.
-fn closes(is_lifo: bool) -> &'static str
-    ensures { result.now ≡ lines.closes_words is_lifo }
+fn closing_order_words(is_lifo: bool) -> &'static str
+    ensures { result.now ≡ lines.closing_order_words is_lifo }
 {
     if is_lifo {
         "last in first out"
@@ -132,28 +135,32 @@ fn closes(is_lifo: bool) -> &'static str
 }
 
 // Appends the lines of the terms of an order.
-#[tactic(auto, unfolding(brk_explain_model::specs::TradeLines::asked_lines))]
-fn asked_lines(alloc: Global, out: &mut Vec<u8>, order: &OrderStory) -> Result<(), Fault>
-    ensures ok { OnOk result (out.new.items ≡ out.old.items ++ lines_text (lines.asked_lines (order_story_of order.now))) }
+#[tactic(auto, unfolding(brk_explain_model::specs::TradeLines::order_terms_lines))]
+fn put_order_terms_lines(alloc: Global, out: &mut Vec<u8>, order: &OrderStory) -> Result<(), Fault>
+    ensures ok { OnOk result (out.new.items ≡ out.old.items ++ text_of_lines (lines.order_terms_lines (abstract_order_story order.now))) }
     ensures fault { OnErr result (result ≡ Err Memory) }
 {
     let trade = &order.trade;
-    type_line(out, order)?;
-    security_line(alloc, out, order)?;
-    count_line(out, "Shares", u64::from(trade.qty.get()))?;
-    money_line(alloc, out, "Price asked", Wide::from(trade.bid))?;
-    words_line(out, "Settles by", settles_by(trade.is_cash).as_bytes())?;
-    words_line(out, "Closes", closes(trade.is_lifo).as_bytes())?;
+    put_trade_type_line(out, order)?;
+    put_security_line(alloc, out, order)?;
+    put_labeled_number_line(out, "Shares", u64::from(trade.qty.get()))?;
+    put_labeled_amount_line(alloc, out, "Price asked", Wide::from(trade.bid))?;
+    put_labeled_text_line(out, "Settles by", settlement_word(trade.is_cash).as_bytes())?;
+    put_labeled_text_line(out, "Closes", closing_order_words(trade.is_lifo).as_bytes())?;
     Ok(())
 }
 
 /// Appends the title, the parties, the terms of the order, and the status changes of a trade.
-#[tactic(auto, unfolding(brk_explain_model::specs::TradeLines::order_lines))]
-pub(crate) fn order_lines(alloc: Global, out: &mut Vec<u8>, order: &OrderStory) -> Result<(), Fault>
-    ensures ok { OnOk result (out.new.items ≡ out.old.items ++ lines_text (lines.order_lines (order_story_of order.now))) }
+#[tactic(auto, unfolding(brk_explain_model::specs::TradeLines::order_and_status_lines))]
+pub(crate) fn put_order_lines(
+    alloc: Global,
+    out: &mut Vec<u8>,
+    order: &OrderStory,
+) -> Result<(), Fault>
+    ensures ok { OnOk result (out.new.items ≡ out.old.items ++ text_of_lines (lines.order_and_status_lines (abstract_order_story order.now))) }
     ensures fault { OnErr result (result ≡ Err Memory) }
 {
-    party_lines(out, order)?;
-    asked_lines(alloc, out, order)?;
-    status_lines(alloc, out, &order.statuses)
+    put_title_and_party_lines(out, order)?;
+    put_order_terms_lines(alloc, out, order)?;
+    put_status_lines(alloc, out, &order.statuses)
 }

@@ -1,49 +1,49 @@
-//! The amounts of a completed trade. A sum that does not fit is the fault `Store`: no row of a store
-//! that passed its audit leads to one.
+//! The amounts of a completed trade. A sum that does not fit is the fault `Store`: no row of a
+//! store that passed its audit leads to one.
 
 ghost use Rattle.std.specs.Prelude.{◌≡◌, ◌+ℤ◌, ◌-ℤ◌, IfErr, IfOk, map, neg_ℤ, pos, if◌then◌else◌};
 ghost use Rattle.brk_explain_model.specs.Trades as trades;
-ghost use Rattle.brk_explain_rows.specs.Stories.{closing_row_of, order_story_of, result_story_of};
+ghost use Rattle.brk_explain_rows.specs.Stories.{abstract_closing, abstract_order_story, abstract_result_story};
 ghost use Rattle.brk_model.specs.Base as base;
-ghost use Rattle.brk_model.specs.Run.{MayFail};
+ghost use Rattle.brk_model.specs.Run.{IsCallFault};
 ghost use Rattle.brk_money.specs.Amounts as amounts;
-ghost use Rattle.brk_ref.specs.Records.{tax_of};
+ghost use Rattle.brk_ref.specs.Records.{abstract_tax_rate};
 
 use brk_explain_rows::{Closing, OrderStory, ResultStory};
 use brk_money::{Amount, Cents, Fault, Price, Side, TaxRate, TaxStatus, Wide, commission, tax};
 use brk_ref::{Tax, tax_sum};
 
 /// Returns the number of shares that a closing closed.
-pub(crate) fn taken(closing: &Closing) -> u64
-    ensures { result ≡ trades.taken (closing_row_of closing.now) }
+pub(crate) fn shares_of_closing(closing: &Closing) -> u64
+    ensures { result ≡ trades.shares_of_closing (abstract_closing closing.now) }
 {
     (i128::from(closing.before) - i128::from(closing.after)).unsigned_abs() as u64
 }
 
 /// Returns the buy value of a closing by a trade on a side at a price, in cents.
-pub(crate) fn bought_for(side: Side, price: Price, closing: &Closing) -> u128
-    ensures { result ≡ trades.bought_for side price (closing_row_of closing.now) }
+pub(crate) fn buy_value_of_closing(side: Side, price: Price, closing: &Closing) -> u128
+    ensures { result ≡ trades.buy_value_of_closing side price (abstract_closing closing.now) }
 {
     match side {
-        Side::Sell => u128::from(taken(closing)) * u128::from(closing.price.get()),
-        Side::Buy => u128::from(taken(closing)) * u128::from(price.get()),
+        Side::Sell => u128::from(shares_of_closing(closing)) * u128::from(closing.price.get()),
+        Side::Buy => u128::from(shares_of_closing(closing)) * u128::from(price.get()),
     }
 }
 
 /// Returns the sell value of a closing by a trade on a side at a price, in cents.
-pub(crate) fn sold_for(side: Side, price: Price, closing: &Closing) -> u128
-    ensures { result ≡ trades.sold_for side price (closing_row_of closing.now) }
+pub(crate) fn sell_value_of_closing(side: Side, price: Price, closing: &Closing) -> u128
+    ensures { result ≡ trades.sell_value_of_closing side price (abstract_closing closing.now) }
 {
     match side {
-        Side::Sell => u128::from(taken(closing)) * u128::from(price.get()),
-        Side::Buy => u128::from(taken(closing)) * u128::from(closing.price.get()),
+        Side::Sell => u128::from(shares_of_closing(closing)) * u128::from(price.get()),
+        Side::Buy => u128::from(shares_of_closing(closing)) * u128::from(closing.price.get()),
     }
 }
 
 /// Returns an amount of `cents` cents. Fails with `Store` if it does not fit.
-pub(crate) fn amount(cents: u128) -> Result<Wide, Fault>
+pub(crate) fn wide_amount_of_cents(cents: u128) -> Result<Wide, Fault>
     ensures amount { IfOk result (λ amount. amount ≡ pos cents) }
-    ensures fault { IfErr result MayFail }
+    ensures fault { IfErr result IsCallFault }
 {
     match i128::try_from(cents) {
         Ok(cents) => Ok(Wide::new(cents)),
@@ -52,13 +52,13 @@ pub(crate) fn amount(cents: u128) -> Result<Wide, Fault>
 }
 
 /// Returns the number of shares that all closings closed. Fails with `Store` if it does not fit.
-pub(crate) fn taken_total(closings: &[Closing]) -> Result<u64, Fault>
-    ensures total { IfOk result (λ total. total ≡ trades.taken_total (map closing_row_of closings.now)) }
-    ensures fault { IfErr result MayFail }
+pub(crate) fn total_closed_shares(closings: &[Closing]) -> Result<u64, Fault>
+    ensures total { IfOk result (λ total. total ≡ trades.total_closed_shares (map abstract_closing closings.now)) }
+    ensures fault { IfErr result IsCallFault }
 {
     let mut total: u64 = 0;
     for closing in closings {
-        let Some(sum) = total.checked_add(taken(closing)) else {
+        let Some(sum) = total.checked_add(shares_of_closing(closing)) else {
             return Err(Fault::Store);
         };
         total = sum;
@@ -68,40 +68,48 @@ pub(crate) fn taken_total(closings: &[Closing]) -> Result<u64, Fault>
 
 /// Returns the sum of the buy values of closings by a trade on a side at a price. Fails with
 /// `Store` if it does not fit.
-pub(crate) fn buy_total(side: Side, price: Price, closings: &[Closing]) -> Result<Wide, Fault>
-    ensures total { IfOk result (λ total. total ≡ pos (trades.buy_total side price (map closing_row_of closings.now))) }
-    ensures fault { IfErr result MayFail }
+pub(crate) fn buy_value_of_closings(
+    side: Side,
+    price: Price,
+    closings: &[Closing],
+) -> Result<Wide, Fault>
+    ensures total { IfOk result (λ total. total ≡ pos (trades.buy_value_of_closings side price (map abstract_closing closings.now))) }
+    ensures fault { IfErr result IsCallFault }
 {
     let mut total: u128 = 0;
     for closing in closings {
-        let Some(sum) = total.checked_add(bought_for(side, price, closing)) else {
+        let Some(sum) = total.checked_add(buy_value_of_closing(side, price, closing)) else {
             return Err(Fault::Store);
         };
         total = sum;
     }
-    amount(total)
+    wide_amount_of_cents(total)
 }
 
 /// Returns the sum of the sell values of closings by a trade on a side at a price. Fails with
 /// `Store` if it does not fit.
-pub(crate) fn sell_total(side: Side, price: Price, closings: &[Closing]) -> Result<Wide, Fault>
-    ensures total { IfOk result (λ total. total ≡ pos (trades.sell_total side price (map closing_row_of closings.now))) }
-    ensures fault { IfErr result MayFail }
+pub(crate) fn sell_value_of_closings(
+    side: Side,
+    price: Price,
+    closings: &[Closing],
+) -> Result<Wide, Fault>
+    ensures total { IfOk result (λ total. total ≡ pos (trades.sell_value_of_closings side price (map abstract_closing closings.now))) }
+    ensures fault { IfErr result IsCallFault }
 {
     let mut total: u128 = 0;
     for closing in closings {
-        let Some(sum) = total.checked_add(sold_for(side, price, closing)) else {
+        let Some(sum) = total.checked_add(sell_value_of_closing(side, price, closing)) else {
             return Err(Fault::Store);
         };
         total = sum;
     }
-    amount(total)
+    wide_amount_of_cents(total)
 }
 
 /// Returns the sum of two amounts. Fails with `Store` if it does not fit.
-pub(crate) fn plus(one: Wide, other: Wide) -> Result<Wide, Fault>
+pub(crate) fn add_amounts(one: Wide, other: Wide) -> Result<Wide, Fault>
     ensures sum { IfOk result (λ sum. sum ≡ one +ℤ other) }
-    ensures fault { IfErr result MayFail }
+    ensures fault { IfErr result IsCallFault }
 {
     match one.get().checked_add(other.get()) {
         Some(sum) => Ok(Wide::new(sum)),
@@ -110,9 +118,9 @@ pub(crate) fn plus(one: Wide, other: Wide) -> Result<Wide, Fault>
 }
 
 /// Returns the difference of two amounts. Fails with `Store` if it does not fit.
-pub(crate) fn minus(one: Wide, other: Wide) -> Result<Wide, Fault>
+pub(crate) fn subtract_amounts(one: Wide, other: Wide) -> Result<Wide, Fault>
     ensures difference { IfOk result (λ difference. difference ≡ one -ℤ other) }
-    ensures fault { IfErr result MayFail }
+    ensures fault { IfErr result IsCallFault }
 {
     match one.get().checked_sub(other.get()) {
         Some(difference) => Ok(Wide::new(difference)),
@@ -122,19 +130,23 @@ pub(crate) fn minus(one: Wide, other: Wide) -> Result<Wide, Fault>
 
 /// Returns the realised gain of closings by a trade on a side at a price: the sum of their sell
 /// values minus the sum of their buy values. Fails with `Store` if a value does not fit.
-pub(crate) fn gain_total(side: Side, price: Price, closings: &[Closing]) -> Result<Wide, Fault>
-    ensures gain { IfOk result (λ gain. gain ≡ trades.gain_total side price (map closing_row_of closings.now)) }
-    ensures fault { IfErr result MayFail }
+pub(crate) fn realised_gain_of_closings(
+    side: Side,
+    price: Price,
+    closings: &[Closing],
+) -> Result<Wide, Fault>
+    ensures gain { IfOk result (λ gain. gain ≡ trades.realised_gain_of_closings side price (map abstract_closing closings.now)) }
+    ensures fault { IfErr result IsCallFault }
 {
-    let bought = buy_total(side, price, closings)?;
-    let sold = sell_total(side, price, closings)?;
-    minus(sold, bought)
+    let bought = buy_value_of_closings(side, price, closings)?;
+    let sold = sell_value_of_closings(side, price, closings)?;
+    subtract_amounts(sold, bought)
 }
 
 /// Returns the sum of tax rates. Fails with `Store` if it exceeds the greatest tax rate.
-pub(crate) fn rates_total(rates: &[Tax]) -> Result<TaxRate, Fault>
-    ensures total { IfOk result (λ total. total ≡ trades.rates_total (map tax_of rates.now)) }
-    ensures fault { IfErr result MayFail }
+pub(crate) fn sum_of_tax_rates(rates: &[Tax]) -> Result<TaxRate, Fault>
+    ensures total { IfOk result (λ total. total ≡ trades.sum_of_tax_rates (map abstract_tax_rate rates.now)) }
+    ensures fault { IfErr result IsCallFault }
 {
     match tax_sum(rates) {
         Some(total) => Ok(total),
@@ -144,9 +156,9 @@ pub(crate) fn rates_total(rates: &[Tax]) -> Result<TaxRate, Fault>
 
 // Returns the amount as cents within the limits of a balance. Fails with `Store` if it is beyond
 // them.
-fn cents(amount: Wide) -> Result<Cents, Fault>
+fn cents_within_limits(amount: Wide) -> Result<Cents, Fault>
     ensures cents { IfOk result (λ cents. cents ≡ amount) }
-    ensures fault { IfErr result MayFail }
+    ensures fault { IfErr result IsCallFault }
 {
     let Ok(cents) = i64::try_from(amount.get()) else {
         return Err(Fault::Store);
@@ -158,8 +170,8 @@ fn cents(amount: Wide) -> Result<Cents, Fault>
 }
 
 // Returns true if gains are taxable at this tax status.
-fn bears_tax(status: TaxStatus) -> bool
-    ensures { result ≡ base.bears_tax status }
+fn is_taxable_status(status: TaxStatus) -> bool
+    ensures { result ≡ base.is_taxable_status status }
 {
     match status {
         TaxStatus::Untaxed => false,
@@ -169,32 +181,32 @@ fn bears_tax(status: TaxStatus) -> bool
 
 // Returns the tax on a gain at a sum of rates; 0 if gains are not taxable at the tax status. Fails
 // with `Store` if the gain is beyond the limits of a balance.
-fn tax_on(status: TaxStatus, gain: Wide, rates: TaxRate) -> Result<Wide, Fault>
-    ensures tax { IfOk result (λ tax. tax ≡ pos (if base.bears_tax status then amounts.tax gain rates else 0)) }
-    ensures fault { IfErr result MayFail }
+fn tax_on_gain(status: TaxStatus, gain: Wide, rates: TaxRate) -> Result<Wide, Fault>
+    ensures tax { IfOk result (λ tax. tax ≡ pos (if base.is_taxable_status status then amounts.tax gain rates else 0)) }
+    ensures fault { IfErr result IsCallFault }
 {
-    if !bears_tax(status) {
+    if !is_taxable_status(status) {
         return Ok(Wide::new(0));
     }
-    let gain = cents(gain)?;
+    let gain = cents_within_limits(gain)?;
     Ok(Wide::from(tax(gain, rates)))
 }
 
 /// Returns the tax on the realised gain of a trade at its customer's current tax rates; 0 if the
 /// account is not taxable. Fails with `Store` if a value does not fit.
-pub(crate) fn tax_now(order: &OrderStory, story: &ResultStory) -> Result<Wide, Fault>
-    ensures tax { IfOk result (λ tax. tax ≡ pos (trades.tax_now (order_story_of order.now) (result_story_of story.now))) }
-    ensures fault { IfErr result MayFail }
+pub(crate) fn tax_at_current_rates(order: &OrderStory, story: &ResultStory) -> Result<Wide, Fault>
+    ensures tax { IfOk result (λ tax. tax ≡ pos (trades.tax_at_current_rates (abstract_order_story order.now) (abstract_result_story story.now))) }
+    ensures fault { IfErr result IsCallFault }
 {
-    let gain = gain_total(order.trade.kind.side(), story.price, &story.closings)?;
-    let rates = rates_total(&story.rates)?;
-    tax_on(order.account.account.tax_status, gain, rates)
+    let gain = realised_gain_of_closings(order.trade.kind.side(), story.price, &story.closings)?;
+    let rates = sum_of_tax_rates(&story.rates)?;
+    tax_on_gain(order.account.account.tax_status, gain, rates)
 }
 
 /// Returns the commission of a trade at the rate of its current band, or `None` if there is no
 /// band.
-pub(crate) fn commission_now(order: &OrderStory, story: &ResultStory) -> Option<Amount>
-    ensures { result ≡ trades.commission_now (order_story_of order.now) (result_story_of story.now) }
+pub(crate) fn commission_in_current_band(order: &OrderStory, story: &ResultStory) -> Option<Amount>
+    ensures { result ≡ trades.commission_in_current_band (abstract_order_story order.now) (abstract_result_story story.now) }
 {
     match &story.band {
         Some(band) => { Some(commission(band.rate, order.trade.qty, story.price).unsigned_abs()) }
@@ -203,8 +215,8 @@ pub(crate) fn commission_now(order: &OrderStory, story: &ResultStory) -> Option<
 }
 
 /// Returns the quantity of a trade times its price, in cents, negated if it is a purchase.
-pub(crate) fn value_of(order: &OrderStory, story: &ResultStory) -> Wide
-    ensures { result ≡ trades.value_of (order_story_of order.now) (result_story_of story.now) }
+pub(crate) fn signed_trade_value(order: &OrderStory, story: &ResultStory) -> Wide
+    ensures { result ≡ trades.signed_trade_value (abstract_order_story order.now) (abstract_result_story story.now) }
 {
     let value = i128::from(u64::from(order.trade.qty.get()) * u64::from(story.price.get()));
     match order.trade.kind.side() {
@@ -214,23 +226,23 @@ pub(crate) fn value_of(order: &OrderStory, story: &ResultStory) -> Wide
 }
 
 /// Returns the charge of a trade, in cents, negated.
-pub(crate) fn charge_of(order: &OrderStory) -> Wide
-    ensures { result ≡ neg_ℤ (pos (order_story_of order.now).trade.charge) }
+pub(crate) fn negated_charge(order: &OrderStory) -> Wide
+    ensures { result ≡ neg_ℤ (pos (abstract_order_story order.now).trade.charge) }
 {
     Wide::new(-i128::from(order.trade.charge.get()))
 }
 
 /// Returns the recorded commission of a trade, in cents, negated.
-pub(crate) fn commission_of(order: &OrderStory) -> Wide
-    ensures { result ≡ neg_ℤ (pos (order_story_of order.now).trade.commission) }
+pub(crate) fn negated_commission(order: &OrderStory) -> Wide
+    ensures { result ≡ neg_ℤ (pos (abstract_order_story order.now).trade.commission) }
 {
     Wide::new(-i128::from(order.trade.commission.get()))
 }
 
 /// Returns the recorded tax of a trade, in cents, negated, if the tax status of its account is that
 /// of withheld tax, and otherwise 0.
-pub(crate) fn withheld(order: &OrderStory) -> Wide
-    ensures { result ≡ neg_ℤ (pos (trades.withheld_of (order_story_of order.now))) }
+pub(crate) fn negated_withheld_tax(order: &OrderStory) -> Wide
+    ensures { result ≡ neg_ℤ (pos (trades.withheld_tax_of_trade (abstract_order_story order.now))) }
 {
     match order.account.account.tax_status {
         TaxStatus::Withheld => Wide::new(-i128::from(order.trade.tax.get())),
@@ -239,8 +251,8 @@ pub(crate) fn withheld(order: &OrderStory) -> Wide
 }
 
 /// Returns the amount of the cash row of a trade; 0 if it has none.
-pub(crate) fn cash_moved(story: &ResultStory) -> Wide
-    ensures { result ≡ trades.cash_moved (result_story_of story.now) }
+pub(crate) fn balance_change_of_trade(story: &ResultStory) -> Wide
+    ensures { result ≡ trades.balance_change_of_trade (abstract_result_story story.now) }
 {
     match &story.cash {
         Some(row) => Wide::from(row.amount),

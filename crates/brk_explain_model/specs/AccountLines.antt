@@ -4,56 +4,56 @@ use Rattle.std.specs.Fmt.{signed_decimal}
 use Rattle.std.specs.Option.{option_map_or}
 use Rattle.brk_money.specs.Spelling.{Text}
 use Rattle.brk_money.specs.Kinds.{tax_status_number}
-use Rattle.brk_money.specs.Moments.{last_day}
+use Rattle.brk_money.specs.Moments.{greatest_day}
 use Rattle.brk_model.specs.Lists.{total_by}
-use Rattle.brk_model.specs.Rows.{price_text}
+use Rattle.brk_model.specs.Rows.{nonnegative_cents_text}
 use Rattle.brk_model.specs.Tables.{Tables, AccountRow, HoldingRow, MoveRow, SummaryRow}
-use Rattle.brk_model.specs.Joins.{price_in}
-use Rattle.brk_model.specs.Statement.{at_left, at_right, cash_in, cash_within, lot_line, lots_in}
-use Rattle.brk_explain_model.specs.Texts.{amount_column, count, moment_text, money, words}
-use Rattle.brk_explain_model.specs.Running.{running_lines}
+use Rattle.brk_model.specs.Joins.{last_price_in_tables}
+use Rattle.brk_model.specs.Statement.{left_aligned_text, right_aligned_text, cash_move_rows_of_account, cash_move_rows_within_days, lot_line, lot_rows_of_account}
+use Rattle.brk_explain_model.specs.Texts.{amount_column, labeled_number, timestamp_text, labeled_amount, labeled_text}
+use Rattle.brk_explain_model.specs.Running.{lines_with_running_total}
 
 -- The first lines of the explanation of the account `a`: the title with its id, its name, customer,
 -- broker, tax status and opening balance, and the column headings of the cash rows.
-unfoldable pub account_top : AccountRow → List Text
-account_top a =
+unfoldable pub account_header_lines : AccountRow → List Text
+account_header_lines a =
     (codes "Account " ++ decimal a.id ++ codes ", times in UTC")
-    ∷ words (codes "Name") a.name
-    ∷ count (codes "Customer") a.customer
-    ∷ count (codes "Broker") a.broker
-    ∷ count (codes "Tax status") (tax_status_number a.tax_status)
-    ∷ money (codes "Opening") a.opening
+    ∷ labeled_text (codes "Name") a.name
+    ∷ labeled_number (codes "Customer") a.customer
+    ∷ labeled_number (codes "Broker") a.broker
+    ∷ labeled_number (codes "Tax status") (tax_status_number a.tax_status)
+    ∷ labeled_amount (codes "Opening") a.opening
     ∷ codes "#      posted                       cash row         trade                 amount                balance name"
     ∷ []
 
 -- The cash rows of `account` with stamps from 1970-01-01 to 9999-12-31, sorted by stamp, ascending.
 -- No stamp of a table that passes an audit is later.
-abbrev pub posted_in : Tables → ℕ → List MoveRow
-posted_in tables account = cash_within 0 last_day (cash_in tables account)
+abbrev pub account_cash_rows_by_stamp : Tables → ℕ → List MoveRow
+account_cash_rows_by_stamp tables account = cash_move_rows_within_days 0 greatest_day (cash_move_rows_of_account tables account)
 
 -- The id of `trade` in decimal digits, or a hyphen if there is none.
-abbrev pub trade_text : Option ℕ → Text
-trade_text trade = option_map_or decimal trade (codes "-")
+abbrev pub trade_id_or_hyphen : Option ℕ → Text
+trade_id_or_hyphen trade = option_map_or decimal trade (codes "-")
 
 -- The line of the cash row `row`: the word `Posted`, its timestamp, its id, the id of its trade or
 -- a hyphen, its amount, `balance`, and its text.
-unfoldable pub posted_line : MoveRow → ℤ → Text
-posted_line row balance =
-    at_left 6 (codes "Posted") ++ 32 ∷ moment_text row.stamp ++ 32 ∷ at_right 13 (decimal row.id) ++ 32 ∷ at_right 13 (trade_text row.trade)
+unfoldable pub cash_posting_line : MoveRow → ℤ → Text
+cash_posting_line row balance =
+    left_aligned_text 6 (codes "Posted") ++ 32 ∷ timestamp_text row.stamp ++ 32 ∷ right_aligned_text 13 (decimal row.id) ++ 32 ∷ right_aligned_text 13 (trade_id_or_hyphen row.trade)
     ++ amount_column row.amount ++ amount_column balance ++ 32 ∷ row.name
 
 -- One line for each of `rows`, with the running balance: `opening` plus the amounts of the rows up
 -- to and including this one.
-abbrev pub posted_lines : ℤ → List MoveRow → List Text
-posted_lines opening rows = running_lines (λ row. row.amount) posted_line opening rows
+abbrev pub cash_posting_lines : ℤ → List MoveRow → List Text
+cash_posting_lines opening rows = lines_with_running_total (λ row. row.amount) cash_posting_line opening rows
 
 -- The line of the balance of the account `a`, and the column headings of its lots and holdings.
-unfoldable pub balance_part : AccountRow → List Text
-balance_part a = money (codes "Balance") a.balance ∷ codes "#      symbol                    lot      shares      price                  worth" ∷ []
+unfoldable pub balance_header_lines : AccountRow → List Text
+balance_header_lines a = labeled_amount (codes "Balance") a.balance ∷ codes "#      symbol                    lot      shares      price                  worth" ∷ []
 
 -- The line of the lot `row`: the word `Lot`, and the columns of its line in a statement.
-unfoldable pub held_lot_line : HoldingRow → Text
-held_lot_line row = at_left 6 (codes "Lot") ++ 32 ∷ lot_line row
+unfoldable pub open_lot_line : HoldingRow → Text
+open_lot_line row = left_aligned_text 6 (codes "Lot") ++ 32 ∷ lot_line row
 
 -- A holding summary (a row of HOLDING_SUMMARY), and the last price of its symbol, in cents.
 pub record Held : Type 0 where
@@ -62,61 +62,61 @@ pub record Held : Type 0 where
 
 -- The market value of the holding `held`, in cents: its quantity times the last price, below 0 if
 -- the shares were sold short.
-abbrev pub worth_of : Held → ℤ
-worth_of held = held.summary.qty *ℤ pos held.price
+abbrev pub market_value_of_holding : Held → ℤ
+market_value_of_holding held = held.summary.qty *ℤ pos held.price
 
 -- The sum of the market values of the holdings `all`, in cents.
-abbrev pub worth_total : List Held → ℤ
-worth_total all = total_by worth_of all
+abbrev pub market_value_of_holdings : List Held → ℤ
+market_value_of_holdings all = total_by market_value_of_holding all
 
 -- The first columns of the line of a holding: the word `Held`, `symbol`, and an empty column of 13
 -- places.
-unfoldable pub held_start : Text → Text
-held_start symbol = at_left 6 (codes "Held") ++ 32 ∷ at_left 15 symbol ++ 32 ∷ at_right 13 []
+unfoldable pub holding_line_start : Text → Text
+holding_line_start symbol = left_aligned_text 6 (codes "Held") ++ 32 ∷ left_aligned_text 15 symbol ++ 32 ∷ right_aligned_text 13 []
 
 -- The columns of the quantity `qty` and of the last price `price`, each after a space.
-unfoldable pub held_columns : ℤ → ℕ → Text
-held_columns qty price = 32 ∷ at_right 11 (signed_decimal qty) ++ 32 ∷ at_right 10 (price_text price)
+unfoldable pub quantity_and_price_columns : ℤ → ℕ → Text
+quantity_and_price_columns qty price = 32 ∷ right_aligned_text 11 (signed_decimal qty) ++ 32 ∷ right_aligned_text 10 (nonnegative_cents_text price)
 
 -- The line of the holding `held`: its symbol, quantity, last price and market value.
-unfoldable pub held_line : Held → Text
-held_line held = held_start held.summary.symbol ++ held_columns held.summary.qty held.price ++ amount_column (worth_of held)
+unfoldable pub holding_line : Held → Text
+holding_line held = holding_line_start held.summary.symbol ++ quantity_and_price_columns held.summary.qty held.price ++ amount_column (market_value_of_holding held)
 
 -- The holding summary `row` with the last price of its symbol in `tables`, or with price 0 if the
 -- symbol has none.
-abbrev pub held_at : Tables → SummaryRow → Held
-held_at tables row = record { summary = row; price = price_in tables row.symbol }
+abbrev pub priced_holding : Tables → SummaryRow → Held
+priced_holding tables row = record { summary = row; price = last_price_in_tables tables row.symbol }
 
 -- The holding summaries of `account`, in the order of the table HOLDING_SUMMARY, each with the last
 -- price of its symbol.
-abbrev pub held_in : Tables → ℕ → List Held
-held_in tables account = map (held_at tables) (filter (λ row. row.account == account) tables.summaries)
+abbrev pub priced_holdings_of_account : Tables → ℕ → List Held
+priced_holdings_of_account tables account = map (priced_holding tables) (filter (λ row. row.account == account) tables.summaries)
 
 -- The last line of the explanation of an account: the numbers of its cash rows (`cash`), lots and
 -- symbols.
-abbrev pub account_counts : ℕ → ℕ → ℕ → Text
-account_counts cash lots symbols = codes "Cash rows " ++ decimal cash ++ codes ", lots " ++ decimal lots ++ codes ", symbols " ++ decimal symbols
+abbrev pub account_counts_line : ℕ → ℕ → ℕ → Text
+account_counts_line cash lots symbols = codes "Cash rows " ++ decimal cash ++ codes ", lots " ++ decimal lots ++ codes ", symbols " ++ decimal symbols
 
 -- The last lines of the explanation of an account: the market value of its holdings, its assets
 -- (`balance` plus `holdings`), and the line of the counts.
-unfoldable pub account_end : ℤ → ℤ → ℕ → ℕ → ℕ → List Text
-account_end balance holdings cash lots symbols =
-    money (codes "Holdings") holdings
-    ∷ money (codes "Assets") (balance +ℤ holdings)
-    ∷ account_counts cash lots symbols
+unfoldable pub account_total_lines : ℤ → ℤ → ℕ → ℕ → ℕ → List Text
+account_total_lines balance holdings cash lots symbols =
+    labeled_amount (codes "Holdings") holdings
+    ∷ labeled_amount (codes "Assets") (balance +ℤ holdings)
+    ∷ account_counts_line cash lots symbols
     ∷ []
 
 -- The lines of the holdings `held` of the account `a`, and the last lines. `cash` and `lots` are
 -- the numbers of its cash rows and lots.
-abbrev pub account_bottom : AccountRow → List Held → ℕ → ℕ → List Text
-account_bottom a held cash lots = map held_line held ++ account_end a.balance (worth_total held) cash lots (length held)
+abbrev pub holding_and_total_lines : AccountRow → List Held → ℕ → ℕ → List Text
+holding_and_total_lines a held cash lots = map holding_line held ++ account_total_lines a.balance (market_value_of_holdings held) cash lots (length held)
 
 -- All lines of the explanation of the account `a`: the first lines, its cash rows, balance, lots
 -- and holdings, and the last lines.
-unfoldable pub account_lines : Tables → AccountRow → List Text
-account_lines tables a =
-    account_top a
-    ++ posted_lines a.opening (posted_in tables a.id)
-    ++ balance_part a
-    ++ map held_lot_line (lots_in tables a.id)
-    ++ account_bottom a (held_in tables a.id) (length (posted_in tables a.id)) (length (lots_in tables a.id))
+unfoldable pub account_explanation_lines : Tables → AccountRow → List Text
+account_explanation_lines tables a =
+    account_header_lines a
+    ++ cash_posting_lines a.opening (account_cash_rows_by_stamp tables a.id)
+    ++ balance_header_lines a
+    ++ map open_lot_line (lot_rows_of_account tables a.id)
+    ++ holding_and_total_lines a (priced_holdings_of_account tables a.id) (length (account_cash_rows_by_stamp tables a.id)) (length (lot_rows_of_account tables a.id))

@@ -3,13 +3,13 @@ use Rattle.std.specs.Prelude.{ℕ, List, [], ◌∷◌, Option, Some, None, Resu
 use Rattle.brk_money.specs.Spelling.{Text}
 use Rattle.brk_money.specs.declared.refusal.Refusal.{Refusal}
 use Rattle.brk_money.specs.declared.refusal.Refusal.TheVariants.{BadText, NoAccount, NoTrade}
-use Rattle.brk_model.specs.Forms.{Read, read_id}
-use Rattle.brk_model.specs.Parse.{Reader, parse_by, read_as}
+use Rattle.brk_model.specs.Forms.{ReadResult, read_id}
+use Rattle.brk_model.specs.Parse.{NamedParser, parse_by_first_field, read_and_wrap}
 use Rattle.brk_model.specs.Tables.{Tables}
-use Rattle.brk_model.specs.Joins.{account_in, trade_in}
-use Rattle.brk_explain_model.specs.Trades.{story_of}
-use Rattle.brk_explain_model.specs.TradeLines.{trade_lines}
-use Rattle.brk_explain_model.specs.AccountLines.{account_lines}
+use Rattle.brk_model.specs.Joins.{account_row_with_id, trade_row_with_id}
+use Rattle.brk_explain_model.specs.Trades.{details_of_trade}
+use Rattle.brk_explain_model.specs.TradeLines.{trade_explanation_lines}
+use Rattle.brk_explain_model.specs.AccountLines.{account_explanation_lines}
 
 -- What is to be explained: a trade or an account.
 pub data Explain : Type 0 where
@@ -18,25 +18,25 @@ pub data Explain : Type 0 where
 
 -- The id that the only word parses as, or `BadText` if there is not exactly one word or if it is
 -- malformed.
-abbrev pub read_only_id : List Text → Read ℕ
-read_only_id (id ∷ []) = read_id id
-read_only_id _ = Err BadText
+abbrev pub read_single_id : List Text → ReadResult ℕ
+read_single_id (id ∷ []) = read_id id
+read_single_id _ = Err BadText
 
 -- The forms, with their words.
-abbrev pub explain_forms : List (Reader Explain)
-explain_forms = (codes "trade", read_as TradeOf read_only_id) ∷ (codes "account", read_as AccountOf read_only_id) ∷ []
+abbrev pub explain_request_readers : List (NamedParser Explain)
+explain_request_readers = (codes "trade", read_and_wrap TradeOf read_single_id) ∷ (codes "account", read_and_wrap AccountOf read_single_id) ∷ []
 
 -- The object that `words` ask to explain, or `BadText` if they are malformed.
-unfoldable pub explain_words : List Text → Read Explain
-explain_words words = parse_by explain_forms words
+unfoldable pub read_explain_request : List Text → ReadResult Explain
+read_explain_request words = parse_by_first_field explain_request_readers words
 
 -- The lines of the row, or `refusal` if there is no row.
-abbrev pub lines_or : {Row : Type 0} → Refusal → (Row → List Text) → Option Row → Result (List Text) Refusal
-lines_or refusal lines None = Err refusal
-lines_or refusal lines (Some row) = Ok (lines row)
+abbrev pub lines_or_refusal : {Row : Type 0} → Refusal → (Row → List Text) → Option Row → Result (List Text) Refusal
+lines_or_refusal refusal lines None = Err refusal
+lines_or_refusal refusal lines (Some row) = Ok (lines row)
 
--- The lines of an explanation. It is refused with `NoTrade` or `NoAccount` if there is no such trade
--- or account.
+-- The lines of an explanation. It is refused with `NoTrade` or `NoAccount` if there is no such
+-- trade or account.
 unfoldable pub explanation : Tables → Explain → Result (List Text) Refusal
-explanation tables (TradeOf trade) = lines_or NoTrade (λ u. trade_lines (story_of tables u)) (trade_in tables trade)
-explanation tables (AccountOf account) = lines_or NoAccount (account_lines tables) (account_in tables account)
+explanation tables (TradeOf trade) = lines_or_refusal NoTrade (λ u. trade_explanation_lines (details_of_trade tables u)) (trade_row_with_id tables trade)
+explanation tables (AccountOf account) = lines_or_refusal NoAccount (account_explanation_lines tables) (account_row_with_id tables account)

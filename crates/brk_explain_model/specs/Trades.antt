@@ -4,7 +4,7 @@ use Rattle.std.specs.Prelude.{ℕ, ◌*◌, Bool, not, ◌&&◌, ◌==◌, nat_l
 use Rattle.std.specs.Option.{option_map, option_map_or}
 use Rattle.brk_money.specs.Spelling.{Text}
 use Rattle.brk_money.specs.Amounts.{commission, tax}
-use Rattle.brk_money.specs.Kinds.{same_status, same_type, side_of}
+use Rattle.brk_money.specs.Kinds.{is_same_trade_status, is_same_trade_type, side_of_trade_type}
 use Rattle.brk_money.specs.Moments.{day_of}
 use Rattle.brk_money.specs.declared.side.Side.{Side}
 use Rattle.brk_money.specs.declared.side.Side.TheVariants.{Buy, Sell}
@@ -13,12 +13,12 @@ use Rattle.brk_money.specs.declared.tax_status.TaxStatus.{TaxStatus}
 use Rattle.brk_money.specs.declared.tax_status.TaxStatus.TheVariants.{Untaxed}
 use Rattle.brk_model.specs.Lists.{sort_by, sort_by_key}
 use Rattle.brk_model.specs.Records.{Customer, Band, TaxRate, SettleRule}
-use Rattle.brk_model.specs.Base.{bears_tax, takes_tax_off}
-use Rattle.brk_model.specs.Derived.{proceeds, settlement_days}
+use Rattle.brk_model.specs.Base.{is_taxable_status, is_withholding_status}
+use Rattle.brk_model.specs.Derived.{signed_proceeds, days_to_settlement}
 use Rattle.brk_model.specs.Tables.{Tables, SecurityRow, TradeRow, HistoryRow, HoldingHistoryRow, SettlementRow, MoveRow}
-use Rattle.brk_model.specs.Joins.{account_in, history_in, security_in, trade_in}
-use Rattle.brk_model.specs.LookupView.{is_cash_of}
-use Rattle.brk_model.specs.Statement.{cash_in, cash_total}
+use Rattle.brk_model.specs.Joins.{account_row_with_id, history_rows_with_trade_id, security_row_with_symbol, trade_row_with_id}
+use Rattle.brk_model.specs.LookupView.{is_cash_row_of_trade}
+use Rattle.brk_model.specs.Statement.{cash_move_rows_of_account, cash_row_total}
 
 -- ---- what is read
 
@@ -66,48 +66,48 @@ pub record TradeStory : Type 0 where
   pub result : Option ResultStory
 
 -- The price of the trade `u`, in cents, or 0 if it has none.
-abbrev pub price_at : TradeRow → ℕ
-price_at u = unwrap_or u.price 0
+abbrev pub completion_price_or_zero : TradeRow → ℕ
+completion_price_or_zero u = unwrap_or u.price 0
 
 -- True if the status of the trade `u` is `Completed`.
-abbrev pub is_completed_row : TradeRow → Bool
-is_completed_row u = same_status u.status Completed
+abbrev pub has_completed_status : TradeRow → Bool
+has_completed_status u = is_same_trade_status u.status Completed
 
 -- The status changes of `trade`, sorted by stamp, ascending.
-abbrev pub statuses_in : Tables → ℕ → List HistoryRow
-statuses_in tables trade = sort_by (λ a b. nat_lt a.stamp b.stamp) (history_in tables trade)
+abbrev pub sorted_statuses_of_trade : Tables → ℕ → List HistoryRow
+sorted_statuses_of_trade tables trade = sort_by (λ a b. nat_lt a.stamp b.stamp) (history_rows_with_trade_id tables trade)
 
 -- The trade `u` as ordered, with the facts of its account and its security in `tables`. If one of
 -- these does not exist, its names are empty, its numbers are 0 and its tax status is `Untaxed`.
-abbrev pub order_story : Tables → TradeRow → OrderStory
-order_story tables u = record {
+abbrev pub order_details_of_trade : Tables → TradeRow → OrderStory
+order_details_of_trade tables u = record {
   trade = u;
-  account_name = option_map_or (λ a. a.name) (account_in tables u.account) [];
-  customer = option_map_or (λ a. a.customer) (account_in tables u.account) 0;
-  broker = option_map_or (λ a. a.broker) (account_in tables u.account) 0;
-  tax_status = option_map_or (λ a. a.tax_status) (account_in tables u.account) Untaxed;
-  opening = option_map_or (λ a. a.opening) (account_in tables u.account) (pos 0);
-  security_name = option_map_or (λ s. s.name) (security_in tables u.symbol) [];
-  statuses = statuses_in tables u.id;
+  account_name = option_map_or (λ a. a.name) (account_row_with_id tables u.account) [];
+  customer = option_map_or (λ a. a.customer) (account_row_with_id tables u.account) 0;
+  broker = option_map_or (λ a. a.broker) (account_row_with_id tables u.account) 0;
+  tax_status = option_map_or (λ a. a.tax_status) (account_row_with_id tables u.account) Untaxed;
+  opening = option_map_or (λ a. a.opening) (account_row_with_id tables u.account) (pos 0);
+  security_name = option_map_or (λ s. s.name) (security_row_with_symbol tables u.symbol) [];
+  statuses = sorted_statuses_of_trade tables u.id;
 }
 
 -- The price of the trade with id `lot`, in cents; 0 if it does not exist or has no price.
-abbrev pub lot_price : Tables → ℕ → ℕ
-lot_price tables lot = option_map_or price_at (trade_in tables lot) 0
+abbrev pub trade_price_or_zero : Tables → ℕ → ℕ
+trade_price_or_zero tables lot = option_map_or completion_price_or_zero (trade_row_with_id tables lot) 0
 
 -- The stamp of the trade with id `lot`, which is that of its completion if it opened a lot; 0 if
 -- the trade does not exist.
-abbrev pub lot_stamp : Tables → ℕ → ℕ
-lot_stamp tables lot = option_map_or (λ t. t.stamp) (trade_in tables lot) 0
+abbrev pub trade_stamp_or_zero : Tables → ℕ → ℕ
+trade_stamp_or_zero tables lot = option_map_or (λ t. t.stamp) (trade_row_with_id tables lot) 0
 
 -- The closing that the HOLDING_HISTORY row `row` records, with the stamp and the price of the trade
 -- that opened the lot; each is 0 if this trade does not exist.
-abbrev pub closing_of : Tables → HoldingHistoryRow → Closing
-closing_of tables row = record { lot = row.lot; stamp = lot_stamp tables row.lot; price = lot_price tables row.lot; before = row.before; after = row.after }
+abbrev pub recorded_closing : Tables → HoldingHistoryRow → Closing
+recorded_closing tables row = record { lot = row.lot; stamp = trade_stamp_or_zero tables row.lot; price = trade_price_or_zero tables row.lot; before = row.before; after = row.after }
 
 -- The list `xs`, reversed if `is_lifo`.
-abbrev pub from_end : {X : Type 0} → Bool → List X → List X
-from_end is_lifo xs = if is_lifo then reverse xs else xs
+abbrev pub reversed_if : {X : Type 0} → Bool → List X → List X
+reversed_if is_lifo xs = if is_lifo then reverse xs else xs
 
 -- True if `row` records a change by `trade` of a lot that another trade opened.
 abbrev pub is_closing_by : ℕ → HoldingHistoryRow → Bool
@@ -115,143 +115,143 @@ is_closing_by trade row = (row.trade == trade) && not (row.lot == trade)
 
 -- The closings by the trade `u`, sorted by the stamps at which the lots were opened: descending if
 -- the trade closes the newest lots first, and otherwise ascending.
-abbrev pub closings_in : Tables → TradeRow → List Closing
-closings_in tables u =
-    from_end u.is_lifo (sort_by_key (λ c. c.stamp) (map (closing_of tables) (filter (is_closing_by u.id) tables.holding_history)))
+abbrev pub closings_of_trade : Tables → TradeRow → List Closing
+closings_of_trade tables u =
+    reversed_if u.is_lifo (sort_by_key (λ c. c.stamp) (map (recorded_closing tables) (filter (is_closing_by u.id) tables.holding_history)))
 
 -- The HOLDING_HISTORY row of the lot that `trade` opened, or none if it opened no lot.
-abbrev pub own_lot_in : Tables → ℕ → Option HoldingHistoryRow
-own_lot_in tables trade = find (λ row. (row.trade == trade) && (row.lot == trade)) tables.holding_history
+abbrev pub opened_lot_row : Tables → ℕ → Option HoldingHistoryRow
+opened_lot_row tables trade = find (λ row. (row.trade == trade) && (row.lot == trade)) tables.holding_history
 
 -- The tax rates of `customer`, in the order of the table CUSTOMER_TAXRATE, without those that do
 -- not exist.
-abbrev pub rates_in : Tables → ℕ → List TaxRate
-rates_in tables customer =
+abbrev pub tax_rates_of_customer : Tables → ℕ → List TaxRate
+tax_rates_of_customer tables customer =
     flat_map (λ x. option_to_list (find (λ r. r.id == x.tax) tables.tax_rates)) (filter (λ x. x.customer == customer) tables.customer_taxes)
 
 -- The first commission band of `tier`, of the type of the trade `u` and of `exchange` whose bounds
 -- contain the quantity of the trade, or none.
-abbrev pub band_on : Tables → TradeRow → ℕ → Text → Option Band
-band_on tables u tier exchange =
-    find (λ b. (b.tier == tier) && same_type b.kind u.kind && bytes_eq b.exchange exchange && nat_le b.from_qty u.qty && nat_le u.qty b.to_qty) tables.bands
+abbrev pub band_for_tier_and_exchange : Tables → TradeRow → ℕ → Text → Option Band
+band_for_tier_and_exchange tables u tier exchange =
+    find (λ b. (b.tier == tier) && is_same_trade_type b.kind u.kind && bytes_eq b.exchange exchange && nat_le b.from_qty u.qty && nat_le u.qty b.to_qty) tables.bands
 
 -- The commission band of the trade `u` for the tier of a customer and the exchange of a security,
 -- or none if the customer, the security or the band does not exist.
-abbrev pub band_for : Tables → TradeRow → Option Customer → Option SecurityRow → Option Band
-band_for tables u None security = None
-band_for tables u (Some c) None = None
-band_for tables u (Some c) (Some s) = band_on tables u c.tier s.exchange
+abbrev pub band_for_customer_and_security : Tables → TradeRow → Option Customer → Option SecurityRow → Option Band
+band_for_customer_and_security tables u None security = None
+band_for_customer_and_security tables u (Some c) None = None
+band_for_customer_and_security tables u (Some c) (Some s) = band_for_tier_and_exchange tables u c.tier s.exchange
 
 -- The commission band of the trade `u` for its customer and its security, or none.
-abbrev pub band_in : Tables → TradeRow → Option Band
-band_in tables u = band_for tables u (find (λ c. c.id == (order_story tables u).customer) tables.customers) (security_in tables u.symbol)
+abbrev pub band_of_trade : Tables → TradeRow → Option Band
+band_of_trade tables u = band_for_customer_and_security tables u (find (λ c. c.id == (order_details_of_trade tables u).customer) tables.customers) (security_row_with_symbol tables u.symbol)
 
 -- A SETTLEMENT row whose numbers are 0 and whose cash type is empty.
-abbrev pub no_settlement : SettlementRow
-no_settlement = record { trade = 0; cash_type = []; due_day = 0; amount = pos 0 }
+abbrev pub zero_settlement_row : SettlementRow
+zero_settlement_row = record { trade = 0; cash_type = []; due_day = 0; amount = pos 0 }
 
 -- The SETTLEMENT row of `trade`, or a row of zeros if it has none.
-abbrev pub settlement_in : Tables → ℕ → SettlementRow
-settlement_in tables trade = unwrap_or (find (λ s. s.trade == trade) tables.settlements) no_settlement
+abbrev pub settlement_of_trade_or_zeros : Tables → ℕ → SettlementRow
+settlement_of_trade_or_zeros tables trade = unwrap_or (find (λ s. s.trade == trade) tables.settlements) zero_settlement_row
 
 -- The cash rows of the account of the trade `u` with stamps before the stamp of the trade.
-abbrev pub cash_until : Tables → TradeRow → List MoveRow
-cash_until tables u = filter (λ row. nat_lt row.stamp u.stamp) (cash_in tables u.account)
+abbrev pub cash_rows_before_completion : Tables → TradeRow → List MoveRow
+cash_rows_before_completion tables u = filter (λ row. nat_lt row.stamp u.stamp) (cash_move_rows_of_account tables u.account)
 
 -- The results of the completed trade `u`, from its rows in `tables`.
-abbrev pub result_story : Tables → TradeRow → ResultStory
-result_story tables u = record {
-  price = price_at u;
-  closings = closings_in tables u;
-  own_lot = own_lot_in tables u.id;
-  rates = rates_in tables (order_story tables u).customer;
-  band = band_in tables u;
-  settlement = settlement_in tables u.id;
-  cash = find (is_cash_of u.id) tables.moves;
-  cash_before = cash_total (cash_until tables u);
-  cash_rows = length (cash_until tables u);
+abbrev pub result_details_of_trade : Tables → TradeRow → ResultStory
+result_details_of_trade tables u = record {
+  price = completion_price_or_zero u;
+  closings = closings_of_trade tables u;
+  own_lot = opened_lot_row tables u.id;
+  rates = tax_rates_of_customer tables (order_details_of_trade tables u).customer;
+  band = band_of_trade tables u;
+  settlement = settlement_of_trade_or_zeros tables u.id;
+  cash = find (is_cash_row_of_trade u.id) tables.moves;
+  cash_before = cash_row_total (cash_rows_before_completion tables u);
+  cash_rows = length (cash_rows_before_completion tables u);
   rule = tables.rule;
 }
 
 -- The facts that the explanation of the trade `u` reads from `tables`: the trade as ordered, and
 -- its results if it is completed.
-unfoldable pub story_of : Tables → TradeRow → TradeStory
-story_of tables u = record { order = order_story tables u; result = if is_completed_row u then Some (result_story tables u) else None }
+unfoldable pub details_of_trade : Tables → TradeRow → TradeStory
+details_of_trade tables u = record { order = order_details_of_trade tables u; result = if has_completed_status u then Some (result_details_of_trade tables u) else None }
 
 -- ---- what follows
 
 -- The number of shares that the closing `c` closed.
-abbrev pub taken : Closing → ℕ
-taken c = nat_abs (c.before -ℤ c.after)
+abbrev pub shares_of_closing : Closing → ℕ
+shares_of_closing c = nat_abs (c.before -ℤ c.after)
 
 -- The buy value of the closing `c` by a trade at `price`, in cents: the closed shares at the lot's
 -- price if the trade is a sale, and at `price` if it is a purchase.
-abbrev pub bought_for : Side → ℕ → Closing → ℕ
-bought_for Sell price c = taken c * c.price
-bought_for Buy price c = taken c * price
+abbrev pub buy_value_of_closing : Side → ℕ → Closing → ℕ
+buy_value_of_closing Sell price c = shares_of_closing c * c.price
+buy_value_of_closing Buy price c = shares_of_closing c * price
 
 -- The sell value of the closing `c` by a trade at `price`, in cents: the closed shares at `price`
 -- if the trade is a sale, and at the lot's price if it is a purchase.
-abbrev pub sold_for : Side → ℕ → Closing → ℕ
-sold_for Sell price c = taken c * price
-sold_for Buy price c = taken c * c.price
+abbrev pub sell_value_of_closing : Side → ℕ → Closing → ℕ
+sell_value_of_closing Sell price c = shares_of_closing c * price
+sell_value_of_closing Buy price c = shares_of_closing c * c.price
 
 -- The number of shares that all `closings` closed.
-abbrev pub taken_total : List Closing → ℕ
-taken_total closings = sum_by taken closings
+abbrev pub total_closed_shares : List Closing → ℕ
+total_closed_shares closings = sum_by shares_of_closing closings
 
 -- The sum of the buy values of `closings` by a trade on `side` at `price`, in cents.
-abbrev pub buy_total : Side → ℕ → List Closing → ℕ
-buy_total side price closings = sum_by (bought_for side price) closings
+abbrev pub buy_value_of_closings : Side → ℕ → List Closing → ℕ
+buy_value_of_closings side price closings = sum_by (buy_value_of_closing side price) closings
 
 -- The sum of the sell values of `closings` by a trade on `side` at `price`, in cents.
-abbrev pub sell_total : Side → ℕ → List Closing → ℕ
-sell_total side price closings = sum_by (sold_for side price) closings
+abbrev pub sell_value_of_closings : Side → ℕ → List Closing → ℕ
+sell_value_of_closings side price closings = sum_by (sell_value_of_closing side price) closings
 
 -- The realised gain of `closings` by a trade on `side` at `price`, in cents: the sum of their sell
 -- values minus the sum of their buy values.
-abbrev pub gain_total : Side → ℕ → List Closing → ℤ
-gain_total side price closings = pos (sell_total side price closings) -ℤ pos (buy_total side price closings)
+abbrev pub realised_gain_of_closings : Side → ℕ → List Closing → ℤ
+realised_gain_of_closings side price closings = pos (sell_value_of_closings side price closings) -ℤ pos (buy_value_of_closings side price closings)
 
 -- The quantity of the lot that the trade opened, below 0 if it sold short; 0 if it opened no lot.
-abbrev pub opened : ResultStory → ℤ
-opened r = option_map_or (λ row. row.after) r.own_lot (pos 0)
+abbrev pub opened_quantity : ResultStory → ℤ
+opened_quantity r = option_map_or (λ row. row.after) r.own_lot (pos 0)
 
 -- The sum of the tax rates `rates`, in hundred-thousandths.
-abbrev pub rates_total : List TaxRate → ℕ
-rates_total rates = sum_by (λ rate. rate.rate) rates
+abbrev pub sum_of_tax_rates : List TaxRate → ℕ
+sum_of_tax_rates rates = sum_by (λ rate. rate.rate) rates
 
 -- The tax on the realised gain of the trade at its customer's current tax rates, in cents; 0 if the
 -- account is not taxable.
-abbrev pub tax_now : OrderStory → ResultStory → ℕ
-tax_now o r = if bears_tax o.tax_status then tax (gain_total (side_of o.trade.kind) r.price r.closings) (rates_total r.rates) else 0
+abbrev pub tax_at_current_rates : OrderStory → ResultStory → ℕ
+tax_at_current_rates o r = if is_taxable_status o.tax_status then tax (realised_gain_of_closings (side_of_trade_type o.trade.kind) r.price r.closings) (sum_of_tax_rates r.rates) else 0
 
 -- The commission of the trade at the rate of its current band, in cents; none if there is no band.
-abbrev pub commission_now : OrderStory → ResultStory → Option ℕ
-commission_now o r = option_map (λ b. commission b.rate o.trade.qty r.price) r.band
+abbrev pub commission_in_current_band : OrderStory → ResultStory → Option ℕ
+commission_in_current_band o r = option_map (λ b. commission b.rate o.trade.qty r.price) r.band
 
 -- The quantity of the trade times its price, in cents, negated if it is a purchase.
-abbrev pub value_of : OrderStory → ResultStory → ℤ
-value_of o r = proceeds (side_of o.trade.kind) (o.trade.qty * r.price)
+abbrev pub signed_trade_value : OrderStory → ResultStory → ℤ
+signed_trade_value o r = signed_proceeds (side_of_trade_type o.trade.kind) (o.trade.qty * r.price)
 
 -- The recorded tax of the trade, in cents, if the tax status of its account is that of withheld
 -- tax; otherwise 0.
-abbrev pub withheld_of : OrderStory → ℕ
-withheld_of o = if takes_tax_off o.tax_status then o.trade.tax else 0
+abbrev pub withheld_tax_of_trade : OrderStory → ℕ
+withheld_tax_of_trade o = if is_withholding_status o.tax_status then o.trade.tax else 0
 
 -- The amount of the cash row of the trade, in cents; 0 if it has none.
-abbrev pub cash_moved : ResultStory → ℤ
-cash_moved r = option_map_or (λ row. row.amount) r.cash (pos 0)
+abbrev pub balance_change_of_trade : ResultStory → ℤ
+balance_change_of_trade r = option_map_or (λ row. row.amount) r.cash (pos 0)
 
 -- The balance before the trade, in cents: the opening balance plus the account's earlier cash rows.
-abbrev pub balance_before : OrderStory → ResultStory → ℤ
-balance_before o r = o.opening +ℤ r.cash_before
+abbrev pub balance_before_trade : OrderStory → ResultStory → ℤ
+balance_before_trade o r = o.opening +ℤ r.cash_before
 
 -- The balance after the trade, in cents: the balance before it plus the amount of its cash row.
-abbrev pub balance_after : OrderStory → ResultStory → ℤ
-balance_after o r = balance_before o r +ℤ cash_moved r
+abbrev pub balance_after_trade : OrderStory → ResultStory → ℤ
+balance_after_trade o r = balance_before_trade o r +ℤ balance_change_of_trade r
 
 -- The number of days after its completion on which the trade settles, by the settlement day as it
 -- is now.
 abbrev pub days_to_settle : OrderStory → ResultStory → ℕ
-days_to_settle o r = settlement_days r.rule (day_of o.trade.stamp)
+days_to_settle o r = days_to_settlement r.rule (day_of o.trade.stamp)

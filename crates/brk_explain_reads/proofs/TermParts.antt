@@ -5,10 +5,10 @@ use Rattle.std.specs.Option.{option_or}
 use Rattle.std.proofs.lemmas.List.{map-append}
 use Rattle.std.proofs.lemmas.List.Folds.{find-append}
 use Rattle.brk_money.specs.Spelling.{Text}
-use Rattle.brk_money.specs.Kinds.{same_type}
+use Rattle.brk_money.specs.Kinds.{is_same_trade_type}
 use Rattle.brk_model.specs.Records.{Band}
 use Rattle.brk_model.specs.Tables.{Tables, TradeRow}
-use Rattle.brk_explain_model.specs.Trades.{band_on}
+use Rattle.brk_explain_model.specs.Trades.{band_for_tier_and_exchange}
 use Rattle.brk_explain_reads.proofs.Each.{find_both, find_same}
 
 -- what was found one by one
@@ -55,11 +55,11 @@ pairs true false c d e = refl
 pairs false b c d e = refl
 
 pub band_known : (t : Tables) (u : TradeRow) (tier : ℕ) (exchange : Text) (band : Option Band) (bands : List Band)
-    → bands ≡ filter (λ r. (r.tier == tier) && same_type r.kind u.kind && bytes_eq r.exchange exchange) t.bands
-    → band ≡ find (λ b. nat_le b.from_qty u.qty && nat_le u.qty b.to_qty) bands → band ≡ band_on t u tier exchange
+    → bands ≡ filter (λ r. (r.tier == tier) && is_same_trade_type r.kind u.kind && bytes_eq r.exchange exchange) t.bands
+    → band ≡ find (λ b. nat_le b.from_qty u.qty && nat_le u.qty b.to_qty) bands → band ≡ band_for_tier_and_exchange t u tier exchange
 band_known t u tier exchange band bands all first =
     first ∙ ap (find (λ (b : Band). nat_le b.from_qty u.qty && nat_le u.qty b.to_qty)) all
-    ∙ sym (find_both (λ (b : Band). (b.tier == tier) && same_type b.kind u.kind && bytes_eq b.exchange exchange) (λ (b : Band). nat_le b.from_qty u.qty && nat_le u.qty b.to_qty) t.bands)
-    ∙ find_same (λ (b : Band). ((b.tier == tier) && same_type b.kind u.kind && bytes_eq b.exchange exchange) && (nat_le b.from_qty u.qty && nat_le u.qty b.to_qty))
-    (λ (b : Band). (b.tier == tier) && same_type b.kind u.kind && bytes_eq b.exchange exchange && nat_le b.from_qty u.qty && nat_le u.qty b.to_qty)
-    (λ b. sym (pairs (b.tier == tier) (same_type b.kind u.kind) (bytes_eq b.exchange exchange) (nat_le b.from_qty u.qty) (nat_le u.qty b.to_qty))) t.bands
+    ∙ sym (find_both (λ (b : Band). (b.tier == tier) && is_same_trade_type b.kind u.kind && bytes_eq b.exchange exchange) (λ (b : Band). nat_le b.from_qty u.qty && nat_le u.qty b.to_qty) t.bands)
+    ∙ find_same (λ (b : Band). ((b.tier == tier) && is_same_trade_type b.kind u.kind && bytes_eq b.exchange exchange) && (nat_le b.from_qty u.qty && nat_le u.qty b.to_qty))
+    (λ (b : Band). (b.tier == tier) && is_same_trade_type b.kind u.kind && bytes_eq b.exchange exchange && nat_le b.from_qty u.qty && nat_le u.qty b.to_qty)
+    (λ b. sym (pairs (b.tier == tier) (is_same_trade_type b.kind u.kind) (bytes_eq b.exchange exchange) (nat_le b.from_qty u.qty) (nat_le u.qty b.to_qty))) t.bands

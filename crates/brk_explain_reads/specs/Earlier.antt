@@ -5,7 +5,7 @@ use Rattle.brk_explain_reads.specs.declared.cash.Earlier.{Earlier}
 
 -- The visitor `q` is `p` after `row`: if the stamp of `row` is before that of the visitor, its
 -- count is one more and its total the amount of `row` more; otherwise both are unchanged.
-abbrev pub TakesEarlier : Earlier → MoveRow → Earlier → Type 0
-TakesEarlier p row q =
+abbrev pub AddsEarlierCashRow : Earlier → MoveRow → Earlier → Type 0
+AddsEarlierCashRow p row q =
     (q.until ≡ p.until) × (q.sum.rows ≡ (if nat_lt row.stamp p.until then p.sum.rows + 1 else p.sum.rows))
     × (q.sum.total ≡ (if nat_lt row.stamp p.until then p.sum.total +ℤ row.amount else p.sum.total))

@@ -1,10 +1,10 @@
 //! What the explanation of an account reads besides the rows over which it walks.
 
 ghost use Rattle.std.specs.Prelude.{◌≡◌, IfErr, map};
-ghost use Rattle.brk_changes.specs.Rows.{summary_row_of};
-ghost use Rattle.brk_explain_model.specs.AccountLines.{held_at, held_in};
-ghost use Rattle.brk_explain_rows.specs.Stories.{IsAccountOf, held_of};
-ghost use Rattle.brk_model.specs.Run.{MayFail};
+ghost use Rattle.brk_changes.specs.Rows.{abstract_summary_row};
+ghost use Rattle.brk_explain_model.specs.AccountLines.{priced_holding, priced_holdings_of_account};
+ghost use Rattle.brk_explain_rows.specs.Stories.{IsStoryOfAccount, abstract_priced_holding};
+ghost use Rattle.brk_model.specs.Run.{IsCallFault};
 ghost use Rattle.brk_store.specs.Holds.{ReadPost};
 
 use brk_changes::SummaryRow;
@@ -16,9 +16,9 @@ use std::alloc::Global;
 
 // Returns a holding summary with the last price of its symbol. Fails with `Memory` or `Store`; with
 // `Store` also if the symbol has no last price.
-fn with_price<S: Alter>(store: &mut Store<S>, summary: SummaryRow) -> Result<Held, Fault>
-    ensures read { ReadPost S.Store store.old store.new result (λ held t. held_of held ≡ held_at t (summary_row_of summary)) }
-    ensures fault { IfErr result MayFail }
+fn read_priced_holding<S: Alter>(store: &mut Store<S>, summary: SummaryRow) -> Result<Held, Fault>
+    ensures read { ReadPost S.Store store.old store.new result (λ held t. abstract_priced_holding held ≡ priced_holding t (abstract_summary_row summary)) }
+    ensures fault { IfErr result IsCallFault }
 {
     match store.last_trade(&summary.symbol)? {
         Some(last) => Ok(Held {
@@ -31,14 +31,18 @@ fn with_price<S: Alter>(store: &mut Store<S>, summary: SummaryRow) -> Result<Hel
 
 // Returns the holding summaries of an account with their last prices, sorted by symbol, ascending.
 // Fails with `Memory` or `Store`; with `Store` also if a symbol has no last price.
-fn find_held<S: Alter>(alloc: Global, store: &mut Store<S>, account: Id) -> Result<Vec<Held>, Fault>
-    ensures read { ReadPost S.Store store.old store.new result (λ held t. map held_of held.items ≡ held_in t account) }
-    ensures fault { IfErr result MayFail }
+fn read_priced_holdings<S: Alter>(
+    alloc: Global,
+    store: &mut Store<S>,
+    account: Id,
+) -> Result<Vec<Held>, Fault>
+    ensures read { ReadPost S.Store store.old store.new result (λ held t. map abstract_priced_holding held.items ≡ priced_holdings_of_account t account) }
+    ensures fault { IfErr result IsCallFault }
 {
     let mut rest = store.summaries_of(alloc, account)?;
     let mut held = Vec::new(alloc);
     while let Some(summary) = rest.pop() {
-        let one = with_price(store, summary)?;
+        let one = read_priced_holding(store, summary)?;
         held.push(one)?;
     }
     held.reverse();
@@ -50,17 +54,17 @@ fn find_held<S: Alter>(alloc: Global, store: &mut Store<S>, account: Id) -> Resu
 ///
 /// Fails with `Memory` or `Store` only; with `Store` also if a symbol has no last price. The open
 /// database is unchanged, whatever the result.
-pub fn account_story<S: Alter>(
+pub fn read_account_story<S: Alter>(
     alloc: Global,
     store: &mut Store<S>,
     account: Id,
 ) -> Result<Option<AccountStory>, Fault>
-    ensures read { ReadPost S.Store store.old store.new result (IsAccountOf account) }
-    ensures fault { IfErr result MayFail }
+    ensures read { ReadPost S.Store store.old store.new result (IsStoryOfAccount account) }
+    ensures fault { IfErr result IsCallFault }
 {
     let Some(row) = store.account(account)? else {
         return Ok(None);
     };
-    let held = find_held(alloc, store, account)?;
+    let held = read_priced_holdings(alloc, store, account)?;
     Ok(Some(AccountStory { account: row, held }))
 }

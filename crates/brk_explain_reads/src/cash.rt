@@ -1,8 +1,8 @@
 //! The cash rows of an account before a stamp, walked one at a time.
 
 ghost use Rattle.std.specs.Prelude.{◌≡◌, ◌+◌, ◌+ℤ◌, Err, IfErr, IfOk, OnErr};
-ghost use Rattle.brk_explain_reads.specs.Found.{IsCashUntil};
-ghost use Rattle.brk_model.specs.Run.{MayFail};
+ghost use Rattle.brk_explain_reads.specs.Found.{IsCashSumBeforeStamp};
+ghost use Rattle.brk_model.specs.Run.{IsCallFault};
 ghost use Rattle.brk_money.specs.declared.fault.Fault.TheVariants as fault;
 ghost use Rattle.brk_store.specs.Holds.{ReadPost};
 
@@ -20,7 +20,7 @@ pub struct CashSum {
 
 // Returns the sum with one more cash row of this amount. Fails with `Store` if the number or the
 // total does not fit.
-fn with_row(sum: &CashSum, amount: Cents) -> Result<CashSum, Fault>
+fn sum_with_cash_row(sum: &CashSum, amount: Cents) -> Result<CashSum, Fault>
     ensures sum { IfOk result (λ more. (more.rows ≡ sum.now.rows + 1) × (more.total ≡ sum.now.total +ℤ amount)) }
     ensures fault { OnErr result (result ≡ Err fault.Store) }
 {
@@ -45,14 +45,14 @@ pub struct Earlier {
 
 impl Visitor<MoveRow, Fault> for Earlier {
     ghost use Rattle.std.specs.Prelude.{◌≡◌};
-    ghost use Rattle.brk_explain_reads.specs.Earlier.{TakesEarlier};
+    ghost use Rattle.brk_explain_reads.specs.Earlier.{AddsEarlierCashRow};
     ghost use Rattle.brk_money.specs.declared.fault.Fault.TheVariants.{Store};
 
     ghost ready = { λ _. Unit {0} };
 
     ghost leads = { λ _ _. Unit {0} };
 
-    ghost takes = { TakesEarlier };
+    ghost takes = { AddsEarlierCashRow };
 
     ghost stops = { λ _ _ e _. e ≡ Store };
 
@@ -60,7 +60,7 @@ impl Visitor<MoveRow, Fault> for Earlier {
     /// if the number or the total does not fit.
     fn visit(&mut self, item: &MoveRow) -> Result<(), Fault> {
         if item.stamp.get() < self.until.get() {
-            self.sum = with_row(&self.sum, item.amount)?;
+            self.sum = sum_with_cash_row(&self.sum, item.amount)?;
         }
         Ok(())
     }
@@ -71,8 +71,8 @@ impl Visitor<MoveRow, Fault> for Earlier {
 }
 
 // Returns the fault of a walk that failed: `Memory` if the desk failed with it, otherwise `Store`.
-fn fault_in(stop: WalkError<Fault>) -> Fault
-    ensures { MayFail result }
+fn fault_of_failed_walk(stop: WalkError<Fault>) -> Fault
+    ensures { IsCallFault result }
 {
     match stop {
         WalkError::Failed(Fault::Memory) => Fault::Memory,
@@ -82,13 +82,13 @@ fn fault_in(stop: WalkError<Fault>) -> Fault
 
 // Returns the number and the total of the cash rows of an account with stamps before `until`. Fails
 // with `Memory` or `Store`.
-pub(crate) fn find_cash_until<S: Alter>(
+pub(crate) fn read_cash_sum_before<S: Alter>(
     store: &mut Store<S>,
     account: Id,
     until: Stamp,
 ) -> Result<CashSum, Fault>
-    ensures read { ReadPost S.Store store.old store.new result (λ sum t. IsCashUntil t account until sum) }
-    ensures fault { IfErr result MayFail }
+    ensures read { ReadPost S.Store store.old store.new result (λ sum t. IsCashSumBeforeStamp t account until sum) }
+    ensures fault { IfErr result IsCallFault }
 {
     let mut earlier = Earlier {
         until,
@@ -99,6 +99,6 @@ pub(crate) fn find_cash_until<S: Alter>(
     };
     match store.visit_cash::<Fault, Earlier>(account, Stamp::nearest(0), until, &mut earlier) {
         Ok(()) => Ok(earlier.sum),
-        Err(stop) => Err(fault_in(stop)),
+        Err(stop) => Err(fault_of_failed_walk(stop)),
     }
 }

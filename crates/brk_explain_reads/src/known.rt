@@ -1,10 +1,10 @@
 //! Reads of rows that another row names. If the row does not exist, the fault is `Store`.
 
 ghost use Rattle.std.specs.Prelude.{◌≡◌, ◌==◌, IfErr, Some, find};
-ghost use Rattle.brk_changes.specs.Rows.{settlement_row_of, trade_row_of};
-ghost use Rattle.brk_model.specs.Joins.{account_in, security_in, trade_in};
-ghost use Rattle.brk_model.specs.Run.{MayFail};
-ghost use Rattle.brk_ref.specs.Records.{account_row_of, customer_of, security_of, tax_of};
+ghost use Rattle.brk_changes.specs.Rows.{abstract_settlement_row, abstract_trade_row};
+ghost use Rattle.brk_model.specs.Joins.{account_row_with_id, security_row_with_symbol, trade_row_with_id};
+ghost use Rattle.brk_model.specs.Run.{IsCallFault};
+ghost use Rattle.brk_ref.specs.Records.{abstract_account_row, abstract_customer, abstract_security_row, abstract_tax_rate};
 ghost use Rattle.brk_store.specs.Holds.{ReadPost};
 
 use brk_changes::{SettlementRow, TradeRow};
@@ -14,9 +14,9 @@ use brk_store::Store;
 use sqlite::Alter;
 
 // Returns the trade with an id. Fails with `Memory` or `Store`; with `Store` also if there is none.
-pub(crate) fn known_trade<S: Alter>(store: &mut Store<S>, id: Id) -> Result<TradeRow, Fault>
-    ensures read { ReadPost S.Store store.old store.new result (λ trade t. trade_in t id ≡ Some (trade_row_of trade)) }
-    ensures fault { IfErr result MayFail }
+pub(crate) fn read_existing_trade<S: Alter>(store: &mut Store<S>, id: Id) -> Result<TradeRow, Fault>
+    ensures read { ReadPost S.Store store.old store.new result (λ trade t. trade_row_with_id t id ≡ Some (abstract_trade_row trade)) }
+    ensures fault { IfErr result IsCallFault }
 {
     match store.trade(id)? {
         Some(trade) => Ok(trade),
@@ -26,9 +26,12 @@ pub(crate) fn known_trade<S: Alter>(store: &mut Store<S>, id: Id) -> Result<Trad
 
 // Returns the row of the account with an id. Fails with `Memory` or `Store`; with `Store` also if
 // there is none.
-pub(crate) fn known_account<S: Alter>(store: &mut Store<S>, id: Id) -> Result<AccountRow, Fault>
-    ensures read { ReadPost S.Store store.old store.new result (λ account t. account_in t id ≡ Some (account_row_of account)) }
-    ensures fault { IfErr result MayFail }
+pub(crate) fn read_existing_account<S: Alter>(
+    store: &mut Store<S>,
+    id: Id,
+) -> Result<AccountRow, Fault>
+    ensures read { ReadPost S.Store store.old store.new result (λ account t. account_row_with_id t id ≡ Some (abstract_account_row account)) }
+    ensures fault { IfErr result IsCallFault }
 {
     match store.account(id)? {
         Some(account) => Ok(account),
@@ -38,9 +41,12 @@ pub(crate) fn known_account<S: Alter>(store: &mut Store<S>, id: Id) -> Result<Ac
 
 // Returns the customer with an id. Fails with `Memory` or `Store`; with `Store` also if there is
 // none.
-pub(crate) fn known_customer<S: Alter>(store: &mut Store<S>, id: Id) -> Result<Customer, Fault>
-    ensures read { ReadPost S.Store store.old store.new result (λ customer t. find (λ r. r.id == id) t.customers ≡ Some (customer_of customer)) }
-    ensures fault { IfErr result MayFail }
+pub(crate) fn read_existing_customer<S: Alter>(
+    store: &mut Store<S>,
+    id: Id,
+) -> Result<Customer, Fault>
+    ensures read { ReadPost S.Store store.old store.new result (λ customer t. find (λ r. r.id == id) t.customers ≡ Some (abstract_customer customer)) }
+    ensures fault { IfErr result IsCallFault }
 {
     match store.customer(id)? {
         Some(customer) => Ok(customer),
@@ -50,12 +56,12 @@ pub(crate) fn known_customer<S: Alter>(store: &mut Store<S>, id: Id) -> Result<C
 
 // Returns the security with a symbol. Fails with `Memory` or `Store`; with `Store` also if there is
 // none.
-pub(crate) fn known_security<S: Alter>(
+pub(crate) fn read_existing_security<S: Alter>(
     store: &mut Store<S>,
     symbol: &Symbol,
 ) -> Result<Security, Fault>
-    ensures read { ReadPost S.Store store.old store.new result (λ security t. security_in t symbol.now ≡ Some (security_of security)) }
-    ensures fault { IfErr result MayFail }
+    ensures read { ReadPost S.Store store.old store.new result (λ security t. security_row_with_symbol t symbol.now ≡ Some (abstract_security_row security)) }
+    ensures fault { IfErr result IsCallFault }
 {
     match store.security(symbol)? {
         Some(security) => Ok(security),
@@ -64,9 +70,9 @@ pub(crate) fn known_security<S: Alter>(
 }
 
 // Returns the tax with an id. Fails with `Memory` or `Store`; with `Store` also if there is none.
-pub(crate) fn known_tax<S: Alter>(store: &mut Store<S>, id: Id) -> Result<Tax, Fault>
-    ensures read { ReadPost S.Store store.old store.new result (λ tax t. find (λ r. r.id == id) t.tax_rates ≡ Some (tax_of tax)) }
-    ensures fault { IfErr result MayFail }
+pub(crate) fn read_existing_tax<S: Alter>(store: &mut Store<S>, id: Id) -> Result<Tax, Fault>
+    ensures read { ReadPost S.Store store.old store.new result (λ tax t. find (λ r. r.id == id) t.tax_rates ≡ Some (abstract_tax_rate tax)) }
+    ensures fault { IfErr result IsCallFault }
 {
     match store.tax_rate(id)? {
         Some(tax) => Ok(tax),
@@ -76,12 +82,12 @@ pub(crate) fn known_tax<S: Alter>(store: &mut Store<S>, id: Id) -> Result<Tax, F
 
 // Returns the settlement of a trade. Fails with `Memory` or `Store`; with `Store` also if there is
 // none.
-pub(crate) fn known_settlement<S: Alter>(
+pub(crate) fn read_existing_settlement<S: Alter>(
     store: &mut Store<S>,
     trade: Id,
 ) -> Result<SettlementRow, Fault>
-    ensures read { ReadPost S.Store store.old store.new result (λ settlement t. find (λ r. r.trade == trade) t.settlements ≡ Some (settlement_row_of settlement)) }
-    ensures fault { IfErr result MayFail }
+    ensures read { ReadPost S.Store store.old store.new result (λ settlement t. find (λ r. r.trade == trade) t.settlements ≡ Some (abstract_settlement_row settlement)) }
+    ensures fault { IfErr result IsCallFault }
 {
     match store.settlement(trade)? {
         Some(settlement) => Ok(settlement),

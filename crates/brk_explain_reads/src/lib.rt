@@ -12,5 +12,5 @@ mod settled;
 mod terms;
 pub mod trades;
 
-pub use accounts::account_story;
-pub use trades::trade_story;
+pub use accounts::read_account_story;
+pub use trades::read_trade_story;

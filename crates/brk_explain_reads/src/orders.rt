@@ -1,14 +1,14 @@
 //! A trade as ordered, with the rows that it names.
 
 ghost use Rattle.std.specs.Prelude.{◌≡◌, IfErr, map};
-ghost use Rattle.brk_changes.specs.Rows.{history_row_of};
-ghost use Rattle.brk_explain_model.specs.Trades.{statuses_in};
-ghost use Rattle.brk_explain_reads.specs.Found.{IsOrderOf};
-ghost use Rattle.brk_model.specs.Run.{MayFail};
+ghost use Rattle.brk_changes.specs.Rows.{abstract_history_row};
+ghost use Rattle.brk_explain_model.specs.Trades.{sorted_statuses_of_trade};
+ghost use Rattle.brk_explain_reads.specs.Found.{IsOrderOfTrade};
+ghost use Rattle.brk_model.specs.Run.{IsCallFault};
 ghost use Rattle.brk_store.specs.Holds.{ReadPost};
 
-use crate::known::{known_account, known_security};
-use crate::ordering::oldest_first;
+use crate::known::{read_existing_account, read_existing_security};
+use crate::ordering::sort_by_age;
 use brk_changes::{HistoryRow, TradeRow};
 use brk_explain_rows::OrderStory;
 use brk_money::{Fault, Id};
@@ -17,32 +17,32 @@ use sqlite::Alter;
 use std::alloc::Global;
 
 // Returns the status changes of a trade, the oldest first. Fails with `Memory` or `Store`.
-fn find_statuses<S: Alter>(
+fn read_sorted_statuses<S: Alter>(
     alloc: Global,
     store: &mut Store<S>,
     trade: Id,
 ) -> Result<Vec<HistoryRow>, Fault>
-    ensures read { ReadPost S.Store store.old store.new result (λ statuses t. map history_row_of statuses.items ≡ statuses_in t trade) }
-    ensures fault { IfErr result MayFail }
+    ensures read { ReadPost S.Store store.old store.new result (λ statuses t. map abstract_history_row statuses.items ≡ sorted_statuses_of_trade t trade) }
+    ensures fault { IfErr result IsCallFault }
 {
-    let history = store.history_of(alloc, trade)?;
-    let statuses = oldest_first(alloc, history)?;
+    let history = store.history_of_trade(alloc, trade)?;
+    let statuses = sort_by_age(alloc, history)?;
     Ok(statuses)
 }
 
 // Returns a trade as ordered. Fails with `Memory` or `Store`; with `Store` also if its account or
 // its security does not exist.
-pub(crate) fn find_order<S: Alter>(
+pub(crate) fn read_order_of_trade<S: Alter>(
     alloc: Global,
     store: &mut Store<S>,
     trade: TradeRow,
 ) -> Result<OrderStory, Fault>
-    ensures read { ReadPost S.Store store.old store.new result (λ order t. IsOrderOf trade order t) }
-    ensures fault { IfErr result MayFail }
+    ensures read { ReadPost S.Store store.old store.new result (λ order t. IsOrderOfTrade trade order t) }
+    ensures fault { IfErr result IsCallFault }
 {
-    let account = known_account(store, trade.account)?;
-    let security = known_security(store, &trade.symbol)?;
-    let statuses = find_statuses(alloc, store, trade.id)?;
+    let account = read_existing_account(store, trade.account)?;
+    let security = read_existing_security(store, &trade.symbol)?;
+    let statuses = read_sorted_statuses(alloc, store, trade.id)?;
     Ok(OrderStory {
         trade,
         account,

@@ -1,14 +1,14 @@
 //! The results of a completed trade.
 
 ghost use Rattle.std.specs.Prelude.{IfErr};
-ghost use Rattle.brk_explain_reads.specs.Found.{IsResultOf};
-ghost use Rattle.brk_model.specs.Run.{MayFail};
+ghost use Rattle.brk_explain_reads.specs.Found.{IsResultOfOrder};
+ghost use Rattle.brk_model.specs.Run.{IsCallFault};
 ghost use Rattle.brk_store.specs.Holds.{ReadPost};
 
-use crate::cash::find_cash_until;
-use crate::lots::find_lots;
-use crate::settled::find_settled;
-use crate::terms::find_terms;
+use crate::cash::read_cash_sum_before;
+use crate::lots::read_trade_lots;
+use crate::settled::read_settlement_of_trade;
+use crate::terms::read_tax_rates_and_band;
 use brk_explain_rows::{OrderStory, ResultStory};
 use brk_money::Fault;
 use brk_store::Store;
@@ -17,21 +17,21 @@ use std::alloc::Global;
 
 // Returns the results of a completed trade. Fails with `Memory` or `Store`; with `Store` also if it
 // has no price, or if a row that another row names does not exist.
-pub(crate) fn find_result<S: Alter>(
+pub(crate) fn read_result_of_trade<S: Alter>(
     alloc: Global,
     store: &mut Store<S>,
     order: &OrderStory,
 ) -> Result<ResultStory, Fault>
-    ensures read { ReadPost S.Store store.old store.new result (λ story t. IsResultOf order.now story t) }
-    ensures fault { IfErr result MayFail }
+    ensures read { ReadPost S.Store store.old store.new result (λ story t. IsResultOfOrder order.now story t) }
+    ensures fault { IfErr result IsCallFault }
 {
-    let lots = find_lots(alloc, store, &order.trade)?;
+    let lots = read_trade_lots(alloc, store, &order.trade)?;
     let Some(price) = order.trade.price else {
         return Err(Fault::Store);
     };
-    let terms = find_terms(alloc, store, order)?;
-    let settled = find_settled(store, order.trade.id)?;
-    let cash = find_cash_until(store, order.trade.account, order.trade.stamp)?;
+    let terms = read_tax_rates_and_band(alloc, store, order)?;
+    let settled = read_settlement_of_trade(store, order.trade.id)?;
+    let cash = read_cash_sum_before(store, order.trade.account, order.trade.stamp)?;
     Ok(ResultStory {
         price,
         closings: lots.closings,

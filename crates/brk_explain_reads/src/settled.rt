@@ -1,11 +1,11 @@
 //! The settlement of a trade.
 
 ghost use Rattle.std.specs.Prelude.{IfErr};
-ghost use Rattle.brk_explain_reads.specs.Found.{IsSettled};
-ghost use Rattle.brk_model.specs.Run.{MayFail};
+ghost use Rattle.brk_explain_reads.specs.Found.{IsSettlementOfTrade};
+ghost use Rattle.brk_model.specs.Run.{IsCallFault};
 ghost use Rattle.brk_store.specs.Holds.{ReadPost};
 
-use crate::known::known_settlement;
+use crate::known::read_existing_settlement;
 use brk_changes::{MoveRow, SettlementRow};
 use brk_money::{Day, Fault, Id};
 use brk_store::Store;
@@ -23,13 +23,16 @@ pub struct Settled {
 
 // Returns the settlement and the cash row of a trade, and the settlement day. Fails with `Memory`
 // or `Store`; with `Store` also if the trade has no settlement.
-pub(crate) fn find_settled<S: Alter>(store: &mut Store<S>, trade: Id) -> Result<Settled, Fault>
-    ensures read { ReadPost S.Store store.old store.new result (λ settled t. IsSettled t trade settled) }
-    ensures fault { IfErr result MayFail }
+pub(crate) fn read_settlement_of_trade<S: Alter>(
+    store: &mut Store<S>,
+    trade: Id,
+) -> Result<Settled, Fault>
+    ensures read { ReadPost S.Store store.old store.new result (λ settled t. IsSettlementOfTrade t trade settled) }
+    ensures fault { IfErr result IsCallFault }
 {
-    let settlement = known_settlement(store, trade)?;
+    let settlement = read_existing_settlement(store, trade)?;
     let cash = store.cash_row(trade)?;
-    let rule = store.one_day()?;
+    let rule = store.settlement_day()?;
     Ok(Settled {
         settlement,
         cash,

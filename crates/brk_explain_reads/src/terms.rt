@@ -1,14 +1,14 @@
 //! The tax rates and the commission band of a trade, as the tables have them now.
 
 ghost use Rattle.std.specs.Prelude.{◌≡◌, ◌&&◌, IfErr, Some, find, if◌then◌else◌, map, nat_le, option_map};
-ghost use Rattle.brk_changes.specs.Rows.{trade_row_of};
-ghost use Rattle.brk_explain_model.specs.Trades.{band_on, rates_in};
-ghost use Rattle.brk_explain_reads.specs.Found.{AreTerms};
-ghost use Rattle.brk_model.specs.Run.{MayFail};
-ghost use Rattle.brk_ref.specs.Records.{band_of, tax_of};
+ghost use Rattle.brk_changes.specs.Rows.{abstract_trade_row};
+ghost use Rattle.brk_explain_model.specs.Trades.{band_for_tier_and_exchange, tax_rates_of_customer};
+ghost use Rattle.brk_explain_reads.specs.Found.{AreTaxRatesAndBand};
+ghost use Rattle.brk_model.specs.Run.{IsCallFault};
+ghost use Rattle.brk_ref.specs.Records.{abstract_band, abstract_tax_rate};
 ghost use Rattle.brk_store.specs.Holds.{ReadPost};
 
-use crate::known::{known_customer, known_tax};
+use crate::known::{read_existing_customer, read_existing_tax};
 use brk_explain_rows::OrderStory;
 use brk_money::{Fault, Id, Qty};
 use brk_ref::{Band, Tax, Tier};
@@ -25,35 +25,35 @@ pub struct Terms {
 
 // Returns the tax rates of a customer, sorted by id, ascending. Fails with `Memory` or `Store`;
 // with `Store` also if one of them does not exist.
-fn find_rates<S: Alter>(
+fn read_tax_rates_of_customer<S: Alter>(
     alloc: Global,
     store: &mut Store<S>,
     customer: Id,
 ) -> Result<Vec<Tax>, Fault>
-    ensures read { ReadPost S.Store store.old store.new result (λ rates t. map tax_of rates.items ≡ rates_in t customer) }
-    ensures fault { IfErr result MayFail }
+    ensures read { ReadPost S.Store store.old store.new result (λ rates t. map abstract_tax_rate rates.items ≡ tax_rates_of_customer t customer) }
+    ensures fault { IfErr result IsCallFault }
 {
     let rows = store.customer_taxes_of(alloc, customer)?;
     let mut rates = Vec::new(alloc);
     for row in &rows {
-        let rate = known_tax(store, row.tax)?;
+        let rate = read_existing_tax(store, row.tax)?;
         rates.push(rate)?;
     }
     Ok(rates)
 }
 
 // Returns true if the bounds of the band contain the quantity.
-fn has_qty(band: &Band, qty: Qty) -> bool
+fn band_contains_quantity(band: &Band, qty: Qty) -> bool
     ensures { result ≡ nat_le band.now.from_qty qty && nat_le qty band.now.to_qty }
 {
     band.from_qty.get() <= qty.get() && qty.get() <= band.to_qty.get()
 }
 
 // Returns `band` if its bounds contain the quantity, otherwise `other`.
-fn band_or(band: Band, qty: Qty, other: Option<Band>) -> Option<Band>
-    ensures { option_map band_of result ≡ (if nat_le band.from_qty qty && nat_le qty band.to_qty then Some (band_of band) else option_map band_of other) }
+fn band_or_other(band: Band, qty: Qty, other: Option<Band>) -> Option<Band>
+    ensures { option_map abstract_band result ≡ (if nat_le band.from_qty qty && nat_le qty band.to_qty then Some (abstract_band band) else option_map abstract_band other) }
 {
-    if has_qty(&band, qty) {
+    if band_contains_quantity(&band, qty) {
         Some(band)
     } else {
         other
@@ -61,45 +61,45 @@ fn band_or(band: Band, qty: Qty, other: Option<Band>) -> Option<Band>
 }
 
 // Returns the first band whose bounds contain the quantity, or `None` if no band does.
-fn band_with(bands: Vec<Band>, qty: Qty) -> Option<Band>
-    ensures { option_map band_of result ≡ find (λ b. nat_le b.from_qty qty && nat_le qty b.to_qty) (map band_of bands.items) }
+fn first_band_with_quantity(bands: Vec<Band>, qty: Qty) -> Option<Band>
+    ensures { option_map abstract_band result ≡ find (λ b. nat_le b.from_qty qty && nat_le qty b.to_qty) (map abstract_band bands.items) }
 {
     let mut rest = bands;
     let mut found = None;
     while let Some(band) = rest.pop() {
-        found = band_or(band, qty, found);
+        found = band_or_other(band, qty, found);
     }
     found
 }
 
 // Returns the commission band of a trade for a tier, or `None` if there is none. Fails with
 // `Memory` or `Store`.
-fn find_band<S: Alter>(
+fn read_band_for_tier<S: Alter>(
     alloc: Global,
     store: &mut Store<S>,
     order: &OrderStory,
     tier: Tier,
 ) -> Result<Option<Band>, Fault>
-    ensures read { ReadPost S.Store store.old store.new result (λ band t. option_map band_of band ≡ band_on t (trade_row_of order.now.trade) tier order.now.security.exchange) }
-    ensures fault { IfErr result MayFail }
+    ensures read { ReadPost S.Store store.old store.new result (λ band t. option_map abstract_band band ≡ band_for_tier_and_exchange t (abstract_trade_row order.now.trade) tier order.now.security.exchange) }
+    ensures fault { IfErr result IsCallFault }
 {
     let bands = store.bands_for(alloc, tier, order.trade.kind, &order.security.exchange)?;
-    Ok(band_with(bands, order.trade.qty))
+    Ok(first_band_with_quantity(bands, order.trade.qty))
 }
 
 // Returns the tax rates of the customer of a trade, and its commission band. Fails with `Memory` or
 // `Store`; with `Store` also if the customer or one of the rates does not exist.
-pub(crate) fn find_terms<S: Alter>(
+pub(crate) fn read_tax_rates_and_band<S: Alter>(
     alloc: Global,
     store: &mut Store<S>,
     order: &OrderStory,
 ) -> Result<Terms, Fault>
-    ensures read { ReadPost S.Store store.old store.new result (λ terms t. AreTerms t order.now terms) }
-    ensures fault { IfErr result MayFail }
+    ensures read { ReadPost S.Store store.old store.new result (λ terms t. AreTaxRatesAndBand t order.now terms) }
+    ensures fault { IfErr result IsCallFault }
 {
     let id = order.account.account.customer;
-    let customer = known_customer(store, id)?;
-    let rates = find_rates(alloc, store, id)?;
-    let band = find_band(alloc, store, order, customer.tier)?;
+    let customer = read_existing_customer(store, id)?;
+    let rates = read_tax_rates_of_customer(alloc, store, id)?;
+    let band = read_band_for_tier(alloc, store, order, customer.tier)?;
     Ok(Terms { rates, band })
 }

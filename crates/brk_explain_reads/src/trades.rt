@@ -1,14 +1,14 @@
 //! What the explanation of a trade reads.
 
 ghost use Rattle.std.specs.Prelude.{◌≡◌, IfErr};
-ghost use Rattle.brk_explain_rows.specs.Stories.{IsStoryOf};
-ghost use Rattle.brk_model.specs.Run.{MayFail};
-ghost use Rattle.brk_money.specs.Kinds.{same_status};
+ghost use Rattle.brk_explain_rows.specs.Stories.{IsStoryOfTrade};
+ghost use Rattle.brk_model.specs.Run.{IsCallFault};
+ghost use Rattle.brk_money.specs.Kinds.{is_same_trade_status};
 ghost use Rattle.brk_money.specs.declared.status.Status.TheVariants.{Completed};
 ghost use Rattle.brk_store.specs.Holds.{ReadPost};
 
-use crate::orders::find_order;
-use crate::results::find_result;
+use crate::orders::read_order_of_trade;
+use crate::results::read_result_of_trade;
 use brk_changes::TradeRow;
 use brk_explain_rows::TradeStory;
 use brk_money::{Fault, Id, Status};
@@ -18,7 +18,7 @@ use std::alloc::Global;
 
 // Returns true if the status of the trade is completed.
 fn is_completed(trade: &TradeRow) -> bool
-    ensures { result ≡ same_status trade.now.status Completed }
+    ensures { result ≡ is_same_trade_status trade.now.status Completed }
 {
     trade.status == Status::Completed
 }
@@ -28,25 +28,25 @@ fn is_completed(trade: &TradeRow) -> bool
 /// Fails with `Memory` or `Store` only; with `Store` also if a row that another row names does not
 /// exist, or if a completed trade has no price or no settlement. The open database is unchanged,
 /// whatever the result.
-pub fn trade_story<S: Alter>(
+pub fn read_trade_story<S: Alter>(
     alloc: Global,
     store: &mut Store<S>,
     trade: Id,
 ) -> Result<Option<TradeStory>, Fault>
-    ensures read { ReadPost S.Store store.old store.new result (IsStoryOf trade) }
-    ensures fault { IfErr result MayFail }
+    ensures read { ReadPost S.Store store.old store.new result (IsStoryOfTrade trade) }
+    ensures fault { IfErr result IsCallFault }
 {
     let Some(row) = store.trade(trade)? else {
         return Ok(None);
     };
-    let order = find_order(alloc, store, row)?;
+    let order = read_order_of_trade(alloc, store, row)?;
     if !is_completed(&order.trade) {
         return Ok(Some(TradeStory {
             order,
             result: None,
         }));
     }
-    let outcome = find_result(alloc, store, &order)?;
+    let outcome = read_result_of_trade(alloc, store, &order)?;
     Ok(Some(TradeStory {
         order,
         result: Some(outcome),

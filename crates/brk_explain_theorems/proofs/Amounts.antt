@@ -6,29 +6,29 @@ use Rattle.std.proofs.lemmas.Bool.{eq-eqb}
 use Rattle.std.proofs.lemmas.Int.{ints}
 use Rattle.std.proofs.lemmas.List.Sums.{sum_by-append, sum_by-cons}
 use Rattle.brk_money.specs.Amounts.{commission, tax}
-use Rattle.brk_money.specs.Kinds.{same_type, side_of}
+use Rattle.brk_money.specs.Kinds.{is_same_trade_type, side_of_trade_type}
 use Rattle.brk_money.specs.Spelling.{Text}
 use Rattle.brk_money.specs.declared.tax_status.TaxStatus.TheVariants.{Untaxed}
 use Rattle.brk_model.specs.Base as base_spec
-use Rattle.brk_model.specs.Base.{Base, account_with, band_with, bears_tax, completed, customer_of_account, customer_with, exchange_of, is_completed, price_of, security_with, takes_tax_off, tax_status_in, tier_of, trade_with}
-use Rattle.brk_model.specs.Derived.{amount_of, deal_of, due_day, postings_of, proceeds}
-use Rattle.brk_model.specs.Orders.{commission_of, tax_on_deal}
-use Rattle.brk_model.specs.Joins.{account_in, security_in}
-use Rattle.brk_model.specs.Keys.{by_key, settlement_key}
+use Rattle.brk_model.specs.Base.{Base, account_with_id, commission_band_for, is_taxable_status, completed_trades, customer_id_of_account, customer_with_id, exchange_of_security, is_completed, completion_price, security_with_symbol, is_withholding_status, tax_status_in_accounts, tier_of_account, trade_with_id}
+use Rattle.brk_model.specs.Derived.{settlement_amount, deal_of_trade, due_day, postings_of_base, signed_proceeds}
+use Rattle.brk_model.specs.Orders.{commission_by_band, tax_on_deal}
+use Rattle.brk_model.specs.Joins.{account_row_with_id, security_row_with_symbol}
+use Rattle.brk_model.specs.Keys.{rows_sorted_by_key, settlement_key}
 use Rattle.brk_model.specs.Records.{Account, Band, Customer, CustomerTax, Security, SettleRule, TaxRate, Trade}
-use Rattle.brk_model.specs.Sheets.{sheets, sheets_of}
-use Rattle.brk_model.specs.Tables.{AccountRow, SettlementRow, Tables, account_row, security_row, settlement_row, tables_at, trade_row}
-use Rattle.brk_explain_model.specs.Trades.{band_for, band_in, band_on, commission_now, no_settlement, rates_in, rates_total, settlement_in, tax_now, value_of, withheld_of}
+use Rattle.brk_model.specs.Sheets.{sheets, tables_sorted_by_key}
+use Rattle.brk_model.specs.Tables.{AccountRow, SettlementRow, Tables, account_row, security_row, settlement_row, tables_of_base_in_schema, trade_row}
+use Rattle.brk_explain_model.specs.Trades.{band_for_customer_and_security, band_of_trade, band_for_tier_and_exchange, commission_in_current_band, zero_settlement_row, tax_rates_of_customer, sum_of_tax_rates, settlement_of_trade_or_zeros, tax_at_current_rates, signed_trade_value, withheld_tax_of_trade}
 use Rattle.brk_book_theorems.specs.Books.{BooksInvariant}
-use Rattle.brk_book_theorems.specs.Reads.{rate_of}
+use Rattle.brk_book_theorems.specs.Reads.{rate_by_tax_id}
 use Rattle.brk_book_theorems.proofs.BandReading.{reads_band}
 use Rattle.brk_book_theorems.proofs.Places.{some_of}
 use Rattle.brk_book_theorems.proofs.Reading.{find-id, find-map, reads_account, reads_customer}
 use Rattle.brk_book_theorems.proofs.Same.{find-All}
 use Rattle.brk_book_theorems.proofs.TermReading.{reads_rates, reads_security}
-use Rattle.brk_explain_theorems.specs.Before.{shares_before}
-use Rattle.brk_explain_theorems.specs.Closings.{ClosesAsTold, story_in}
-use Rattle.brk_explain_theorems.specs.Equations.{SettlesAsTold, order_in}
+use Rattle.brk_explain_theorems.specs.Before.{shares_before_trade}
+use Rattle.brk_explain_theorems.specs.Closings.{PrintedClosingsMatchDeal, result_story_in}
+use Rattle.brk_explain_theorems.specs.Equations.{PrintedSettlementMatchesBase, order_story_in}
 use Rattle.brk_explain_theorems.proofs.Among.{Among, among}
 use Rattle.brk_explain_theorems.proofs.BalanceSums.{moved_is}
 use Rattle.brk_explain_theorems.proofs.ClosingLaws.{closes_as_told}
@@ -36,19 +36,19 @@ use Rattle.brk_explain_theorems.proofs.SameTrade.{find_there}
 
 -- ---- the row of the settlement
 
-settlements_are : (base : Base) → (sheets base).settlements ≡ by_key settlement_key (map (settlement_row base.accounts base.rule) (completed base))
-unfolding tables_at sheets_of
+settlements_are : (base : Base) → (sheets base).settlements ≡ rows_sorted_by_key settlement_key (map (settlement_row base.accounts base.rule) (completed_trades base))
+unfolding tables_of_base_in_schema tables_sorted_by_key
 settlements_are base = refl
 
 rule_is : (base : Base) → (sheets base).rule ≡ base.rule
-unfolding tables_at sheets_of
+unfolding tables_of_base_in_schema tables_sorted_by_key
 rule_is base = refl
 
-pub settlement_is : (base : Base) (t : Trade) → Among base t → settlement_in (sheets base) t.id ≡ settlement_row base.accounts base.rule t
+pub settlement_is : (base : Base) (t : Trade) → Among base t → settlement_of_trade_or_zeros (sheets base) t.id ≡ settlement_row base.accounts base.rule t
 settlement_is base t a =
-    ap (λ o. unwrap_or o no_settlement)
-    (ap (find (λ (s : SettlementRow). s.trade == t.id)) (settlements_are base) ∙ find-id (λ (s : SettlementRow). s.trade) t.id (map row (completed base))
-    ∙ find-map (λ (s : SettlementRow). s.trade == t.id) row (completed base)
+    ap (λ o. unwrap_or o zero_settlement_row)
+    (ap (find (λ (s : SettlementRow). s.trade == t.id)) (settlements_are base) ∙ find-id (λ (s : SettlementRow). s.trade) t.id (map row (completed_trades base))
+    ∙ find-map (λ (s : SettlementRow). s.trade == t.id) row (completed_trades base)
     ∙ ap (λ ts. option_map row (find (λ u. u.id == t.id) ts)) a.stands
     ∙ ap (option_map row) (find_there (λ u. u.id == t.id) a.front t a.back a.ids_before (eq-eqb t.id t.id refl)))
   where
@@ -58,18 +58,18 @@ settlement_is base t a =
 -- ---- the account of the trade
 
 -- what is read of an account, by the account itself
-pub of_holder : {A : Type 0} (base : Base) (id : ℕ) (f : AccountRow → A) (g : Account → A) (none : A) → ((a : Account) → f (account_row base.accounts (postings_of base) a) ≡ g a)
-    → option_map_or f (account_in (sheets base) id) none ≡ option_map_or g (account_with base id) none
-of_holder {A = A} base id f g none h = ap (λ o. option_map_or f o none) (reads_account base id) ∙ by_account (account_with base id)
+pub of_holder : {A : Type 0} (base : Base) (id : ℕ) (f : AccountRow → A) (g : Account → A) (none : A) → ((a : Account) → f (account_row base.accounts (postings_of_base base) a) ≡ g a)
+    → option_map_or f (account_row_with_id (sheets base) id) none ≡ option_map_or g (account_with_id base id) none
+of_holder {A = A} base id f g none h = ap (λ o. option_map_or f o none) (reads_account base id) ∙ by_account (account_with_id base id)
   where
-    by_account : (o : Option Account) → option_map_or f (option_map (account_row base.accounts (postings_of base)) o) none ≡ option_map_or g o none
+    by_account : (o : Option Account) → option_map_or f (option_map (account_row base.accounts (postings_of_base base)) o) none ≡ option_map_or g o none
     by_account None = refl
     by_account (Some a) = h a
 
-status_is : (base : Base) (t : Trade) → (order_in base t).tax_status ≡ tax_status_in base.accounts t.account
+status_is : (base : Base) (t : Trade) → (order_story_in base t).tax_status ≡ tax_status_in_accounts base.accounts t.account
 status_is base t = of_holder base t.account (λ a. a.tax_status) (λ a. a.tax_status) Untaxed (λ a. refl)
 
-customer_is : (base : Base) (t : Trade) → (order_in base t).customer ≡ customer_of_account base t.account
+customer_is : (base : Base) (t : Trade) → (order_story_in base t).customer ≡ customer_id_of_account base t.account
 customer_is base t = of_holder base t.account (λ a. a.customer) (λ a. a.customer) 0 (λ a. refl)
 
 -- ---- the amount
@@ -78,20 +78,20 @@ parts : (p : ℤ) (a b c : ℕ) → p -ℤ pos (a + b + c) ≡ ((p +ℤ neg_ℤ 
 parts p a b c = omega (arith, ints)
 
 amount_parts : (base : Base) (t : Trade)
-    → amount_of base.accounts t
-    ≡ ((value_of (order_in base t) (story_in base t) +ℤ neg_ℤ (pos t.charge)) +ℤ neg_ℤ (pos t.commission)) +ℤ neg_ℤ (pos (withheld_of (order_in base t)))
+    → settlement_amount base.accounts t
+    ≡ ((signed_trade_value (order_story_in base t) (result_story_in base t) +ℤ neg_ℤ (pos t.charge)) +ℤ neg_ℤ (pos t.commission)) +ℤ neg_ℤ (pos (withheld_tax_of_trade (order_story_in base t)))
 amount_parts base t =
-    parts (proceeds (side_of t.kind) (t.qty * price_of t)) t.charge t.commission (cond (takes_tax_off (tax_status_in base.accounts t.account)) t.tax 0)
-    ∙ ap (λ s. ((proceeds (side_of t.kind) (t.qty * price_of t) +ℤ neg_ℤ (pos t.charge)) +ℤ neg_ℤ (pos t.commission)) +ℤ neg_ℤ (pos (cond (takes_tax_off s) t.tax 0))) (sym (status_is base t))
+    parts (signed_proceeds (side_of_trade_type t.kind) (t.qty * completion_price t)) t.charge t.commission (cond (is_withholding_status (tax_status_in_accounts base.accounts t.account)) t.tax 0)
+    ∙ ap (λ s. ((signed_proceeds (side_of_trade_type t.kind) (t.qty * completion_price t) +ℤ neg_ℤ (pos t.charge)) +ℤ neg_ℤ (pos t.commission)) +ℤ neg_ℤ (pos (cond (is_withholding_status s) t.tax 0))) (sym (status_is base t))
 
 -- ---- the tax of now
 
 rates_same : (T : Tables) (xs : List CustomerTax)
-    → rates_total (flat_map (λ x. option_to_list (find (λ (r : TaxRate). r.id == x.tax) T.tax_rates)) xs) ≡ sum_by (λ x. unwrap_or (rate_of T x.tax) 0) xs
+    → sum_of_tax_rates (flat_map (λ x. option_to_list (find (λ (r : TaxRate). r.id == x.tax) T.tax_rates)) xs) ≡ sum_by (λ x. unwrap_or (rate_by_tax_id T x.tax) 0) xs
 rates_same T [] = refl
 rates_same T (x ∷ xs) =
     sum_by-append (λ (r : TaxRate). r.rate) (option_to_list (find (λ (r : TaxRate). r.id == x.tax) T.tax_rates)) (flat_map (λ x. option_to_list (find (λ (r : TaxRate). r.id == x.tax) T.tax_rates)) xs)
-    ∙ (λ i. one (find (λ (r : TaxRate). r.id == x.tax) T.tax_rates) i + rates_same T xs i) ∙ sym (sum_by-cons (λ x. unwrap_or (rate_of T x.tax) 0) x xs)
+    ∙ (λ i. one (find (λ (r : TaxRate). r.id == x.tax) T.tax_rates) i + rates_same T xs i) ∙ sym (sum_by-cons (λ x. unwrap_or (rate_by_tax_id T x.tax) 0) x xs)
   where
     one : (o : Option TaxRate) → sum_by (λ (r : TaxRate). r.rate) (option_to_list o) ≡ unwrap_or (option_map (λ (r : TaxRate). r.rate) o) 0
     one None = refl
@@ -100,12 +100,12 @@ rates_same T (x ∷ xs) =
         alone : (n : ℕ) → sum_by (λ (r : TaxRate). r.rate) (r ∷ []) ≡ n + 0 → sum_by (λ (r : TaxRate). r.rate) (r ∷ []) ≡ n
         alone n e = omega (arith, e)
 
-rates_are : (base : Base) (customer : ℕ) → rates_total (rates_in (sheets base) customer) ≡ base_spec.rates_of base customer
+rates_are : (base : Base) (customer : ℕ) → sum_of_tax_rates (tax_rates_of_customer (sheets base) customer) ≡ base_spec.tax_rate_sum_of_customer base customer
 rates_are base customer = rates_same (sheets base) (filter (λ x. x.customer == customer) (sheets base).customer_taxes) ∙ reads_rates base customer
 
-tax_is : (base : Base) (t : Trade) → ClosesAsTold base t → tax_now (order_in base t) (story_in base t) ≡ tax_on_deal base t.account (deal_of t) (shares_before base t)
+tax_is : (base : Base) (t : Trade) → PrintedClosingsMatchDeal base t → tax_at_current_rates (order_story_in base t) (result_story_in base t) ≡ tax_on_deal base t.account (deal_of_trade t) (shares_before_trade base t)
 tax_is base t k =
-    λ i. cond (bears_tax (status_is base t i)) (tax (k.gained i) ((rates_are base (order_in base t).customer ∙ ap (base_spec.rates_of base) (customer_is base t)) i)) 0
+    λ i. cond (is_taxable_status (status_is base t i)) (tax (k.gained i) ((rates_are base (order_story_in base t).customer ∙ ap (base_spec.tax_rate_sum_of_customer base) (customer_is base t)) i)) 0
 
 -- ---- the commission of now
 
@@ -121,48 +121,48 @@ and_assoc : (a b c : Bool) → (a && b) && c ≡ a && (b && c)
 and_assoc true b c = refl
 and_assoc false b c = refl
 
-band_is : (base : Base) (t : Trade) (tier : ℕ) (exchange : Text) → BooksInvariant base → band_on (sheets base) (trade_row t) tier exchange ≡ band_with base tier t.kind exchange t.qty
+band_is : (base : Base) (t : Trade) (tier : ℕ) (exchange : Text) → BooksInvariant base → band_for_tier_and_exchange (sheets base) (trade_row t) tier exchange ≡ commission_band_for base tier t.kind exchange t.qty
 band_is base t tier exchange books =
-    find_both (λ (b : Band). nat_le b.from_qty t.qty && nat_le t.qty b.to_qty) (λ (b : Band). ((b.tier == tier) && same_type b.kind t.kind) && bytes_eq b.exchange exchange)
-    (λ (b : Band). ((((b.tier == tier) && same_type b.kind t.kind) && bytes_eq b.exchange exchange) && nat_le b.from_qty t.qty) && nat_le t.qty b.to_qty) (sheets base).bands
-    (λ b. and_assoc (((b.tier == tier) && same_type b.kind t.kind) && bytes_eq b.exchange exchange) (nat_le b.from_qty t.qty) (nat_le t.qty b.to_qty))
+    find_both (λ (b : Band). nat_le b.from_qty t.qty && nat_le t.qty b.to_qty) (λ (b : Band). ((b.tier == tier) && is_same_trade_type b.kind t.kind) && bytes_eq b.exchange exchange)
+    (λ (b : Band). ((((b.tier == tier) && is_same_trade_type b.kind t.kind) && bytes_eq b.exchange exchange) && nat_le b.from_qty t.qty) && nat_le t.qty b.to_qty) (sheets base).bands
+    (λ b. and_assoc (((b.tier == tier) && is_same_trade_type b.kind t.kind) && bytes_eq b.exchange exchange) (nat_le b.from_qty t.qty) (nat_le t.qty b.to_qty))
     ∙ reads_band base tier t.kind exchange t.qty books
 
 -- the customer and the security of a trade are there
-band_found : (base : Base) (t : Trade) → BooksInvariant base → trade_with base t.id ≡ Some t → band_in (sheets base) (trade_row t) ≡ band_with base (tier_of base t.account) t.kind (exchange_of base t.symbol) t.qty
+band_found : (base : Base) (t : Trade) → BooksInvariant base → trade_with_id base t.id ≡ Some t → band_of_trade (sheets base) (trade_row t) ≡ commission_band_for base (tier_of_account base t.account) t.kind (exchange_of_security base t.symbol) t.qty
 band_found base t books e =
-    (λ i. band_for T (trade_row t) (customer i) (security i)) ∙ band_is base t c.0.tier s.0.exchange books
-    ∙ (λ i. band_with base (option_map_or (λ (c : Customer). c.tier) (sym c.1 i) 0) t.kind (option_map_or (λ (s : Security). s.exchange) (sym s.1 i) []) t.qty)
+    (λ i. band_for_customer_and_security T (trade_row t) (customer i) (security i)) ∙ band_is base t c.0.tier s.0.exchange books
+    ∙ (λ i. commission_band_for base (option_map_or (λ (c : Customer). c.tier) (sym c.1 i) 0) t.kind (option_map_or (λ (s : Security). s.exchange) (sym s.1 i) []) t.qty)
   where
     T : Tables
     T = sheets base
 
-    a : (a : Account) × (account_with base t.account ≡ Some a)
-    a = some_of (account_with base t.account) (find-All (λ u. is_some (account_with base u.account) ≡ true) (λ u. u.id == t.id) base.trades t books.accounts e)
+    a : (a : Account) × (account_with_id base t.account ≡ Some a)
+    a = some_of (account_with_id base t.account) (find-All (λ u. is_some (account_with_id base u.account) ≡ true) (λ u. u.id == t.id) base.trades t books.accounts e)
 
-    known : is_some (customer_with base (customer_of_account base t.account)) ≡ true
-    known = ap (λ o. is_some (customer_with base (option_map_or (λ (a : Account). a.customer) o 0))) a.1
-        ∙ find-All (λ (a : Account). is_some (customer_with base a.customer) ≡ true) (λ (a : Account). a.id == t.account) base.accounts a.0 books.customers a.1
+    known : is_some (customer_with_id base (customer_id_of_account base t.account)) ≡ true
+    known = ap (λ o. is_some (customer_with_id base (option_map_or (λ (a : Account). a.customer) o 0))) a.1
+        ∙ find-All (λ (a : Account). is_some (customer_with_id base a.customer) ≡ true) (λ (a : Account). a.id == t.account) base.accounts a.0 books.customers a.1
 
-    c : (c : Customer) × (customer_with base (customer_of_account base t.account) ≡ Some c)
-    c = some_of (customer_with base (customer_of_account base t.account)) known
+    c : (c : Customer) × (customer_with_id base (customer_id_of_account base t.account) ≡ Some c)
+    c = some_of (customer_with_id base (customer_id_of_account base t.account)) known
 
-    s : (s : Security) × (security_with base t.symbol ≡ Some s)
-    s = some_of (security_with base t.symbol) (find-All (λ u. is_some (security_with base u.symbol) ≡ true) (λ u. u.id == t.id) base.trades t books.securities e)
+    s : (s : Security) × (security_with_symbol base t.symbol ≡ Some s)
+    s = some_of (security_with_symbol base t.symbol) (find-All (λ u. is_some (security_with_symbol base u.symbol) ≡ true) (λ u. u.id == t.id) base.trades t books.securities e)
 
-    customer : find (λ (c : Customer). c.id == (order_in base t).customer) T.customers ≡ Some c.0
-    customer = ap (λ (n : ℕ). find (λ (c : Customer). c.id == n) T.customers) (customer_is base t) ∙ reads_customer base (customer_of_account base t.account) ∙ c.1
+    customer : find (λ (c : Customer). c.id == (order_story_in base t).customer) T.customers ≡ Some c.0
+    customer = ap (λ (n : ℕ). find (λ (c : Customer). c.id == n) T.customers) (customer_is base t) ∙ reads_customer base (customer_id_of_account base t.account) ∙ c.1
 
-    security : security_in T t.symbol ≡ Some (security_row s.0)
+    security : security_row_with_symbol T t.symbol ≡ Some (security_row s.0)
     security = reads_security base t.symbol ∙ ap (option_map security_row) s.1
 
-commission_is : (base : Base) (t : Trade) → BooksInvariant base → trade_with base t.id ≡ Some t
-    → commission_now (order_in base t) (story_in base t) ≡ commission_of base t.account t.kind t.symbol t.qty (price_of t)
-commission_is base t books e = ap (option_map (λ (b : Band). commission b.rate t.qty (price_of t))) (band_found base t books e)
+commission_is : (base : Base) (t : Trade) → BooksInvariant base → trade_with_id base t.id ≡ Some t
+    → commission_in_current_band (order_story_in base t) (result_story_in base t) ≡ commission_by_band base t.account t.kind t.symbol t.qty (completion_price t)
+commission_is base t books e = ap (option_map (λ (b : Band). commission b.rate t.qty (completion_price t))) (band_found base t books e)
 
 -- ---- the whole
 
-pub settles_as_told : (base : Base) (t : Trade) → BooksInvariant base → trade_with base t.id ≡ Some t → is_completed t ≡ true → SettlesAsTold base t
+pub settles_as_told : (base : Base) (t : Trade) → BooksInvariant base → trade_with_id base t.id ≡ Some t → is_completed t ≡ true → PrintedSettlementMatchesBase base t
 settles_as_told base t books found c = record {
   sum = amount ∙ amount_parts base t;
   amount = amount;
@@ -176,5 +176,5 @@ settles_as_told base t books found c = record {
     a : Among base t
     a = among base t books found c
 
-    amount : (story_in base t).settlement.amount ≡ amount_of base.accounts t
+    amount : (result_story_in base t).settlement.amount ≡ settlement_amount base.accounts t
     amount = ap (λ (s : SettlementRow). s.amount) (settlement_is base t a)

@@ -5,22 +5,22 @@ use Rattle.std.specs.Option.{option_map_or}
 use Rattle.std.specs.List.{AllByRecursion}
 use Rattle.std.proofs.lemmas.Bool.Decides.{nat_tests}
 use Rattle.brk_money.specs.declared.status.Status.TheVariants.{Canceled, Completed}
-use Rattle.brk_model.specs.Base.{Base, completed, is_completed, marked, moment_of, trade_with}
+use Rattle.brk_model.specs.Base.{Base, completed_trades, is_completed, trade_with_status_change, last_status_stamp_of_trade, trade_with_id}
 use Rattle.brk_model.specs.Commands.{AddAccount, AddBand, AddBroker, AddCharge, AddCustomer, AddCustomerTax, AddPermission, AddSecurity, AddTaxRate, CancelTrade, ChangeCashNames, ChangeCashTypes, ChangeExecutors, Command, CompleteTrade, DepositCash, FeedTicks, PlaceOrder, Reply, SetOneDay, Tick, WithdrawCash}
-use Rattle.brk_model.specs.Feed.{with_tick, with_ticks}
-use Rattle.brk_model.specs.Keyed.{keeping}
+use Rattle.brk_model.specs.Feed.{base_after_tick, base_after_ticks}
+use Rattle.brk_model.specs.Keyed.{base_with_stored_reply}
 use Rattle.brk_model.specs.Lists.{contains_number, update_where}
-use Rattle.brk_model.specs.Movements.{deposit, withdrawal}
+use Rattle.brk_model.specs.Movements.{deposit_movement, withdrawal_movement}
 use Rattle.brk_model.specs.Derived.{due_day}
 use Rattle.brk_model.specs.Records.{Account, Key, Movement, SettleRule, Trade}
-use Rattle.brk_model.specs.Results.{completed_trade, with_result}
+use Rattle.brk_model.specs.Results.{completed_trade, base_after_result}
 use Rattle.brk_model.specs.Run.{Call, Outcome, Run}
-use Rattle.brk_model.specs.Step.{records_after}
-use Rattle.brk_model.specs.Tests.{next_stamp, refusal_of, tests}
-use Rattle.brk_model.specs.Updates.{changed_cash_name, changed_cash_type, changed_executor, chosen_of_account, chosen_of_symbol}
-use Rattle.brk_explain_theorems.specs.Before.{done_before}
+use Rattle.brk_model.specs.Step.{base_after_command_unstamped}
+use Rattle.brk_model.specs.Tests.{stamp_of_next_command, refusal_of_command, checks_of_command}
+use Rattle.brk_model.specs.Updates.{updated_cash_row_name, updated_cash_type, updated_executor_name, selected_ids_of_account, selected_ids_of_symbol}
+use Rattle.brk_explain_theorems.specs.Before.{trades_completed_before}
 use Rattle.brk_book_theorems.specs.Books.{BooksInvariant}
-use Rattle.brk_book_theorems.specs.Steps.{base_then}
+use Rattle.brk_book_theorems.specs.Steps.{base_after_command}
 use Rattle.brk_book_theorems.proofs.Completions.{completed_ticks, completed_unseen, named_waits}
 use Rattle.brk_book_theorems.proofs.Keepers.{books_kept}
 use Rattle.brk_book_theorems.proofs.LotOrder.{both_hold}
@@ -44,7 +44,7 @@ core t = record t { executor = []; cash_type = []; cash_name = [] }
 
 -- the trades that were completed by the stamp
 abbrev pub done_by : Base → ℕ → List Trade
-done_by base s = map core (filter (λ t. nat_le (moment_of t) s) (completed base))
+done_by base s = map core (filter (λ t. nat_le (last_status_stamp_of_trade t) s) (completed_trades base))
 
 -- the movements by the stamp
 abbrev pub moved_by : Base → ℕ → List Movement
@@ -85,8 +85,8 @@ next_after : (last : Option ℕ) (now s : ℕ) → IsPast last s → s < option_
 next_after None now s h = absurd h
 next_after (Some l) now s h = omega (arith, h)
 
-pub past_then : (base : Base) (now s : ℕ) → IsPast base.last s → IsPast (Some (next_stamp base now)) s
-past_then base now s h = below s (next_stamp base now) (next_after base.last now s h)
+pub past_then : (base : Base) (now s : ℕ) → IsPast base.last s → IsPast (Some (stamp_of_next_command base now)) s
+past_then base now s h = below s (stamp_of_next_command base now) (next_after base.last now s h)
   where
     below : (m n : ℕ) → m < n → m ≤ n
     below m n h = omega (arith, h)
@@ -96,71 +96,71 @@ not_by m n h = grind (arith, nat_tests)
 
 -- ---- commands that complete nothing
 
-same_done : (s : ℕ) (base later : Base) → later.accounts ≡ base.accounts → completed later ≡ completed base → later.movements ≡ base.movements → later.rule ≡ base.rule → Keeps s base later
+same_done : (s : ℕ) (base later : Base) → later.accounts ≡ base.accounts → completed_trades later ≡ completed_trades base → later.movements ≡ base.movements → later.rule ≡ base.rule → Keeps s base later
 same_done s base later a e m r = record {
   more = [];
   accounts = a ∙ sym (append_nil base.accounts);
-  done = ap (λ ts. map core (filter (λ t. nat_le (moment_of t) s) ts)) e;
+  done = ap (λ ts. map core (filter (λ t. nat_le (last_status_stamp_of_trade t) s) ts)) e;
   moved = ap (filter (λ m. nat_le m.stamp s)) m;
   due = same_rule s base later.rule r;
 }
 
-ticks_accounts : (base : Base) (stamp : ℕ) (ticks : List Tick) → (with_ticks stamp base ticks).accounts ≡ base.accounts
-unfolding with_ticks
+ticks_accounts : (base : Base) (stamp : ℕ) (ticks : List Tick) → (base_after_ticks stamp base ticks).accounts ≡ base.accounts
+unfolding base_after_ticks
 ticks_accounts base stamp [] = refl
-ticks_accounts base stamp (tick ∷ ticks) = ticks_accounts (with_tick stamp base tick) stamp ticks
+ticks_accounts base stamp (tick ∷ ticks) = ticks_accounts (base_after_tick stamp base tick) stamp ticks
 
-ticks_movements : (base : Base) (stamp : ℕ) (ticks : List Tick) → (with_ticks stamp base ticks).movements ≡ base.movements
-unfolding with_ticks
+ticks_movements : (base : Base) (stamp : ℕ) (ticks : List Tick) → (base_after_ticks stamp base ticks).movements ≡ base.movements
+unfolding base_after_ticks
 ticks_movements base stamp [] = refl
-ticks_movements base stamp (tick ∷ ticks) = ticks_movements (with_tick stamp base tick) stamp ticks
+ticks_movements base stamp (tick ∷ ticks) = ticks_movements (base_after_tick stamp base tick) stamp ticks
 
-ticks_rule : (base : Base) (stamp : ℕ) (ticks : List Tick) → (with_ticks stamp base ticks).rule ≡ base.rule
-unfolding with_ticks
+ticks_rule : (base : Base) (stamp : ℕ) (ticks : List Tick) → (base_after_ticks stamp base ticks).rule ≡ base.rule
+unfolding base_after_ticks
 ticks_rule base stamp [] = refl
-ticks_rule base stamp (tick ∷ ticks) = ticks_rule (with_tick stamp base tick) stamp ticks
+ticks_rule base stamp (tick ∷ ticks) = ticks_rule (base_after_tick stamp base tick) stamp ticks
 
-keeps_feed : (s : ℕ) (base : Base) (now : ℕ) (ticks : List Tick) → Keeps s base (base_then base now (FeedTicks ticks))
-unfolding records_after
+keeps_feed : (s : ℕ) (base : Base) (now : ℕ) (ticks : List Tick) → Keeps s base (base_after_command base now (FeedTicks ticks))
+unfolding base_after_command_unstamped
 keeps_feed s base now ticks =
-    same_done s base (base_then base now (FeedTicks ticks)) (ticks_accounts base (next_stamp base now) ticks) (completed_ticks base (next_stamp base now) ticks) (ticks_movements base (next_stamp base now) ticks)
-    (ticks_rule base (next_stamp base now) ticks)
+    same_done s base (base_after_command base now (FeedTicks ticks)) (ticks_accounts base (stamp_of_next_command base now) ticks) (completed_ticks base (stamp_of_next_command base now) ticks) (ticks_movements base (stamp_of_next_command base now) ticks)
+    (ticks_rule base (stamp_of_next_command base now) ticks)
 
-keeps_cancel : (s : ℕ) (base : Base) (now id : ℕ) → BooksInvariant base → refusal_of base now (CancelTrade id) ≡ None → Keeps s base (base_then base now (CancelTrade id))
-unfolding records_after tests
+keeps_cancel : (s : ℕ) (base : Base) (now id : ℕ) → BooksInvariant base → refusal_of_command base now (CancelTrade id) ≡ None → Keeps s base (base_after_command base now (CancelTrade id))
+unfolding base_after_command_unstamped checks_of_command
 keeps_cancel s base now id books e =
-    same_done s base (base_then base now (CancelTrade id)) refl
-    (completed_unseen (λ t. t.id == id) (marked (next_stamp base now) Canceled) base.trades (λ t. status_of_marked (next_stamp base now) Canceled Completed t)
-    (named_waits base id (trade_with base id) books.numbered refl (passed base now (CancelTrade id) e)))
+    same_done s base (base_after_command base now (CancelTrade id)) refl
+    (completed_unseen (λ t. t.id == id) (trade_with_status_change (stamp_of_next_command base now) Canceled) base.trades (λ t. status_of_marked (stamp_of_next_command base now) Canceled Completed t)
+    (named_waits base id (trade_with_id base id) books.numbered refl (passed base now (CancelTrade id) e)))
     refl refl
 
 -- ---- a completion, and a movement
 
-keeps_result : (s : ℕ) (base : Base) (now id price : ℕ) → BooksInvariant base → IsPast base.last s → refusal_of base now (CompleteTrade id price) ≡ None
-    → Keeps s base (base_then base now (CompleteTrade id price))
-unfolding records_after
+keeps_result : (s : ℕ) (base : Base) (now id price : ℕ) → BooksInvariant base → IsPast base.last s → refusal_of_command base now (CompleteTrade id price) ≡ None
+    → Keeps s base (base_after_command base now (CompleteTrade id price))
+unfolding base_after_command_unstamped
 keeps_result s base now id price books past e =
-    let stamp : ℕ = next_stamp base now in
+    let stamp : ℕ = stamp_of_next_command base now in
     let t = result_named base now id price e in
     let f : Found base now price t.0 = found_at base now id price t.0 books t.1 (submitted base now id price t.0 t.1 e) in
     let A : List Trade = filter is_completed f.front in
     let Z : List Trade = filter is_completed f.back in
     let u : Trade = completed_trade base stamp price t.0 in
-    let E : Trade → Bool = λ v. nat_le (moment_of v) s in
+    let E : Trade → Bool = λ v. nat_le (last_status_stamp_of_trade v) s in
     let out : E u ≡ false = ap (λ (n : ℕ). nat_le n s) (moment_then base stamp price t.0) ∙ not_by s stamp (next_after base.last now s past) in
-    let same : done_by (with_result base stamp price t.0) s ≡ done_by base s =
+    let same : done_by (base_after_result base stamp price t.0) s ≡ done_by base s =
     ap (λ ts. map core (filter E ts)) (done_then base stamp price t.0 f.front f.back f.result)
     ∙ ap (map core) (filter-not_one E A u Z out ∙ sym (filter-append E A Z)) ∙ ap (λ ts. map core (filter E ts)) (sym (done_now base stamp price t.0 f.front f.back f.result)) in
-    subst (λ o. Keeps s base (record (option_map_or (with_result base stamp price) o base) { last = Some stamp })) (sym t.1)
+    subst (λ o. Keeps s base (record (option_map_or (base_after_result base stamp price) o base) { last = Some stamp })) (sym t.1)
     (record { more = []; accounts = sym (append_nil base.accounts); done = same; moved = refl; due = same_rule s base base.rule refl })
 
-keeps_moved : (s : ℕ) (base : Base) (now : ℕ) (m : Movement) (later : Base) → IsPast base.last s → m.stamp ≡ next_stamp base now → later.accounts ≡ base.accounts → completed later ≡ completed base
+keeps_moved : (s : ℕ) (base : Base) (now : ℕ) (m : Movement) (later : Base) → IsPast base.last s → m.stamp ≡ stamp_of_next_command base now → later.accounts ≡ base.accounts → completed_trades later ≡ completed_trades base
     → later.movements ≡ base.movements ++ m ∷ [] → later.rule ≡ base.rule → Keeps s base later
 keeps_moved s base now m later past e a d moved r = record {
   more = [];
   accounts = a ∙ sym (append_nil base.accounts);
-  done = ap (λ ts. map core (filter (λ t. nat_le (moment_of t) s) ts)) d;
-  moved = ap (filter B) moved ∙ filter-not_one B base.movements m [] (ap (λ (n : ℕ). nat_le n s) e ∙ not_by s (next_stamp base now) (next_after base.last now s past)) ∙ append_nil (filter B base.movements);
+  done = ap (λ ts. map core (filter (λ t. nat_le (last_status_stamp_of_trade t) s) ts)) d;
+  moved = ap (filter B) moved ∙ filter-not_one B base.movements m [] (ap (λ (n : ℕ). nat_le n s) e ∙ not_by s (stamp_of_next_command base now) (next_after base.last now s past)) ∙ append_nil (filter B base.movements);
   due = same_rule s base later.rule r;
 }
   where
@@ -170,13 +170,13 @@ keeps_moved s base now m later past e a d moved r = record {
 -- ---- changed words
 
 by_core : (s : ℕ) (p : Trade → Bool) (f : Trade → Trade) (ts : List Trade) → ((t : Trade) → core (f t) ≡ core t)
-    → map core (filter (λ t. is_completed t && nat_le (moment_of t) s) (update_where p f ts)) ≡ map core (filter (λ t. is_completed t && nat_le (moment_of t) s) ts)
+    → map core (filter (λ t. is_completed t && nat_le (last_status_stamp_of_trade t) s) (update_where p f ts)) ≡ map core (filter (λ t. is_completed t && nat_le (last_status_stamp_of_trade t) s) ts)
 by_core s p f [] h = refl
 by_core s p f (t ∷ ts) h =
     ap (λ b. map core (cond b (u ∷ U) U)) (ap E same) ∙ put (E t) (by_core s p f ts h)
   where
     E : Trade → Bool
-    E v = is_completed v && nat_le (moment_of v) s
+    E v = is_completed v && nat_le (last_status_stamp_of_trade v) s
 
     u : Trade
     u = cond (p t) (f t) t
@@ -207,7 +207,7 @@ keeps_words s base p f later h a e m r = record {
 }
   where
     E : Trade → Bool
-    E t = nat_le (moment_of t) s
+    E t = nat_le (last_status_stamp_of_trade t) s
 
 -- ---- every command
 
@@ -215,40 +215,40 @@ same_base : (s : ℕ) (base later : Base) → later.accounts ≡ base.accounts �
 same_base s base later a t m r = same_done s base later a (ap (filter is_completed) t) m r
 
 -- a settlement day changes none that was due
-keeps_one_day : (s : ℕ) (base : Base) (now day : ℕ) → BooksInvariant base → refusal_of base now (SetOneDay day) ≡ None → Keeps s base (base_then base now (SetOneDay day))
-unfolding records_after
+keeps_one_day : (s : ℕ) (base : Base) (now day : ℕ) → BooksInvariant base → refusal_of_command base now (SetOneDay day) ≡ None → Keeps s base (base_after_command base now (SetOneDay day))
+unfolding base_after_command_unstamped
 keeps_one_day s base now day books e = record {
   more = [];
   accounts = sym (append_nil base.accounts);
   done = refl;
   moved = refl;
-  due = All-mapped (λ t. due_day (Some day) t ≡ due_day base.rule t) core (filter (λ t. nat_le (moment_of t) s) (completed base))
-      (All-filter (λ t. due_day (Some day) t ≡ due_day base.rule t) (λ t. nat_le (moment_of t) s) (completed base) (due_days_stay base now day books e));
+  due = All-mapped (λ t. due_day (Some day) t ≡ due_day base.rule t) core (filter (λ t. nat_le (last_status_stamp_of_trade t) s) (completed_trades base))
+      (All-filter (λ t. due_day (Some day) t ≡ due_day base.rule t) (λ t. nat_le (last_status_stamp_of_trade t) s) (completed_trades base) (due_days_stay base now day books e));
 }
 
-pub keeps_command : (s : ℕ) (base : Base) (now : ℕ) (command : Command) → BooksInvariant base → IsPast base.last s → refusal_of base now command ≡ None → Keeps s base (base_then base now command)
-unfolding records_after
-keeps_command s base now (AddBroker b) books past e = same_base s base (base_then base now (AddBroker b)) refl refl refl refl
-keeps_command s base now (AddCustomer c) books past e = same_base s base (base_then base now (AddCustomer c)) refl refl refl refl
+pub keeps_command : (s : ℕ) (base : Base) (now : ℕ) (command : Command) → BooksInvariant base → IsPast base.last s → refusal_of_command base now command ≡ None → Keeps s base (base_after_command base now command)
+unfolding base_after_command_unstamped
+keeps_command s base now (AddBroker b) books past e = same_base s base (base_after_command base now (AddBroker b)) refl refl refl refl
+keeps_command s base now (AddCustomer c) books past e = same_base s base (base_after_command base now (AddCustomer c)) refl refl refl refl
 keeps_command s base now (AddAccount a) books past e = record { more = a ∷ []; accounts = refl; done = refl; moved = refl; due = same_rule s base base.rule refl }
-keeps_command s base now (AddPermission p) books past e = same_base s base (base_then base now (AddPermission p)) refl refl refl refl
-keeps_command s base now (AddSecurity l) books past e = same_base s base (base_then base now (AddSecurity l)) refl refl refl refl
-keeps_command s base now (AddCharge c) books past e = same_base s base (base_then base now (AddCharge c)) refl refl refl refl
-keeps_command s base now (AddBand b) books past e = same_base s base (base_then base now (AddBand b)) refl refl refl refl
-keeps_command s base now (AddTaxRate r) books past e = same_base s base (base_then base now (AddTaxRate r)) refl refl refl refl
-keeps_command s base now (AddCustomerTax x) books past e = same_base s base (base_then base now (AddCustomerTax x)) refl refl refl refl
-keeps_command s base now (PlaceOrder o) books past e = same_done s base (base_then base now (PlaceOrder o)) refl (ordered_done base (next_stamp base now) o) refl refl
+keeps_command s base now (AddPermission p) books past e = same_base s base (base_after_command base now (AddPermission p)) refl refl refl refl
+keeps_command s base now (AddSecurity l) books past e = same_base s base (base_after_command base now (AddSecurity l)) refl refl refl refl
+keeps_command s base now (AddCharge c) books past e = same_base s base (base_after_command base now (AddCharge c)) refl refl refl refl
+keeps_command s base now (AddBand b) books past e = same_base s base (base_after_command base now (AddBand b)) refl refl refl refl
+keeps_command s base now (AddTaxRate r) books past e = same_base s base (base_after_command base now (AddTaxRate r)) refl refl refl refl
+keeps_command s base now (AddCustomerTax x) books past e = same_base s base (base_after_command base now (AddCustomerTax x)) refl refl refl refl
+keeps_command s base now (PlaceOrder o) books past e = same_done s base (base_after_command base now (PlaceOrder o)) refl (ordered_done base (stamp_of_next_command base now) o) refl refl
 keeps_command s base now (FeedTicks ticks) books past e = keeps_feed s base now ticks
 keeps_command s base now (CancelTrade id) books past e = keeps_cancel s base now id books e
 keeps_command s base now (CompleteTrade id price) books past e = keeps_result s base now id price books past e
 keeps_command s base now (ChangeExecutors ids) books past e =
-    keeps_words s base (λ t. contains_number t.id ids) (λ t. record t { executor = changed_executor t.executor }) (base_then base now (ChangeExecutors ids)) (λ t. refl) refl refl refl refl
+    keeps_words s base (λ t. contains_number t.id ids) (λ t. record t { executor = updated_executor_name t.executor }) (base_after_command base now (ChangeExecutors ids)) (λ t. refl) refl refl refl refl
 keeps_command s base now (ChangeCashTypes account first last) books past e =
-    keeps_words s base (λ t. contains_number t.id (chosen_of_account base account first last)) (λ t. record t { cash_type = changed_cash_type t }) (base_then base now (ChangeCashTypes account first last)) (λ t. refl) refl refl refl refl
+    keeps_words s base (λ t. contains_number t.id (selected_ids_of_account base account first last)) (λ t. record t { cash_type = updated_cash_type t }) (base_after_command base now (ChangeCashTypes account first last)) (λ t. refl) refl refl refl refl
 keeps_command s base now (ChangeCashNames symbol first last) books past e =
-    keeps_words s base (λ t. contains_number t.id (chosen_of_symbol base symbol first last)) (λ t. record t { cash_name = changed_cash_name base t }) (base_then base now (ChangeCashNames symbol first last)) (λ t. refl) refl refl refl refl
-keeps_command s base now (DepositCash account amount) books past e = keeps_moved s base now (deposit (next_stamp base now) account amount) (base_then base now (DepositCash account amount)) past refl refl refl refl refl
-keeps_command s base now (WithdrawCash account amount) books past e = keeps_moved s base now (withdrawal (next_stamp base now) account amount) (base_then base now (WithdrawCash account amount)) past refl refl refl refl refl
+    keeps_words s base (λ t. contains_number t.id (selected_ids_of_symbol base symbol first last)) (λ t. record t { cash_name = updated_cash_row_name base t }) (base_after_command base now (ChangeCashNames symbol first last)) (λ t. refl) refl refl refl refl
+keeps_command s base now (DepositCash account amount) books past e = keeps_moved s base now (deposit_movement (stamp_of_next_command base now) account amount) (base_after_command base now (DepositCash account amount)) past refl refl refl refl refl
+keeps_command s base now (WithdrawCash account amount) books past e = keeps_moved s base now (withdrawal_movement (stamp_of_next_command base now) account amount) (base_after_command base now (WithdrawCash account amount)) past refl refl refl refl refl
 keeps_command s base now (SetOneDay day) books past e = keeps_one_day s base now day books e
 
 -- ---- every run
@@ -263,18 +263,18 @@ pub keeps_run : (s : ℕ) (base : Base) (calls : List (ℕ × Call)) (outcomes :
 keeps_run s base calls outcomes later books past r =
     let l : Left s base later = run_keeps (Left s base) kept after base calls outcomes later r (record { books = books; past = past; kept = keeps_itself s base }) in l.kept
   where
-    kept : (mid : Base) (key : Option Key) (command : Command) (reply : Reply) → Left s base mid → Left s base (keeping key command reply mid)
+    kept : (mid : Base) (key : Option Key) (command : Command) (reply : Reply) → Left s base mid → Left s base (base_with_stored_reply key command reply mid)
     kept mid key command reply k = by_key key
       where
-        by_key : (o : Option Key) → Left s base (keeping o command reply mid)
+        by_key : (o : Option Key) → Left s base (base_with_stored_reply o command reply mid)
         by_key None = k
         by_key (Some key) = record { books = books_kept mid (Some key) command reply k.books; past = k.past; kept = record { more = k.kept.more; accounts = k.kept.accounts; done = k.kept.done; moved = k.kept.moved; due = k.kept.due } }
 
-    after : (mid : Base) (now : ℕ) (command : Command) → Left s base mid → refusal_of mid now command ≡ None → Left s base (base_then mid now command)
+    after : (mid : Base) (now : ℕ) (command : Command) → Left s base mid → refusal_of_command mid now command ≡ None → Left s base (base_after_command mid now command)
     after mid now command k e = record {
       books = books_command mid now command k.books e;
       past = past_then mid now s k.past;
-      kept = keeps_through s base mid (base_then mid now command) k.kept (keeps_command s mid now command k.books k.past e);
+      kept = keeps_through s base mid (base_after_command mid now command) k.kept (keeps_command s mid now command k.books k.past e);
     }
 
 -- ---- before a stamp
@@ -291,7 +291,7 @@ implied {X = X} p q (x ∷ xs) h = by_test (q x) (p x) refl refl (implied p q xs
 below : (m n : ℕ) → nat_lt m n ≡ true → nat_le m n ≡ true
 below m n e = grind (arith, nat_tests)
 
-pub before_core : (base : Base) (s : ℕ) → map core (done_before base s) ≡ filter (λ t. nat_lt (moment_of t) s) (done_by base s)
+pub before_core : (base : Base) (s : ℕ) → map core (trades_completed_before base s) ≡ filter (λ t. nat_lt (last_status_stamp_of_trade t) s) (done_by base s)
 before_core base s =
-    ap (map core) (sym (implied (λ t. nat_lt (moment_of t) s) (λ t. nat_le (moment_of t) s) (completed base) (λ t e. below (moment_of t) s e)))
-    ∙ sym (filter-map (λ t. nat_lt (moment_of t) s) core (filter (λ t. nat_le (moment_of t) s) (completed base)))
+    ap (map core) (sym (implied (λ t. nat_lt (last_status_stamp_of_trade t) s) (λ t. nat_le (last_status_stamp_of_trade t) s) (completed_trades base) (λ t e. below (last_status_stamp_of_trade t) s e)))
+    ∙ sym (filter-map (λ t. nat_lt (last_status_stamp_of_trade t) s) core (filter (λ t. nat_le (last_status_stamp_of_trade t) s) (completed_trades base)))

@@ -4,18 +4,18 @@ use Rattle.std.specs.Prelude.{⊤, flat_map, nat_lt}
 use Rattle.std.specs.List.{AllByRecursion}
 use Rattle.std.proofs.lemmas.Bool.{eqb-true, eq-eqb}
 use Rattle.std.proofs.lemmas.Bool.Decides.{nat_tests}
-use Rattle.brk_model.specs.Base.{Base, completed, moment_of}
-use Rattle.brk_model.specs.Derived.{deal_of, deals_in}
-use Rattle.brk_model.specs.Keys.{by_key, holding_history_key, row_before}
+use Rattle.brk_model.specs.Base.{Base, completed_trades, last_status_stamp_of_trade}
+use Rattle.brk_model.specs.Derived.{deal_of_trade, deals_of_position}
+use Rattle.brk_model.specs.Keys.{rows_sorted_by_key, holding_history_key, is_row_key_less}
 use Rattle.brk_model.specs.Lists.{sort_by}
 use Rattle.brk_model.specs.Records.{Trade}
-use Rattle.brk_model.specs.Shares.{Deal, Share, shares_after}
+use Rattle.brk_model.specs.Shares.{Deal, Share, shares_after_deal}
 use Rattle.brk_model.specs.Sheets.{sheets}
-use Rattle.brk_model.specs.Tables.{HoldingHistoryRow, Tables, is_moved, lot_history, lot_rows}
-use Rattle.brk_explain_model.specs.Holdings.{LotChange, is_change_of, lot_change_of, lot_changes_in}
-use Rattle.brk_explain_model.specs.Trades.{lot_stamp, own_lot_in}
+use Rattle.brk_model.specs.Tables.{HoldingHistoryRow, Tables, row_changes_quantity, holding_history_rows_of_lot, lot_rows_of_deals}
+use Rattle.brk_explain_model.specs.Holdings.{LotChange, is_later_change_of_lot, recorded_lot_change, later_changes_of_lot}
+use Rattle.brk_explain_model.specs.Trades.{trade_stamp_or_zero, opened_lot_row}
 use Rattle.brk_book_theorems.specs.Books.{BooksInvariant}
-use Rattle.brk_book_theorems.specs.Lives.{IsOpened, changes_in}
+use Rattle.brk_book_theorems.specs.Lives.{BeginsWithOwnTrade, lot_changes_by_stamp}
 use Rattle.brk_book_theorems.proofs.Histories.{filter-flat_map}
 use Rattle.brk_book_theorems.proofs.LotLives.{lots_live_on}
 use Rattle.brk_book_theorems.proofs.LotOrder.{Follows, InOrder, held_in_order, of_held, trades_held}
@@ -61,64 +61,64 @@ as_they_rise m before xs r = sort_again m before xs (rise_is_apart m xs r) ∙ s
 
 -- the stamp of the trade that made a row
 abbrev made_at : Base → HoldingHistoryRow → ℕ
-made_at base r = lot_stamp (sheets base) r.trade
+made_at base r = trade_stamp_or_zero (sheets base) r.trade
 
-rows_rise : (base : Base) (lot : ℕ) (shares : List Share) (ts : List Trade) → InOrder ts → AllByRecursion (λ u. lot_stamp (sheets base) u.id ≡ moment_of u) ts
-    → Rise (made_at base) (lot_rows lot shares (map deal_of ts))
+rows_rise : (base : Base) (lot : ℕ) (shares : List Share) (ts : List Trade) → InOrder ts → AllByRecursion (λ u. trade_stamp_or_zero (sheets base) u.id ≡ last_status_stamp_of_trade u) ts
+    → Rise (made_at base) (lot_rows_of_deals lot shares (map deal_of_trade ts))
 rows_rise base lot shares [] o h = tt
-rows_rise base lot shares (u ∷ ts) o h = (behind (shares_after shares (deal_of u)) ts o.0 h.1, rows_rise base lot (shares_after shares (deal_of u)) ts o.1 h.1)
+rows_rise base lot shares (u ∷ ts) o h = (behind (shares_after_deal shares (deal_of_trade u)) ts o.0 h.1, rows_rise base lot (shares_after_deal shares (deal_of_trade u)) ts o.1 h.1)
   where
-    behind : (left : List Share) (vs : List Trade) → AllByRecursion (Follows u) vs → AllByRecursion (λ v. lot_stamp (sheets base) v.id ≡ moment_of v) vs
-        → AllByRecursion (λ r. lot_stamp (sheets base) u.id < made_at base r) (lot_rows lot left (map deal_of vs))
+    behind : (left : List Share) (vs : List Trade) → AllByRecursion (Follows u) vs → AllByRecursion (λ v. trade_stamp_or_zero (sheets base) v.id ≡ last_status_stamp_of_trade v) vs
+        → AllByRecursion (λ r. trade_stamp_or_zero (sheets base) u.id < made_at base r) (lot_rows_of_deals lot left (map deal_of_trade vs))
     behind left [] f k = tt
     behind left (v ∷ vs) f k =
-        let lt : moment_of u < moment_of v = f.0.1 in (
-          subst (λ (n : ℕ). n < lot_stamp (sheets base) v.id) (sym h.0) (subst (λ (n : ℕ). moment_of u < n) (sym k.0) lt),
-          behind (shares_after left (deal_of v)) vs f.1 k.1,
+        let lt : last_status_stamp_of_trade u < last_status_stamp_of_trade v = f.0.1 in (
+          subst (λ (n : ℕ). n < trade_stamp_or_zero (sheets base) v.id) (sym h.0) (subst (λ (n : ℕ). last_status_stamp_of_trade u < n) (sym k.0) lt),
+          behind (shares_after_deal left (deal_of_trade v)) vs f.1 k.1,
         )
 
-history_rises : (base : Base) (v : Trade) → BooksInvariant base → Rise (made_at base) (lot_history (completed base) v)
+history_rises : (base : Base) (v : Trade) → BooksInvariant base → Rise (made_at base) (holding_history_rows_of_lot (completed_trades base) v)
 history_rises base v books =
-    rise_left (made_at base) is_moved (lot_rows v.id [] (deals_in (completed base) v.account v.symbol))
+    rise_left (made_at base) row_changes_quantity (lot_rows_of_deals v.id [] (deals_of_position (completed_trades base) v.account v.symbol))
     (rows_rise base v.id [] (trades_held base v.account v.symbol) (held_in_order base v.account v.symbol books)
-    (of_held (λ u. lot_stamp (sheets base) u.id ≡ moment_of u) base v.account v.symbol (All-map (completed base) (λ u e. stamp_is base u e) (done_found base books))))
+    (of_held (λ u. trade_stamp_or_zero (sheets base) u.id ≡ last_status_stamp_of_trade u) base v.account v.symbol (All-map (completed_trades base) (λ u e. stamp_is base u e) (done_found base books))))
 
-lots_same : (lot : ℕ) (shares : List Share) (deals : List Deal) → AllByRecursion (λ r. r.lot ≡ lot) (lot_rows lot shares deals)
+lots_same : (lot : ℕ) (shares : List Share) (deals : List Deal) → AllByRecursion (λ r. r.lot ≡ lot) (lot_rows_of_deals lot shares deals)
 lots_same lot shares [] = tt
-lots_same lot shares (d ∷ deals) = (refl, lots_same lot (shares_after shares d) deals)
+lots_same lot shares (d ∷ deals) = (refl, lots_same lot (shares_after_deal shares d) deals)
 
-own_lots : (done : List Trade) (u : Trade) → AllByRecursion (λ r. r.lot ≡ u.id) (lot_history done u)
-own_lots done u = All-filter (λ r. r.lot ≡ u.id) is_moved (lot_rows u.id [] (deals_in done u.account u.symbol)) (lots_same u.id [] (deals_in done u.account u.symbol))
+own_lots : (done : List Trade) (u : Trade) → AllByRecursion (λ r. r.lot ≡ u.id) (holding_history_rows_of_lot done u)
+own_lots done u = All-filter (λ r. r.lot ≡ u.id) row_changes_quantity (lot_rows_of_deals u.id [] (deals_of_position done u.account u.symbol)) (lots_same u.id [] (deals_of_position done u.account u.symbol))
 
 abbrev of_lot : ℕ → HoldingHistoryRow → Bool
 of_lot lot r = r.lot == lot
 
-none_other : (done : List Trade) (lot : ℕ) (ts : List Trade) → NonePass (λ u. u.id == lot) ts → flat_map (λ u. filter (of_lot lot) (lot_history done u)) ts ≡ []
+none_other : (done : List Trade) (lot : ℕ) (ts : List Trade) → NonePass (λ u. u.id == lot) ts → flat_map (λ u. filter (of_lot lot) (holding_history_rows_of_lot done u)) ts ≡ []
 none_other done lot ts h =
-    flat_map-empty (λ u. filter (of_lot lot) (lot_history done u)) ts
-    (All-map ts (λ u e. filter-none (of_lot lot) (lot_history done u) (All-map (lot_history done u) (λ r same. ap (λ (n : ℕ). n == lot) same ∙ e) (own_lots done u))) h)
+    flat_map-empty (λ u. filter (of_lot lot) (holding_history_rows_of_lot done u)) ts
+    (All-map ts (λ u e. filter-none (of_lot lot) (holding_history_rows_of_lot done u) (All-map (holding_history_rows_of_lot done u) (λ r same. ap (λ (n : ℕ). n == lot) same ∙ e) (own_lots done u))) h)
 
 -- the rows of the lot, in the order of the table
-rows_of_lot : (base : Base) (v : Trade) → Among base v → filter (of_lot v.id) (sheets base).holding_history ≡ by_key holding_history_key (lot_history (completed base) v)
+rows_of_lot : (base : Base) (v : Trade) → Among base v → filter (of_lot v.id) (sheets base).holding_history ≡ rows_sorted_by_key holding_history_key (holding_history_rows_of_lot (completed_trades base) v)
 rows_of_lot base v a =
     ap (filter (of_lot v.id)) (history_is base) ∙ sym (by_key-filter holding_history_key (of_lot v.id) (flat_map L done))
-    ∙ ap (by_key holding_history_key) (filter-flat_map (of_lot v.id) L done ∙ ap (flat_map F) a.stands ∙ flat_map-append F a.front (v ∷ a.back)
+    ∙ ap (rows_sorted_by_key holding_history_key) (filter-flat_map (of_lot v.id) L done ∙ ap (flat_map F) a.stands ∙ flat_map-append F a.front (v ∷ a.back)
     ∙ (λ i. none_other done v.id a.front a.ids_before i ++ (F v ++ none_other done v.id a.back a.ids_after i)) ∙ append_nil (F v)
     ∙ filter-all (of_lot v.id) (L v) (All-map (L v) (λ r e. ap (λ (n : ℕ). n == v.id) e ∙ eq-eqb v.id v.id refl) (own_lots done v)))
   where
     done : List Trade
-    done = completed base
+    done = completed_trades base
 
     L : Trade → List HoldingHistoryRow
-    L = lot_history done
+    L = holding_history_rows_of_lot done
 
     F : Trade → List HoldingHistoryRow
     F u = filter (of_lot v.id) (L u)
 
 -- by the stamps of the trades that made them they are those of the deals
-pub in_turn_of : (base : Base) (v : Trade) → BooksInvariant base → Among base v → changes_in (sheets base) v.id ≡ lot_history (completed base) v
+pub in_turn_of : (base : Base) (v : Trade) → BooksInvariant base → Among base v → lot_changes_by_stamp (sheets base) v.id ≡ holding_history_rows_of_lot (completed_trades base) v
 in_turn_of base v books a =
-    ap (sort_by (by (made_at base))) (rows_of_lot base v a) ∙ as_they_rise (made_at base) (row_before holding_history_key) (lot_history (completed base) v) (history_rises base v books)
+    ap (sort_by (by (made_at base))) (rows_of_lot base v a) ∙ as_they_rise (made_at base) (is_row_key_less holding_history_key) (holding_history_rows_of_lot (completed_trades base) v) (history_rises base v books)
 
 -- ---- the first, and the later ones
 
@@ -137,57 +137,57 @@ later_others base id x xs e h = All-map xs (λ y lt. by_test y (y.trade == id) r
     by_test : (y : HoldingHistoryRow) (b : Bool) → (y.trade == id) ≡ b → made_at base x < made_at base y → (y.trade == id) ≡ false
     by_test y false i lt = i
     by_test y true i lt =
-        let same : made_at base x ≡ made_at base y = ap (lot_stamp (sheets base)) (e ∙ sym (eqb-true y.trade id i)) in
+        let same : made_at base x ≡ made_at base y = ap (trade_stamp_or_zero (sheets base)) (e ∙ sym (eqb-true y.trade id i)) in
         absurd (never (made_at base x) (made_at base y) lt same)
       where
         never : (m n : ℕ) → m < n → m ≡ n → ⊥
         never m n lt e = omega (arith, lt, e)
 
-filter_own : (base : Base) (id : ℕ) (rows : List HoldingHistoryRow) → IsOpened id rows → Rise (made_at base) rows → filter (λ r. r.trade == id) rows ≡ head rows
+filter_own : (base : Base) (id : ℕ) (rows : List HoldingHistoryRow) → BeginsWithOwnTrade id rows → Rise (made_at base) rows → filter (λ r. r.trade == id) rows ≡ head rows
 filter_own base id [] o r = refl
 filter_own base id (x ∷ xs) o r =
     ap (λ b. cond b (x ∷ filter (λ r. r.trade == id) xs) (filter (λ r. r.trade == id) xs)) (eq-eqb x.trade id o)
     ∙ ap (λ rows. x ∷ rows) (filter-none (λ r. r.trade == id) xs (later_others base id x xs o r.0))
 
-filter_later : (base : Base) (id : ℕ) (rows : List HoldingHistoryRow) → IsOpened id rows → Rise (made_at base) rows → filter (λ r. not (r.trade == id)) rows ≡ rest rows
+filter_later : (base : Base) (id : ℕ) (rows : List HoldingHistoryRow) → BeginsWithOwnTrade id rows → Rise (made_at base) rows → filter (λ r. not (r.trade == id)) rows ≡ rest rows
 filter_later base id [] o r = refl
 filter_later base id (x ∷ xs) o r =
     ap (λ b. cond (not b) (x ∷ filter (λ r. not (r.trade == id)) xs) (filter (λ r. not (r.trade == id)) xs)) (eq-eqb x.trade id o)
     ∙ filter-all (λ r. not (r.trade == id)) xs (All-map xs (λ y e. ap not e) (later_others base id x xs o r.0))
 
-pub opened_by_own : (base : Base) (v : Trade) → BooksInvariant base → Among base v → IsOpened v.id (lot_history (completed base) v)
-opened_by_own base v books a = subst (IsOpened v.id) (in_turn_of base v books a) (lots_live_on base books v.id).opened
+pub opened_by_own : (base : Base) (v : Trade) → BooksInvariant base → Among base v → BeginsWithOwnTrade v.id (holding_history_rows_of_lot (completed_trades base) v)
+opened_by_own base v books a = subst (BeginsWithOwnTrade v.id) (in_turn_of base v books a) (lots_live_on base books v.id).opened
 
 -- the row of the lot's own trade is the first
-pub own_is_first : (base : Base) (v : Trade) → BooksInvariant base → Among base v → own_lot_in (sheets base) v.id ≡ first (lot_history (completed base) v)
+pub own_is_first : (base : Base) (v : Trade) → BooksInvariant base → Among base v → opened_lot_row (sheets base) v.id ≡ first (holding_history_rows_of_lot (completed_trades base) v)
 unfolding sort_by
 own_is_first base v books a =
     find_first (λ r. (r.trade == v.id) && (r.lot == v.id)) H
     ∙ ap first (filter-both E (of_lot v.id) H ∙ filter-swap (of_lot v.id) E H ∙ ap (filter E) (rows_of_lot base v a)
-    ∙ sym (by_key-filter holding_history_key E L) ∙ ap (by_key holding_history_key) (filter_own base v.id L (opened_by_own base v books a) (history_rises base v books)))
+    ∙ sym (by_key-filter holding_history_key E L) ∙ ap (rows_sorted_by_key holding_history_key) (filter_own base v.id L (opened_by_own base v books a) (history_rises base v books)))
     ∙ alone L
   where
     H : List HoldingHistoryRow
     H = (sheets base).holding_history
 
     L : List HoldingHistoryRow
-    L = lot_history (completed base) v
+    L = holding_history_rows_of_lot (completed_trades base) v
 
     E : HoldingHistoryRow → Bool
     E r = r.trade == v.id
 
-    alone : (rows : List HoldingHistoryRow) → first (by_key holding_history_key (head rows)) ≡ first rows
+    alone : (rows : List HoldingHistoryRow) → first (rows_sorted_by_key holding_history_key (head rows)) ≡ first rows
     alone [] = refl
     alone (x ∷ xs) = refl
 
 -- the changes by later trades are the others
-pub changes_are_rest : (base : Base) (v : Trade) → BooksInvariant base → Among base v → lot_changes_in (sheets base) v.id ≡ map (lot_change_of (sheets base)) (rest (lot_history (completed base) v))
+pub changes_are_rest : (base : Base) (v : Trade) → BooksInvariant base → Among base v → later_changes_of_lot (sheets base) v.id ≡ map (recorded_lot_change (sheets base)) (rest (holding_history_rows_of_lot (completed_trades base) v))
 changes_are_rest base v books a =
-    sort_map (λ (c : LotChange). c.stamp) (lot_change_of T) (filter (is_change_of v.id) T.holding_history)
-    ∙ ap (map (lot_change_of T)) (ap (sort_by (by (made_at base))) (filter-both (of_lot v.id) N T.holding_history)
+    sort_map (λ (c : LotChange). c.stamp) (recorded_lot_change T) (filter (is_later_change_of_lot v.id) T.holding_history)
+    ∙ ap (map (recorded_lot_change T)) (ap (sort_by (by (made_at base))) (filter-both (of_lot v.id) N T.holding_history)
     ∙ sort_filter (by (made_at base)) N (filter (of_lot v.id) T.holding_history) (by_splits (made_at base)) (by_one_way (made_at base))
     ∙ ap (filter N) (in_turn_of base v books a)
-    ∙ filter_later base v.id (lot_history (completed base) v) (opened_by_own base v books a) (history_rises base v books))
+    ∙ filter_later base v.id (holding_history_rows_of_lot (completed_trades base) v) (opened_by_own base v books a) (history_rises base v books))
   where
     T : Tables
     T = sheets base

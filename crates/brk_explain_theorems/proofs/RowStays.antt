@@ -4,16 +4,16 @@ use Rattle.std.specs.Prelude.{find, nat_le, nat_lt, option_map}
 use Rattle.std.specs.List.{AllByRecursion}
 use Rattle.std.proofs.lemmas.Bool.{eq-eqb}
 use Rattle.std.proofs.lemmas.Bool.Decides.{nat_tests}
-use Rattle.brk_model.specs.Adopted.{is_posted_by, posting_of_move}
-use Rattle.brk_model.specs.Base.{Base, completed, moment_of}
-use Rattle.brk_model.specs.Derived.{Posting, cash_trades, in_turn, posting_of_movement, posting_of_trade, postings, postings_of}
+use Rattle.brk_model.specs.Adopted.{is_posting_of_trade, posting_of_move_row}
+use Rattle.brk_model.specs.Base.{Base, completed_trades, last_status_stamp_of_trade}
+use Rattle.brk_model.specs.Derived.{Posting, cash_trades, postings_sorted_by_stamp, posting_of_movement, posting_of_trade, postings, postings_of_base}
 use Rattle.brk_model.specs.Lists.{sort_by}
-use Rattle.brk_model.specs.LookupView.{is_cash_of}
+use Rattle.brk_model.specs.LookupView.{is_cash_row_of_trade}
 use Rattle.brk_model.specs.Records.{Account, Movement, Trade}
-use Rattle.brk_model.specs.Sheets.{sheets, sheets_of}
-use Rattle.brk_model.specs.Statement.{cash_in}
-use Rattle.brk_model.specs.Tables.{MoveRow, move_row, numbered, tables_at}
-use Rattle.brk_explain_theorems.specs.Before.{done_before}
+use Rattle.brk_model.specs.Sheets.{sheets, tables_sorted_by_key}
+use Rattle.brk_model.specs.Statement.{cash_move_rows_of_account}
+use Rattle.brk_model.specs.Tables.{MoveRow, move_row, numbered_move_rows, tables_of_base_in_schema}
+use Rattle.brk_explain_theorems.specs.Before.{trades_completed_before}
 use Rattle.brk_book_theorems.proofs.LotReading.{filter-map, filter-swap}
 use Rattle.brk_book_theorems.proofs.MoveReading.{rows_posted, stamp_one_way, stamp_splits, turn_filter}
 use Rattle.brk_book_theorems.proofs.Order.{Sorted, append_nil, sort_filter, sorted_sort}
@@ -34,10 +34,10 @@ is_earlier s p = nat_lt p.stamp s
 
 -- those of trades before it, and of movements
 before_are : (accounts : List Account) (s : ℕ) (done : List Trade) (ms : List Movement)
-    → filter (is_earlier s) (postings accounts done ms) ≡ postings accounts (filter (λ t. nat_lt (moment_of t) s) done) (filter (λ m. nat_lt m.stamp s) ms)
+    → filter (is_earlier s) (postings accounts done ms) ≡ postings accounts (filter (λ t. nat_lt (last_status_stamp_of_trade t) s) done) (filter (λ m. nat_lt m.stamp s) ms)
 before_are accounts s done ms =
     filter-append (is_earlier s) (map P (cash_trades done)) (map posting_of_movement ms)
-    ∙ (λ i. (filter-map (is_earlier s) P (cash_trades done) ∙ ap (map P) (filter-swap (λ t. nat_lt (moment_of t) s) (λ t. t.is_cash) done)) i ++ filter-map (is_earlier s) posting_of_movement ms i)
+    ∙ (λ i. (filter-map (is_earlier s) P (cash_trades done) ∙ ap (map P) (filter-swap (λ t. nat_lt (last_status_stamp_of_trade t) s) (λ t. t.is_cash) done)) i ++ filter-map (is_earlier s) posting_of_movement ms i)
   where
     P : Trade → Posting
     P = posting_of_trade accounts
@@ -65,33 +65,33 @@ moved_before : (base : Base) (s : ℕ) → filter (λ m. nat_lt m.stamp s) base.
 moved_before base s = sym (implied (λ (m : Movement). nat_lt m.stamp s) (λ m. nat_le m.stamp s) base.movements (λ m e. below m.stamp s e))
 
 count_is : (base : Base) (s : ℕ) (q : ℕ → Bool)
-    → length (filter (λ p. q p.account) (filter (is_earlier s) (postings_of base)))
-    ≡ length (filter (λ t. q t.account) (cash_trades (filter (λ t. nat_lt (moment_of t) s) (done_by base s)))) + length (filter (λ m. q m.account) (filter (λ m. nat_lt m.stamp s) (moved_by base s)))
+    → length (filter (λ p. q p.account) (filter (is_earlier s) (postings_of_base base)))
+    ≡ length (filter (λ t. q t.account) (cash_trades (filter (λ t. nat_lt (last_status_stamp_of_trade t) s) (done_by base s)))) + length (filter (λ m. q m.account) (filter (λ m. nat_lt m.stamp s) (moved_by base s)))
 count_is base s q =
-    ap (λ ps. length (filter (λ p. q p.account) ps)) (before_are base.accounts s (completed base) base.movements)
-    ∙ count_of base.accounts q (done_before base s) (filter (λ m. nat_lt m.stamp s) base.movements)
+    ap (λ ps. length (filter (λ p. q p.account) ps)) (before_are base.accounts s (completed_trades base) base.movements)
+    ∙ count_of base.accounts q (trades_completed_before base s) (filter (λ m. nat_lt m.stamp s) base.movements)
     ∙ (λ i. length (filter (λ t. q t.account) (cash_trades (before_core base s i))) + length (filter (λ m. q m.account) (moved_before base s i)))
 
 -- they stay as many
 pub count_kept : (s : ℕ) (base later : Base) (q : ℕ → Bool) → Keeps s base later
-    → length (filter (λ p. q p.account) (filter (is_earlier s) (postings_of later))) ≡ length (filter (λ p. q p.account) (filter (is_earlier s) (postings_of base)))
+    → length (filter (λ p. q p.account) (filter (is_earlier s) (postings_of_base later))) ≡ length (filter (λ p. q p.account) (filter (is_earlier s) (postings_of_base base)))
 count_kept s base later q k =
     count_is later s q
-    ∙ (λ i. length (filter (λ t. q t.account) (cash_trades (filter (λ t. nat_lt (moment_of t) s) (k.done i)))) + length (filter (λ m. q m.account) (filter (λ m. nat_lt m.stamp s) (k.moved i))))
+    ∙ (λ i. length (filter (λ t. q t.account) (cash_trades (filter (λ t. nat_lt (last_status_stamp_of_trade t) s) (k.done i)))) + length (filter (λ m. q m.account) (filter (λ m. nat_lt m.stamp s) (k.moved i))))
     ∙ sym (count_is base s q)
 
 -- ---- the cash rows before it
 
 pub rows_counted : (base : Base) (account s : ℕ)
-    → length (filter (λ (row : MoveRow). nat_lt row.stamp s) (cash_in (sheets base) account)) ≡ length (filter (λ p. p.account == account) (filter (is_earlier s) (postings_of base)))
+    → length (filter (λ (row : MoveRow). nat_lt row.stamp s) (cash_move_rows_of_account (sheets base) account)) ≡ length (filter (λ p. p.account == account) (filter (is_earlier s) (postings_of_base base)))
 rows_counted base account s =
     ap length (sym (sort_filter (by (λ (row : MoveRow). row.stamp)) R (filter A M) (by_splits (λ (row : MoveRow). row.stamp)) (by_one_way (λ (row : MoveRow). row.stamp))))
     ∙ length_sort (by (λ (row : MoveRow). row.stamp)) (filter R (filter A M))
-    ∙ sym (length-map posting_of_move (filter R (filter A M)))
-    ∙ ap length (sym (filter-map (is_earlier s) posting_of_move (filter A M)) ∙ ap (filter (is_earlier s)) (sym (filter-map to posting_of_move M) ∙ ap (filter to) (rows_posted base) ∙ turn_filter to (postings_of base))
-    ∙ turn_filter (is_earlier s) (filter to (postings_of base)))
-    ∙ length_sort (λ a b. nat_lt a.stamp b.stamp) (filter (is_earlier s) (filter to (postings_of base)))
-    ∙ ap length (filter-swap (is_earlier s) to (postings_of base))
+    ∙ sym (length-map posting_of_move_row (filter R (filter A M)))
+    ∙ ap length (sym (filter-map (is_earlier s) posting_of_move_row (filter A M)) ∙ ap (filter (is_earlier s)) (sym (filter-map to posting_of_move_row M) ∙ ap (filter to) (rows_posted base) ∙ turn_filter to (postings_of_base base))
+    ∙ turn_filter (is_earlier s) (filter to (postings_of_base base)))
+    ∙ length_sort (λ a b. nat_lt a.stamp b.stamp) (filter (is_earlier s) (filter to (postings_of_base base)))
+    ∙ ap length (filter-swap (is_earlier s) to (postings_of_base base))
   where
     M : List MoveRow
     M = (sheets base).moves
@@ -108,13 +108,13 @@ rows_counted base account s =
 -- ---- the number of its own row
 
 find_numbered : (q : Posting → Bool) (n : ℕ) (front : List Posting) (p : Posting) (back : List Posting) → NonePass q front → q p ≡ true
-    → find (λ r. q (posting_of_move r)) (numbered n (front ++ p ∷ back)) ≡ Some (move_row (n + length front) p)
-find_numbered q n [] p back h e = ap (λ b. cond b (Some (move_row n p)) (find (λ r. q (posting_of_move r)) (numbered (n + 1) back))) e ∙ ap (λ (m : ℕ). Some (move_row m p)) (none n)
+    → find (λ r. q (posting_of_move_row r)) (numbered_move_rows n (front ++ p ∷ back)) ≡ Some (move_row (n + length front) p)
+find_numbered q n [] p back h e = ap (λ b. cond b (Some (move_row n p)) (find (λ r. q (posting_of_move_row r)) (numbered_move_rows (n + 1) back))) e ∙ ap (λ (m : ℕ). Some (move_row m p)) (none n)
   where
     none : (n : ℕ) → n ≡ n + 0
     none n = omega arith
 find_numbered q n (x ∷ front) p back h e =
-    ap (λ b. cond b (Some (move_row n x)) (find (λ r. q (posting_of_move r)) (numbered (n + 1) (front ++ p ∷ back)))) h.0
+    ap (λ b. cond b (Some (move_row n x)) (find (λ r. q (posting_of_move_row r)) (numbered_move_rows (n + 1) (front ++ p ∷ back)))) h.0
     ∙ find_numbered q (n + 1) front p back h.1 e ∙ ap (λ (m : ℕ). Some (move_row m p)) (more n (length front))
   where
     more : (n m : ℕ) → n + 1 + m ≡ n + suc m
@@ -158,9 +158,9 @@ earlier_is m n e f = grind (arith, nat_tests)
 not_itself : (n : ℕ) → nat_lt n n ≡ false
 not_itself n = grind (arith, nat_tests)
 
-moves_are : (base : Base) → (sheets base).moves ≡ numbered 1 (in_turn (postings_of base))
-unfolding tables_at sheets_of
-moves_are base = numbered_stay 1 (in_turn (postings_of base))
+moves_are : (base : Base) → (sheets base).moves ≡ numbered_move_rows 1 (postings_sorted_by_stamp (postings_of_base base))
+unfolding tables_of_base_in_schema tables_sorted_by_key
+moves_are base = numbered_stay 1 (postings_sorted_by_stamp (postings_of_base base))
 
 both_tests : (xs : List Posting) (s : ℕ) → AllByRecursion (λ x. nat_lt s x.stamp ≡ false) xs → AllByRecursion (λ x. (x.stamp == s) ≡ false) xs → AllByRecursion (λ x. nat_lt x.stamp s ≡ true) xs
 both_tests [] s h k = tt
@@ -168,11 +168,11 @@ both_tests (x ∷ xs) s h k = (earlier_is x.stamp s h.0 k.0, both_tests xs s h.1
 
 -- the number of the cash row of a cash trade
 number_of : (base : Base) (t : Trade) → Among base t → t.is_cash ≡ true
-    → find (is_cash_of t.id) (sheets base).moves ≡ Some (move_row (1 + length (filter (is_earlier (moment_of t)) (postings_of base))) (posting_of_trade base.accounts t))
+    → find (is_cash_row_of_trade t.id) (sheets base).moves ≡ Some (move_row (1 + length (filter (is_earlier (last_status_stamp_of_trade t)) (postings_of_base base))) (posting_of_trade base.accounts t))
 unfolding sort_by
 number_of base t a e =
-    ap (find (is_cash_of t.id)) (moves_are base ∙ ap (numbered 1) s.stands)
-    ∙ find_numbered (is_posted_by t.id) 1 s.front p s.back (alone (is_posted_by t.id) s.front p s.back (eq-eqb t.id t.id refl) (by_number)) (eq-eqb t.id t.id refl)
+    ap (find (is_cash_row_of_trade t.id)) (moves_are base ∙ ap (numbered_move_rows 1) s.stands)
+    ∙ find_numbered (is_posting_of_trade t.id) 1 s.front p s.back (alone (is_posting_of_trade t.id) s.front p s.back (eq-eqb t.id t.id refl) (by_number)) (eq-eqb t.id t.id refl)
     ∙ ap (λ (n : ℕ). Some (move_row (1 + n) p)) (sym counted)
   where
     before : Posting → Posting → Bool
@@ -182,63 +182,63 @@ number_of base t a e =
     p = posting_of_trade base.accounts t
 
     ps : List Posting
-    ps = postings_of base
+    ps = postings_of_base base
 
     stands : ps ≡ map (posting_of_trade base.accounts) (cash_trades a.front) ++ p ∷ (map (posting_of_trade base.accounts) (cash_trades a.back) ++ map posting_of_movement base.movements)
     stands = ap (λ ts. postings base.accounts ts base.movements) a.stands ∙ postings_one base.accounts a.front t a.back base.movements e
 
-    s : Split Posting p (in_turn ps)
+    s : Split Posting p (postings_sorted_by_stamp ps)
     s =
-        subst (λ qs. Split Posting p (in_turn qs)) (sym stands)
+        subst (λ qs. Split Posting p (postings_sorted_by_stamp qs)) (sym stands)
         (split_sort before p (map (posting_of_trade base.accounts) (cash_trades a.front)) (map (posting_of_trade base.accounts) (cash_trades a.back) ++ map posting_of_movement base.movements))
 
     in_order : Sorted before (s.front ++ p ∷ s.back)
     in_order = subst (Sorted before) s.stands (sorted_sort before ps stamp_splits stamp_one_way)
 
-    by_number : filter (is_posted_by t.id) (s.front ++ p ∷ s.back) ≡ p ∷ []
+    by_number : filter (is_posting_of_trade t.id) (s.front ++ p ∷ s.back) ≡ p ∷ []
     by_number =
-        ap (filter (is_posted_by t.id)) (sym s.stands) ∙ turn_filter (is_posted_by t.id) ps ∙ ap in_turn (by_its_number base t a)
-        ∙ ap (λ b. in_turn (cond b (p ∷ []) [])) e
+        ap (filter (is_posting_of_trade t.id)) (sym s.stands) ∙ turn_filter (is_posting_of_trade t.id) ps ∙ ap postings_sorted_by_stamp (by_its_number base t a)
+        ∙ ap (λ b. postings_sorted_by_stamp (cond b (p ∷ []) [])) e
 
-    by_stamp : filter (λ q. q.stamp == moment_of t) (s.front ++ p ∷ s.back) ≡ p ∷ []
+    by_stamp : filter (λ q. q.stamp == last_status_stamp_of_trade t) (s.front ++ p ∷ s.back) ≡ p ∷ []
     by_stamp =
-        ap (filter (λ q. q.stamp == moment_of t)) (sym s.stands) ∙ turn_filter (λ q. q.stamp == moment_of t) ps ∙ ap in_turn (at_its_stamp base t a)
-        ∙ ap (λ b. in_turn (cond b (p ∷ []) [])) e
+        ap (filter (λ q. q.stamp == last_status_stamp_of_trade t)) (sym s.stands) ∙ turn_filter (λ q. q.stamp == last_status_stamp_of_trade t) ps ∙ ap postings_sorted_by_stamp (at_its_stamp base t a)
+        ∙ ap (λ b. postings_sorted_by_stamp (cond b (p ∷ []) [])) e
 
-    earlier : AllByRecursion (λ x. nat_lt x.stamp (moment_of t) ≡ true) s.front
+    earlier : AllByRecursion (λ x. nat_lt x.stamp (last_status_stamp_of_trade t) ≡ true) s.front
     earlier =
-        both_tests s.front (moment_of t) (sorted_front s.front p s.back in_order)
-        (alone (λ q. q.stamp == moment_of t) s.front p s.back (eq-eqb (moment_of t) (moment_of t) refl) by_stamp)
+        both_tests s.front (last_status_stamp_of_trade t) (sorted_front s.front p s.back in_order)
+        (alone (λ q. q.stamp == last_status_stamp_of_trade t) s.front p s.back (eq-eqb (last_status_stamp_of_trade t) (last_status_stamp_of_trade t) refl) by_stamp)
 
-    counted : length (filter (is_earlier (moment_of t)) ps) ≡ length s.front
+    counted : length (filter (is_earlier (last_status_stamp_of_trade t)) ps) ≡ length s.front
     counted =
-        sym (length_sort before (filter (is_earlier (moment_of t)) ps)) ∙ ap length (sym (turn_filter (is_earlier (moment_of t)) ps) ∙ ap (filter (is_earlier (moment_of t))) s.stands
-        ∙ filter-append (is_earlier (moment_of t)) s.front (p ∷ s.back)
-        ∙ (λ i. filter-all (is_earlier (moment_of t)) s.front earlier i ++ filter-none (is_earlier (moment_of t)) (p ∷ s.back) (not_itself (moment_of t), sorted_back s.front p s.back in_order) i)
+        sym (length_sort before (filter (is_earlier (last_status_stamp_of_trade t)) ps)) ∙ ap length (sym (turn_filter (is_earlier (last_status_stamp_of_trade t)) ps) ∙ ap (filter (is_earlier (last_status_stamp_of_trade t))) s.stands
+        ∙ filter-append (is_earlier (last_status_stamp_of_trade t)) s.front (p ∷ s.back)
+        ∙ (λ i. filter-all (is_earlier (last_status_stamp_of_trade t)) s.front earlier i ++ filter-none (is_earlier (last_status_stamp_of_trade t)) (p ∷ s.back) (not_itself (last_status_stamp_of_trade t), sorted_back s.front p s.back in_order) i)
         ∙ append_nil s.front)
 
-no_row : (o : Option MoveRow) → option_map posting_of_move o ≡ None → option_map (λ (row : MoveRow). row.id) o ≡ None
+no_row : (o : Option MoveRow) → option_map posting_of_move_row o ≡ None → option_map (λ (row : MoveRow). row.id) o ≡ None
 no_row None e = refl
 no_row (Some row) e = absurd (cc)
 
 number_is : (base : Base) (t : Trade) → Among base t → (b : Bool) → t.is_cash ≡ b
-    → option_map (λ (row : MoveRow). row.id) (find (is_cash_of t.id) (sheets base).moves) ≡ cond b (Some (1 + length (filter (is_earlier (moment_of t)) (postings_of base)))) None
+    → option_map (λ (row : MoveRow). row.id) (find (is_cash_row_of_trade t.id) (sheets base).moves) ≡ cond b (Some (1 + length (filter (is_earlier (last_status_stamp_of_trade t)) (postings_of_base base)))) None
 unfolding sort_by
 number_is base t a true e = ap (option_map (λ (row : MoveRow). row.id)) (number_of base t a e)
 number_is base t a false e =
-    no_row (find (is_cash_of t.id) (sheets base).moves)
-    (sym (find-map (is_posted_by t.id) posting_of_move (sheets base).moves) ∙ ap (find (is_posted_by t.id)) (rows_posted base) ∙ find_first (is_posted_by t.id) (in_turn (postings_of base))
-    ∙ ap first (turn_filter (is_posted_by t.id) (postings_of base) ∙ ap in_turn (by_its_number base t a ∙ ap (λ b. cond b (posting_of_trade base.accounts t ∷ []) []) e)))
+    no_row (find (is_cash_row_of_trade t.id) (sheets base).moves)
+    (sym (find-map (is_posting_of_trade t.id) posting_of_move_row (sheets base).moves) ∙ ap (find (is_posting_of_trade t.id)) (rows_posted base) ∙ find_first (is_posting_of_trade t.id) (postings_sorted_by_stamp (postings_of_base base))
+    ∙ ap first (turn_filter (is_posting_of_trade t.id) (postings_of_base base) ∙ ap postings_sorted_by_stamp (by_its_number base t a ∙ ap (λ b. cond b (posting_of_trade base.accounts t ∷ []) []) e)))
 
 all_true : {X : Type 0} (xs : List X) → filter (λ x. true) xs ≡ xs
 all_true [] = refl
 all_true (x ∷ xs) = ap (λ ys. x ∷ ys) (all_true xs)
 
-pub number_kept : (base later : Base) (t u : Trade) → Among base t → Among later u → core u ≡ core t → Keeps (moment_of t) base later
-    → option_map (λ (row : MoveRow). row.id) (find (is_cash_of u.id) (sheets later).moves) ≡ option_map (λ (row : MoveRow). row.id) (find (is_cash_of t.id) (sheets base).moves)
+pub number_kept : (base later : Base) (t u : Trade) → Among base t → Among later u → core u ≡ core t → Keeps (last_status_stamp_of_trade t) base later
+    → option_map (λ (row : MoveRow). row.id) (find (is_cash_row_of_trade u.id) (sheets later).moves) ≡ option_map (λ (row : MoveRow). row.id) (find (is_cash_row_of_trade t.id) (sheets base).moves)
 number_kept base later t u a a' same k =
     number_is later u a' u.is_cash refl
-    ∙ (λ i. cond (same i).is_cash (Some (1 + length (filter (is_earlier (moment_of (same i))) (postings_of later)))) None)
-    ∙ ap (λ (n : ℕ). cond t.is_cash (Some (1 + n)) None) (ap length (sym (all_true (filter (is_earlier (moment_of t)) (postings_of later)))) ∙ count_kept (moment_of t) base later (λ n. true) k
-    ∙ ap length (all_true (filter (is_earlier (moment_of t)) (postings_of base))))
+    ∙ (λ i. cond (same i).is_cash (Some (1 + length (filter (is_earlier (last_status_stamp_of_trade (same i))) (postings_of_base later)))) None)
+    ∙ ap (λ (n : ℕ). cond t.is_cash (Some (1 + n)) None) (ap length (sym (all_true (filter (is_earlier (last_status_stamp_of_trade t)) (postings_of_base later)))) ∙ count_kept (last_status_stamp_of_trade t) base later (λ n. true) k
+    ∙ ap length (all_true (filter (is_earlier (last_status_stamp_of_trade t)) (postings_of_base base))))
     ∙ sym (number_is base t a t.is_cash refl)

@@ -7,23 +7,23 @@ use Rattle.std.proofs.lemmas.Bool.{eq-eqb}
 use Rattle.std.proofs.lemmas.Int.{ints}
 use Rattle.brk_money.specs.Spelling.{Text}
 use Rattle.brk_money.specs.declared.tax_status.TaxStatus.TheVariants.{Untaxed}
-use Rattle.brk_model.specs.Base.{Base, account_with, find_account, is_completed, moment_of, price_of, trade_with}
-use Rattle.brk_model.specs.Derived.{Posting, amount_of, deal_of, due_day, of_position, postings_of}
-use Rattle.brk_model.specs.Keys.{by_key, history_key}
-use Rattle.brk_model.specs.Joins.{account_in}
+use Rattle.brk_model.specs.Base.{Base, account_with_id, account_with_id_in_list, is_completed, last_status_stamp_of_trade, completion_price, trade_with_id}
+use Rattle.brk_model.specs.Derived.{Posting, settlement_amount, deal_of_trade, due_day, trades_of_position, postings_of_base}
+use Rattle.brk_model.specs.Keys.{rows_sorted_by_key, history_key}
+use Rattle.brk_model.specs.Joins.{account_row_with_id}
 use Rattle.brk_model.specs.Lists.{sort_by, sort_by_key}
 use Rattle.brk_model.specs.Records.{Account, StatusChange, Trade}
 use Rattle.brk_model.specs.Run.{Call, Outcome, Run}
-use Rattle.brk_model.specs.Shares.{Share, replay, signed}
-use Rattle.brk_model.specs.Sheets.{sheets, sheets_of}
-use Rattle.brk_model.specs.Tables.{AccountRow, HistoryRow, HoldingHistoryRow, SettlementRow, Tables, account_row, history_rows, is_moved, tables_at, trade_row}
-use Rattle.brk_lots.specs.Lots.{from_end, side_of_qty}
-use Rattle.brk_lots.specs.Walks.{met, rows_taken}
+use Rattle.brk_model.specs.Shares.{Share, replay, signed_by_side}
+use Rattle.brk_model.specs.Sheets.{sheets, tables_sorted_by_key}
+use Rattle.brk_model.specs.Tables.{AccountRow, HistoryRow, HoldingHistoryRow, SettlementRow, Tables, account_row, history_rows, row_changes_quantity, tables_of_base_in_schema, trade_row}
+use Rattle.brk_lots.specs.Lots.{list_in_closing_order, side_of_qty}
+use Rattle.brk_lots.specs.Walks.{closed_share_count, touches_of_first_shares}
 use Rattle.brk_lots.specs.declared.lot.Lot.{Lot}
 use Rattle.brk_lots.specs.declared.lot.Touch.{Touch}
 use Rattle.brk_lots.proofs.Ends.{all_end}
-use Rattle.brk_explain_model.specs.Trades.{Closing, cash_moved, closings_in, lot_price, lot_stamp, statuses_in}
-use Rattle.brk_book_theorems.specs.Books.{BooksInvariant, IsEarly}
+use Rattle.brk_explain_model.specs.Trades.{Closing, balance_change_of_trade, closings_of_trade, trade_price_or_zero, trade_stamp_or_zero, sorted_statuses_of_trade}
+use Rattle.brk_book_theorems.specs.Books.{BooksInvariant, IsTradeUpToLastStamp}
 use Rattle.brk_book_theorems.proofs.Histories.{filter-flat_map}
 use Rattle.brk_book_theorems.proofs.LotOrder.{is_some_left, lot_upon, lots_left, of_held, trades_held}
 use Rattle.brk_book_theorems.proofs.LotReading.{IdsApart, filter-map, numbered_rise, rise_apart}
@@ -32,10 +32,10 @@ use Rattle.brk_book_theorems.proofs.Places.{FoundAt, filter-all, find-at}
 use Rattle.brk_book_theorems.proofs.RunKeeping.{run_books}
 use Rattle.brk_book_theorems.proofs.Same.{NonePass, All-map, All-mapped, All-of, filter-none, find-All, flat_map-append, flat_map-empty}
 use Rattle.brk_book_theorems.proofs.Tested.{All-back, All-front}
-use Rattle.brk_explain_theorems.specs.Before.{done_before}
-use Rattle.brk_explain_theorems.specs.Balances.{after_in, balance_until, before_in}
-use Rattle.brk_explain_theorems.specs.Closings.{story_in}
-use Rattle.brk_explain_theorems.specs.Stays.{StaysTold}
+use Rattle.brk_explain_theorems.specs.Before.{trades_completed_before}
+use Rattle.brk_explain_theorems.specs.Balances.{printed_balance_after, balance_up_to, printed_balance_before}
+use Rattle.brk_explain_theorems.specs.Closings.{result_story_in}
+use Rattle.brk_explain_theorems.specs.Stays.{PrintsSameFigures}
 use Rattle.brk_explain_theorems.proofs.Among.{Among, among, ids_around}
 use Rattle.brk_explain_theorems.proofs.Amounts.{of_holder, settlement_is}
 use Rattle.brk_explain_theorems.proofs.BalanceStays.{balance_kept, same_account, same_amount}
@@ -56,25 +56,25 @@ use Rattle.brk_explain_theorems.proofs.TradeRows.{IsPlaced, done_found, placed_o
 closings_taken : ℕ → List Lot → List Closing
 closings_taken k [] = []
 closings_taken k (l ∷ ls) =
-    cond (eqb k 0) [] (record { lot = l.trade; stamp = l.stamp; price = l.price; before = l.qty; after = signed (side_of_qty l.qty) (unsigned_abs l.qty - k) } ∷ closings_taken (k - unsigned_abs l.qty) ls)
+    cond (eqb k 0) [] (record { lot = l.trade; stamp = l.stamp; price = l.price; before = l.qty; after = signed_by_side (side_of_qty l.qty) (unsigned_abs l.qty - k) } ∷ closings_taken (k - unsigned_abs l.qty) ls)
 
 -- the tables tell the stamp and the price of a lot
 abbrev IsRead : Tables → Lot → Type 0
-IsRead T l = (lot_stamp T l.trade ≡ l.stamp) × (lot_price T l.trade ≡ l.price)
+IsRead T l = (trade_stamp_or_zero T l.trade ≡ l.stamp) × (trade_price_or_zero T l.trade ≡ l.price)
 
-by_lots : (T : Tables) (id k : ℕ) (ls : List Lot) → AllByRecursion (IsRead T) ls → map (closing_at T id) (rows_taken k ls) ≡ closings_taken k ls
+by_lots : (T : Tables) (id k : ℕ) (ls : List Lot) → AllByRecursion (IsRead T) ls → map (closing_at T id) (touches_of_first_shares k ls) ≡ closings_taken k ls
 unfolding closings_taken
 by_lots T id k [] h = refl
 by_lots T id k (l ∷ ls) h = by_test (eqb k 0) (by_lots T id (k - unsigned_abs l.qty) ls h.1)
   where
     R : List Touch
-    R = rows_taken (k - unsigned_abs l.qty) ls
+    R = touches_of_first_shares (k - unsigned_abs l.qty) ls
 
     C : List Closing
     C = closings_taken (k - unsigned_abs l.qty) ls
 
     after : ℤ
-    after = signed (side_of_qty l.qty) (unsigned_abs l.qty - k)
+    after = signed_by_side (side_of_qty l.qty) (unsigned_abs l.qty - k)
 
     by_test : (b : Bool) → map (closing_at T id) R ≡ C
         → map (closing_at T id) (cond {A = List Touch} b [] (record { lot = l.trade; before = l.qty; after = after } ∷ R))
@@ -84,24 +84,24 @@ by_lots T id k (l ∷ ls) h = by_test (eqb k 0) (by_lots T id (k - unsigned_abs 
 
 -- the closings of a trade, by the trades before it
 abbrev closings_by : Trade → List Trade → List Closing
-closings_by t front = closings_taken (taken_by t front) (from_end t.is_lifo (lots_by front))
+closings_by t front = closings_taken (taken_by t front) (list_in_closing_order t.is_lifo (lots_by front))
 
-closings_told : (base : Base) (t : Trade) (front back : List Trade) → IsPlaced base t front back → closings_in (sheets base) (trade_row t) ≡ closings_by t front
+closings_told : (base : Base) (t : Trade) (front back : List Trade) → IsPlaced base t front back → closings_of_trade (sheets base) (trade_row t) ≡ closings_by t front
 closings_told base t front back k =
     closings_are base t front back k
-    ∙ by_lots (sheets base) t.id (taken_by t front) (from_end t.is_lifo (lots_by front))
+    ∙ by_lots (sheets base) t.id (taken_by t front) (list_in_closing_order t.is_lifo (lots_by front))
     (all_end (IsRead (sheets base)) t.is_lifo (lots_by front) (left_all (IsRead (sheets base)) (left_by front) front (All-map front (λ v e. (stamp_is base v e, price_is base v e)) found)))
   where
-    found : AllByRecursion (λ v. trade_with base v.id ≡ Some v) front
+    found : AllByRecursion (λ v. trade_with_id base v.id ≡ Some v) front
     found =
-        All-front (λ v. trade_with base v.id ≡ Some v) front (t ∷ back)
-        (subst (AllByRecursion (λ v. trade_with base v.id ≡ Some v)) k.stands (of_held (λ v. trade_with base v.id ≡ Some v) base t.account t.symbol (done_found base k.books)))
+        All-front (λ v. trade_with_id base v.id ≡ Some v) front (t ∷ back)
+        (subst (AllByRecursion (λ v. trade_with_id base v.id ≡ Some v)) k.stands (of_held (λ v. trade_with_id base v.id ≡ Some v) base t.account t.symbol (done_found base k.books)))
 
 -- ---- but for words
 
-deals_core : (ts : List Trade) → map deal_of (map core ts) ≡ map deal_of ts
+deals_core : (ts : List Trade) → map deal_of_trade (map core ts) ≡ map deal_of_trade ts
 deals_core [] = refl
-deals_core (t ∷ ts) = ap (λ ds. deal_of t ∷ ds) (deals_core ts)
+deals_core (t ∷ ts) = ap (λ ds. deal_of_trade t ∷ ds) (deals_core ts)
 
 left_core : (ts : List Trade) → left_by (map core ts) ≡ left_by ts
 left_core ts = ap replay (deals_core ts)
@@ -114,26 +114,26 @@ lots_core : (ts : List Trade) → lots_by (map core ts) ≡ lots_by ts
 lots_core ts = ap (λ us. lots_left us (map core ts)) (left_core ts) ∙ ap (filter is_some_left) (upon_core (left_by ts) ts)
 
 closings_core : (t : Trade) (ts : List Trade) → closings_by (core t) (map core ts) ≡ closings_by t ts
-closings_core t ts = ap (λ ls. closings_taken (met (deal_of t).side (deal_of t).qty (from_end t.is_lifo ls)) (from_end t.is_lifo ls)) (lots_core ts)
+closings_core t ts = ap (λ ls. closings_taken (closed_share_count (deal_of_trade t).side (deal_of_trade t).qty (list_in_closing_order t.is_lifo ls)) (list_in_closing_order t.is_lifo ls)) (lots_core ts)
 
 -- the row of its own lot, by the shares before it
 abbrev own_by : Trade → List Share → Option HoldingHistoryRow
-own_by t us = cond (is_moved (row_by us (deal_of t) t)) (Some (row_by us (deal_of t) t)) None
+own_by t us = cond (row_changes_quantity (row_by us (deal_of_trade t) t)) (Some (row_by us (deal_of_trade t) t)) None
 
 -- ---- the trades before it
 
-position_core : (ts : List Trade) (account : ℕ) (symbol : Text) → map core (sort_by_key moment_of (of_position ts account symbol)) ≡ sort_by_key moment_of (of_position (map core ts) account symbol)
+position_core : (ts : List Trade) (account : ℕ) (symbol : Text) → map core (sort_by_key last_status_stamp_of_trade (trades_of_position ts account symbol)) ≡ sort_by_key last_status_stamp_of_trade (trades_of_position (map core ts) account symbol)
 position_core ts account symbol =
-    sym (sort_map moment_of core (of_position ts account symbol))
-    ∙ ap (sort_by (by moment_of)) (sym (filter-map (λ t. bytes_eq t.symbol symbol) core (filter (λ t. t.account == account) ts))
+    sym (sort_map last_status_stamp_of_trade core (trades_of_position ts account symbol))
+    ∙ ap (sort_by (by last_status_stamp_of_trade)) (sym (filter-map (λ t. bytes_eq t.symbol symbol) core (filter (λ t. t.account == account) ts))
     ∙ ap (filter (λ t. bytes_eq t.symbol symbol)) (sym (filter-map (λ t. t.account == account) core ts)))
 
 front_is : (base : Base) (t : Trade) (front back : List Trade) → IsPlaced base t front back
-    → map core front ≡ sort_by_key moment_of (of_position (filter (λ u. nat_lt (moment_of u) (moment_of t)) (done_by base (moment_of t))) t.account t.symbol)
+    → map core front ≡ sort_by_key last_status_stamp_of_trade (trades_of_position (filter (λ u. nat_lt (last_status_stamp_of_trade u) (last_status_stamp_of_trade t)) (done_by base (last_status_stamp_of_trade t))) t.account t.symbol)
 front_is base t front back k =
     ap (map core) (sym (held_before base t front back k.stands (placed_order base t front back k)))
-    ∙ position_core (done_before base (moment_of t)) t.account t.symbol
-    ∙ ap (λ ts. sort_by_key moment_of (of_position ts t.account t.symbol)) (before_core base (moment_of t))
+    ∙ position_core (trades_completed_before base (last_status_stamp_of_trade t)) t.account t.symbol
+    ∙ ap (λ ts. sort_by_key last_status_stamp_of_trade (trades_of_position ts t.account t.symbol)) (before_core base (last_status_stamp_of_trade t))
 
 -- ---- its status changes
 
@@ -151,19 +151,19 @@ all_of t =
 none_from : (id : ℕ) (ts : List Trade) → NonePass (λ u. u.id == id) ts → flat_map (λ u. filter (of_trade id) (history_rows u)) ts ≡ []
 none_from id ts h = flat_map-empty (λ u. filter (of_trade id) (history_rows u)) ts (All-map ts (λ u e. none_of u id e) h)
 
-history_is : (base : Base) → (sheets base).history ≡ by_key history_key (flat_map history_rows base.trades)
-unfolding tables_at sheets_of
+history_is : (base : Base) → (sheets base).history ≡ rows_sorted_by_key history_key (flat_map history_rows base.trades)
+unfolding tables_of_base_in_schema tables_sorted_by_key
 history_is base = refl
 
 -- in the order of their stamps, by the trade alone
 abbrev statuses_by : Trade → List HistoryRow
-statuses_by t = sort_by (λ a b. nat_lt a.stamp b.stamp) (by_key history_key (history_rows t))
+statuses_by t = sort_by (λ a b. nat_lt a.stamp b.stamp) (rows_sorted_by_key history_key (history_rows t))
 
-statuses_are : (base : Base) (t : Trade) → BooksInvariant base → trade_with base t.id ≡ Some t → statuses_in (sheets base) t.id ≡ statuses_by t
+statuses_are : (base : Base) (t : Trade) → BooksInvariant base → trade_with_id base t.id ≡ Some t → sorted_statuses_of_trade (sheets base) t.id ≡ statuses_by t
 statuses_are base t books e =
     ap (sort_by (λ (a b : HistoryRow). nat_lt a.stamp b.stamp))
     (ap (filter (of_trade t.id)) (history_is base) ∙ sym (by_key-filter history_key (of_trade t.id) (flat_map history_rows base.trades))
-    ∙ ap (by_key history_key) (filter-flat_map (of_trade t.id) history_rows base.trades ∙ ap (flat_map F) f.stands ∙ flat_map-append F f.before (t ∷ f.after)
+    ∙ ap (rows_sorted_by_key history_key) (filter-flat_map (of_trade t.id) history_rows base.trades ∙ ap (flat_map F) f.stands ∙ flat_map-append F f.before (t ∷ f.after)
     ∙ (λ i. none_from t.id f.before f.others i ++ (F t ++ none_from t.id f.after after i)) ∙ append_nil (F t) ∙ all_of t))
   where
     F : Trade → List HistoryRow
@@ -178,12 +178,12 @@ statuses_are base t books e =
 -- ---- the whole
 
 -- the stamp of a completed trade is past
-past_of : (last : Option ℕ) (t : Trade) → IsEarly last t → IsPast last (moment_of t)
+past_of : (last : Option ℕ) (t : Trade) → IsTradeUpToLastStamp last t → IsPast last (last_status_stamp_of_trade t)
 past_of None t e = absurd e
 past_of (Some l) t e = e
 
-stays_by : (base later : Base) (t u : Trade) → BooksInvariant base → BooksInvariant later → Keeps (moment_of t) base later → trade_with base t.id ≡ Some t → is_completed t ≡ true
-    → trade_with later t.id ≡ Some u → StaysTold base later t u
+stays_by : (base later : Base) (t u : Trade) → BooksInvariant base → BooksInvariant later → Keeps (last_status_stamp_of_trade t) base later → trade_with_id base t.id ≡ Some t → is_completed t ≡ true
+    → trade_with_id later t.id ≡ Some u → PrintsSameFigures base later t u
 stays_by base later t u books next k e c f = record {
   row = ap trade_row same;
   customer = columns (λ (a : AccountRow). a.customer) (λ a. a.customer) 0 (λ accounts posted a. refl);
@@ -191,7 +191,7 @@ stays_by base later t u books next k e c f = record {
   tax_status = columns (λ (a : AccountRow). a.tax_status) (λ a. a.tax_status) Untaxed (λ accounts posted a. refl);
   opening = columns (λ (a : AccountRow). a.opening) (λ a. a.opening) (pos 0) (λ accounts posted a. refl);
   statuses = statuses_are later u next found ∙ statuses_same ∙ sym (statuses_are base t books e);
-  price = ap price_of same;
+  price = ap completion_price same;
   closings = closings_told later u s'.front s'.back k' ∙ sym (closings_core u s'.front) ∙ (λ i. closings_by (same i) (fronts i)) ∙ closings_core t s.front ∙ sym (closings_told base t s.front s.back p);
   own_lot = own_row later u s'.front s'.back k' done ∙ own_same ∙ sym (own_row base t s.front s.back p c);
   settlement = ap (λ (r : SettlementRow). r.amount) (settlement_is later u a') ∙ amounts ∙ sym (ap (λ (r : SettlementRow). r.amount) (settlement_is base t a));
@@ -199,24 +199,24 @@ stays_by base later t u books next k e c f = record {
   moved = moves;
   number = number_kept base later t u a a' same k;
   rows = rows_same;
-  before = taken_off (before_in (sheets later) u) (before_in (sheets base) t) (cash_moved (story_in later u)) (cash_moved (story_in base t)) balances moves;
+  before = taken_off (printed_balance_before (sheets later) u) (printed_balance_before (sheets base) t) (balance_change_of_trade (result_story_in later u)) (balance_change_of_trade (result_story_in base t)) balances moves;
   after = balances;
 }
   where
     same : core u ≡ core t
-    same = same_trade (moment_of t) base later t.id t u books next k e c (no_more (moment_of t)) f
+    same = same_trade (last_status_stamp_of_trade t) base later t.id t u books next k e c (no_more (last_status_stamp_of_trade t)) f
       where
         no_more : (n : ℕ) → n ≤ n
         no_more n = omega arith
 
-    found : trade_with later u.id ≡ Some u
-    found = ap (trade_with later) (id_of later t.id u f) ∙ f
+    found : trade_with_id later u.id ≡ Some u
+    found = ap (trade_with_id later) (id_of later t.id u f) ∙ f
 
     done : is_completed u ≡ true
     done = ap is_completed same ∙ c
 
-    moment : moment_of u ≡ moment_of t
-    moment = ap moment_of same
+    moment : last_status_stamp_of_trade u ≡ last_status_stamp_of_trade t
+    moment = ap last_status_stamp_of_trade same
 
     a : Among base t
     a = among base t books e c
@@ -236,26 +236,26 @@ stays_by base later t u books next k e c f = record {
     k' : IsPlaced later u s'.front s'.back
     k' = record { books = next; found = found; stands = s'.stands }
 
-    known : is_some (find_account base.accounts t.account) ≡ true
-    known = find-All (λ v. is_some (account_with base v.account) ≡ true) (λ v. v.id == t.id) base.trades t books.accounts e
+    known : is_some (account_with_id_in_list base.accounts t.account) ≡ true
+    known = find-All (λ v. is_some (account_with_id base v.account) ≡ true) (λ v. v.id == t.id) base.trades t books.accounts e
 
-    account : find_account later.accounts u.account ≡ find_account base.accounts t.account
-    account = ap (λ v. find_account later.accounts v.account) same ∙ ap (λ accounts. find_account accounts t.account) k.accounts ∙ same_account base.accounts k.more t.account known
+    account : account_with_id_in_list later.accounts u.account ≡ account_with_id_in_list base.accounts t.account
+    account = ap (λ v. account_with_id_in_list later.accounts v.account) same ∙ ap (λ accounts. account_with_id_in_list accounts t.account) k.accounts ∙ same_account base.accounts k.more t.account known
 
     columns : {A : Type 0} (g : AccountRow → A) (h : Account → A) (none : A) → ((accounts : List Account) (posted : List Posting) (b : Account) → g (account_row accounts posted b) ≡ h b)
-        → option_map_or g (account_in (sheets later) u.account) none ≡ option_map_or g (account_in (sheets base) t.account) none
+        → option_map_or g (account_row_with_id (sheets later) u.account) none ≡ option_map_or g (account_row_with_id (sheets base) t.account) none
     columns g h none q =
-        of_holder later u.account g h none (λ b. q later.accounts (postings_of later) b) ∙ ap (λ o. option_map_or h o none) account
-        ∙ sym (of_holder base t.account g h none (λ b. q base.accounts (postings_of base) b))
+        of_holder later u.account g h none (λ b. q later.accounts (postings_of_base later) b) ∙ ap (λ o. option_map_or h o none) account
+        ∙ sym (of_holder base t.account g h none (λ b. q base.accounts (postings_of_base base) b))
 
     statuses_same : statuses_by u ≡ statuses_by t
-    statuses_same = ap (λ v. sort_by (λ (x y : HistoryRow). nat_lt x.stamp y.stamp) (by_key history_key (history_rows v))) same
+    statuses_same = ap (λ v. sort_by (λ (x y : HistoryRow). nat_lt x.stamp y.stamp) (rows_sorted_by_key history_key (history_rows v))) same
 
     fronts : map core s'.front ≡ map core s.front
     fronts =
         front_is later u s'.front s'.back k'
-        ∙ (λ i. sort_by_key moment_of (of_position (filter (λ v. nat_lt (moment_of v) (moment i)) (done_by later (moment i))) (same i).account (same i).symbol))
-        ∙ ap (λ ts. sort_by_key moment_of (of_position (filter (λ v. nat_lt (moment_of v) (moment_of t)) ts) t.account t.symbol)) k.done
+        ∙ (λ i. sort_by_key last_status_stamp_of_trade (trades_of_position (filter (λ v. nat_lt (last_status_stamp_of_trade v) (moment i)) (done_by later (moment i))) (same i).account (same i).symbol))
+        ∙ ap (λ ts. sort_by_key last_status_stamp_of_trade (trades_of_position (filter (λ v. nat_lt (last_status_stamp_of_trade v) (last_status_stamp_of_trade t)) ts) t.account t.symbol)) k.done
         ∙ sym (front_is base t s.front s.back p)
 
     lefts : left_by s'.front ≡ left_by s.front
@@ -264,44 +264,44 @@ stays_by base later t u books next k e c f = record {
     own_same : own_by u (left_by s'.front) ≡ own_by t (left_by s.front)
     own_same = λ i. own_by (same i) (lefts i)
 
-    amounts : amount_of later.accounts u ≡ amount_of base.accounts t
-    amounts = (λ i. amount_of (k.accounts i) (same i)) ∙ same_amount base.accounts k.more t known
+    amounts : settlement_amount later.accounts u ≡ settlement_amount base.accounts t
+    amounts = (λ i. settlement_amount (k.accounts i) (same i)) ∙ same_amount base.accounts k.more t known
 
     days : due_day later.rule u ≡ due_day base.rule t
-    days = ap (due_day later.rule) same ∙ find-All (λ v. due_day later.rule v ≡ due_day base.rule v) (λ v. v.id == t.id) (done_by base (moment_of t)) (core t) k.due (in_done base t books e c)
+    days = ap (due_day later.rule) same ∙ find-All (λ v. due_day later.rule v ≡ due_day base.rule v) (λ v. v.id == t.id) (done_by base (last_status_stamp_of_trade t)) (core t) k.due (in_done base t books e c)
 
-    moves : cash_moved (story_in later u) ≡ cash_moved (story_in base t)
+    moves : balance_change_of_trade (result_story_in later u) ≡ balance_change_of_trade (result_story_in base t)
     moves = moved_is later u a' ∙ (λ i. cond (same i).is_cash (amounts i) (pos 0)) ∙ sym (moved_is base t a)
 
-    balances : after_in (sheets later) u ≡ after_in (sheets base) t
+    balances : printed_balance_after (sheets later) u ≡ printed_balance_after (sheets base) t
     balances =
-        (balances_as_told later u next found done).after ∙ (λ i. balance_until later (moment i) (same i).account)
-        ∙ balance_kept (moment_of t) base later t.account books known k ∙ sym (balances_as_told base t books e c).after
+        (balances_as_told later u next found done).after ∙ (λ i. balance_up_to later (moment i) (same i).account)
+        ∙ balance_kept (last_status_stamp_of_trade t) base later t.account books known k ∙ sym (balances_as_told base t books e c).after
 
-    rows_same : (story_in later u).cash_rows ≡ (story_in base t).cash_rows
+    rows_same : (result_story_in later u).cash_rows ≡ (result_story_in base t).cash_rows
     rows_same =
-        rows_counted later u.account (moment_of u)
-        ∙ (λ i. length (filter (λ p. p.account == (same i).account) (filter (λ p. nat_lt p.stamp (moment i)) (postings_of later))))
-        ∙ count_kept (moment_of t) base later (λ n. n == t.account) k ∙ sym (rows_counted base t.account (moment_of t))
+        rows_counted later u.account (last_status_stamp_of_trade u)
+        ∙ (λ i. length (filter (λ p. p.account == (same i).account) (filter (λ p. nat_lt p.stamp (moment i)) (postings_of_base later))))
+        ∙ count_kept (last_status_stamp_of_trade t) base later (λ n. n == t.account) k ∙ sym (rows_counted base t.account (last_status_stamp_of_trade t))
 
     taken_off : (x y m n : ℤ) → x +ℤ m ≡ y +ℤ n → m ≡ n → x ≡ y
     taken_off x y m n q r = omega (arith, ints, q, r)
 
 -- the trade is there
-still_there : (base later : Base) (t : Trade) → BooksInvariant base → Keeps (moment_of t) base later → trade_with base t.id ≡ Some t → is_completed t ≡ true → (u : Trade) × (trade_with later t.id ≡ Some u)
-still_there base later t books k e c = by_trade (trade_with later t.id) refl
+still_there : (base later : Base) (t : Trade) → BooksInvariant base → Keeps (last_status_stamp_of_trade t) base later → trade_with_id base t.id ≡ Some t → is_completed t ≡ true → (u : Trade) × (trade_with_id later t.id ≡ Some u)
+still_there base later t books k e c = by_trade (trade_with_id later t.id) refl
   where
-    by_trade : (o : Option Trade) → trade_with later t.id ≡ o → (u : Trade) × (trade_with later t.id ≡ Some u)
+    by_trade : (o : Option Trade) → trade_with_id later t.id ≡ o → (u : Trade) × (trade_with_id later t.id ≡ Some u)
     by_trade (Some u) f = (u, f)
     by_trade None f =
-        let none : find (λ v. v.id == t.id) (done_by later (moment_of t)) ≡ None = none_in later (moment_of t) t.id f in
+        let none : find (λ v. v.id == t.id) (done_by later (last_status_stamp_of_trade t)) ≡ None = none_in later (last_status_stamp_of_trade t) t.id f in
         let clash : None ≡ Some (core t) = sym none ∙ ap (find (λ v. v.id == t.id)) k.done ∙ in_done base t books e c in absurd (cc)
 
-pub explanations_stay : (base later : Base) (calls : List (ℕ × Call)) (outcomes : List Outcome) (t : Trade) → BooksInvariant base → Run base calls outcomes later → trade_with base t.id ≡ Some t → is_completed t ≡ true
-    → (u : Trade) × (trade_with later t.id ≡ Some u) × StaysTold base later t u
+pub explanations_stay : (base later : Base) (calls : List (ℕ × Call)) (outcomes : List Outcome) (t : Trade) → BooksInvariant base → Run base calls outcomes later → trade_with_id base t.id ≡ Some t → is_completed t ≡ true
+    → (u : Trade) × (trade_with_id later t.id ≡ Some u) × PrintsSameFigures base later t u
 explanations_stay base later calls outcomes t books r e c =
     let a : Among base t = among base t books e c in
-    let past : IsPast base.last (moment_of t) = past_of base.last t (All-back (IsEarly base.last) a.front (t ∷ a.back) (subst (AllByRecursion (IsEarly base.last)) a.stands books.early)).0 in
-    let k : Keeps (moment_of t) base later = keeps_run (moment_of t) base calls outcomes later books past r in
+    let past : IsPast base.last (last_status_stamp_of_trade t) = past_of base.last t (All-back (IsTradeUpToLastStamp base.last) a.front (t ∷ a.back) (subst (AllByRecursion (IsTradeUpToLastStamp base.last)) a.stands books.early)).0 in
+    let k : Keeps (last_status_stamp_of_trade t) base later = keeps_run (last_status_stamp_of_trade t) base calls outcomes later books past r in
     let u = still_there base later t books k e c in
     (u.0, u.1, stays_by base later t u.0 books (run_books base calls outcomes later books r) k e c u.1)

@@ -1,39 +1,39 @@
 -- The lots that the explanation of a holding prints, and the deals of its position.
 use Rattle.std.specs.Prelude.{◌≡◌, ℕ, ◌==◌, [], filter, ℤ, pos, ◌+ℤ◌, ◌-ℤ◌}
-use Rattle.brk_money.specs.Kinds.{side_of}
+use Rattle.brk_money.specs.Kinds.{side_of_trade_type}
 use Rattle.brk_money.specs.Spelling.{Text}
 use Rattle.brk_model.specs.Records.{Trade}
-use Rattle.brk_model.specs.Base.{Base, completed}
-use Rattle.brk_model.specs.Derived.{deals_in, summary_of}
+use Rattle.brk_model.specs.Base.{Base, completed_trades}
+use Rattle.brk_model.specs.Derived.{deals_of_position, holding_summary_quantity}
 use Rattle.brk_model.specs.Lists.{total_by}
-use Rattle.brk_model.specs.Shares.{signed}
+use Rattle.brk_model.specs.Shares.{signed_by_side}
 use Rattle.brk_model.specs.Sheets.{sheets}
 use Rattle.brk_model.specs.Tables.{Tables}
-use Rattle.brk_lots.specs.Books.{gains, lots_cost}
-use Rattle.brk_explain_model.specs.Holdings.{costs_of, done_in, gains_told, left_of, lots_told, purchases, sales, signed_qty}
-use Rattle.brk_explain_model.specs.Running.{running}
-use Rattle.brk_book_theorems.specs.TradeReads.{position_in}
-use Rattle.brk_explain_theorems.specs.Balances.{last_from}
+use Rattle.brk_lots.specs.Books.{realised_gain_sum, lot_cost_basis}
+use Rattle.brk_explain_model.specs.Holdings.{remaining_cost_of_lots, completed_trades_in_symbol, realised_gain_in_symbol, remaining_quantity_of_lot, lots_opened_in_symbol, total_purchase_value, total_sale_value, signed_qty}
+use Rattle.brk_explain_model.specs.Running.{running_totals}
+use Rattle.brk_book_theorems.specs.TradeReads.{position_lots}
+use Rattle.brk_explain_theorems.specs.Balances.{last_number_or_default}
 
 -- The sum of the quantity changes (after - before) in the rows of HOLDING_HISTORY of the trade.
-abbrev pub shares_moved : Tables → ℕ → ℤ
-shares_moved tables trade = total_by (λ row. row.after -ℤ row.before) (filter (λ row. row.trade == trade) tables.holding_history)
+abbrev pub lot_change_sum_of_trade : Tables → ℕ → ℤ
+lot_change_sum_of_trade tables trade = total_by (λ row. row.after -ℤ row.before) (filter (λ row. row.trade == trade) tables.holding_history)
 
 -- The printed totals of a holding match the deals of its position: the gains, the cost basis, and
 -- the number of shares.
-pub record HoldingAsTold (base : Base) (account : ℕ) (symbol : Text) : Type 0 where
+pub record PrintedHoldingMatchesDeals (base : Base) (account : ℕ) (symbol : Text) : Type 0 where
   -- The gains, added up by lot, are the gains of the deals, added up by trade.
-  pub gained : gains_told (sheets base) account symbol ≡ gains (deals_in (completed base) account symbol) []
+  pub gained : realised_gain_in_symbol (sheets base) account symbol ≡ realised_gain_sum (deals_of_position (completed_trades base) account symbol) []
   -- The costs of the remaining shares of the lots sum to the cost basis of the position.
-  pub costs : costs_of (lots_told (sheets base) account symbol) ≡ lots_cost (position_in (sheets base) account symbol)
+  pub costs : remaining_cost_of_lots (lots_opened_in_symbol (sheets base) account symbol) ≡ lot_cost_basis (position_lots (sheets base) account symbol)
   -- Cost basis is Realised gain plus Purchases plus Sales.
-  pub balance : costs_of (lots_told (sheets base) account symbol)
-      ≡ (gains_told (sheets base) account symbol +ℤ purchases (done_in (sheets base) account symbol)) +ℤ sales (done_in (sheets base) account symbol)
+  pub balance : remaining_cost_of_lots (lots_opened_in_symbol (sheets base) account symbol)
+      ≡ (realised_gain_in_symbol (sheets base) account symbol +ℤ total_purchase_value (completed_trades_in_symbol (sheets base) account symbol)) +ℤ total_sale_value (completed_trades_in_symbol (sheets base) account symbol)
   -- The last running sum of the trades, and the sum of the remaining shares of the lots, are the
   -- quantity of the holding.
-  pub shares : last_from (pos 0) (running signed_qty (pos 0) (done_in (sheets base) account symbol)) ≡ summary_of (completed base) account symbol
-  pub left : total_by left_of (lots_told (sheets base) account symbol) ≡ summary_of (completed base) account symbol
+  pub shares : last_number_or_default (pos 0) (running_totals signed_qty (pos 0) (completed_trades_in_symbol (sheets base) account symbol)) ≡ holding_summary_quantity (completed_trades base) account symbol
+  pub left : total_by remaining_quantity_of_lot (lots_opened_in_symbol (sheets base) account symbol) ≡ holding_summary_quantity (completed_trades base) account symbol
 
 -- The changes that the trade made to lots sum to its quantity, negative for a sale.
-abbrev pub MovesItsShares : Base → Trade → Type 0
-MovesItsShares base t = shares_moved (sheets base) t.id ≡ signed (side_of t.kind) t.qty
+abbrev pub LotChangesSumToQuantity : Base → Trade → Type 0
+LotChangesSumToQuantity base t = lot_change_sum_of_trade (sheets base) t.id ≡ signed_by_side (side_of_trade_type t.kind) t.qty

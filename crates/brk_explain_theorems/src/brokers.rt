@@ -5,11 +5,11 @@ ghost use Rattle.brk_model.specs.Base.{Base};
 ghost use Rattle.brk_model.specs.Sheets.{sheets};
 ghost use Rattle.brk_model.specs.Tables.{BrokerRow};
 ghost use Rattle.brk_book_theorems.specs.Books.{BooksInvariant};
-ghost use Rattle.brk_explain_theorems.specs.Brokers.{BrokerAsTold};
+ghost use Rattle.brk_explain_theorems.specs.Brokers.{PrintedBrokerMatchesTotals};
 
 /// Proves that the last printed running sum of a broker's commissions is the broker's commission
 /// total, and that the number of printed trades is its trade count, if the base satisfies the books
 /// invariant.
-pub fn commissions_are_explained()
-    ensures { (base : Base) (id : ℕ) (b : BrokerRow) → BooksInvariant base → find (λ r. r.id == id) (sheets base).brokers ≡ Some b → BrokerAsTold base b }
+pub fn printed_broker_matches_its_totals()
+    ensures { (base : Base) (id : ℕ) (b : BrokerRow) → BooksInvariant base → find (λ r. r.id == id) (sheets base).brokers ≡ Some b → PrintedBrokerMatchesTotals base b }
 {}

@@ -1,15 +1,15 @@
 //! Theorems: the lots that a completed trade closed, as its explanation lists them.
 
 ghost use Rattle.std.specs.Prelude.{◌≡◌, Some, true};
-ghost use Rattle.brk_model.specs.Base.{Base, is_completed, trade_with};
+ghost use Rattle.brk_model.specs.Base.{Base, is_completed, trade_with_id};
 ghost use Rattle.brk_model.specs.Records.{Trade};
 ghost use Rattle.brk_book_theorems.specs.Books.{BooksInvariant};
-ghost use Rattle.brk_explain_theorems.specs.Closings.{ClosesAsTold};
+ghost use Rattle.brk_explain_theorems.specs.Closings.{PrintedClosingsMatchDeal};
 
 /// Proves that the printed closings of a completed trade match its deal: the buy value, the sell
 /// value, the gain and the number of closed shares. All lots but the last are closed completely,
 /// and the closed and the opened shares total the trade's quantity. The base satisfies the books
 /// invariant.
-pub fn closings_are_explained()
-    ensures { (base : Base) (t : Trade) → BooksInvariant base → trade_with base t.id ≡ Some t → is_completed t ≡ true → ClosesAsTold base t }
+pub fn printed_closings_match_the_deal()
+    ensures { (base : Base) (t : Trade) → BooksInvariant base → trade_with_id base t.id ≡ Some t → is_completed t ≡ true → PrintedClosingsMatchDeal base t }
 {}

@@ -2,20 +2,20 @@
 //! prints.
 
 ghost use Rattle.std.specs.Prelude.{◌≡◌, ℕ, Ok, Option, Some};
-ghost use Rattle.brk_model.specs.Base.{Base, trade_with};
+ghost use Rattle.brk_model.specs.Base.{Base, trade_with_id};
 ghost use Rattle.brk_model.specs.Commands.{CompleteTrade, CompletedTrade, Completion, Done};
 ghost use Rattle.brk_model.specs.Keyed.{keyed_step};
 ghost use Rattle.brk_model.specs.Records.{Key, Trade};
 ghost use Rattle.brk_model.specs.Step.{step};
 ghost use Rattle.brk_book_theorems.specs.Books.{BooksInvariant};
-ghost use Rattle.brk_explain_theorems.specs.Told.{TellsCompletion};
+ghost use Rattle.brk_explain_theorems.specs.Told.{PrintsReplyFigures};
 
 /// Proves that after an accepted result, with or without a key, the explanation of its trade prints
 /// the commission, tax, amount, due day, buy value, sell value and balance of the reply, if the
 /// base satisfies the books invariant.
-pub fn explanations_are_told()
+pub fn explanations_print_reply_figures()
     ensures result { (base after : Base) (now id price stamp : ℕ) (c : Completion) → BooksInvariant base → step base now (CompleteTrade id price) ≡ Ok (CompletedTrade stamp c, after)
-        → (u : Trade) × (trade_with after id ≡ Some u) × TellsCompletion after u c }
+        → (u : Trade) × (trade_with_id after id ≡ Some u) × PrintsReplyFigures after u c }
     ensures called { (base after : Base) (now id price stamp : ℕ) (key : Option Key) (c : Completion) → BooksInvariant base
-        → keyed_step base now (CompleteTrade id price) key ≡ (Done (CompletedTrade stamp c), after) → (u : Trade) × (trade_with after id ≡ Some u) × TellsCompletion after u c }
+        → keyed_step base now (CompleteTrade id price) key ≡ (Done (CompletedTrade stamp c), after) → (u : Trade) × (trade_with_id after id ≡ Some u) × PrintsReplyFigures after u c }
 {}

@@ -1,15 +1,15 @@
 //! Theorems: the settlement of a completed trade, as its explanation prints it.
 
 ghost use Rattle.std.specs.Prelude.{◌≡◌, Some, true};
-ghost use Rattle.brk_model.specs.Base.{Base, is_completed, trade_with};
+ghost use Rattle.brk_model.specs.Base.{Base, is_completed, trade_with_id};
 ghost use Rattle.brk_model.specs.Records.{Trade};
 ghost use Rattle.brk_book_theorems.specs.Books.{BooksInvariant};
-ghost use Rattle.brk_explain_theorems.specs.Equations.{SettlesAsTold};
+ghost use Rattle.brk_explain_theorems.specs.Equations.{PrintedSettlementMatchesBase};
 
 /// Proves that the printed settlement of a completed trade is the sum of its printed value, charge,
 /// commission and withheld tax, and that its due day is the day of completion plus the printed days
 /// to settle. The printed tax and commission at current rates equal the model's. The base satisfies
 /// the books invariant.
-pub fn settlements_are_explained()
-    ensures { (base : Base) (t : Trade) → BooksInvariant base → trade_with base t.id ≡ Some t → is_completed t ≡ true → SettlesAsTold base t }
+pub fn printed_settlements_match_the_base()
+    ensures { (base : Base) (t : Trade) → BooksInvariant base → trade_with_id base t.id ≡ Some t → is_completed t ≡ true → PrintedSettlementMatchesBase base t }
 {}

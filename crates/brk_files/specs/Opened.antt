@@ -3,21 +3,21 @@ use Rattle.std.specs.Prelude.{None, Ok, IsTrue}
 use Rattle.sqlite_trees.specs.declared.store.Store.{Ghosts}
 use Rattle.sqlite.specs.Held.{Held, state}
 use Rattle.sqlite.specs.State.{HasCleanDisk}
-use Rattle.brk_model.specs.Adopted.{base_of}
+use Rattle.brk_model.specs.Adopted.{base_of_tables}
 use Rattle.brk_model.specs.Sheets.{sheets}
 use Rattle.brk_model.specs.Tables.{Tables}
 use Rattle.brk_changes.specs.declared.schema.Schema as known
-use Rattle.brk_changes.specs.Schemas.{schema_of}
-use Rattle.brk_store.specs.Audited.{Answered, Represents, AdoptPost, IsDefinedIn}
-use Rattle.brk_store.specs.Holds.{AreTreesOf, OnlyCrashState}
+use Rattle.brk_changes.specs.Schemas.{abstract_schema}
+use Rattle.brk_store.specs.Audited.{IsAuditOfStoredRows, Represents, AdoptPost, StoreNamesImplyDefinitions}
+use Rattle.brk_store.specs.Holds.{AreTreesOfRows, CrashStatesSatisfy}
 
 -- The store is a desk that was adopted from a connection in the state `found`. If the database of
 -- `found` is defined, its rows pass the audit of their schema, and the store represents their base,
 -- in schema 3; a crash then exposes only the tables of this base. The latter is vacuous if the disk
 -- assumption fails, or once the store is closed.
-pub record RepresentsRows {S : Type 0} (g : Ghosts S) (store : Held S) : Type 0 where
+pub record RepresentsRowsOfFile {S : Type 0} (g : Ghosts S) (store : Held S) : Type 0 where
   -- The state of the connection when the file was opened.
   pub found : Held S
   pub adopted : AdoptPost g found store (Ok tt)
-  pub stands : HasCleanDisk (state g store) → IsTrue (state g store).is_open → IsDefinedIn g found
-      → (schema : known.Schema) × (rows : Tables) × Answered (schema_of schema) rows (state g found).now None × Represents g store (base_of rows) × OnlyCrashState g store (AreTreesOf (sheets (base_of rows)))
+  pub stands : HasCleanDisk (state g store) → IsTrue (state g store).is_open → StoreNamesImplyDefinitions g found
+      → (schema : known.Schema) × (rows : Tables) × IsAuditOfStoredRows (abstract_schema schema) rows (state g found).now None × Represents g store (base_of_tables rows) × CrashStatesSatisfy g store (AreTreesOfRows (sheets (base_of_tables rows)))

@@ -9,48 +9,48 @@ use Rattle.brk_money.specs.declared.fault.Fault.{Fault}
 use Rattle.brk_money.specs.declared.fault.Fault.TheVariants as fault
 use Rattle.brk_store.specs.Audited.{AdoptPost}
 use Rattle.brk_store.specs.Holds.{CreatePost}
-use Rattle.brk_files.specs.Files.{IsOpenedFile, IsClosedFile}
+use Rattle.brk_files.specs.Files.{IsNewConnectionToFile, HasLastCommitInFile}
 
 -- The result is that of adopting the database of the connection `conn`: the store, or the fault.
-abbrev pub IsAdoption : {D : Type 0} {g : Ghosts D} → Held (FileStore D g) → Result (Held (FileStore D g)) Fault → Type 0
-IsAdoption conn (Ok store) = AdoptPost over_files conn store (Ok tt)
-IsAdoption {D} {g} conn (Err fault) = (left : Held (FileStore D g)) × AdoptPost over_files conn left (Err fault)
+abbrev pub IsAdoptionResult : {D : Type 0} {g : Ghosts D} → Held (FileStore D g) → Result (Held (FileStore D g)) Fault → Type 0
+IsAdoptionResult conn (Ok store) = AdoptPost over_files conn store (Ok tt)
+IsAdoptionResult {D} {g} conn (Err fault) = (left : Held (FileStore D g)) × AdoptPost over_files conn left (Err fault)
 
 -- A desk was created over a new connection and closed, and then the connection `conn` was opened.
-pub record IsCreated {D : Type 0} {g : Ghosts D} (conn : Held (FileStore D g)) : Type 0 where
+pub record FollowsCreationOfDesk {D : Type 0} {g : Ghosts D} (conn : Held (FileStore D g)) : Type 0 where
   pub first : Held (FileStore D g)
   pub desk : Held (FileStore D g)
-  pub began : IsOpenedFile first
+  pub began : IsNewConnectionToFile first
   pub created : CreatePost over_files first desk (Ok tt)
-  pub closed : IsClosedFile desk
-  pub opened : IsOpenedFile conn
+  pub closed : HasLastCommitInFile desk
+  pub opened : IsNewConnectionToFile conn
 
 -- The connection `conn` was opened, and creating a desk over it failed with `NotEmpty`, because one
 -- of the tables of a desk exists.
-pub record IsTaken {D : Type 0} {g : Ghosts D} (conn : Held (FileStore D g)) : Type 0 where
+pub record FollowsRefusedCreation {D : Type 0} {g : Ghosts D} (conn : Held (FileStore D g)) : Type 0 where
   pub first : Held (FileStore D g)
-  pub began : IsOpenedFile first
+  pub began : IsNewConnectionToFile first
   pub refused : CreatePost over_files first conn (Err (fault.Damaged condition.NotEmpty))
 
 -- The postcondition of opening an existing desk. `Ok` and `Damaged`: a connection was opened, and
 -- the result is that of adopting its database; `Damaged(Schema)` may also be returned without a
 -- connection. It says nothing of `Memory` and `Store`.
 abbrev pub OpenPost : {D : Type 0} {g : Ghosts D} → Result (Held (FileStore D g)) Fault → Type 0
-OpenPost {D} {g} (Ok store) = (conn : Held (FileStore D g)) × IsOpenedFile conn × IsAdoption conn (Ok store)
-OpenPost {D} {g} (Err (fault.Damaged c)) = (c ≡ condition.Schema) ⊎ ((conn : Held (FileStore D g)) × IsOpenedFile conn × IsAdoption conn (Err (fault.Damaged c)))
+OpenPost {D} {g} (Ok store) = (conn : Held (FileStore D g)) × IsNewConnectionToFile conn × IsAdoptionResult conn (Ok store)
+OpenPost {D} {g} (Err (fault.Damaged c)) = (c ≡ condition.Schema) ⊎ ((conn : Held (FileStore D g)) × IsNewConnectionToFile conn × IsAdoptionResult conn (Err (fault.Damaged c)))
 OpenPost (Err fault.Memory) = Unit {0}
 OpenPost (Err fault.Store) = Unit {0}
 
 -- The connection is to a desk that was just created, or to a database that has one of the tables of
 -- a desk.
-abbrev pub HasSomeDesk : {D : Type 0} {g : Ghosts D} → Held (FileStore D g) → Type 0
-HasSomeDesk conn = IsCreated conn ⊎ IsTaken conn
+abbrev pub HasNewDeskOrDeskTable : {D : Type 0} {g : Ghosts D} → Held (FileStore D g) → Type 0
+HasNewDeskOrDeskTable conn = FollowsCreationOfDesk conn ⊎ FollowsRefusedCreation conn
 
 -- The postcondition of opening a desk that is created if there is none. `Ok` and `Damaged`: the
 -- result is that of adopting the database of a connection to a new desk, or to a database that has
 -- one of the tables of a desk. It says nothing of `Memory` and `Store`.
-abbrev pub OpenOrMakePost : {D : Type 0} {g : Ghosts D} → Result (Held (FileStore D g)) Fault → Type 0
-OpenOrMakePost {D} {g} (Ok store) = (conn : Held (FileStore D g)) × HasSomeDesk conn × IsAdoption conn (Ok store)
-OpenOrMakePost {D} {g} (Err (fault.Damaged c)) = (conn : Held (FileStore D g)) × HasSomeDesk conn × IsAdoption conn (Err (fault.Damaged c))
-OpenOrMakePost (Err fault.Memory) = Unit {0}
-OpenOrMakePost (Err fault.Store) = Unit {0}
+abbrev pub OpenOrCreatePost : {D : Type 0} {g : Ghosts D} → Result (Held (FileStore D g)) Fault → Type 0
+OpenOrCreatePost {D} {g} (Ok store) = (conn : Held (FileStore D g)) × HasNewDeskOrDeskTable conn × IsAdoptionResult conn (Ok store)
+OpenOrCreatePost {D} {g} (Err (fault.Damaged c)) = (conn : Held (FileStore D g)) × HasNewDeskOrDeskTable conn × IsAdoptionResult conn (Err (fault.Damaged c))
+OpenOrCreatePost (Err fault.Memory) = Unit {0}
+OpenOrCreatePost (Err fault.Store) = Unit {0}

@@ -3,4 +3,4 @@
 
 pub mod file;
 
-pub use file::{FileDesk, close, open, open_or_make};
+pub use file::{FileDesk, close, open, open_or_create};

@@ -2,25 +2,25 @@
 use Rattle.std.specs.Prelude.{◌<◌, ◌≤◌, ℕ, IfErr, IfOk, List, Result, length}
 use Rattle.sqlite_trees.specs.declared.store.Store.{Ghosts}
 use Rattle.sqlite.specs.Held.{Held}
-use Rattle.brk_desk.specs.Runs.{IsRunOf}
+use Rattle.brk_desk.specs.Runs.{IsRunWithOutcomes}
 use Rattle.brk_desk.specs.declared.call.Call.{Call}
 use Rattle.brk_desk.specs.declared.call.Outcome.{Outcome}
 use Rattle.brk_http_model.specs.Stream.{most_requests}
-use Rattle.brk_http_engine.specs.Limits.{most_calls}
+use Rattle.brk_http_engine.specs.Limits.{call_limit_of_stream}
 use Rattle.brk_http_engine.specs.declared.stream.ServeFault.{ServeFault}
-use Rattle.brk_http_listener.specs.Listening.{Serves}
+use Rattle.brk_http_listener.specs.Listening.{ServeRelation}
 
 -- A stream that ended with this result changed the desk only by a sequence of its calls with these
 -- outcomes. The number of replies and the number of calls are within their limits.
-pub record IsServed {S : Type 0} (g : Ghosts S) (old new : Held S) (ended : Result ℕ ServeFault) : Type 0 where
+pub record ServesStreamByCalls {S : Type 0} (g : Ghosts S) (old new : Held S) (ended : Result ℕ ServeFault) : Type 0 where
   pub calls : List (ℕ × Call)
   pub outcomes : List Outcome
-  pub run : IsRunOf g old new calls outcomes
-  pub few : length calls ≤ most_calls ended
+  pub run : IsRunWithOutcomes g old new calls outcomes
+  pub few : length calls ≤ call_limit_of_stream ended
   pub within : IfOk ended (λ count. count ≤ most_requests)
   pub early : IfErr ended (λ fault. fault.done < most_requests)
 
 -- The stream that ended with this result changed the desk only by a sequence of its calls
--- (`IsServed`). Of the clock and of the bytes of the stream it says nothing.
-abbrev pub DeskServes : {S C X : Type 0} → Ghosts S → Serves C (Held S) X
-DeskServes g clock old stream ended later new = IsServed g old new ended
+-- (`ServesStreamByCalls`). Of the clock and of the bytes of the stream it says nothing.
+abbrev pub DeskServesStream : {S C X : Type 0} → Ghosts S → ServeRelation C (Held S) X
+DeskServesStream g clock old stream ended later new = ServesStreamByCalls g old new ended

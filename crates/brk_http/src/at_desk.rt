@@ -1,18 +1,18 @@
 ghost use Rattle.std.specs.Prelude.{◌≡◌, Ok};
-ghost use Rattle.brk_commands.specs.Commands.{command_of};
-ghost use Rattle.brk_commit.specs.Answers.{answer_of};
-ghost use Rattle.brk_http.specs.Acts.{DeskActs};
-ghost use Rattle.brk_http_model.specs.Asked.{all_forms};
+ghost use Rattle.brk_commands.specs.Commands.{abstract_command};
+ghost use Rattle.brk_commit.specs.Answers.{model_answer};
+ghost use Rattle.brk_http.specs.Acts.{DeskCallHasOutcome};
+ghost use Rattle.brk_http_model.specs.Asked.{model_parsers};
 ghost use Rattle.brk_model.specs.Run.{Did};
-ghost use Rattle.brk_plans.specs.Replies.{reply_of};
-ghost use Rattle.brk_http_engine.specs.Codes.{row_outcome};
-ghost use Rattle.brk_view.specs.Queries.{query_of};
-ghost use Rattle.brk_view.specs.Views.{fields_of};
+ghost use Rattle.brk_plans.specs.Replies.{abstract_reply};
+ghost use Rattle.brk_http_engine.specs.Codes.{row_outcome_in_model};
+ghost use Rattle.brk_view.specs.Queries.{abstract_query};
+ghost use Rattle.brk_view.specs.Views.{records_of_view};
 
 use brk_desk::{
     Answer, Command, Desk, Query, View, line_text, parse_query, parse_row, view_fields,
 };
-use brk_http_engine::{RowAnswer, Service, line_fields};
+use brk_http_engine::{RowAnswer, Service, fields_of_stored_line};
 use brk_money::{Fault, Planned, Stamp};
 use brk_ref::Key;
 use brk_trade::Reply;
@@ -21,8 +21,8 @@ use std::alloc::{AllocError, Global};
 use std::marker::PhantomData;
 
 // Converts the desk's answer to a row into an answer of the HTTP engine.
-fn row_answer(answer: Answer) -> RowAnswer<Reply>
-    ensures { row_outcome reply_of (Ok result) ≡ Did (answer_of answer) }
+fn http_answer_of_desk(answer: Answer) -> RowAnswer<Reply>
+    ensures { row_outcome_in_model abstract_reply (Ok result) ≡ Did (model_answer answer) }
 {
     match answer {
         Answer::Done(reply) => RowAnswer::Done(reply),
@@ -47,17 +47,17 @@ impl<S: Alter> Service for DeskService<S> {
 
     type View = View;
 
-    ghost forms = { all_forms };
+    ghost forms = { model_parsers };
 
-    ghost acts = { λ old now call outcome new. DeskActs S.Store old now call outcome new };
+    ghost acts = { λ old now call outcome new. DeskCallHasOutcome S.Store old now call outcome new };
 
-    ghost command_of = { command_of };
+    ghost command_of = { abstract_command };
 
-    ghost query_of = { query_of };
+    ghost query_of = { abstract_query };
 
-    ghost told = { reply_of };
+    ghost told = { abstract_reply };
 
-    ghost shown = { fields_of };
+    ghost shown = { records_of_view };
 
     fn parse_row(alloc: Global, row: &[&[u8]]) -> Planned<Command> {
         parse_row(alloc, row)
@@ -92,7 +92,7 @@ impl<S: Alter> Service for DeskService<S> {
         key: Option<&Key>,
     ) -> Result<RowAnswer<Reply>, Fault> {
         match desk.call(alloc, now, command, key) {
-            Ok(answer) => Ok(row_answer(answer)),
+            Ok(answer) => Ok(http_answer_of_desk(answer)),
             Err(fault) => Err(fault),
         }
     }
@@ -103,7 +103,7 @@ impl<S: Alter> Service for DeskService<S> {
 
     fn reply_fields(alloc: Global, reply: &Reply) -> Result<Vec<String>, AllocError> {
         match line_text(alloc, reply) {
-            Ok(line) => line_fields(alloc, line.as_str()),
+            Ok(line) => fields_of_stored_line(alloc, line.as_str()),
             Err(_) => Err(AllocError),
         }
     }

@@ -1,4 +1,4 @@
-ghost use Rattle.brk_http.specs.Served.{DeskServes};
+ghost use Rattle.brk_http.specs.Served.{DeskServesStream};
 
 use crate::streams::serve_stream;
 use brk_desk::Desk;
@@ -23,14 +23,14 @@ const LAST_PATIENCE: u64 = 250;
 const MOST_PIECES: u32 = 128;
 
 // Sets the time limits of a socket: a read or a write that waits for more than 30 seconds fails.
-fn limit_waiting(stream: &TcpStream) -> io::Result<()> {
+fn set_socket_time_limits(stream: &TcpStream) -> io::Result<()> {
     stream.set_read_timeout(Some(Duration::from_secs(PATIENCE)))?;
     stream.set_write_timeout(Some(Duration::from_secs(PATIENCE)))
 }
 
 // Ends the writing side of a socket, and then reads and drops the bytes that still arrive, for at
 // most 128 pieces, so that the kernel does not drop the last reply.
-fn let_go(stream: &TcpStream) -> io::Result<()> {
+fn drain_before_close(stream: &TcpStream) -> io::Result<()> {
     stream.shutdown(Shutdown::Write)?;
     stream.set_read_timeout(Some(Duration::from_millis(LAST_PATIENCE)))?;
     let mut reader = stream;
@@ -56,7 +56,7 @@ impl<C: Clock, S: Alter> StreamServer for SocketServer<C, S> {
 
     type Desk = Desk<S>;
 
-    ghost serves = { DeskServes S.Store };
+    ghost serves = { DeskServesStream S.Store };
 
     // If the time limits of a socket cannot be set, fails with `Read`, and serves no request.
     fn serve(
@@ -65,7 +65,7 @@ impl<C: Clock, S: Alter> StreamServer for SocketServer<C, S> {
         clock: &mut C,
         desk: &mut Desk<S>,
     ) -> Result<u64, ServeFault> {
-        if limit_waiting(&stream).is_err() {
+        if set_socket_time_limits(&stream).is_err() {
             return Err(ServeFault {
                 done: 0,
                 kind: FaultKind::Read,
@@ -73,7 +73,7 @@ impl<C: Clock, S: Alter> StreamServer for SocketServer<C, S> {
         }
         let mut writer = &stream;
         let ended = serve_stream(alloc, &stream, &mut writer, clock, desk);
-        let _ = let_go(&stream);
+        let _ = drain_before_close(&stream);
         ended
     }
 }

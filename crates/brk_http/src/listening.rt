@@ -1,10 +1,10 @@
-ghost use Rattle.brk_desk.specs.Runs.{IsSomeRun};
-ghost use Rattle.brk_http.specs.Served.{DeskServes};
-ghost use Rattle.brk_http_listener.specs.Listening.{Listens};
+ghost use Rattle.brk_desk.specs.Runs.{IsSomeDeskRun};
+ghost use Rattle.brk_http.specs.Served.{DeskServesStream};
+ghost use Rattle.brk_http_listener.specs.Listening.{ServeEachStreamPost};
 
 use crate::at_socket::SocketServer;
 use brk_desk::Desk;
-use brk_http_listener::{ListenFault, Listener, serve_each};
+use brk_http_listener::{ListenFault, Listener, serve_each_stream};
 use brk_io::Clock;
 use sqlite::Alter;
 use std::alloc::Global;
@@ -24,12 +24,12 @@ pub fn serve_on<L: Listener<Stream = TcpStream>, C: Clock, S: Alter>(
     desk: &mut Desk<S>,
 ) -> Result<(), ListenFault>
     // For any result and any bytes of the peers, the desk changed only by a sequence of its calls.
-    ensures served { IsSomeRun S.Store desk.old desk.new }
+    ensures served { IsSomeDeskRun S.Store desk.old desk.new }
     // At `Ok` exactly `streams` streams were taken, and none of them ended because memory ran out.
     // `Stream` has the fault of the last stream that was taken, and its kind is `Memory`. `Net`
     // follows a failed accept alone.
-    ensures taken { Listens L.accepts (DeskServes S.Store) streams (record { listener = listener.old; clock = clock.old; desk = desk.old })
+    ensures taken { ServeEachStreamPost L.accepts (DeskServesStream S.Store) streams (record { listener = listener.old; clock = clock.old; desk = desk.old })
         result (record { listener = listener.new; clock = clock.new; desk = desk.new }) }
 {
-    serve_each::<L, SocketServer<C, S>>(alloc, listener, streams, clock, desk)
+    serve_each_stream::<L, SocketServer<C, S>>(alloc, listener, streams, clock, desk)
 }

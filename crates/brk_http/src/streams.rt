@@ -1,15 +1,15 @@
 ghost use Rattle.std.specs.Prelude.{◌<◌, ◌≤◌, ℕ, IfErr, IfOk, IfSome, List, length, map};
 ghost use Rattle.brk_store.specs.Audited.{Represents};
-ghost use Rattle.brk_desk.specs.Answers.{outcome_of};
-ghost use Rattle.brk_desk.specs.Commands.{call_of};
-ghost use Rattle.brk_desk.specs.Runs.{IsRunOf};
+ghost use Rattle.brk_desk.specs.Answers.{model_outcome};
+ghost use Rattle.brk_desk.specs.Commands.{model_call};
+ghost use Rattle.brk_desk.specs.Runs.{IsRunWithOutcomes};
 ghost use Rattle.brk_desk.specs.declared.call.Call as made;
 ghost use Rattle.brk_desk.specs.declared.call.Outcome as came;
-ghost use Rattle.brk_http_model.specs.Asked.{all_forms};
-ghost use Rattle.brk_model.specs.Run.{Answers};
+ghost use Rattle.brk_http_model.specs.Asked.{model_parsers};
+ghost use Rattle.brk_model.specs.Run.{IsOutcomeOfCall};
 ghost use Rattle.brk_http_model.specs.Stream.{most_requests};
-ghost use Rattle.brk_http_engine.specs.Limits.{most_calls};
-ghost use Rattle.brk_http_engine.specs.Promises.{KeepsBooks, TellsOutcomes};
+ghost use Rattle.brk_http_engine.specs.Limits.{call_limit_of_stream};
+ghost use Rattle.brk_http_engine.specs.Promises.{StreamRefinesModel, StreamMatchesScript};
 ghost use Rattle.sqlite.specs.Held.{state};
 ghost use Rattle.sqlite.specs.State.{HasCleanDisk};
 
@@ -33,8 +33,8 @@ use std::io::{Read, Write};
 /// `Write` a part of its reply may have been written. After `Write` or `Memory` the request may
 /// have been executed: retry it under its key.
 ///
-/// For any reader the number of requests and of calls is limited, as the contract says. It specifies
-/// requests and replies only for a reader with specified content; a socket has none.
+/// For any reader the number of requests and of calls is limited, as the contract says. It
+/// specifies requests and replies only for a reader with specified content; a socket has none.
 pub fn serve_stream<R: Read + Drop, W: Write, C: Clock, S: Alter>(
     alloc: Global,
     reader: R,
@@ -49,13 +49,13 @@ pub fn serve_stream<R: Read + Drop, W: Write, C: Clock, S: Alter>(
     // holds. The calls are at most as many as the answered requests, and one more after a fault of
     // the writer or of memory. If the reader has specified content, its requests make exactly these
     // calls, and the replies follow from their outcomes.
-    ensures told { (calls : List (ℕ × made.Call)) × (outcomes : List came.Outcome) × IsRunOf S.Store desk.old desk.new calls outcomes × (length calls ≤ most_calls result)
-        × IfSome (R.remaining reader) (λ input. TellsOutcomes all_forms C.gives input (map call_of calls, map outcome_of outcomes)
+    ensures told { (calls : List (ℕ × made.Call)) × (outcomes : List came.Outcome) × IsRunWithOutcomes S.Store desk.old desk.new calls outcomes × (length calls ≤ call_limit_of_stream result)
+        × IfSome (R.remaining reader) (λ input. StreamMatchesScript model_parsers C.gives input (map model_call calls, map model_outcome outcomes)
         (record { clock = clock.old; later = clock.new; old = W.contents writer.old; new = W.contents writer.new }) result) }
     // Under the disk assumption, for every base that the desk represented, the outcomes are those
     // of the model, and the desk represents the base after them.
-    ensures kept { IfSome (R.remaining reader) (λ input. KeepsBooks (λ desk. HasCleanDisk (state S.Store desk)) (λ desk. Represents S.Store desk)
-        all_forms Answers C.gives input desk.old desk.new
+    ensures kept { IfSome (R.remaining reader) (λ input. StreamRefinesModel (λ desk. HasCleanDisk (state S.Store desk)) (λ desk. Represents S.Store desk)
+        model_parsers IsOutcomeOfCall C.gives input desk.old desk.new
         (record { clock = clock.old; later = clock.new; old = W.contents writer.old; new = W.contents writer.new }) result) }
 {
     serve::<R, W, C, DeskService<S>>(alloc, reader, writer, clock, desk)

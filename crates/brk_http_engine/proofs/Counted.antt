@@ -2,42 +2,42 @@
 use Rattle.std.proofs.Common.{◌≡◌, ℕ, ◌+◌, ◌≤◌, List, [], ◌∷◌, length, Option, ap, arith, inl, inr}
 use Rattle.std.specs.Prelude.{Result, Ok, Err}
 use Rattle.brk_money.specs.Spelling.{Text}
-use Rattle.brk_io.specs.Span.{IsUntouched, Outside, Span, with_base}
-use Rattle.brk_http_model.specs.Asked.{Forms, Asked, HasResponse, Calls, asked_of}
+use Rattle.brk_io.specs.Span.{IsUnchangedEnvironment, ClockAndWriterChange, EnvironmentChange, change_with_bases}
+use Rattle.brk_http_model.specs.Asked.{Forms, Asked, HasResponse, Calls, demand_of_request}
 use Rattle.brk_http_model.specs.Found.{Found, NoMore, Unreadable, Asks}
 use Rattle.brk_http_model.specs.Replies.{Response}
-use Rattle.brk_http_model.specs.Stream.{Next, Finished, Continues, One, RepliedTo, Replies, BeginsWith, Responds}
-use Rattle.brk_http_engine.specs.Limits.{most_at_fault, most_calls}
-use Rattle.brk_http_engine.specs.Promises.{Script, TellsOutcomes, scripted}
-use Rattle.brk_http_engine.specs.Turns.{IsTurnAnswered, TurnFailed}
+use Rattle.brk_http_model.specs.Stream.{Next, Finished, Continues, One, IsReplyToReading, AreRepliesOfStream, AreFirstReplies, IsResponseToDemand}
+use Rattle.brk_http_engine.specs.Limits.{call_limit_at_fault, call_limit_of_stream}
+use Rattle.brk_http_engine.specs.Promises.{CallScript, StreamMatchesScript, IsNextScriptedCall}
+use Rattle.brk_http_engine.specs.Turns.{TurnHasReply, TurnFailsWith}
 use Rattle.brk_http_engine.specs.declared.stream.ServeFault.{ServeFault}
 use Rattle.brk_http_engine.specs.declared.turning.FaultKind.{FaultKind}
 use Rattle.brk_http_engine.specs.declared.turning.FaultKind.TheVariants as kinds
 
 -- the number of calls of a script
-abbrev calls_of : Script → ℕ
+abbrev calls_of : CallScript → ℕ
 calls_of script = length script.0
 
-same_script : (before after : Script) (n : ℕ) → after ≡ before → calls_of before ≤ calls_of after + n
+same_script : (before after : CallScript) (n : ℕ) → after ≡ before → calls_of before ≤ calls_of after + n
 same_script before after n same = let e : calls_of after ≡ calls_of before = ap calls_of same in omega (arith, e)
 
 module _ (forms : Forms) where
-  responds_few : (asked : Asked) (before after : Script) (taken : List ℕ) (response : Response) → Responds scripted asked before taken response after → calls_of before ≤ calls_of after + 1
+  responds_few : (asked : Asked) (before after : CallScript) (taken : List ℕ) (response : Response) → IsResponseToDemand IsNextScriptedCall asked before taken response after → calls_of before ≤ calls_of after + 1
   responds_few (HasResponse said) before after taken response (is, none, same) = same_script before after 1 same
   responds_few (Calls call) before after taken response (now, outcome, is, took, (made, came)) =
       let e : calls_of before ≡ length ((now, call) ∷ after.0) = ap length made in omega (arith, e)
 
-  replied_few : (n : ℕ) (found : Found) (before after : Script) (taken : List ℕ) (reply : Text) (next : Next) → RepliedTo forms scripted n found before taken reply next after
+  replied_few : (n : ℕ) (found : Found) (before after : CallScript) (taken : List ℕ) (reply : Text) (next : Next) → IsReplyToReading forms IsNextScriptedCall n found before taken reply next after
       → calls_of before ≤ calls_of after + 1
   replied_few n NoMore before after taken reply next h = elim h [ ]
   replied_few n (Unreadable problem) before after taken reply next (is, ends, none, same) = same_script before after 1 same
-  replied_few n (Asks request rest) before after taken reply next h = responds_few (asked_of forms request) before after taken h.response h.responds
+  replied_few n (Asks request rest) before after taken reply next h = responds_few (demand_of_request forms request) before after taken h.response h.responds
 
-  one_few : (n : ℕ) (input : Text) (before after : Script) (taken : List ℕ) (reply : Text) (next : Next) → One forms scripted n input before taken reply next after
+  one_few : (n : ℕ) (input : Text) (before after : CallScript) (taken : List ℕ) (reply : Text) (next : Next) → One forms IsNextScriptedCall n input before taken reply next after
       → calls_of before ≤ calls_of after + 1
   one_few n input before after taken reply next h = replied_few n h.found before after taken reply next h.replied
 
-  replies_few : (rs : List Text) (n : ℕ) (next : Next) (before after : Script) (moments : List ℕ) → Replies forms scripted n next before moments rs after
+  replies_few : (rs : List Text) (n : ℕ) (next : Next) (before after : CallScript) (moments : List ℕ) → AreRepliesOfStream forms IsNextScriptedCall n next before moments rs after
       → calls_of before ≤ calls_of after + length rs
   replies_few rs n Finished before after moments (none, asked, same) = same_script before after (length rs) same
   replies_few [] n (Continues input) before after moments (none, asked, same) = same_script before after 0 same
@@ -46,7 +46,7 @@ module _ (forms : Forms) where
       let rest : calls_of mid ≤ calls_of after + length rs = replies_few rs (n + 1) next mid after more others in
       omega (arith, one, rest)
 
-  begins_few : (rs : List Text) (n : ℕ) (input rest : Text) (before after : Script) (moments : List ℕ) → BeginsWith forms scripted n input before moments rs rest after
+  begins_few : (rs : List Text) (n : ℕ) (input rest : Text) (before after : CallScript) (moments : List ℕ) → AreFirstReplies forms IsNextScriptedCall n input before moments rs rest after
       → calls_of before ≤ calls_of after + length rs
   begins_few [] n input rest before after moments (is, asked, same) = same_script before after 0 same
   begins_few (reply ∷ rs) n input rest before after moments (taken, more, left, mid, split, first, others) =
@@ -55,17 +55,17 @@ module _ (forms : Forms) where
       omega (arith, one, later)
 
   module _ {C : Type 0} (gives : C → ℕ → C → Type 0) where
-    failed_few : (n : ℕ) (input : Text) (span : Span Script C) (kind : FaultKind) → TurnFailed forms scripted gives n input span kind → calls_of span.base ≤ calls_of span.after + most_at_fault kind
+    failed_few : (n : ℕ) (input : Text) (span : EnvironmentChange CallScript C) (kind : FaultKind) → TurnFailsWith forms IsNextScriptedCall gives n input span kind → calls_of span.base ≤ calls_of span.after + call_limit_at_fault kind
     failed_few n input span kinds.Read h = same_script span.base span.after 0 h.base
     failed_few n input span kinds.Memory (inl h) = same_script span.base span.after 1 h.base
     failed_few n input span kinds.Memory (inr (reply, next, h, wrote)) = one_few n input span.base span.after h.taken reply next h.one
     failed_few n input span kinds.Write (reply, next, size, h, wrote) = one_few n input span.base span.after h.taken reply next h.one
 
-    pub tells_few : (input : Text) (script : Script) (outside : Outside C) (result : Result ℕ ServeFault) → TellsOutcomes forms gives input script outside result → calls_of script ≤ most_calls result
+    pub tells_few : (input : Text) (script : CallScript) (outside : ClockAndWriterChange C) (result : Result ℕ ServeFault) → StreamMatchesScript forms gives input script outside result → calls_of script ≤ call_limit_of_stream result
     tells_few input script outside (Ok count) h =
         let few : calls_of script ≤ 0 + length h.replies = replies_few h.replies 0 (Continues input) script ([], []) h.moments h.replied in
         omega (arith, few, h.counted)
     tells_few input script outside (Err fault) h =
         let first : calls_of script ≤ calls_of h.mid + length h.replies = begins_few h.replies 0 input h.rest script h.mid h.moments h.begun in
-        let last : calls_of h.mid ≤ 0 + most_at_fault fault.kind = failed_few (length h.replies) h.rest _ fault.kind h.failed in
+        let last : calls_of h.mid ≤ 0 + call_limit_at_fault fault.kind = failed_few (length h.replies) h.rest _ fault.kind h.failed in
         omega (arith, first, last, h.counted)

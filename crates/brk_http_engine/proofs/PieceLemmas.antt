@@ -6,11 +6,11 @@ use Rattle.brk_money.specs.declared.refusal.Refusal.{Refusal}
 use Rattle.brk_money.specs.declared.refusal.Refusal.TheVariants.{BadText, BadQty, BadPrice, BadType, TooMany, KeyReused, NoAccount, NoCustomer, NoBroker, NoSecurity, NoTrade, NoTax, WrongStatus, NotPermitted, Exists, Overlap, TaxSum, NoCharge, NoRate, Range, ClockEnd, TooEarly}
 use Rattle.brk_money.specs.declared.refusal.Limit.TheVariants as limit
 use Rattle.brk_money.specs.declared.status.Status.TheVariants as status
-use Rattle.brk_http_model.specs.Routes.{parts_at}
+use Rattle.brk_http_model.specs.Routes.{split_at_byte}
 
 -- the fields of a refusal are those of its text
-pub refusal_parts : (refusal : Refusal) → parts_at 44 (refusal_text refusal) ≡ refusal_fields refusal
-unfolding parts_at digits
+pub refusal_parts : (refusal : Refusal) → split_at_byte 44 (refusal_text refusal) ≡ refusal_fields refusal
+unfolding split_at_byte digits
 refusal_parts BadText = refl
 refusal_parts BadQty = refl
 refusal_parts BadPrice = refl

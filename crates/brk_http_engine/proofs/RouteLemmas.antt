@@ -6,37 +6,37 @@ use Rattle.std.specs.Str.{is_utf8, IsUtf8}
 use Rattle.std.proofs.lemmas.Str.{IsUtf8-from_is_utf8, is_utf8-from_IsUtf8}
 use Rattle.brk_money.specs.Spelling.{Text}
 use Rattle.brk_money.specs.declared.fault.Fault.{Fault}
-use Rattle.brk_ref.specs.Fields.{texts}
-use Rattle.brk_http_model.specs.Routes.{parts_at, route_by, route_of}
+use Rattle.brk_ref.specs.Fields.{texts_of_fields}
+use Rattle.brk_http_model.specs.Routes.{split_at_byte, route_of_segments, route_of_target}
 use Rattle.std.specs.Prelude.{is_some}
 use Rattle.std.proofs.Common.{ℕ, ◌<◌, get_or}
 use Rattle.std.specs.List.{list_all}
 use Rattle.matchit.specs.Seek.{first}
 use Rattle.brk_http_engine.proofs.Routing.{unrouted}
-use Rattle.brk_http_engine.specs.Codes.{route_is}
-use Rattle.brk_http_engine.specs.Rows.{has_byte, the_routes}
+use Rattle.brk_http_engine.specs.Codes.{route_in_model}
+use Rattle.brk_http_engine.specs.Rows.{is_nonempty, all_router_rows}
 use Rattle.brk_http_engine.specs.declared.routes.Route.{Route}
 
-pub no_text : (views : List Text) (target : Text) → ¬ (IsUtf8 target) → route_of views target ≡ None
-unfolding route_of
+pub no_text : (views : List Text) (target : Text) → ¬ (IsUtf8 target) → route_of_target views target ≡ None
+unfolding route_of_target
 no_text views target never = choose (is_utf8 target) refl
   where
-    choose : (b : Bool) → is_utf8 target ≡ b → cond b (route_by views (parts_at 47 target)) None ≡ None
+    choose : (b : Bool) → is_utf8 target ≡ b → cond b (route_of_segments views (split_at_byte 47 target)) None ≡ None
     choose true e = elim (never (IsUtf8-from_is_utf8 target e)) [ ]
     choose false e = refl
 
-routed : (views : List Text) (target : Text) → is_utf8 target ≡ true → route_of views target ≡ route_by views (parts_at 47 target)
-unfolding route_of
+routed : (views : List Text) (target : Text) → is_utf8 target ≡ true → route_of_target views target ≡ route_of_segments views (split_at_byte 47 target)
+unfolding route_of_target
 routed views target e = rw e refl
 
-pub text_routed : (views : List Text) (target text : Text) (parts slice : List (Bor Text)) (result : Result (Option Route) Fault) → text ≡ target → IsUtf8 target → texts parts ≡ parts_at 47 text → slice ≡ parts
-    → IfOk result (λ route. option_map route_is route ≡ route_by views (texts slice)) → IfOk result (λ route. option_map route_is route ≡ route_of views target)
+pub text_routed : (views : List Text) (target text : Text) (parts slice : List (Bor Text)) (result : Result (Option Route) Fault) → text ≡ target → IsUtf8 target → texts_of_fields parts ≡ split_at_byte 47 text → slice ≡ parts
+    → IfOk result (λ route. option_map route_in_model route ≡ route_of_segments views (texts_of_fields slice)) → IfOk result (λ route. option_map route_in_model route ≡ route_of_target views target)
 text_routed views target text parts slice result same utf8 cut is h =
-    let e : route_by views (texts slice) ≡ route_of views target =
-    ap (λ ps. route_by views (texts ps)) is ∙ ap (route_by views) cut ∙ ap (λ t. route_by views (parts_at 47 t)) same ∙ sym (routed views target (is_utf8-from_IsUtf8 target utf8)) in
-    subst (λ r. IfOk result (λ route. option_map route_is route ≡ r)) e h
+    let e : route_of_segments views (texts_of_fields slice) ≡ route_of_target views target =
+    ap (λ ps. route_of_segments views (texts_of_fields ps)) is ∙ ap (route_of_segments views) cut ∙ ap (λ t. route_of_segments views (split_at_byte 47 t)) same ∙ sym (routed views target (is_utf8-from_IsUtf8 target utf8)) in
+    subst (λ r. IfOk result (λ route. option_map route_in_model route ≡ r)) e h
 
-pub text_unrouted : (views : List Text) (target text : Text) → list_all has_byte views ≡ true → ((k : ℕ) → get_or target k 0 < 256) → text ≡ target → IsUtf8 target
-    → is_some (first the_routes text) ≡ false → None ≡ route_of views target
+pub text_unrouted : (views : List Text) (target text : Text) → list_all is_nonempty views ≡ true → ((k : ℕ) → get_or target k 0 < 256) → text ≡ target → IsUtf8 target
+    → is_some (first all_router_rows text) ≡ false → None ≡ route_of_target views target
 text_unrouted views target text named fits same utf8 none =
-    sym (routed views target (is_utf8-from_IsUtf8 target utf8) ∙ unrouted views target named fits (subst (λ t. is_some (first the_routes t) ≡ false) same none))
+    sym (routed views target (is_utf8-from_IsUtf8 target utf8) ∙ unrouted views target named fits (subst (λ t. is_some (first all_router_rows t) ≡ false) same none))

@@ -6,12 +6,12 @@ use Rattle.std.specs.Io.KnownBytes.{Appends, prepend_known}
 use Rattle.std.proofs.KnownBytes.{Appends-trans, Appends-nil}
 use Rattle.std.proofs.lemmas.List.{append-nil, length_push}
 use Rattle.brk_money.specs.Spelling.{Text}
-use Rattle.brk_io.specs.Span.{Span}
-use Rattle.brk_io.specs.Moments.{Moments}
+use Rattle.brk_io.specs.Span.{EnvironmentChange}
+use Rattle.brk_io.specs.Moments.{ClockReturnsInOrder}
 use Rattle.brk_http_model.specs.Asked.{Forms}
-use Rattle.brk_http_model.specs.Found.{NoMore, Finds}
-use Rattle.brk_http_model.specs.Stream.{Does, Next, Finished, Continues, One, Replies, BeginsWith}
-use Rattle.brk_http_engine.specs.Turns.{IsTurnAnswered, Turned, TurnFailed, Stopped, ServeGives}
+use Rattle.brk_http_model.specs.Found.{NoMore, ReadsFirstRequest}
+use Rattle.brk_http_model.specs.Stream.{CallRelation, Next, Finished, Continues, One, AreRepliesOfStream, AreFirstReplies}
+use Rattle.brk_http_engine.specs.Turns.{TurnHasReply, TurnEndsWith, TurnFailsWith, StreamFailsWith, IsStreamResult}
 use Rattle.brk_http_engine.specs.declared.turning.Turn.TheVariants as turn
 use Rattle.brk_http_engine.specs.declared.turning.FaultKind.{FaultKind}
 use Rattle.brk_http_engine.specs.declared.turning.FaultKind.TheVariants as kinds
@@ -28,11 +28,11 @@ from_zero : {n m : ℕ} → n ≡ m → 0 + m ≡ n
 from_zero e = omega (arith, e)
 
 -- moments after moments
-moments_more : {C : Type 0} (gives : C → ℕ → C → Type 0) (first mid last : C) (ms ns : List ℕ) → Moments gives first ms mid → Moments gives mid ns last → Moments gives first (ms ++ ns) last
-moments_more gives first mid last [] ns e h = subst (λ c. Moments gives c ns last) e h
+moments_more : {C : Type 0} (gives : C → ℕ → C → Type 0) (first mid last : C) (ms ns : List ℕ) → ClockReturnsInOrder gives first ms mid → ClockReturnsInOrder gives mid ns last → ClockReturnsInOrder gives first (ms ++ ns) last
+moments_more gives first mid last [] ns e h = subst (λ c. ClockReturnsInOrder gives c ns last) e h
 moments_more gives first mid last (m ∷ ms) ns (c, g, more) h = (c, g, moments_more gives c mid last ms ns more h)
 
-module _ {B C : Type 0} (forms : Forms) (does : Does B) (gives : C → ℕ → C → Type 0) where
+module _ {B C : Type 0} (forms : Forms) (does : CallRelation B) (gives : C → ℕ → C → Type 0) where
   one_same : (n n' : ℕ) (i i' : Text) (b b' : B) (taken : List ℕ) (reply : Text) (next : Next) (after : B) → n' ≡ n → i' ≡ i → b' ≡ b → One forms does n' i' b' taken reply next after
       → One forms does n i b taken reply next after
   one_same n n' i i' b b' taken reply next after en ei eb h =
@@ -40,37 +40,37 @@ module _ {B C : Type 0} (forms : Forms) (does : Does B) (gives : C → ℕ → C
       (subst (λ j. One forms does n' j b taken reply next after) ei (subst (λ c. One forms does n' i' c taken reply next after) eb h))
 
   -- one reply more, after which the stream goes on
-  begins_more : (rs : List Text) (n k : ℕ) (i j : Text) (b m : B) (ms taken : List ℕ) (reply rest : Text) (after : B) → BeginsWith forms does n i b ms rs j m → n + length rs ≡ k
-      → One forms does k j m taken reply (Continues rest) after → BeginsWith forms does n i b (ms ++ taken) (rs ++ reply ∷ []) rest after
+  begins_more : (rs : List Text) (n k : ℕ) (i j : Text) (b m : B) (ms taken : List ℕ) (reply rest : Text) (after : B) → AreFirstReplies forms does n i b ms rs j m → n + length rs ≡ k
+      → One forms does k j m taken reply (Continues rest) after → AreFirstReplies forms does n i b (ms ++ taken) (rs ++ reply ∷ []) rest after
   begins_more [] n k i j b m ms taken reply rest after (ei, em, eb) count one =
       (taken, [], rest, after, ap (λ l. l ++ taken) em ∙ sym (append-nil taken), one_same n k i j b m taken reply (Continues rest) after (omega (arith, count)) ei eb one, (refl, refl, refl))
   begins_more (x ∷ rs) n k i j b m ms taken reply rest after (t, more, left, mid, e, first, others) count one =
       (t, more ++ taken, left, mid, ap (λ l. l ++ taken) e ∙ append_assoc t more taken, first, begins_more rs (n + 1) k left j mid m more taken reply rest after others (omega (arith, count)) one)
 
   -- one reply more, which is the last
-  begins_last : (rs : List Text) (n k : ℕ) (i j : Text) (b m : B) (ms taken : List ℕ) (reply : Text) (after : B) → BeginsWith forms does n i b ms rs j m → n + length rs ≡ k
-      → One forms does k j m taken reply Finished after → Replies forms does n (Continues i) b (ms ++ taken) (rs ++ reply ∷ []) after
+  begins_last : (rs : List Text) (n k : ℕ) (i j : Text) (b m : B) (ms taken : List ℕ) (reply : Text) (after : B) → AreFirstReplies forms does n i b ms rs j m → n + length rs ≡ k
+      → One forms does k j m taken reply Finished after → AreRepliesOfStream forms does n (Continues i) b (ms ++ taken) (rs ++ reply ∷ []) after
   begins_last [] n k i j b m ms taken reply after (ei, em, eb) count one =
       (taken, [], Finished, after, ap (λ l. l ++ taken) em ∙ sym (append-nil taken), one_same n k i j b m taken reply Finished after (omega (arith, count)) ei eb one, (refl, refl, refl))
   begins_last (x ∷ rs) n k i j b m ms taken reply after (t, more, left, mid, e, first, others) count one =
       (t, more ++ taken, Continues left, mid, ap (λ l. l ++ taken) e ∙ append_assoc t more taken, first, begins_last rs (n + 1) k left j mid m more taken reply after others (omega (arith, count)) one)
 
   -- no request more
-  begins_end : (rs : List Text) (n : ℕ) (i j : Text) (b m : B) (ms : List ℕ) → BeginsWith forms does n i b ms rs j m → Finds j NoMore → Replies forms does n (Continues i) b ms rs m
-  begins_end [] n i j b m ms (ei, em, eb) none = (subst (λ t. Finds t NoMore) ei none, em, eb)
+  begins_end : (rs : List Text) (n : ℕ) (i j : Text) (b m : B) (ms : List ℕ) → AreFirstReplies forms does n i b ms rs j m → ReadsFirstRequest j NoMore → AreRepliesOfStream forms does n (Continues i) b ms rs m
+  begins_end [] n i j b m ms (ei, em, eb) none = (subst (λ t. ReadsFirstRequest t NoMore) ei none, em, eb)
   begins_end (x ∷ rs) n i j b m ms (t, more, left, mid, e, first, others) none = (t, more, Continues left, mid, e, first, begins_end rs (n + 1) left j mid m more others none)
 
   -- where a stream stands: its first replies are written, and this is left
-  pub record Place (input : Text) (span : Span B C) (n : ℕ) (rest : Text) : Type 0 where
+  pub record Place (input : Text) (span : EnvironmentChange B C) (n : ℕ) (rest : Text) : Type 0 where
     pub moments : List ℕ
     pub replies : List Text
-    pub taken : Moments gives span.clock moments span.later
-    pub begun : BeginsWith forms does 0 input span.base moments replies rest span.after
+    pub taken : ClockReturnsInOrder gives span.clock moments span.later
+    pub begun : AreFirstReplies forms does 0 input span.base moments replies rest span.after
     pub written : Appends span.old span.new (concat replies)
     pub counted : n ≡ length replies
 
   -- so far, as far as the bytes are known
-  abbrev pub SoFar : Option Text → Span B C → ℕ → Text → Option Text → Type 0
+  abbrev pub SoFar : Option Text → EnvironmentChange B C → ℕ → Text → Option Text → Type 0
   SoFar a span n buffer left = IfSome a (λ input. (rest : Text) × (prepend_known buffer left ≡ Some rest) × Place input span n rest)
 
   pub at_first : (a : Option Text) (base : B) (clock : C) (old : Option Text) (buffer : Text) → buffer ≡ []
@@ -83,15 +83,15 @@ module _ {B C : Type 0} (forms : Forms) (does : Does B) (gives : C → ℕ → C
   )
 
   -- from here on
-  abbrev pub onward : Span B C → B → C → Option Text → Span B C
+  abbrev pub onward : EnvironmentChange B C → B → C → Option Text → EnvironmentChange B C
   onward span after later new = record { base = span.after; after = after; clock = span.later; later = later; old = span.new; new = new }
 
   -- from the start on
-  abbrev pub over_all : Span B C → B → C → Option Text → Span B C
+  abbrev pub over_all : EnvironmentChange B C → B → C → Option Text → EnvironmentChange B C
   over_all span after later new = record { base = span.base; after = after; clock = span.clock; later = later; old = span.old; new = new }
 
-  here : (input : Text) (span : Span B C) (n : ℕ) (rest left : Text) (after : B) (later : C) (new : Option Text) (reply : Text) → Place input span n rest
-      → IsTurnAnswered forms does gives n rest (onward span after later new) reply (Continues left) → Appends span.new new reply → Place input (over_all span after later new) (n + 1) left
+  here : (input : Text) (span : EnvironmentChange B C) (n : ℕ) (rest left : Text) (after : B) (later : C) (new : Option Text) (reply : Text) → Place input span n rest
+      → TurnHasReply forms does gives n rest (onward span after later new) reply (Continues left) → Appends span.new new reply → Place input (over_all span after later new) (n + 1) left
   here input span n rest left after later new reply p answered wrote = record {
     moments = p.moments ++ answered.taken;
     replies = p.replies ++ reply ∷ [];
@@ -101,20 +101,20 @@ module _ {B C : Type 0} (forms : Forms) (does : Does B) (gives : C → ℕ → C
     counted = ap (λ m. m + 1) p.counted ∙ sym (length_push p.replies reply);
   }
 
-  pub open_here : (a : Option Text) (span : Span B C) (n : ℕ) (buffer : Text) (left : Option Text) (after : B) (later : C) (new : Option Text) (buffer' : Text) (left' : Option Text)
-      → SoFar a span n buffer left → IfSome left (λ xs. Turned forms does gives n (buffer ++ xs) (onward span after later new) (prepend_known buffer' left') turn.Open)
+  pub open_here : (a : Option Text) (span : EnvironmentChange B C) (n : ℕ) (buffer : Text) (left : Option Text) (after : B) (later : C) (new : Option Text) (buffer' : Text) (left' : Option Text)
+      → SoFar a span n buffer left → IfSome left (λ xs. TurnEndsWith forms does gives n (buffer ++ xs) (onward span after later new) (prepend_known buffer' left') turn.Open)
       → SoFar a (over_all span after later new) (n + 1) buffer' left'
   open_here None span n buffer left after later new buffer' left' h t = tt
   open_here (Some input) span n buffer left after later new buffer' left' (rest, is, p) t =
-      let u = at_rest left buffer rest (λ i. Turned forms does gives n i (onward span after later new) (prepend_known buffer' left') turn.Open) is t in
+      let u = at_rest left buffer rest (λ i. TurnEndsWith forms does gives n i (onward span after later new) (prepend_known buffer' left') turn.Open) is t in
       (u.1, u.4, here input span n rest u.1 after later new u.0 p u.2 u.3)
 
-  pub closed_here : (a : Option Text) (span : Span B C) (n : ℕ) (buffer : Text) (left : Option Text) (after : B) (later : C) (new left' : Option Text)
-      → SoFar a span n buffer left → IfSome left (λ xs. Turned forms does gives n (buffer ++ xs) (onward span after later new) left' turn.Closed)
-      → IfSome a (λ input. ServeGives forms does gives input (over_all span after later new) (Ok (n + 1)))
+  pub closed_here : (a : Option Text) (span : EnvironmentChange B C) (n : ℕ) (buffer : Text) (left : Option Text) (after : B) (later : C) (new left' : Option Text)
+      → SoFar a span n buffer left → IfSome left (λ xs. TurnEndsWith forms does gives n (buffer ++ xs) (onward span after later new) left' turn.Closed)
+      → IfSome a (λ input. IsStreamResult forms does gives input (over_all span after later new) (Ok (n + 1)))
   closed_here None span n buffer left after later new left' h t = tt
   closed_here (Some input) span n buffer left after later new left' (rest, is, p) t =
-      let u = at_rest left buffer rest (λ i. Turned forms does gives n i (onward span after later new) left' turn.Closed) is t in
+      let u = at_rest left buffer rest (λ i. TurnEndsWith forms does gives n i (onward span after later new) left' turn.Closed) is t in
       record {
         moments = p.moments ++ u.1.taken;
         replies = p.replies ++ u.0 ∷ [];
@@ -124,30 +124,30 @@ module _ {B C : Type 0} (forms : Forms) (does : Does B) (gives : C → ℕ → C
         counted = ap (λ m. m + 1) p.counted ∙ sym (length_push p.replies u.0);
       }
 
-  same_moments : (first mid last : C) (ms : List ℕ) → Moments gives first ms mid → last ≡ mid → Moments gives first ms last
-  same_moments first mid last ms h e = subst (λ c. Moments gives first ms c) (sym e) h
+  same_moments : (first mid last : C) (ms : List ℕ) → ClockReturnsInOrder gives first ms mid → last ≡ mid → ClockReturnsInOrder gives first ms last
+  same_moments first mid last ms h e = subst (λ c. ClockReturnsInOrder gives first ms c) (sym e) h
 
-  pub ended_here : (a : Option Text) (span : Span B C) (n : ℕ) (buffer : Text) (left : Option Text) (after : B) (later : C) (new left' : Option Text)
-      → SoFar a span n buffer left → IfSome left (λ xs. Turned forms does gives n (buffer ++ xs) (onward span after later new) left' turn.Ended)
-      → IfSome a (λ input. ServeGives forms does gives input (over_all span after later new) (Ok n))
+  pub ended_here : (a : Option Text) (span : EnvironmentChange B C) (n : ℕ) (buffer : Text) (left : Option Text) (after : B) (later : C) (new left' : Option Text)
+      → SoFar a span n buffer left → IfSome left (λ xs. TurnEndsWith forms does gives n (buffer ++ xs) (onward span after later new) left' turn.Ended)
+      → IfSome a (λ input. IsStreamResult forms does gives input (over_all span after later new) (Ok n))
   ended_here None span n buffer left after later new left' h t = tt
   ended_here (Some input) span n buffer left after later new left' (rest, is, p) t =
-      let u = at_rest left buffer rest (λ i. Turned forms does gives n i (onward span after later new) left' turn.Ended) is t in
+      let u = at_rest left buffer rest (λ i. TurnEndsWith forms does gives n i (onward span after later new) left' turn.Ended) is t in
       record {
         moments = p.moments;
         replies = p.replies;
         taken = same_moments _ _ _ p.moments p.taken u.1.clock;
-        replied = subst (λ b. Replies forms does 0 (Continues input) span.base p.moments p.replies b) (sym u.1.base) (begins_end p.replies 0 input rest span.base span.after p.moments p.begun u.0);
+        replied = subst (λ b. AreRepliesOfStream forms does 0 (Continues input) span.base p.moments p.replies b) (sym u.1.base) (begins_end p.replies 0 input rest span.base span.after p.moments p.begun u.0);
         written = subst (λ t. Appends span.old new t) (append-nil (concat p.replies)) (Appends-trans _ _ _ _ _ p.written u.1.written);
         counted = p.counted;
       }
 
-  pub failed_here : (a : Option Text) (span : Span B C) (n : ℕ) (buffer : Text) (left : Option Text) (after : B) (later : C) (new : Option Text) (kind : FaultKind)
-      → SoFar a span n buffer left → IfSome left (λ xs. TurnFailed forms does gives n (buffer ++ xs) (onward span after later new) kind)
-      → IfSome a (λ input. Stopped forms does gives input (over_all span after later new) kind n)
+  pub failed_here : (a : Option Text) (span : EnvironmentChange B C) (n : ℕ) (buffer : Text) (left : Option Text) (after : B) (later : C) (new : Option Text) (kind : FaultKind)
+      → SoFar a span n buffer left → IfSome left (λ xs. TurnFailsWith forms does gives n (buffer ++ xs) (onward span after later new) kind)
+      → IfSome a (λ input. StreamFailsWith forms does gives input (over_all span after later new) kind n)
   failed_here None span n buffer left after later new kind h t = tt
   failed_here (Some input) span n buffer left after later new kind (rest, is, p) t =
-      let u = at_rest left buffer rest (λ i. TurnFailed forms does gives n i (onward span after later new) kind) is t in
+      let u = at_rest left buffer rest (λ i. TurnFailsWith forms does gives n i (onward span after later new) kind) is t in
       record {
         moments = p.moments;
         replies = p.replies;
@@ -158,13 +158,13 @@ module _ {B C : Type 0} (forms : Forms) (does : Does B) (gives : C → ℕ → C
         taken = p.taken;
         begun = p.begun;
         written = p.written;
-        failed = subst (λ m. TurnFailed forms does gives m rest (onward span after later new) kind) p.counted u;
+        failed = subst (λ m. TurnFailsWith forms does gives m rest (onward span after later new) kind) p.counted u;
         counted = p.counted;
       }
 
   -- a stream that failed before its first request was read
   pub unstarted : (a : Option Text) (base : B) (clock : C) (old : Option Text)
-      → IfSome a (λ input. Stopped forms does gives input (record { base = base; after = base; clock = clock; later = clock; old = old; new = old }) kinds.Memory 0)
+      → IfSome a (λ input. StreamFailsWith forms does gives input (record { base = base; after = base; clock = clock; later = clock; old = old; new = old }) kinds.Memory 0)
   unstarted None base clock old = tt
   unstarted (Some input) base clock old = record {
     moments = [];

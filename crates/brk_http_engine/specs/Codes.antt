@@ -8,7 +8,7 @@ use Rattle.brk_model.specs.Commands as model
 use Rattle.brk_model.specs.Queries as queries
 use Rattle.brk_model.specs.Records as records
 use Rattle.brk_model.specs.Run as run
-use Rattle.brk_ref.specs.Records.{key_of}
+use Rattle.brk_ref.specs.Records.{abstract_key}
 use Rattle.brk_ref.specs.declared.key.Key as ref
 use Rattle.brk_http_model.specs.Asked as asked
 use Rattle.brk_http_model.specs.Replies.{Response, Wrong, Came}
@@ -23,53 +23,53 @@ use Rattle.brk_http_engine.specs.declared.acting.ServiceAnswer.{ServiceAnswer}
 use Rattle.brk_http_engine.specs.declared.acting.ServiceAnswer.TheVariants as told
 
 -- The model's key that a row's key represents, or none if the row has none.
-abbrev pub key_for : Option ref.Key → Option records.Key
-key_for key = option_map key_of key
+abbrev pub key_in_model : Option ref.Key → Option records.Key
+key_in_model key = option_map abstract_key key
 
 -- The model's outcome that the result of a row's call represents; `reply` maps a reply to the
 -- model's reply.
-abbrev pub row_outcome : {R : Type 0} → (R → model.Reply) → Result (RowAnswer R) Fault → run.Outcome
-row_outcome reply (Ok (given.Done r)) = run.Did (model.Done (reply r))
-row_outcome reply (Ok (given.Again line)) = run.Did (model.Again (string_bytes line))
-row_outcome reply (Ok (given.Refused refusal)) = run.Did (model.Refused refusal)
-row_outcome reply (Err fault) = run.Failed fault
+abbrev pub row_outcome_in_model : {R : Type 0} → (R → model.Reply) → Result (RowAnswer R) Fault → run.Outcome
+row_outcome_in_model reply (Ok (given.Done r)) = run.Did (model.Done (reply r))
+row_outcome_in_model reply (Ok (given.Again line)) = run.Did (model.Again (string_bytes line))
+row_outcome_in_model reply (Ok (given.Refused refusal)) = run.Did (model.Refused refusal)
+row_outcome_in_model reply (Err fault) = run.Failed fault
 
 -- The model's outcome that the result of a query represents; `shown` maps a view to the model's
 -- view.
-abbrev pub query_outcome : {V : Type 0} → (V → queries.View) → Result (Result V Refusal) Fault → run.Outcome
-query_outcome shown (Ok (Ok view)) = run.Saw (shown view)
-query_outcome shown (Ok (Err refusal)) = run.NoView refusal
-query_outcome shown (Err fault) = run.Failed fault
+abbrev pub query_outcome_in_model : {V : Type 0} → (V → queries.View) → Result (Result V Refusal) Fault → run.Outcome
+query_outcome_in_model shown (Ok (Ok view)) = run.Saw (shown view)
+query_outcome_in_model shown (Ok (Err refusal)) = run.NoView refusal
+query_outcome_in_model shown (Err fault) = run.Failed fault
 
 -- The bytes of each text of a list, in the order of the list.
-abbrev pub list_of : Vec (String Global) → List Text
-list_of texts = map string_bytes texts.items
+abbrev pub bytes_of_texts : Vec (String Global) → List Text
+bytes_of_texts texts = map string_bytes texts.items
 
 -- The bytes of each text of each record, as a view of the model.
-abbrev pub records_of : Vec (Vec (String Global)) → queries.View
-records_of records = map list_of records.items
+abbrev pub bytes_of_records : Vec (Vec (String Global)) → queries.View
+bytes_of_records records = map bytes_of_texts records.items
 
 -- The model's route that a route represents.
-abbrev pub route_is : Route → routes.Route
-route_is (route.ToRow key) = routes.ToRow (key_for key)
-route_is (route.ToView view) = routes.ToView view.now
+abbrev pub route_in_model : Route → routes.Route
+route_in_model (route.ToRow key) = routes.ToRow (key_in_model key)
+route_in_model (route.ToView view) = routes.ToView view.now
 
 -- The model's call that a request makes, or its response if the request makes no call; `command`
 -- and `query` map to the model's commands and queries.
-abbrev pub asked_is : {X Q : Type 0} → (X → model.Command) → (Q → queries.Query) → Asking X Q → asked.Asked
-asked_is command query (asking.Wrong problem) = asked.HasResponse (Wrong problem)
-asked_is command query (asking.BadRow refusal) = asked.HasResponse (Came (run.Did (model.Refused refusal)))
-asked_is command query (asking.BadQuery refusal) = asked.HasResponse (Came (run.NoView refusal))
-asked_is command query (asking.Row x key) = asked.Calls (run.Do (command x) (key_for key))
-asked_is command query (asking.View q) = asked.Calls (run.Ask (query q))
+abbrev pub call_in_model : {X Q : Type 0} → (X → model.Command) → (Q → queries.Query) → Asking X Q → asked.Asked
+call_in_model command query (asking.Wrong problem) = asked.HasResponse (Wrong problem)
+call_in_model command query (asking.BadRow refusal) = asked.HasResponse (Came (run.Did (model.Refused refusal)))
+call_in_model command query (asking.BadQuery refusal) = asked.HasResponse (Came (run.NoView refusal))
+call_in_model command query (asking.Row x key) = asked.Calls (run.Do (command x) (key_in_model key))
+call_in_model command query (asking.View q) = asked.Calls (run.Ask (query q))
 
 -- The model's response that a response represents; `reply` and `shown` map to the model's replies
 -- and views.
-abbrev pub response_of : {R V : Type 0} → (R → model.Reply) → (V → queries.View) → ServiceAnswer R V → Response
-response_of reply shown (told.Wrong problem) = Wrong problem
-response_of reply shown (told.NoRow refusal) = Came (run.Did (model.Refused refusal))
-response_of reply shown (told.NoView refusal) = Came (run.NoView refusal)
-response_of reply shown (told.Done r) = Came (run.Did (model.Done (reply r)))
-response_of reply shown (told.Again line) = Came (run.Did (model.Again (string_bytes line)))
-response_of reply shown (told.Saw view) = Came (run.Saw (shown view))
-response_of reply shown (told.Failed fault) = Came (run.Failed fault)
+abbrev pub response_in_model : {R V : Type 0} → (R → model.Reply) → (V → queries.View) → ServiceAnswer R V → Response
+response_in_model reply shown (told.Wrong problem) = Wrong problem
+response_in_model reply shown (told.NoRow refusal) = Came (run.Did (model.Refused refusal))
+response_in_model reply shown (told.NoView refusal) = Came (run.NoView refusal)
+response_in_model reply shown (told.Done r) = Came (run.Did (model.Done (reply r)))
+response_in_model reply shown (told.Again line) = Came (run.Did (model.Again (string_bytes line)))
+response_in_model reply shown (told.Saw view) = Came (run.Saw (shown view))
+response_in_model reply shown (told.Failed fault) = Came (run.Failed fault)

@@ -3,12 +3,12 @@ use Rattle.std.specs.Prelude.{◌≡◌, ◌⊎◌, ◌==◌, ◌||◌, Bool, �
 use Rattle.std.specs.Io.KnownBytes.{Appends}
 use Rattle.std.specs.List.{concat}
 use Rattle.brk_money.specs.Spelling.{Text}
-use Rattle.brk_http_model.specs.Asked.{Forms, asked_of}
-use Rattle.brk_http_model.specs.Found.{Request, Finds, NoMore}
-use Rattle.brk_http_model.specs.Replies.{Response, is_fault, reply_text}
-use Rattle.brk_http_model.specs.Stream.{Does, Responds, most_requests, Next, Finished, Continues, One, Replies, BeginsWith}
-use Rattle.brk_io.specs.Span.{IsUntouched, Span}
-use Rattle.brk_io.specs.Moments.{Moments}
+use Rattle.brk_http_model.specs.Asked.{Forms, demand_of_request}
+use Rattle.brk_http_model.specs.Found.{Request, ReadsFirstRequest, NoMore}
+use Rattle.brk_http_model.specs.Replies.{Response, is_fault_response, reply_text}
+use Rattle.brk_http_model.specs.Stream.{CallRelation, IsResponseToDemand, most_requests, Next, Finished, Continues, One, AreRepliesOfStream, AreFirstReplies}
+use Rattle.brk_io.specs.Span.{IsUnchangedEnvironment, EnvironmentChange}
+use Rattle.brk_io.specs.Moments.{ClockReturnsInOrder}
 use Rattle.brk_http_engine.specs.declared.turning.Turn.{Turn}
 use Rattle.brk_http_engine.specs.declared.turning.Turn.TheVariants as turn
 use Rattle.brk_http_engine.specs.declared.turning.FaultKind.{FaultKind}
@@ -17,68 +17,68 @@ use Rattle.brk_http_engine.specs.declared.stream.ServeFault.{ServeFault}
 
 -- The input at the front of the stream, after `n` replies, was answered with `reply`; the stream
 -- then has ended or continues, as `next` says. The clock was read once for each of the timestamps.
-pub record IsTurnAnswered {B C : Type 0} (forms : Forms) (does : Does B) (gives : C → ℕ → C → Type 0) (n : ℕ) (input : Text) (span : Span B C) (reply : Text) (next : Next) : Type 0 where
+pub record TurnHasReply {B C : Type 0} (forms : Forms) (does : CallRelation B) (gives : C → ℕ → C → Type 0) (n : ℕ) (input : Text) (span : EnvironmentChange B C) (reply : Text) (next : Next) : Type 0 where
   pub taken : List ℕ
-  pub moments : Moments gives span.clock taken span.later
+  pub moments : ClockReturnsInOrder gives span.clock taken span.later
   pub one : One forms does n input span.base taken reply next span.after
 
 -- The request was executed and `reply` is its reply. The reply closes the stream if it is the last
 -- that the limit allows, if the request asks to close, or if the desk failed. The clock was read
 -- once for each of the timestamps.
-pub record Acted {B C : Type 0} (forms : Forms) (does : Does B) (gives : C → ℕ → C → Type 0) (n : ℕ) (request : Request) (span : Span B C) (closes : Bool) (reply : Text) : Type 0 where
+pub record ExecutesRequest {B C : Type 0} (forms : Forms) (does : CallRelation B) (gives : C → ℕ → C → Type 0) (n : ℕ) (request : Request) (span : EnvironmentChange B C) (closes : Bool) (reply : Text) : Type 0 where
   pub taken : List ℕ
   pub response : Response
-  pub moments : Moments gives span.clock taken span.later
-  pub responds : Responds does (asked_of forms request) span.base taken response span.after
-  pub last : closes ≡ ((n + 1 == most_requests) || request.closes || is_fault response)
+  pub moments : ClockReturnsInOrder gives span.clock taken span.later
+  pub responds : IsResponseToDemand does (demand_of_request forms request) span.base taken response span.after
+  pub last : closes ≡ ((n + 1 == most_requests) || request.closes || is_fault_response response)
   pub bytes : reply ≡ reply_text response closes
 
 -- The turn after `n` replies completed with this result. `Ended`: no input was left, and nothing
 -- changed. `Closed`: the reply was written and ends the stream. `Open`: the reply was written, and
 -- `left` is the rest of the input.
-abbrev pub Turned : {B C : Type 0} → Forms → Does B → (C → ℕ → C → Type 0) → ℕ → Text → Span B C → Option Text → Turn → Type 0
-Turned forms does gives n input span left turn.Ended = Finds input NoMore × IsUntouched span
-Turned forms does gives n input span left turn.Closed = (reply : Text) × IsTurnAnswered forms does gives n input span reply Finished × Appends span.old span.new reply
-Turned forms does gives n input span left turn.Open =
-    (reply : Text) × (rest : Text) × IsTurnAnswered forms does gives n input span reply (Continues rest) × Appends span.old span.new reply × (left ≡ Some rest)
+abbrev pub TurnEndsWith : {B C : Type 0} → Forms → CallRelation B → (C → ℕ → C → Type 0) → ℕ → Text → EnvironmentChange B C → Option Text → Turn → Type 0
+TurnEndsWith forms does gives n input span left turn.Ended = ReadsFirstRequest input NoMore × IsUnchangedEnvironment span
+TurnEndsWith forms does gives n input span left turn.Closed = (reply : Text) × TurnHasReply forms does gives n input span reply Finished × Appends span.old span.new reply
+TurnEndsWith forms does gives n input span left turn.Open =
+    (reply : Text) × (rest : Text) × TurnHasReply forms does gives n input span reply (Continues rest) × Appends span.old span.new reply × (left ≡ Some rest)
 
 -- The turn after `n` replies failed with this fault. `Read`: nothing changed and nothing was
 -- written. `Memory`: nothing was written, but the request may have been executed. `Write`: the
 -- request was executed, and a prefix of its reply was written, perhaps all of it.
-abbrev pub TurnFailed : {B C : Type 0} → Forms → Does B → (C → ℕ → C → Type 0) → ℕ → Text → Span B C → FaultKind → Type 0
-TurnFailed forms does gives n input span kinds.Read = IsUntouched span
-TurnFailed forms does gives n input span kinds.Memory =
-    IsUntouched span ⊎ ((reply : Text) × (next : Next) × IsTurnAnswered forms does gives n input span reply next × Appends span.old span.new [])
-TurnFailed forms does gives n input span kinds.Write =
-    (reply : Text) × (next : Next) × (k : ℕ) × IsTurnAnswered forms does gives n input span reply next × Appends span.old span.new (take k reply)
+abbrev pub TurnFailsWith : {B C : Type 0} → Forms → CallRelation B → (C → ℕ → C → Type 0) → ℕ → Text → EnvironmentChange B C → FaultKind → Type 0
+TurnFailsWith forms does gives n input span kinds.Read = IsUnchangedEnvironment span
+TurnFailsWith forms does gives n input span kinds.Memory =
+    IsUnchangedEnvironment span ⊎ ((reply : Text) × (next : Next) × TurnHasReply forms does gives n input span reply next × Appends span.old span.new [])
+TurnFailsWith forms does gives n input span kinds.Write =
+    (reply : Text) × (next : Next) × (k : ℕ) × TurnHasReply forms does gives n input span reply next × Appends span.old span.new (take k reply)
 
 -- The stream completed: the writer got exactly its `count` replies, and the clock was read once for
 -- each of the timestamps.
-pub record Served {B C : Type 0} (forms : Forms) (does : Does B) (gives : C → ℕ → C → Type 0) (input : Text) (span : Span B C) (count : ℕ) : Type 0 where
+pub record StreamCompletesWith {B C : Type 0} (forms : Forms) (does : CallRelation B) (gives : C → ℕ → C → Type 0) (input : Text) (span : EnvironmentChange B C) (count : ℕ) : Type 0 where
   pub moments : List ℕ
   pub replies : List Text
-  pub taken : Moments gives span.clock moments span.later
-  pub replied : Replies forms does 0 (Continues input) span.base moments replies span.after
+  pub taken : ClockReturnsInOrder gives span.clock moments span.later
+  pub replied : AreRepliesOfStream forms does 0 (Continues input) span.base moments replies span.after
   pub written : Appends span.old span.new (concat replies)
   pub counted : count ≡ length replies
 
 -- A fault ended the stream: the first `count` replies were written, and the next turn failed with
 -- `kind`.
-pub record Stopped {B C : Type 0} (forms : Forms) (does : Does B) (gives : C → ℕ → C → Type 0) (input : Text) (span : Span B C) (kind : FaultKind) (count : ℕ) : Type 0 where
+pub record StreamFailsWith {B C : Type 0} (forms : Forms) (does : CallRelation B) (gives : C → ℕ → C → Type 0) (input : Text) (span : EnvironmentChange B C) (kind : FaultKind) (count : ℕ) : Type 0 where
   pub moments : List ℕ
   pub replies : List Text
   pub rest : Text
   pub mid : B
   pub later : C
   pub between : Option Text
-  pub taken : Moments gives span.clock moments later
-  pub begun : BeginsWith forms does 0 input span.base moments replies rest mid
+  pub taken : ClockReturnsInOrder gives span.clock moments later
+  pub begun : AreFirstReplies forms does 0 input span.base moments replies rest mid
   pub written : Appends span.old between (concat replies)
-  pub failed : TurnFailed forms does gives (length replies) rest (record { base = mid; after = span.after; clock = later; later = span.later; old = between; new = span.new }) kind
+  pub failed : TurnFailsWith forms does gives (length replies) rest (record { base = mid; after = span.after; clock = later; later = span.later; old = between; new = span.new }) kind
   pub counted : count ≡ length replies
 
 -- The result of a stream is as specified: of a complete stream the number of its replies, and
 -- otherwise a fault with its effect.
-abbrev pub ServeGives : {B C : Type 0} → Forms → Does B → (C → ℕ → C → Type 0) → Text → Span B C → Result ℕ ServeFault → Type 0
-ServeGives forms does gives input span (Ok count) = Served forms does gives input span count
-ServeGives forms does gives input span (Err fault) = Stopped forms does gives input span fault.kind fault.done
+abbrev pub IsStreamResult : {B C : Type 0} → Forms → CallRelation B → (C → ℕ → C → Type 0) → Text → EnvironmentChange B C → Result ℕ ServeFault → Type 0
+IsStreamResult forms does gives input span (Ok count) = StreamCompletesWith forms does gives input span count
+IsStreamResult forms does gives input span (Err fault) = StreamFailsWith forms does gives input span fault.kind fault.done

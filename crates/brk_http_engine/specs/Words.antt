@@ -5,9 +5,9 @@ use Rattle.brk_http_engine.specs.declared.bodies.Word.{Word}
 use Rattle.brk_http_engine.specs.declared.bodies.Word.TheVariants.{Ok, Again, No, View, Error}
 
 -- The bytes of a member name of a reply's object.
-abbrev pub word_text : Word → Text
-word_text Ok = codes "ok"
-word_text Again = codes "again"
-word_text No = codes "no"
-word_text View = codes "view"
-word_text Error = codes "error"
+abbrev pub member_name_text : Word → Text
+member_name_text Ok = codes "ok"
+member_name_text Again = codes "again"
+member_name_text No = codes "no"
+member_name_text View = codes "view"
+member_name_text Error = codes "error"

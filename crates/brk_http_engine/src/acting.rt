@@ -1,9 +1,9 @@
 ghost use Rattle.std.specs.Prelude.{◌≡◌, ℕ, List};
 ghost use Rattle.brk_model.specs.Run.{Ask, Do, Outcome};
 ghost use Rattle.brk_http_model.specs.Replies.{Came};
-ghost use Rattle.brk_io.specs.Moments.{Moments};
-ghost use Rattle.brk_http_model.specs.Stream.{Responds};
-ghost use Rattle.brk_http_engine.specs.Codes.{asked_is, key_for, response_of};
+ghost use Rattle.brk_io.specs.Moments.{ClockReturnsInOrder};
+ghost use Rattle.brk_http_model.specs.Stream.{IsResponseToDemand};
+ghost use Rattle.brk_http_engine.specs.Codes.{call_in_model, key_in_model, response_in_model};
 
 use crate::asking::Asking;
 use crate::service::{RowAnswer, Service};
@@ -34,15 +34,15 @@ pub enum ServiceAnswer<R, V> {
 
 // Executes a command at the clock reading `now`, with or without a key. Returns the response; a
 // refusal or a fault of the desk is a response too.
-fn act_on_row<D: Service>(
+fn execute_row_command<D: Service>(
     alloc: Global,
     desk: &mut D::Desk,
     now: Stamp,
     command: &D::Command,
     key: &Option<Key>,
 ) -> ServiceAnswer<D::Reply, D::View>
-    ensures { (outcome : Outcome) × (response_of D.told D.shown result ≡ Came outcome)
-        × D.acts desk.old now (Do (D.command_of command.now) (key_for key.now)) outcome desk.new }
+    ensures { (outcome : Outcome) × (response_in_model D.told D.shown result ≡ Came outcome)
+        × D.acts desk.old now (Do (D.command_of command.now) (key_in_model key.now)) outcome desk.new }
 {
     match D::call(desk, alloc, now, command, key.as_ref()) {
         Ok(RowAnswer::Done(reply)) => ServiceAnswer::Done(reply),
@@ -53,12 +53,12 @@ fn act_on_row<D: Service>(
 }
 
 // Executes a query. Returns the response; a refusal or a fault of the desk is a response too.
-fn act_on_query<D: Service>(
+fn execute_query<D: Service>(
     alloc: Global,
     desk: &mut D::Desk,
     query: &D::Query,
 ) -> ServiceAnswer<D::Reply, D::View>
-    ensures { (outcome : Outcome) × (response_of D.told D.shown result ≡ Came outcome)
+    ensures { (outcome : Outcome) × (response_in_model D.told D.shown result ≡ Came outcome)
         × D.acts desk.old 0 (Ask (D.query_of query.now)) outcome desk.new }
 {
     match D::ask(desk, alloc, query) {
@@ -70,14 +70,14 @@ fn act_on_query<D: Service>(
 
 /// Executes the call of a request, if it makes one, and returns the response. The clock is read
 /// once for a well-formed row, otherwise not.
-pub fn act<C: Clock, D: Service>(
+pub fn execute_call_of_request<C: Clock, D: Service>(
     alloc: Global,
     clock: &mut C,
     desk: &mut D::Desk,
     asking: Asking<D::Command, D::Query>,
 ) -> ServiceAnswer<D::Reply, D::View>
-    ensures { (taken : List ℕ) × Moments C.gives clock.old taken clock.new
-        × Responds D.acts (asked_is D.command_of D.query_of asking) desk.old taken (response_of D.told D.shown result) desk.new }
+    ensures { (taken : List ℕ) × ClockReturnsInOrder C.gives clock.old taken clock.new
+        × IsResponseToDemand D.acts (call_in_model D.command_of D.query_of asking) desk.old taken (response_in_model D.told D.shown result) desk.new }
 {
     match asking {
         Asking::Wrong(problem) => ServiceAnswer::Wrong(problem),
@@ -85,8 +85,8 @@ pub fn act<C: Clock, D: Service>(
         Asking::BadQuery(refusal) => ServiceAnswer::NoView(refusal),
         Asking::Row(command, key) => {
             let now = clock.now();
-            act_on_row::<D>(alloc, desk, now, &command, &key)
+            execute_row_command::<D>(alloc, desk, now, &command, &key)
         }
-        Asking::View(query) => act_on_query::<D>(alloc, desk, &query),
+        Asking::View(query) => execute_query::<D>(alloc, desk, &query),
     }
 }

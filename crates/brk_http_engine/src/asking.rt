@@ -1,13 +1,13 @@
 ghost use Rattle.std.specs.Prelude.{◌≡◌, Bool, IfOk, map, string_bytes};
 ghost use Rattle.std.specs.List.{list_all};
-ghost use Rattle.brk_http_engine.specs.Rows.{has_byte, the_routes};
-ghost use Rattle.brk_http_model.specs.Asked.{asked_by, asked_of};
-ghost use Rattle.brk_http_engine.specs.Codes.{asked_is, route_is};
+ghost use Rattle.brk_http_engine.specs.Rows.{is_nonempty, all_router_rows};
+ghost use Rattle.brk_http_model.specs.Asked.{demand_of_texts, demand_of_request};
+ghost use Rattle.brk_http_engine.specs.Codes.{call_in_model, route_in_model};
 
-use crate::bodies::texts_of;
-use crate::pieces::borrowed;
+use crate::bodies::texts_of_body;
+use crate::pieces::borrow_bytes_of_texts;
 use crate::router::Kind;
-use crate::routes::{Route, route_of};
+use crate::routes::{Route, route_of_target};
 use crate::service::Service;
 use brk_http_model::Problem;
 use brk_money::{Fault, Refusal};
@@ -32,14 +32,14 @@ pub enum Asking<X, Q> {
 
 // Parses the texts of a body for a route. Returns the call of the row or of the query, or the
 // refusal if it is malformed.
-fn asking_with<D: Service>(
+fn parse_call_texts<D: Service>(
     alloc: Global,
     route: Route,
     texts: &[String],
 ) -> Result<Asking<D::Command, D::Query>, Fault>
-    ensures { IfOk result (λ asking. asked_is D.command_of D.query_of asking ≡ asked_by D.forms (route_is route) (map string_bytes texts.now)) }
+    ensures { IfOk result (λ asking. call_in_model D.command_of D.query_of asking ≡ demand_of_texts D.forms (route_in_model route) (map string_bytes texts.now)) }
 {
-    let fields = borrowed(alloc, texts)?;
+    let fields = borrow_bytes_of_texts(alloc, texts)?;
     match route {
         Route::ToRow(key) => match D::parse_row(alloc, &fields)? {
             Ok(command) => Ok(Asking::Row(command, key)),
@@ -54,8 +54,8 @@ fn asking_with<D: Service>(
 
 /// Returns the call that a request makes, or the first reason why it makes none: it has no route,
 /// is not a POST, its body is not a list of texts, or its row or query is malformed.
-#[tactic(auto, unfolding(brk_http_model::specs::Asked::asked_of), using(crate::proofs::AskLemmas::no_route, crate::proofs::AskLemmas::no_post, crate::proofs::AskLemmas::no_texts, crate::proofs::AskLemmas::all_there))]
-pub fn asking_of<D: Service>(
+#[tactic(auto, unfolding(brk_http_model::specs::Asked::demand_of_request), using(crate::proofs::AskLemmas::no_route, crate::proofs::AskLemmas::no_post, crate::proofs::AskLemmas::no_texts, crate::proofs::AskLemmas::all_there))]
+pub fn parse_call_of_request<D: Service>(
     alloc: Global,
     router: &Router<Kind>,
     method: &[u8],
@@ -63,19 +63,19 @@ pub fn asking_of<D: Service>(
     closes: bool,
     body: &[u8],
 ) -> Result<Asking<D::Command, D::Query>, Fault>
-    requires routes { router.now ≡ the_routes }
-    requires named { list_all has_byte D.forms.views ≡ Bool.true }
-    ensures { IfOk result (λ asking. asked_is D.command_of D.query_of asking
-        ≡ asked_of D.forms (record { method = method.now; target = target.now; closes = closes; body = body.now })) }
+    requires routes { router.now ≡ all_router_rows }
+    requires named { list_all is_nonempty D.forms.views ≡ Bool.true }
+    ensures { IfOk result (λ asking. call_in_model D.command_of D.query_of asking
+        ≡ demand_of_request D.forms (record { method = method.now; target = target.now; closes = closes; body = body.now })) }
 {
-    let Some(route) = route_of::<D>(alloc, router, target)? else {
+    let Some(route) = route_of_target::<D>(alloc, router, target)? else {
         return Ok(Asking::Wrong(Problem::NotFound));
     };
     if method != b"POST".as_slice() {
         return Ok(Asking::Wrong(Problem::NotAllowed));
     }
-    let Some(texts) = texts_of(alloc, body)? else {
+    let Some(texts) = texts_of_body(alloc, body)? else {
         return Ok(Asking::Wrong(Problem::BadRequest));
     };
-    asking_with::<D>(alloc, route, &texts)
+    parse_call_texts::<D>(alloc, route, &texts)
 }

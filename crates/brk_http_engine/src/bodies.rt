@@ -2,14 +2,14 @@ ghost use Rattle.std.specs.Prelude.{◌≡◌, ◌≢◌, List, ℕ, map, codes,
 ghost use Rattle.serde_json.specs.Data.{Data, string, array, object, member, no_members};
 ghost use Rattle.serde_json.specs.View.{view, items_of};
 ghost use Rattle.brk_http_model.specs.Bodies as spec;
-ghost use Rattle.brk_http_engine.specs.Codes.{list_of};
-ghost use Rattle.brk_http_engine.specs.Words.{word_text};
+ghost use Rattle.brk_http_engine.specs.Codes.{bytes_of_texts};
+ghost use Rattle.brk_http_engine.specs.Words.{member_name_text};
 
 use serde_json::{Value, json};
 use std::alloc::{AllocError, Global};
 
 // Returns the texts in a list of JSON values, or `None` if one of them is not a text.
-fn strings(alloc: Global, values: &[Value]) -> Result<Option<Vec<String>>, AllocError>
+fn texts_of_values(alloc: Global, values: &[Value]) -> Result<Option<Vec<String>>, AllocError>
     ensures found { IfOk result (λ o. IfSome o (λ v. map view values.now ≡ map string (map string_bytes v.items))) }
     ensures none { IfOk result (λ o. IfNone o ((ts : List (List ℕ)) → map view values.now ≢ map string ts)) }
 {
@@ -26,8 +26,8 @@ fn strings(alloc: Global, values: &[Value]) -> Result<Option<Vec<String>>, Alloc
 /// Parses a body as a JSON list of texts. Returns the texts, or `None` if the body is anything
 /// else.
 #[tactic(auto, using(crate::proofs::BodyLemmas::no_value))]
-pub fn texts_of(alloc: Global, body: &[u8]) -> Result<Option<Vec<String>>, AllocError>
-    ensures { IfOk result (λ found. option_map list_of found ≡ spec.texts_of body.now) }
+pub fn texts_of_body(alloc: Global, body: &[u8]) -> Result<Option<Vec<String>>, AllocError>
+    ensures { IfOk result (λ found. option_map bytes_of_texts found ≡ spec.texts_of_body body.now) }
 {
     let Ok(text) = str::from_utf8(body) else {
         return Ok(None);
@@ -42,7 +42,7 @@ pub fn texts_of(alloc: Global, body: &[u8]) -> Result<Option<Vec<String>>, Alloc
         }
     };
     match value.as_array() {
-        Some(values) => strings(alloc, values),
+        Some(values) => texts_of_values(alloc, values),
         None => Ok(None),
     }
 }
@@ -58,8 +58,8 @@ pub enum Word {
 }
 
 // Returns the JSON list of these texts.
-fn list_value(alloc: Global, texts: &[String]) -> Result<Value, AllocError>
-    ensures { IfOk result (λ v. view v ≡ spec.json_list (map string_bytes texts.now)) }
+fn json_list_of_texts(alloc: Global, texts: &[String]) -> Result<Value, AllocError>
+    ensures { IfOk result (λ v. view v ≡ spec.json_array_of_texts (map string_bytes texts.now)) }
 {
     let mut list = Vec::new(alloc);
     for text in texts {
@@ -69,19 +69,19 @@ fn list_value(alloc: Global, texts: &[String]) -> Result<Value, AllocError>
 }
 
 // Returns the JSON list of these records, each a list of texts.
-fn records_value(alloc: Global, records: &[Vec<String>]) -> Result<Value, AllocError>
-    ensures { IfOk result (λ v. view v ≡ array (items_of (map spec.json_list (map list_of records.now)))) }
+fn json_list_of_records(alloc: Global, records: &[Vec<String>]) -> Result<Value, AllocError>
+    ensures { IfOk result (λ v. view v ≡ array (items_of (map spec.json_array_of_texts (map bytes_of_texts records.now)))) }
 {
     let mut list = Vec::new(alloc);
     for record in records {
-        list.push(list_value(alloc, record)?)?;
+        list.push(json_list_of_texts(alloc, record)?)?;
     }
     Ok(Value::Array(list))
 }
 
 // Returns the JSON object with the one member `word` and this value.
-fn told_value(alloc: Global, word: Word, value: Value) -> Result<Value, AllocError>
-    ensures { IfOk result (λ v. view v ≡ object (member (word_text word) (view value) no_members)) }
+fn json_object_of_member(alloc: Global, word: Word, value: Value) -> Result<Value, AllocError>
+    ensures { IfOk result (λ v. view v ≡ object (member (member_name_text word) (view value) no_members)) }
 {
     match word {
         Word::Ok => json!(in alloc; {"ok": value}),
@@ -93,35 +93,35 @@ fn told_value(alloc: Global, word: Word, value: Value) -> Result<Value, AllocErr
 }
 
 /// Returns the JSON text `{"WORD":["TEXT",..]}` for the member name `word` and these texts.
-pub fn told_texts(alloc: Global, word: Word, texts: &[String]) -> Result<String, AllocError>
-    ensures { IfOk result (λ s. string_bytes s ≡ spec.json_texts (word_text word) (map string_bytes texts.now)) }
+pub fn json_text_of_texts(alloc: Global, word: Word, texts: &[String]) -> Result<String, AllocError>
+    ensures { IfOk result (λ s. string_bytes s ≡ spec.json_texts_object (member_name_text word) (map string_bytes texts.now)) }
 {
-    let list = list_value(alloc, texts)?;
-    let told = told_value(alloc, word, list)?;
+    let list = json_list_of_texts(alloc, texts)?;
+    let told = json_object_of_member(alloc, word, list)?;
     told.to_string(alloc)
 }
 
 /// Returns the JSON text `{"view":[["TEXT",..],..]}` of these records.
-pub fn told_records(alloc: Global, records: &[Vec<String>]) -> Result<String, AllocError>
-    ensures { IfOk result (λ s. string_bytes s ≡ spec.json_records (codes "view") (map list_of records.now)) }
+pub fn json_text_of_view(alloc: Global, records: &[Vec<String>]) -> Result<String, AllocError>
+    ensures { IfOk result (λ s. string_bytes s ≡ spec.json_records_object (codes "view") (map bytes_of_texts records.now)) }
 {
-    let list = records_value(alloc, records)?;
-    let told = told_value(alloc, Word::View, list)?;
+    let list = json_list_of_records(alloc, records)?;
+    let told = json_object_of_member(alloc, Word::View, list)?;
     told.to_string(alloc)
 }
 
 // Returns the JSON string of a text.
-fn text_value(alloc: Global, text: &str) -> Result<Value, AllocError>
+fn json_string(alloc: Global, text: &str) -> Result<Value, AllocError>
     ensures { IfOk result (λ v. view v ≡ string text.now) }
 {
     Ok(Value::String(String::from_str(alloc, text)?))
 }
 
 /// Returns the JSON text `{"error":"WORDS"}` of these words.
-pub fn told_error(alloc: Global, words: &str) -> Result<String, AllocError>
-    ensures { IfOk result (λ s. string_bytes s ≡ spec.json_error words.now) }
+pub fn json_text_of_error(alloc: Global, words: &str) -> Result<String, AllocError>
+    ensures { IfOk result (λ s. string_bytes s ≡ spec.json_error_object words.now) }
 {
-    let text = text_value(alloc, words)?;
-    let told = told_value(alloc, Word::Error, text)?;
+    let text = json_string(alloc, words)?;
+    let told = json_object_of_member(alloc, Word::Error, text)?;
     told.to_string(alloc)
 }

@@ -13,8 +13,8 @@ mod service;
 mod stream;
 mod turning;
 
-pub use bodies::told_records;
-pub use replying::line_fields;
+pub use bodies::json_text_of_view;
+pub use replying::fields_of_stored_line;
 pub use service::{RowAnswer, Service};
 pub use stream::{ServeFault, serve};
 pub use turning::FaultKind;

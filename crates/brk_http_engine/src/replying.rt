@@ -1,16 +1,16 @@
 ghost use Rattle.std.specs.Prelude.{◌≡◌, ◌++◌, [], IfOk, OnOk, Bool, codes, decimal, map, string_bytes, unwrap_or};
 ghost use Rattle.http.specs.StatusCode.{reason_phrase};
-ghost use Rattle.brk_http_model.specs.Replies.{Came, Wrong, asks_for_post, body_of, fault_word, head_line, is_fault, problem_status, problem_words, reply_text, reply_with, response_status, line_if};
+ghost use Rattle.brk_http_model.specs.Replies.{Came, Wrong, names_allowed_method, response_body, fault_word, head_line, is_fault_response, http_status_of_problem, text_of_problem, reply_text, reply_bytes, http_status_of_response, head_line_if};
 ghost use Rattle.brk_model.specs.Commands as model;
 ghost use Rattle.brk_model.specs.Queries as queries;
 ghost use Rattle.brk_model.specs.Run as run;
-ghost use Rattle.brk_http_model.specs.Routes.{parts_at};
-ghost use Rattle.brk_http_engine.specs.Lines.{first_lines, status_text};
-ghost use Rattle.brk_http_engine.specs.Codes.{list_of, response_of};
+ghost use Rattle.brk_http_model.specs.Routes.{split_at_byte};
+ghost use Rattle.brk_http_engine.specs.Lines.{first_head_lines, status_text};
+ghost use Rattle.brk_http_engine.specs.Codes.{bytes_of_texts, response_in_model};
 
 use crate::acting::ServiceAnswer;
-use crate::bodies::{Word, told_error, told_records, told_texts};
-use crate::pieces::{owned, parts_at};
+use crate::bodies::{Word, json_text_of_error, json_text_of_texts, json_text_of_view};
+use crate::pieces::{copy_texts, split_at_byte};
 use crate::service::Service;
 use brk_http_model::Problem;
 use brk_money::{Fault, Refusal};
@@ -18,8 +18,8 @@ use http::StatusCode;
 use std::alloc::{AllocError, Global};
 
 // Returns the HTTP status of the reply to a request with this problem.
-fn problem_code(problem: Problem) -> StatusCode
-    ensures { status_text result ≡ problem_status problem }
+fn status_of_problem(problem: Problem) -> StatusCode
+    ensures { status_text result ≡ http_status_of_problem problem }
 {
     match problem {
         Problem::TooLarge => StatusCode::PAYLOAD_TOO_LARGE,
@@ -31,8 +31,8 @@ fn problem_code(problem: Problem) -> StatusCode
 }
 
 // Returns the words of the error reply to a request with this problem.
-fn problem_words(problem: Problem) -> &'static str
-    ensures { result.now ≡ problem_words problem }
+fn text_of_problem(problem: Problem) -> &'static str
+    ensures { result.now ≡ text_of_problem problem }
 {
     match problem {
         Problem::TooLarge => "too large",
@@ -54,11 +54,11 @@ fn fault_word(fault: Fault) -> &'static str
 }
 
 // Returns the HTTP status of a response.
-fn status_of<R, V>(told: &ServiceAnswer<R, V>) -> StatusCode
-    ensures { (reply : R → model.Reply) (shown : V → queries.View) → status_text result ≡ response_status (response_of reply shown told.now) }
+fn status_of_response<R, V>(told: &ServiceAnswer<R, V>) -> StatusCode
+    ensures { (reply : R → model.Reply) (shown : V → queries.View) → status_text result ≡ http_status_of_response (response_in_model reply shown told.now) }
 {
     match told {
-        ServiceAnswer::Wrong(problem) => problem_code(*problem),
+        ServiceAnswer::Wrong(problem) => status_of_problem(*problem),
         ServiceAnswer::NoRow(_) => StatusCode::CONFLICT,
         ServiceAnswer::NoView(_) => StatusCode::CONFLICT,
         ServiceAnswer::Done(_) => StatusCode::OK,
@@ -69,8 +69,8 @@ fn status_of<R, V>(told: &ServiceAnswer<R, V>) -> StatusCode
 }
 
 // Returns true if the request was refused because its method is not POST.
-fn asks_for_post<R, V>(told: &ServiceAnswer<R, V>) -> bool
-    ensures { (reply : R → model.Reply) (shown : V → queries.View) → result ≡ asks_for_post (response_of reply shown told.now) }
+fn names_allowed_method<R, V>(told: &ServiceAnswer<R, V>) -> bool
+    ensures { (reply : R → model.Reply) (shown : V → queries.View) → result ≡ names_allowed_method (response_in_model reply shown told.now) }
 {
     match told {
         ServiceAnswer::Wrong(Problem::NotAllowed) => true,
@@ -79,8 +79,8 @@ fn asks_for_post<R, V>(told: &ServiceAnswer<R, V>) -> bool
 }
 
 /// Returns true if the response reports that the desk failed.
-pub fn is_fault<R, V>(told: &ServiceAnswer<R, V>) -> bool
-    ensures { (reply : R → model.Reply) (shown : V → queries.View) → result ≡ is_fault (response_of reply shown told.now) }
+pub fn is_fault_response<R, V>(told: &ServiceAnswer<R, V>) -> bool
+    ensures { (reply : R → model.Reply) (shown : V → queries.View) → result ≡ is_fault_response (response_in_model reply shown told.now) }
 {
     match told {
         ServiceAnswer::Failed(_) => true,
@@ -89,67 +89,71 @@ pub fn is_fault<R, V>(told: &ServiceAnswer<R, V>) -> bool
 }
 
 /// Returns the fields of a line, split at its commas.
-pub fn line_fields(alloc: Global, line: &str) -> Result<Vec<String>, AllocError>
-    ensures { IfOk result (λ fields. list_of fields ≡ parts_at 44 line.now) }
+pub fn fields_of_stored_line(alloc: Global, line: &str) -> Result<Vec<String>, AllocError>
+    ensures { IfOk result (λ fields. bytes_of_texts fields ≡ split_at_byte 44 line.now) }
 {
-    let parts = parts_at(alloc, ',', line)?;
-    owned(alloc, &parts)
+    let parts = split_at_byte(alloc, ',', line)?;
+    copy_texts(alloc, &parts)
 }
 
 // Returns the body of the reply to a refused row or query, `{"no":["NUMBER",..]}`.
 #[tactic(auto, using(crate::proofs::PieceLemmas::refusal_parts))]
 fn refusal_body(alloc: Global, refusal: Refusal) -> Result<String, AllocError>
-    ensures { IfOk result (λ s. string_bytes s ≡ body_of (Came (run.NoView refusal))) }
+    ensures { IfOk result (λ s. string_bytes s ≡ response_body (Came (run.NoView refusal))) }
 {
     let line = format!(in alloc; "{refusal}")?;
-    let fields = line_fields(alloc, line.as_str())?;
-    told_texts(alloc, Word::No, &fields)
+    let fields = fields_of_stored_line(alloc, line.as_str())?;
+    json_text_of_texts(alloc, Word::No, &fields)
 }
 
 // Returns the JSON body of the reply with this response.
-fn body_of<D: Service>(
+fn response_body<D: Service>(
     alloc: Global,
     told: &ServiceAnswer<D::Reply, D::View>,
 ) -> Result<String, AllocError>
-    ensures { IfOk result (λ s. string_bytes s ≡ body_of (response_of D.told D.shown told.now)) }
+    ensures { IfOk result (λ s. string_bytes s ≡ response_body (response_in_model D.told D.shown told.now)) }
 {
     match told {
-        ServiceAnswer::Wrong(problem) => told_error(alloc, problem_words(*problem)),
+        ServiceAnswer::Wrong(problem) => json_text_of_error(alloc, text_of_problem(*problem)),
         ServiceAnswer::NoRow(refusal) | ServiceAnswer::NoView(refusal) => refusal_body(
             alloc, *refusal,
         ),
         ServiceAnswer::Done(reply) => {
             let fields = D::reply_fields(alloc, reply)?;
-            told_texts(alloc, Word::Ok, &fields)
+            json_text_of_texts(alloc, Word::Ok, &fields)
         }
         ServiceAnswer::Again(line) => {
-            let fields = line_fields(alloc, line.as_str())?;
-            told_texts(alloc, Word::Again, &fields)
+            let fields = fields_of_stored_line(alloc, line.as_str())?;
+            json_text_of_texts(alloc, Word::Again, &fields)
         }
         ServiceAnswer::Saw(view) => {
             let records = D::records(alloc, view)?;
-            told_records(alloc, &records)
+            json_text_of_view(alloc, &records)
         }
-        ServiceAnswer::Failed(fault) => told_error(alloc, fault_word(*fault)),
+        ServiceAnswer::Failed(fault) => json_text_of_error(alloc, fault_word(*fault)),
     }
 }
 
 // Appends a line and its line end to the head.
-fn add_line(head: &mut String, line: &str) -> Result<(), AllocError>
+fn add_head_line(head: &mut String, line: &str) -> Result<(), AllocError>
     ensures { OnOk result (string_bytes head.new ≡ string_bytes head.old ++ head_line line.now) }
 {
     write!(head, "{line}\r\n")
 }
 
 // Appends a line and its line end to the head if `stands` is true.
-fn add_line_if(head: &mut String, stands: bool, line: &str) -> Result<(), AllocError>
-    ensures { OnOk result (string_bytes head.new ≡ string_bytes head.old ++ line_if stands line.now) }
+fn add_head_line_if(head: &mut String, stands: bool, line: &str) -> Result<(), AllocError>
+    ensures { OnOk result (string_bytes head.new ≡ string_bytes head.old ++ head_line_if stands line.now) }
 {
-    if stands { add_line(head, line) } else { Ok(()) }
+    if stands {
+        add_head_line(head, line)
+    } else {
+        Ok(())
+    }
 }
 
 // Returns the phrase of a status, or an empty text if it has none.
-fn phrase_of(code: StatusCode) -> &'static str
+fn status_phrase(code: StatusCode) -> &'static str
     ensures { result.now ≡ unwrap_or (reason_phrase code) [] }
 {
     match code.canonical_reason() {
@@ -159,17 +163,17 @@ fn phrase_of(code: StatusCode) -> &'static str
 }
 
 // Returns the digits of a status, a space, and its reason phrase.
-fn status_line(alloc: Global, code: StatusCode) -> Result<String, AllocError>
+fn status_digits_and_phrase(alloc: Global, code: StatusCode) -> Result<String, AllocError>
     ensures { IfOk result (λ s. string_bytes s ≡ status_text code) }
 {
     let mut line = String::from_str(alloc, code.as_str())?;
     line.push_str(" ")?;
-    line.push_str(phrase_of(code))?;
+    line.push_str(status_phrase(code))?;
     Ok(line)
 }
 
 // Returns the text of a label followed by a value.
-fn labelled(alloc: Global, label: &str, value: &str) -> Result<String, AllocError>
+fn join_label_and_value(alloc: Global, label: &str, value: &str) -> Result<String, AllocError>
     ensures { IfOk result (λ s. string_bytes s ≡ label.now ++ value.now) }
 {
     let mut text = String::from_str(alloc, label)?;
@@ -178,42 +182,42 @@ fn labelled(alloc: Global, label: &str, value: &str) -> Result<String, AllocErro
 }
 
 // Returns the decimal digits of a number.
-fn digits_of(alloc: Global, n: usize) -> Result<String, AllocError>
+fn decimal_digits(alloc: Global, n: usize) -> Result<String, AllocError>
     ensures { IfOk result (λ s. string_bytes s ≡ decimal n) }
 {
     format!(in alloc; "{n}")
 }
 
 // Returns the first three lines of a head: status line, content type, and content length `len`.
-fn first_lines(alloc: Global, status: &str, len: usize) -> Result<String, AllocError>
-    ensures { IfOk result (λ s. string_bytes s ≡ first_lines status.now len) }
+fn first_head_lines(alloc: Global, status: &str, len: usize) -> Result<String, AllocError>
+    ensures { IfOk result (λ s. string_bytes s ≡ first_head_lines status.now len) }
 {
-    let first = labelled(alloc, "HTTP/1.1 ", status)?;
-    let digits = digits_of(alloc, len)?;
-    let third = labelled(alloc, "Content-Length: ", digits.as_str())?;
+    let first = join_label_and_value(alloc, "HTTP/1.1 ", status)?;
+    let digits = decimal_digits(alloc, len)?;
+    let third = join_label_and_value(alloc, "Content-Length: ", digits.as_str())?;
     let mut head = String::new(alloc);
-    add_line(&mut head, first.as_str())?;
-    add_line(&mut head, "Content-Type: application/json")?;
-    add_line(&mut head, third.as_str())?;
+    add_head_line(&mut head, first.as_str())?;
+    add_head_line(&mut head, "Content-Type: application/json")?;
+    add_head_line(&mut head, third.as_str())?;
     Ok(head)
 }
 
 // Returns the bytes of a reply with this status and body; with an `Allow: POST` line if `asks_post`
 // is true, and a `Connection: close` line if `closes` is true.
-fn reply_with(
+fn reply_bytes(
     alloc: Global,
     code: StatusCode,
     asks_post: bool,
     closes: bool,
     body: &str,
 ) -> Result<String, AllocError>
-    ensures { IfOk result (λ s. string_bytes s ≡ reply_with (status_text code) asks_post closes body.now) }
+    ensures { IfOk result (λ s. string_bytes s ≡ reply_bytes (status_text code) asks_post closes body.now) }
 {
-    let status = status_line(alloc, code)?;
-    let mut text = first_lines(alloc, status.as_str(), body.len())?;
-    add_line_if(&mut text, asks_post, "Allow: POST")?;
-    add_line_if(&mut text, closes, "Connection: close")?;
-    add_line(&mut text, "")?;
+    let status = status_digits_and_phrase(alloc, code)?;
+    let mut text = first_head_lines(alloc, status.as_str(), body.len())?;
+    add_head_line_if(&mut text, asks_post, "Allow: POST")?;
+    add_head_line_if(&mut text, closes, "Connection: close")?;
+    add_head_line(&mut text, "")?;
     text.push_str(body)?;
     Ok(text)
 }
@@ -225,26 +229,32 @@ pub fn reply_text<D: Service>(
     told: &ServiceAnswer<D::Reply, D::View>,
     closes: bool,
 ) -> Result<String, AllocError>
-    ensures { IfOk result (λ s. string_bytes s ≡ reply_text (response_of D.told D.shown told.now) closes) }
+    ensures { IfOk result (λ s. string_bytes s ≡ reply_text (response_in_model D.told D.shown told.now) closes) }
 {
-    let body = body_of::<D>(alloc, told)?;
-    reply_with(
+    let body = response_body::<D>(alloc, told)?;
+    reply_bytes(
         alloc,
-        status_of(told),
-        asks_for_post(told),
+        status_of_response(told),
+        names_allowed_method(told),
         closes,
         body.as_str(),
     )
 }
 
 /// Returns the bytes of the reply to an unreadable request, with a `Connection: close` line.
-pub fn problem_text(alloc: Global, problem: Problem) -> Result<String, AllocError>
+pub fn format_problem_reply(alloc: Global, problem: Problem) -> Result<String, AllocError>
     ensures { IfOk result (λ s. string_bytes s ≡ reply_text (Wrong problem) Bool.true) }
 {
-    let body = told_error(alloc, problem_words(problem))?;
+    let body = json_text_of_error(alloc, text_of_problem(problem))?;
     let asks_post = match problem {
         Problem::NotAllowed => true,
         _ => false,
     };
-    reply_with(alloc, problem_code(problem), asks_post, true, body.as_str())
+    reply_bytes(
+        alloc,
+        status_of_problem(problem),
+        asks_post,
+        true,
+        body.as_str(),
+    )
 }

@@ -2,7 +2,7 @@
 
 ghost use Rattle.std.specs.Prelude.{◌≡◌, IfOk, is_some};
 ghost use Rattle.matchit.specs.Seek.{first};
-ghost use Rattle.brk_http_engine.specs.Rows.{the_routes};
+ghost use Rattle.brk_http_engine.specs.Rows.{all_router_rows};
 
 use matchit::{InsertError, Router};
 use std::alloc::Global;
@@ -20,7 +20,7 @@ pub enum Kind {
 
 /// Creates the router of the three routes.
 pub fn new_router(alloc: Global) -> Result<Router<Kind>, InsertError>
-    ensures { IfOk result (λ router. router ≡ the_routes) }
+    ensures { IfOk result (λ router. router ≡ all_router_rows) }
 {
     let mut router = Router::new(alloc);
     router.insert("/rows", Kind::Row)?;
@@ -30,7 +30,7 @@ pub fn new_router(alloc: Global) -> Result<Router<Kind>, InsertError>
 }
 
 /// Returns true if one of the routes matches `target`.
-pub fn is_routed(router: &Router<Kind>, target: &str) -> bool
+pub fn matches_any_route(router: &Router<Kind>, target: &str) -> bool
     ensures { result ≡ is_some (first router.now target.now) }
 {
     router.at(target).is_ok()

@@ -5,9 +5,9 @@ ghost use Rattle.brk_model.specs.Commands as model;
 ghost use Rattle.brk_model.specs.Queries as queries;
 ghost use Rattle.brk_model.specs.Rows.{reply_fields};
 ghost use Rattle.brk_model.specs.Run.{Ask, Call, Do, Outcome};
-ghost use Rattle.brk_ref.specs.Fields.{ParsesAs, texts};
+ghost use Rattle.brk_ref.specs.Fields.{ParsesAs, texts_of_fields};
 ghost use Rattle.brk_http_model.specs.Asked.{Forms};
-ghost use Rattle.brk_http_engine.specs.Codes.{key_for, list_of, query_outcome, records_of, row_outcome};
+ghost use Rattle.brk_http_engine.specs.Codes.{key_in_model, bytes_of_texts, query_outcome_in_model, bytes_of_records, row_outcome_in_model};
 
 use brk_money::{Fault, Planned, Refusal, Stamp};
 use brk_ref::Key;
@@ -61,7 +61,7 @@ pub trait Service {
 
     /// Parses the fields of a row: returns a command, or the refusal of a malformed row.
     fn parse_row(alloc: Global, row: &[&[u8]]) -> Planned<Self::Command>
-        ensures { IfOk result (λ read. ParsesAs command_of read (forms.row (texts row.now))) };
+        ensures { IfOk result (λ read. ParsesAs command_of read (forms.row (texts_of_fields row.now))) };
 
     /// Returns the name of a view if a view with this name exists, otherwise `None`.
     fn view_named(name: &str) -> Option<&'static str>
@@ -71,7 +71,7 @@ pub trait Service {
 
     /// Parses the arguments of a view: returns a query, or the refusal of a malformed query.
     fn parse_query(alloc: Global, view: &str, arguments: &[&[u8]]) -> Planned<Self::Query>
-        ensures { IfOk result (λ read. ParsesAs query_of read (forms.query view.now (texts arguments.now))) };
+        ensures { IfOk result (λ read. ParsesAs query_of read (forms.query view.now (texts_of_fields arguments.now))) };
 
     /// Executes a command at the clock reading `now`, with or without a key.
     fn call(
@@ -81,17 +81,17 @@ pub trait Service {
         command: &Self::Command,
         key: Option<&Key>,
     ) -> Result<RowAnswer<Self::Reply>, Fault>
-        ensures { acts desk.old now (Do (command_of command.now) (key_for (option_copied key.entry))) (row_outcome told result) desk.new };
+        ensures { acts desk.old now (Do (command_of command.now) (key_in_model (option_copied key.entry))) (row_outcome_in_model told result) desk.new };
 
     /// Executes a query and returns its view or its refusal.
     fn ask(desk: &mut Self::Desk, alloc: Global, query: &Self::Query) -> Planned<Self::View>
-        ensures { acts desk.old 0 (Ask (query_of query.now)) (query_outcome shown result) desk.new };
+        ensures { acts desk.old 0 (Ask (query_of query.now)) (query_outcome_in_model shown result) desk.new };
 
     /// Returns the fields of a reply.
     fn reply_fields(alloc: Global, reply: &Self::Reply) -> Result<Vec<String>, AllocError>
-        ensures { IfOk result (λ fields. list_of fields ≡ reply_fields (told reply.now)) };
+        ensures { IfOk result (λ fields. bytes_of_texts fields ≡ reply_fields (told reply.now)) };
 
     /// Returns the records of a view.
     fn records(alloc: Global, view: &Self::View) -> Result<Vec<Vec<String>>, AllocError>
-        ensures { IfOk result (λ records. records_of records ≡ shown view.now) };
+        ensures { IfOk result (λ records. bytes_of_records records ≡ shown view.now) };
 }

@@ -1,14 +1,14 @@
 ghost use Rattle.std.specs.Prelude.{◌≡◌, ◌<◌, ◌≤◌, Bool, IfErr, IfOk, IfSome};
 ghost use Rattle.std.specs.List.{list_all};
 ghost use Rattle.brk_http_model.specs.Stream.{most_requests};
-ghost use Rattle.brk_http_engine.specs.Rows.{has_byte, the_routes};
-ghost use Rattle.brk_http_engine.specs.Limits.{most_calls};
-ghost use Rattle.brk_http_engine.specs.Promises.{WasCalled};
-ghost use Rattle.brk_http_engine.specs.Turns.{ServeGives};
+ghost use Rattle.brk_http_engine.specs.Rows.{is_nonempty, all_router_rows};
+ghost use Rattle.brk_http_engine.specs.Limits.{call_limit_of_stream};
+ghost use Rattle.brk_http_engine.specs.Promises.{ChangesOnlyByCalls};
+ghost use Rattle.brk_http_engine.specs.Turns.{IsStreamResult};
 
 use crate::router::{Kind, new_router};
 use crate::service::Service;
-use crate::turning::{FaultKind, Turn, take_turn};
+use crate::turning::{FaultKind, Turn, serve_next_request};
 use brk_io::Clock;
 use matchit::Router;
 use std::alloc::Global;
@@ -26,7 +26,7 @@ pub struct ServeFault {
 // replies.
 //
 // Fails with the number of replies before the fault.
-fn serve_by<R: Read + Drop, W: Write, C: Clock, D: Service>(
+fn serve_with_router<R: Read + Drop, W: Write, C: Clock, D: Service>(
     alloc: Global,
     router: &Router<Kind>,
     mut reader: R,
@@ -34,18 +34,18 @@ fn serve_by<R: Read + Drop, W: Write, C: Clock, D: Service>(
     clock: &mut C,
     desk: &mut D::Desk,
 ) -> Result<u64, ServeFault>
-    requires routes { router.now ≡ the_routes }
-    requires named { list_all has_byte D.forms.views ≡ Bool.true }
+    requires routes { router.now ≡ all_router_rows }
+    requires named { list_all is_nonempty D.forms.views ≡ Bool.true }
     ensures few { IfOk result (λ count. count ≤ most_requests) }
     ensures early { IfErr result (λ fault. fault.done < most_requests) }
-    ensures called { WasCalled D.acts (most_calls result) desk.old desk.new }
-    ensures gives { IfSome (R.remaining reader) (λ input. ServeGives D.forms D.acts C.gives input
+    ensures called { ChangesOnlyByCalls D.acts (call_limit_of_stream result) desk.old desk.new }
+    ensures gives { IfSome (R.remaining reader) (λ input. IsStreamResult D.forms D.acts C.gives input
         (record { base = desk.old; after = desk.new; clock = clock.old; later = clock.new; old = W.contents writer.old; new = W.contents writer.new }) result) }
 {
     let mut buffer = Vec::new(alloc);
     let mut done = 0;
     'serving: loop {
-        match take_turn::<R, W, C, D>(
+        match serve_next_request::<R, W, C, D>(
             alloc,
             router,
             &mut reader,
@@ -75,15 +75,15 @@ pub fn serve<R: Read + Drop, W: Write, C: Clock, D: Service>(
     clock: &mut C,
     desk: &mut D::Desk,
 ) -> Result<u64, ServeFault>
-    requires named { list_all has_byte D.forms.views ≡ Bool.true }
+    requires named { list_all is_nonempty D.forms.views ≡ Bool.true }
     ensures few { IfOk result (λ count. count ≤ most_requests) }
     ensures early { IfErr result (λ fault. fault.done < most_requests) }
-    ensures called { WasCalled D.acts (most_calls result) desk.old desk.new }
-    ensures gives { IfSome (R.remaining reader) (λ input. ServeGives D.forms D.acts C.gives input
+    ensures called { ChangesOnlyByCalls D.acts (call_limit_of_stream result) desk.old desk.new }
+    ensures gives { IfSome (R.remaining reader) (λ input. IsStreamResult D.forms D.acts C.gives input
         (record { base = desk.old; after = desk.new; clock = clock.old; later = clock.new; old = W.contents writer.old; new = W.contents writer.new }) result) }
 {
     match new_router(alloc) {
-        Ok(router) => serve_by::<R, W, C, D>(alloc, &router, reader, writer, clock, desk),
+        Ok(router) => serve_with_router::<R, W, C, D>(alloc, &router, reader, writer, clock, desk),
         Err(_) => Err(ServeFault {
             done: 0,
             kind: FaultKind::Memory,

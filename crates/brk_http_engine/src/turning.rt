@@ -1,21 +1,21 @@
 ghost use Rattle.std.specs.Prelude.{◌≡◌, ◌==◌, ◌||◌, ◌+◌, ◌<◌, ◌++◌, ℕ, Bool, List, Option, Ok, Err, IfErr, IfOk, IfSome, length, string_bytes};
 ghost use Rattle.std.specs.Io.KnownBytes.{prepend_known};
 ghost use Rattle.std.specs.List.{list_all};
-ghost use Rattle.brk_http_engine.specs.Rows.{has_byte, the_routes};
+ghost use Rattle.brk_http_engine.specs.Rows.{is_nonempty, all_router_rows};
 ghost use Rattle.brk_http_model.specs.Stream.{most_requests};
 ghost use Rattle.httparse.specs.Spans.{IsWithin};
 ghost use Rattle.brk_http_reader.specs.Shown.{request_at};
-ghost use Rattle.brk_http_engine.specs.Limits.{most_in_turn};
-ghost use Rattle.brk_http_engine.specs.Promises.{WasCalled};
-ghost use Rattle.brk_http_engine.specs.Turns.{Acted, TurnFailed, Turned};
+ghost use Rattle.brk_http_engine.specs.Limits.{call_limit_of_turn};
+ghost use Rattle.brk_http_engine.specs.Promises.{ChangesOnlyByCalls};
+ghost use Rattle.brk_http_engine.specs.Turns.{ExecutesRequest, TurnFailsWith, TurnEndsWith};
 
-use crate::acting::act;
-use crate::asking::asking_of;
-use crate::replying::{is_fault, problem_text, reply_text};
+use crate::acting::execute_call_of_request;
+use crate::asking::parse_call_of_request;
+use crate::replying::{format_problem_reply, is_fault_response, reply_text};
 use crate::router::Kind;
 use crate::service::Service;
-use brk_http_reader::{Front, InputFault, Places, consume, next_request};
-use brk_io::{Clock, write_out};
+use brk_http_reader::{Front, InputFault, Places, read_next_request, remove_front_bytes};
+use brk_io::{Clock, write_all_bytes};
 use matchit::Router;
 use std::alloc::Global;
 use std::io::{Read, Write};
@@ -46,7 +46,7 @@ pub enum FaultKind {
 }
 
 // Returns true if the reply after `done` replies is the last of its stream.
-fn is_last(done: u64, closes: bool, failed: bool) -> bool
+fn is_last_reply(done: u64, closes: bool, failed: bool) -> bool
     requires few { done < most_requests }
     ensures { result ≡ ((done + 1 == most_requests) || closes || failed) }
 {
@@ -73,7 +73,7 @@ enum Lack {
 //
 // Fails with `Before` if memory ran out before the execution, and with `After` if it ran out after
 // it.
-fn respond<C: Clock, D: Service>(
+fn execute_and_format_reply<C: Clock, D: Service>(
     alloc: Global,
     router: &Router<Kind>,
     clock: &mut C,
@@ -83,27 +83,28 @@ fn respond<C: Clock, D: Service>(
     done: u64,
 ) -> Result<Draft, Lack>
     requires few { done < most_requests }
-    requires routes { router.now ≡ the_routes }
-    requires named { list_all has_byte D.forms.views ≡ Bool.true }
+    requires routes { router.now ≡ all_router_rows }
+    requires named { list_all is_nonempty D.forms.views ≡ Bool.true }
     requires method { IsWithin (length buffer.now) places.method }
     requires target { IsWithin (length buffer.now) places.target }
     requires body { IsWithin (length buffer.now) places.body }
-    ensures called { WasCalled D.acts 1 desk.old desk.new }
+    ensures called { ChangesOnlyByCalls D.acts 1 desk.old desk.new }
     ensures open { IfOk result (λ draft. draft.closes ≡ Bool.false → done + 1 < most_requests) }
-    ensures ok { (old : Option (List ℕ)) (new : Option (List ℕ)) → IfOk result (λ draft. Acted D.forms D.acts C.gives done (request_at buffer.now places)
+    ensures ok { (old : Option (List ℕ)) (new : Option (List ℕ)) → IfOk result (λ draft. ExecutesRequest D.forms D.acts C.gives done (request_at buffer.now places)
         (record { base = desk.old; after = desk.new; clock = clock.old; later = clock.new; old = old; new = new }) draft.closes (string_bytes draft.text)) }
     ensures before { result ≡ Err Lack.Before → (desk.new ≡ desk.old) × (clock.new ≡ clock.old) }
-    ensures after { (old : Option (List ℕ)) (new : Option (List ℕ)) → result ≡ Err Lack.After → (closes : Bool) × (reply : List ℕ) × Acted D.forms D.acts C.gives done (request_at buffer.now places)
+    ensures after { (old : Option (List ℕ)) (new : Option (List ℕ)) → result ≡ Err Lack.After → (closes : Bool) × (reply : List ℕ) × ExecutesRequest D.forms D.acts C.gives done (request_at buffer.now places)
         (record { base = desk.old; after = desk.new; clock = clock.old; later = clock.new; old = old; new = new }) closes reply }
 {
     let method = places.method.of(buffer);
     let target = places.target.of(buffer);
     let body = places.body.of(buffer);
-    let Ok(asking) = asking_of::<D>(alloc, router, method, target, places.closes, body) else {
+    let Ok(asking) = parse_call_of_request::<D>(alloc, router, method, target, places.closes, body)
+    else {
         return Err(Lack::Before);
     };
-    let told = act::<C, D>(alloc, clock, desk, asking);
-    let closes = is_last(done, places.closes, is_fault(&told));
+    let told = execute_call_of_request::<C, D>(alloc, clock, desk, asking);
+    let closes = is_last_reply(done, places.closes, is_fault_response(&told));
     match reply_text::<D>(alloc, &told, closes) {
         Ok(text) => Ok(Draft { text, closes }),
         Err(_) => Err(Lack::After),
@@ -115,7 +116,7 @@ fn respond<C: Clock, D: Service>(
 ///
 /// Fails with `Read` and nothing executed. After `Memory` or `Write` the request may have been
 /// executed.
-pub fn take_turn<R: Read, W: Write, C: Clock, D: Service>(
+pub fn serve_next_request<R: Read, W: Write, C: Clock, D: Service>(
     alloc: Global,
     router: &Router<Kind>,
     reader: &mut R,
@@ -126,17 +127,17 @@ pub fn take_turn<R: Read, W: Write, C: Clock, D: Service>(
     done: u64,
 ) -> Result<Turn, FaultKind>
     requires few { done < most_requests }
-    requires routes { router.now ≡ the_routes }
-    requires named { list_all has_byte D.forms.views ≡ Bool.true }
-    ensures called { WasCalled D.acts (most_in_turn result) desk.old desk.new }
+    requires routes { router.now ≡ all_router_rows }
+    requires named { list_all is_nonempty D.forms.views ≡ Bool.true }
+    ensures called { ChangesOnlyByCalls D.acts (call_limit_of_turn result) desk.old desk.new }
     ensures open { result ≡ Ok Turn.Open → done + 1 < most_requests }
-    ensures ok { IfOk result (λ turn. IfSome (R.remaining reader.old) (λ xs. Turned D.forms D.acts C.gives done (buffer.old.items ++ xs)
+    ensures ok { IfOk result (λ turn. IfSome (R.remaining reader.old) (λ xs. TurnEndsWith D.forms D.acts C.gives done (buffer.old.items ++ xs)
         (record { base = desk.old; after = desk.new; clock = clock.old; later = clock.new; old = W.contents writer.old; new = W.contents writer.new })
         (prepend_known buffer.new.items (R.remaining reader.new)) turn)) }
-    ensures err { IfErr result (λ kind. IfSome (R.remaining reader.old) (λ xs. TurnFailed D.forms D.acts C.gives done (buffer.old.items ++ xs)
+    ensures err { IfErr result (λ kind. IfSome (R.remaining reader.old) (λ xs. TurnFailsWith D.forms D.acts C.gives done (buffer.old.items ++ xs)
         (record { base = desk.old; after = desk.new; clock = clock.old; later = clock.new; old = W.contents writer.old; new = W.contents writer.new }) kind)) }
 {
-    let front = match next_request(reader, buffer) {
+    let front = match read_next_request(reader, buffer) {
         Ok(front) => front,
         Err(InputFault::Read) => return Err(FaultKind::Read),
         Err(InputFault::Memory) => return Err(FaultKind::Memory),
@@ -144,25 +145,27 @@ pub fn take_turn<R: Read, W: Write, C: Clock, D: Service>(
     match front {
         Front::Ended => Ok(Turn::Ended),
         Front::Broken(problem) => {
-            let Ok(text) = problem_text(alloc, problem) else {
+            let Ok(text) = format_problem_reply(alloc, problem) else {
                 return Err(FaultKind::Memory);
             };
-            match write_out(writer, text.as_bytes()) {
+            match write_all_bytes(writer, text.as_bytes()) {
                 Ok(()) => Ok(Turn::Closed),
                 Err(_) => Err(FaultKind::Write),
             }
         }
         Front::Whole(places) => {
-            let draft = match respond::<C, D>(alloc, router, clock, desk, buffer, places, done) {
+            let draft = match execute_and_format_reply::<C, D>(
+                alloc, router, clock, desk, buffer, places, done,
+            ) {
                 Ok(draft) => draft,
                 Err(Lack::Before) => return Err(FaultKind::Memory),
                 Err(Lack::After) => return Err(FaultKind::Memory),
             };
-            match write_out(writer, draft.text.as_bytes()) {
+            match write_all_bytes(writer, draft.text.as_bytes()) {
                 Ok(()) => {}
                 Err(_) => return Err(FaultKind::Write),
             }
-            consume(buffer, places.body.end);
+            remove_front_bytes(buffer, places.body.end);
             if draft.closes {
                 Ok(Turn::Closed)
             } else {

@@ -3,12 +3,12 @@ use Rattle.std.specs.Prelude.{⊤}
 use Rattle.serde_json.proofs.OnLiterals.{serde_json_on_literals}
 use Rattle.httparse.proofs.OnLiterals.{httparse_on_literals}
 use Rattle.brk_model_examples.proofs.OnLiterals.{model_on_literals}
-use Rattle.brk_http_model.specs.Heads.{head_len, head_end}
-use Rattle.brk_http_model.specs.Bodies.{texts_of, json_texts, json_records, json_error}
-use Rattle.brk_http_model.specs.Routes.{parts_at, route_of}
-use Rattle.brk_http_model.specs.Replies.{reply_with}
-use Rattle.brk_http_model.specs.Asked.{asked_of}
+use Rattle.brk_http_model.specs.Heads.{head_length, head_end}
+use Rattle.brk_http_model.specs.Bodies.{texts_of_body, json_texts_object, json_records_object, json_error_object}
+use Rattle.brk_http_model.specs.Routes.{split_at_byte, route_of_target}
+use Rattle.brk_http_model.specs.Replies.{reply_bytes}
+use Rattle.brk_http_model.specs.Asked.{demand_of_request}
 
 unfoldable pub web_on_literals : ⊤
-unfolding serde_json_on_literals httparse_on_literals model_on_literals head_len head_end texts_of json_texts json_records json_error parts_at route_of reply_with asked_of
+unfolding serde_json_on_literals httparse_on_literals model_on_literals head_length head_end texts_of_body json_texts_object json_records_object json_error_object split_at_byte route_of_target reply_bytes demand_of_request
 web_on_literals = tt

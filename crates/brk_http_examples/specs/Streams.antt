@@ -1,8 +1,8 @@
 -- The functions that run the examples: requests in, replies out.
 use Rattle.std.specs.Prelude.{◌≡◌, ℕ, List, [], ◌∷◌, ◌++◌, replicate, false, true, codes}
 use Rattle.brk_money.specs.Spelling.{Text}
-use Rattle.brk_model_examples.specs.Setting.{setting}
-use Rattle.brk_http_model.specs.Computed.{replies_from}
+use Rattle.brk_model_examples.specs.Setting.{setting_base}
+use Rattle.brk_http_model.specs.Computed.{replies_to_requests}
 use Rattle.brk_http_model.specs.Found.{Request}
 
 -- Twenty clock readings, all of them the start of 2024-03-01.
@@ -11,22 +11,22 @@ clock_readings = replicate 20 1709251200000
 
 -- A request with the method POST, the target `target` and the body `body`, which does not ask to
 -- close the stream.
-abbrev pub post : Text → Text → Request
-post target body = record { method = codes "POST"; target = target; closes = false; body = body }
+abbrev pub post_request : Text → Text → Request
+post_request target body = record { method = codes "POST"; target = target; closes = false; body = body }
 
 -- A request with the method GET and the target `target`, without a body, which does not ask to
 -- close the stream.
-abbrev pub get : Text → Request
-get target = record { method = codes "GET"; target = target; closes = false; body = [] }
+abbrev pub get_request : Text → Request
+get_request target = record { method = codes "GET"; target = target; closes = false; body = [] }
 
 -- The request `request`, which asks to close the stream (`Connection: close`).
-abbrev pub last : Request → Request
-last request = record request { closes = true }
+abbrev pub closing_request : Request → Request
+closing_request request = record request { closes = true }
 
 -- The bytes of a reply: the status `status`, the further fields `fields`, the length `len` and the
 -- body `body`.
-abbrev pub reply : Text → List Text → Text → Text → Text
-reply status fields len body =
+abbrev pub expected_reply_bytes : Text → List Text → Text → Text → Text
+expected_reply_bytes status fields len body =
     codes "HTTP/1.1 " ++ status ++ codes "\r\nContent-Type: application/json\r\nContent-Length: " ++ len ++ codes "\r\n" ++ lines fields ++ codes "\r\n" ++ body
   where
     lines : List Text → Text
@@ -34,5 +34,5 @@ reply status fields len body =
     lines (f ∷ fs) = f ++ codes "\r\n" ++ lines fs
 
 -- The requests, executed from the setting on, have exactly these replies.
-abbrev pub GivesReplies : List Request → List Text → Type 0
-GivesReplies requests replies = replies_from 0 setting clock_readings requests ≡ replies
+abbrev pub HasRepliesInSetting : List Request → List Text → Type 0
+HasRepliesInSetting requests replies = replies_to_requests 0 setting_base clock_readings requests ≡ replies

@@ -3,18 +3,18 @@
 #![tactic(auto, unfolding(crate::proofs::OnLiterals::web_on_literals))]
 
 ghost use Rattle.std.specs.Prelude.{◌≡◌, ◌∷◌, [], ℕ, Ok, Err, Some, None, codes};
-ghost use Rattle.brk_http_model.specs.Asked.{HasResponse, Asked, all_forms, asked_of};
-ghost use Rattle.brk_http_model.specs.Bodies.{texts_of};
-ghost use Rattle.brk_http_model.specs.Fields.{body_len};
+ghost use Rattle.brk_http_model.specs.Asked.{HasResponse, Asked, model_parsers, demand_of_request};
+ghost use Rattle.brk_http_model.specs.Bodies.{texts_of_body};
+ghost use Rattle.brk_http_model.specs.Fields.{body_length_of_fields};
 ghost use Rattle.brk_http_model.specs.Heads.{head_end, head_end_within};
 ghost use Rattle.brk_http_model.specs.Replies.{Wrong};
-ghost use Rattle.brk_http_model.specs.Routes.{ToRow, ToView, parts_at, route_of};
+ghost use Rattle.brk_http_model.specs.Routes.{ToRow, ToView, split_at_byte, route_of_target};
 ghost use Rattle.brk_http_model.specs.declared.head_end.HeadEnd.TheVariants.{At, Cut, Nothing, TooLong};
 ghost use Rattle.brk_http_model.specs.declared.problem.Problem.TheVariants.{BadRequest, NotAllowed, NotFound, NotImplemented, TooLarge};
-ghost use Rattle.brk_http_examples.specs.Streams.{get, post};
+ghost use Rattle.brk_http_examples.specs.Streams.{get_request, post_request};
 
 /// Shows that a head ends with its first empty line, which must end within the limit.
-pub fn where_heads_end()
+pub fn head_ends_at_first_empty_line()
     ensures first { head_end (codes "GET / HTTP/1.1\r\n\r\nGET") ≡ At 18 }
     ensures bare { head_end (codes "a\n\nb\r\n\r\n") ≡ At 3 }
     ensures mixed { head_end (codes "a\n\r\nb") ≡ At 4 }
@@ -27,51 +27,51 @@ pub fn where_heads_end()
 
 /// Shows the length of a body by the fields of a head, or the problem of its length. Names of
 /// fields are compared in any case of letters.
-pub fn how_long_bodies_are()
-    ensures absent { body_len ((codes "Host", codes "x") ∷ []) ≡ Ok 0 }
-    ensures zeros { body_len ((codes "content-LENGTH", codes "000000012") ∷ []) ≡ Ok 12 }
-    ensures most { body_len ((codes "Content-Length", codes "65536") ∷ []) ≡ Ok 65536 }
-    ensures more { body_len ((codes "Content-Length", codes "65537") ∷ []) ≡ Err TooLarge }
-    ensures long { body_len ((codes "Content-Length", codes "0000000002") ∷ []) ≡ Err TooLarge }
-    ensures signed { body_len ((codes "Content-Length", codes "+2") ∷ []) ≡ Err BadRequest }
-    ensures empty { body_len ((codes "Content-Length", []) ∷ []) ≡ Err BadRequest }
-    ensures twice { body_len ((codes "Content-Length", codes "2") ∷ (codes "Content-Length", codes "2") ∷ []) ≡ Err BadRequest }
-    ensures coded { body_len ((codes "Content-Length", codes "x") ∷ (codes "Transfer-Encoding", []) ∷ []) ≡ Err NotImplemented }
+pub fn content_length_gives_body_length()
+    ensures absent { body_length_of_fields ((codes "Host", codes "x") ∷ []) ≡ Ok 0 }
+    ensures zeros { body_length_of_fields ((codes "content-LENGTH", codes "000000012") ∷ []) ≡ Ok 12 }
+    ensures most { body_length_of_fields ((codes "Content-Length", codes "65536") ∷ []) ≡ Ok 65536 }
+    ensures more { body_length_of_fields ((codes "Content-Length", codes "65537") ∷ []) ≡ Err TooLarge }
+    ensures long { body_length_of_fields ((codes "Content-Length", codes "0000000002") ∷ []) ≡ Err TooLarge }
+    ensures signed { body_length_of_fields ((codes "Content-Length", codes "+2") ∷ []) ≡ Err BadRequest }
+    ensures empty { body_length_of_fields ((codes "Content-Length", []) ∷ []) ≡ Err BadRequest }
+    ensures twice { body_length_of_fields ((codes "Content-Length", codes "2") ∷ (codes "Content-Length", codes "2") ∷ []) ≡ Err BadRequest }
+    ensures coded { body_length_of_fields ((codes "Content-Length", codes "x") ∷ (codes "Transfer-Encoding", []) ∷ []) ≡ Err NotImplemented }
 {}
 
 /// Shows the routes of some targets, targets without a route, and a text that is split at its
 /// commas.
-pub fn what_has_a_route()
-    ensures row { route_of all_forms.views (codes "/rows") ≡ Some (ToRow None) }
-    ensures keyed { route_of all_forms.views (codes "/rows/A.b-c_1/1000000000000") ≡ Some (ToRow (Some (record { batch = codes "A.b-c_1"; row = 1000000000000 }))) }
-    ensures view { route_of all_forms.views (codes "/ask/lots") ≡ Some (ToView (codes "lots")) }
-    ensures unknown { route_of all_forms.views (codes "/ask/nope") ≡ None }
-    ensures zero { route_of all_forms.views (codes "/rows/A/0") ≡ None }
-    ensures padded { route_of all_forms.views (codes "/rows/A/01") ≡ None }
-    ensures beyond { route_of all_forms.views (codes "/rows/A/1000000000001") ≡ None }
-    ensures coded { route_of all_forms.views (codes "/rows/%41/1") ≡ None }
-    ensures slash { route_of all_forms.views (codes "/rows/") ≡ None }
-    ensures asked { route_of all_forms.views (codes "/ask/lots?x=1") ≡ None }
-    ensures whole { route_of all_forms.views (codes "http://h/rows") ≡ None }
-    ensures parts { parts_at 44 (codes "1,SBMT,,") ≡ codes "1" ∷ codes "SBMT" ∷ [] ∷ [] ∷ [] }
+pub fn routes_of_request_targets()
+    ensures row { route_of_target model_parsers.views (codes "/rows") ≡ Some (ToRow None) }
+    ensures keyed { route_of_target model_parsers.views (codes "/rows/A.b-c_1/1000000000000") ≡ Some (ToRow (Some (record { batch = codes "A.b-c_1"; row = 1000000000000 }))) }
+    ensures view { route_of_target model_parsers.views (codes "/ask/lots") ≡ Some (ToView (codes "lots")) }
+    ensures unknown { route_of_target model_parsers.views (codes "/ask/nope") ≡ None }
+    ensures zero { route_of_target model_parsers.views (codes "/rows/A/0") ≡ None }
+    ensures padded { route_of_target model_parsers.views (codes "/rows/A/01") ≡ None }
+    ensures beyond { route_of_target model_parsers.views (codes "/rows/A/1000000000001") ≡ None }
+    ensures coded { route_of_target model_parsers.views (codes "/rows/%41/1") ≡ None }
+    ensures slash { route_of_target model_parsers.views (codes "/rows/") ≡ None }
+    ensures asked { route_of_target model_parsers.views (codes "/ask/lots?x=1") ≡ None }
+    ensures whole { route_of_target model_parsers.views (codes "http://h/rows") ≡ None }
+    ensures parts { split_at_byte 44 (codes "1,SBMT,,") ≡ codes "1" ∷ codes "SBMT" ∷ [] ∷ [] ∷ [] }
 {}
 
 /// Shows bodies that are JSON lists of texts, and bodies that are not.
-pub fn what_is_a_list_of_texts()
-    ensures none { texts_of (codes " [ ] ") ≡ Some [] }
-    ensures escaped { texts_of (codes "[\"\\u0041\\n\",\"\"]") ≡ Some ((65 ∷ 10 ∷ []) ∷ [] ∷ []) }
-    ensures empty { texts_of [] ≡ None }
-    ensures number { texts_of (codes "[\"a\",2]") ≡ None }
-    ensures list { texts_of (codes "[[]]") ≡ None }
-    ensures object { texts_of (codes "{}") ≡ None }
-    ensures surrogate { texts_of (codes "[\"\\ud83d\"]") ≡ None }
-    ensures bytes { texts_of (91 ∷ 34 ∷ 255 ∷ 34 ∷ 93 ∷ []) ≡ None }
-    ensures mark { texts_of (239 ∷ 187 ∷ 191 ∷ 91 ∷ 93 ∷ []) ≡ None }
+pub fn bodies_that_are_lists_of_texts()
+    ensures none { texts_of_body (codes " [ ] ") ≡ Some [] }
+    ensures escaped { texts_of_body (codes "[\"\\u0041\\n\",\"\"]") ≡ Some ((65 ∷ 10 ∷ []) ∷ [] ∷ []) }
+    ensures empty { texts_of_body [] ≡ None }
+    ensures number { texts_of_body (codes "[\"a\",2]") ≡ None }
+    ensures list { texts_of_body (codes "[[]]") ≡ None }
+    ensures object { texts_of_body (codes "{}") ≡ None }
+    ensures surrogate { texts_of_body (codes "[\"\\ud83d\"]") ≡ None }
+    ensures bytes { texts_of_body (91 ∷ 34 ∷ 255 ∷ 34 ∷ 93 ∷ []) ≡ None }
+    ensures mark { texts_of_body (239 ∷ 187 ∷ 191 ∷ 91 ∷ 93 ∷ []) ≡ None }
 {}
 
 /// Shows that the route is checked before the method, and the method before the body.
-pub fn which_check_comes_first()
-    ensures route { asked_of all_forms (get (codes "/ask/nope")) ≡ HasResponse (Wrong NotFound) }
-    ensures method { asked_of all_forms (get (codes "/ask/lots")) ≡ HasResponse (Wrong NotAllowed) }
-    ensures body { asked_of all_forms (post (codes "/ask/lots") (codes "[")) ≡ HasResponse (Wrong BadRequest) }
+pub fn order_of_request_checks()
+    ensures route { demand_of_request model_parsers (get_request (codes "/ask/nope")) ≡ HasResponse (Wrong NotFound) }
+    ensures method { demand_of_request model_parsers (get_request (codes "/ask/lots")) ≡ HasResponse (Wrong NotAllowed) }
+    ensures body { demand_of_request model_parsers (post_request (codes "/ask/lots") (codes "[")) ≡ HasResponse (Wrong BadRequest) }
 {}

@@ -9,20 +9,20 @@ use Rattle.brk_http_listener.specs.declared.faults.ListenFault.{ListenFault}
 use Rattle.brk_http_listener.specs.declared.faults.ListenFault.TheVariants.{Stream, Net}
 
 -- A listener, a clock and a desk at one time.
-pub record Scene (L C D : Type 0) : Type 0 where
+pub record ListenerClockAndDesk (L C D : Type 0) : Type 0 where
   pub listener : L
   pub clock : C
   pub desk : D
 
 -- The type of a relation of one accept: it may turn the first listener into the second, with this
 -- result.
-abbrev pub Accepts : Type 0 → Type 0 → Type 1
-Accepts L X = L → Result X AcceptFault → L → Type 0
+abbrev pub AcceptRelation : Type 0 → Type 0 → Type 1
+AcceptRelation L X = L → Result X AcceptFault → L → Type 0
 
 -- The type of a relation of one served stream: with this stream, it may turn the first clock and
 -- desk into the second, with this result.
-abbrev pub Serves : Type 0 → Type 0 → Type 0 → Type 1
-Serves C D X = C → D → X → Result ℕ ServeFault → C → D → Type 0
+abbrev pub ServeRelation : Type 0 → Type 0 → Type 0 → Type 1
+ServeRelation C D X = C → D → X → Result ℕ ServeFault → C → D → Type 0
 
 -- The end of a stream: the result of serving it, or `None` if its peer broke it off before it was
 -- accepted.
@@ -30,7 +30,7 @@ abbrev pub StreamEnd : Type 0
 StreamEnd = Option (Result ℕ ServeFault)
 
 -- The accept had this result, and nothing else changed.
-pub record IsAccepted {L C D X : Type 0} (accepts : Accepts L X) (old : Scene L C D) (result : Result X AcceptFault) (new : Scene L C D) : Type 0 where
+pub record AcceptHasResult {L C D X : Type 0} (accepts : AcceptRelation L X) (old : ListenerClockAndDesk L C D) (result : Result X AcceptFault) (new : ListenerClockAndDesk L C D) : Type 0 where
   pub accepted : accepts old.listener result new.listener
   pub clock : new.clock ≡ old.clock
   pub desk : new.desk ≡ old.desk
@@ -38,32 +38,32 @@ pub record IsAccepted {L C D X : Type 0} (accepts : Accepts L X) (old : Scene L 
 -- The next stream of the listener has this end. `None`: the accept failed because the peer broke
 -- the stream off, and clock and desk are unchanged. Otherwise the stream was accepted and served
 -- with this result.
-abbrev pub TakesStream : {L C D X : Type 0} → Accepts L X → Serves C D X → Scene L C D → StreamEnd → Scene L C D → Type 0
-TakesStream accepts serves old None new = IsAccepted accepts old (Err Aborted) new
-TakesStream {X = X} accepts serves old (Some ended) new =
+abbrev pub HandlesStream : {L C D X : Type 0} → AcceptRelation L X → ServeRelation C D X → ListenerClockAndDesk L C D → StreamEnd → ListenerClockAndDesk L C D → Type 0
+HandlesStream accepts serves old None new = AcceptHasResult accepts old (Err Aborted) new
+HandlesStream {X = X} accepts serves old (Some ended) new =
     (stream : X) × accepts old.listener (Ok stream) new.listener × serves old.clock old.desk stream ended new.clock new.desk
 
 -- The stream did not end because memory ran out, so the next one may be taken.
-abbrev pub MayTakeNext : StreamEnd → Type 0
-MayTakeNext None = Unit {0}
-MayTakeNext (Some (Ok count)) = Unit {0}
-MayTakeNext (Some (Err fault)) = fault.kind ≢ Memory
+abbrev pub MayAcceptNextStream : StreamEnd → Type 0
+MayAcceptNextStream None = Unit {0}
+MayAcceptNextStream (Some (Ok count)) = Unit {0}
+MayAcceptNextStream (Some (Err fault)) = fault.kind ≢ Memory
 
 -- The next streams of the listener have exactly these ends, in this order, and none of them ended
 -- because memory ran out.
-abbrev pub TakesAll : {L C D X : Type 0} → Accepts L X → Serves C D X → Scene L C D → List StreamEnd → Scene L C D → Type 0
-TakesAll accepts serves old [] new = new ≡ old
-TakesAll {L} {C} {D} accepts serves old (end ∷ ends) new =
-    (mid : Scene L C D) × TakesStream accepts serves old end mid × MayTakeNext end × TakesAll accepts serves mid ends new
+abbrev pub HandlesStreamsInOrder : {L C D X : Type 0} → AcceptRelation L X → ServeRelation C D X → ListenerClockAndDesk L C D → List StreamEnd → ListenerClockAndDesk L C D → Type 0
+HandlesStreamsInOrder accepts serves old [] new = new ≡ old
+HandlesStreamsInOrder {L} {C} {D} accepts serves old (end ∷ ends) new =
+    (mid : ListenerClockAndDesk L C D) × HandlesStream accepts serves old end mid × MayAcceptNextStream end × HandlesStreamsInOrder accepts serves mid ends new
 
 -- The result of accepting and serving `streams` streams in sequence. `Ok`: exactly so many came to
 -- an end. `Stream`: after fewer, one more was accepted and served, and ended with this fault,
 -- because memory ran out. `Net`: after fewer, the next accept failed, and clock and desk are
 -- unchanged by it.
-abbrev pub Listens : {L C D X : Type 0} → Accepts L X → Serves C D X → ℕ → Scene L C D → Result (Unit {0}) ListenFault → Scene L C D → Type 0
-Listens accepts serves streams old (Ok done) new = (ends : List StreamEnd) × TakesAll accepts serves old ends new × (length ends ≡ streams)
-Listens {L} {C} {D} accepts serves streams old (Err (Stream fault)) new =
-    (ends : List StreamEnd) × (mid : Scene L C D) × TakesAll accepts serves old ends mid × (length ends < streams)
-    × TakesStream accepts serves mid (Some (Err fault)) new × (fault.kind ≡ Memory)
-Listens {L} {C} {D} accepts serves streams old (Err Net) new =
-    (ends : List StreamEnd) × (mid : Scene L C D) × TakesAll accepts serves old ends mid × (length ends < streams) × IsAccepted accepts mid (Err Failed) new
+abbrev pub ServeEachStreamPost : {L C D X : Type 0} → AcceptRelation L X → ServeRelation C D X → ℕ → ListenerClockAndDesk L C D → Result (Unit {0}) ListenFault → ListenerClockAndDesk L C D → Type 0
+ServeEachStreamPost accepts serves streams old (Ok done) new = (ends : List StreamEnd) × HandlesStreamsInOrder accepts serves old ends new × (length ends ≡ streams)
+ServeEachStreamPost {L} {C} {D} accepts serves streams old (Err (Stream fault)) new =
+    (ends : List StreamEnd) × (mid : ListenerClockAndDesk L C D) × HandlesStreamsInOrder accepts serves old ends mid × (length ends < streams)
+    × HandlesStream accepts serves mid (Some (Err fault)) new × (fault.kind ≡ Memory)
+ServeEachStreamPost {L} {C} {D} accepts serves streams old (Err Net) new =
+    (ends : List StreamEnd) × (mid : ListenerClockAndDesk L C D) × HandlesStreamsInOrder accepts serves old ends mid × (length ends < streams) × AcceptHasResult accepts mid (Err Failed) new

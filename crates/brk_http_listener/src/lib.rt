@@ -9,4 +9,4 @@ mod serving;
 pub use faults::{AcceptFault, ListenFault};
 pub use listener::Listener;
 pub use server::StreamServer;
-pub use serving::serve_each;
+pub use serving::serve_each_stream;

@@ -1,4 +1,4 @@
-ghost use Rattle.brk_http_listener.specs.Listening.{Listens};
+ghost use Rattle.brk_http_listener.specs.Listening.{ServeEachStreamPost};
 
 use crate::faults::{AcceptFault, ListenFault};
 use crate::listener::Listener;
@@ -9,13 +9,13 @@ use std::alloc::Global;
 // Accepts the next stream and serves it to its end. A stream that its peer broke off is not served.
 //
 // Fails with `Stream` if memory ran out, and with `Net` if no stream could be accepted.
-fn take_next<L: Listener, H: StreamServer<Stream = L::Stream>>(
+fn serve_next_stream<L: Listener, H: StreamServer<Stream = L::Stream>>(
     alloc: Global,
     listener: &mut L,
     clock: &mut H::Clock,
     desk: &mut H::Desk,
 ) -> Result<(), ListenFault>
-    ensures { Listens L.accepts H.serves 1 (record { listener = listener.old; clock = clock.old; desk = desk.old })
+    ensures { ServeEachStreamPost L.accepts H.serves 1 (record { listener = listener.old; clock = clock.old; desk = desk.old })
         result (record { listener = listener.new; clock = clock.new; desk = desk.new }) }
 {
     let stream = match listener.accept_next() {
@@ -38,19 +38,19 @@ fn take_next<L: Listener, H: StreamServer<Stream = L::Stream>>(
 ///
 /// Fails with `Stream` at the first stream that ended because memory ran out, and with `Net` if no
 /// stream could be accepted. No stream is accepted after a fault.
-pub fn serve_each<L: Listener, H: StreamServer<Stream = L::Stream>>(
+pub fn serve_each_stream<L: Listener, H: StreamServer<Stream = L::Stream>>(
     alloc: Global,
     listener: &mut L,
     streams: u32,
     clock: &mut H::Clock,
     desk: &mut H::Desk,
 ) -> Result<(), ListenFault>
-    ensures { Listens L.accepts H.serves streams (record { listener = listener.old; clock = clock.old; desk = desk.old })
+    ensures { ServeEachStreamPost L.accepts H.serves streams (record { listener = listener.old; clock = clock.old; desk = desk.old })
         result (record { listener = listener.new; clock = clock.new; desk = desk.new }) }
 {
     let mut taken = 0u32;
     'streams: while taken < streams {
-        take_next::<L, H>(alloc, listener, clock, desk)?;
+        serve_next_stream::<L, H>(alloc, listener, clock, desk)?;
         taken += 1;
     }
     Ok(())

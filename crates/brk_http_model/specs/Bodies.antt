@@ -9,50 +9,50 @@ use Rattle.serde_json.specs.Written.{compact_text}
 use Rattle.brk_money.specs.Spelling.{Text}
 
 -- The text of a JSON value that is a string; none for any other value.
-abbrev pub text_in : Data → Option Text
-text_in (string text) = Some text
-text_in null = None
-text_in (boolean b) = None
-text_in (number n) = None
-text_in (array items) = None
-text_in (object ms) = None
+abbrev pub text_of_json_string : Data → Option Text
+text_of_json_string (string text) = Some text
+text_of_json_string null = None
+text_of_json_string (boolean b) = None
+text_of_json_string (number n) = None
+text_of_json_string (array items) = None
+text_of_json_string (object ms) = None
 
 -- The texts of JSON values that are all strings; none if one of them is not.
-abbrev pub texts_in_items : Items → Option (List Text)
-texts_in_items no_items = Some []
-texts_in_items (item d ds) = option_and_then (λ t. option_map (λ ts. t ∷ ts) (texts_in_items ds)) (text_in d)
+abbrev pub texts_of_json_items : Items → Option (List Text)
+texts_of_json_items no_items = Some []
+texts_of_json_items (item d ds) = option_and_then (λ t. option_map (λ ts. t ∷ ts) (texts_of_json_items ds)) (text_of_json_string d)
 
 -- The texts of a JSON value that is an array of strings; none for any other value.
-abbrev pub texts_in : Data → Option (List Text)
-texts_in (array items) = texts_in_items items
-texts_in null = None
-texts_in (boolean b) = None
-texts_in (number n) = None
-texts_in (string text) = None
-texts_in (object ms) = None
+abbrev pub texts_of_json_array : Data → Option (List Text)
+texts_of_json_array (array items) = texts_of_json_items items
+texts_of_json_array null = None
+texts_of_json_array (boolean b) = None
+texts_of_json_array (number n) = None
+texts_of_json_array (string text) = None
+texts_of_json_array (object ms) = None
 
 -- The texts of a body that is a JSON array of strings in UTF-8; none for any other body.
-unfoldable pub texts_of : Text → Option (List Text)
-texts_of body = if is_utf8 body then option_and_then texts_in (read body) else None
+unfoldable pub texts_of_body : Text → Option (List Text)
+texts_of_body body = if is_utf8 body then option_and_then texts_of_json_array (read body) else None
 
 -- The JSON array of strings with these texts.
-abbrev pub json_list : List Text → Data
-json_list texts = array (items_of (map string texts))
+abbrev pub json_array_of_texts : List Text → Data
+json_array_of_texts texts = array (items_of (map string texts))
 
 -- The JSON text, without white space, of an object with one member, whose name is `word` and whose
 -- value is `value`.
-abbrev pub json_member : Text → Data → Text
-json_member word value = compact_text (object (member word value no_members))
+abbrev pub json_object_text : Text → Data → Text
+json_object_text word value = compact_text (object (member word value no_members))
 
 -- The JSON text of an object with one member, an array of strings: {"WORD":["TEXT",..]}.
-unfoldable pub json_texts : Text → List Text → Text
-json_texts word texts = json_member word (json_list texts)
+unfoldable pub json_texts_object : Text → List Text → Text
+json_texts_object word texts = json_object_text word (json_array_of_texts texts)
 
 -- The JSON text of an object with one member, an array of arrays of strings:
 -- {"WORD":[["TEXT",..],..]}.
-unfoldable pub json_records : Text → List (List Text) → Text
-json_records word records = json_member word (array (items_of (map json_list records)))
+unfoldable pub json_records_object : Text → List (List Text) → Text
+json_records_object word records = json_object_text word (array (items_of (map json_array_of_texts records)))
 
 -- The JSON text of an error with the text `words`: {"error":"WORDS"}.
-unfoldable pub json_error : Text → Text
-json_error words = json_member (codes "error") (string words)
+unfoldable pub json_error_object : Text → Text
+json_error_object words = json_object_text (codes "error") (string words)

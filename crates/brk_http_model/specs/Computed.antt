@@ -9,9 +9,9 @@ use Rattle.brk_model.specs.Commands.{Answer}
 use Rattle.brk_model.specs.Keyed.{keyed_step}
 use Rattle.brk_model.specs.Queries.{View}
 use Rattle.brk_model.specs.Run.{Do, Ask, Outcome, Did, Saw, NoView, Failed}
-use Rattle.brk_http_model.specs.Asked.{Asked, HasResponse, Calls, all_forms, asked_of}
+use Rattle.brk_http_model.specs.Asked.{Asked, HasResponse, Calls, model_parsers, demand_of_request}
 use Rattle.brk_http_model.specs.Found.{Request}
-use Rattle.brk_http_model.specs.Replies.{Response, Came, is_fault, reply_text}
+use Rattle.brk_http_model.specs.Replies.{Response, Came, is_fault_response, reply_text}
 use Rattle.brk_http_model.specs.Stream.{most_requests}
 
 -- A response, the clock readings that remain, and the base after it.
@@ -22,35 +22,35 @@ pub record Responded : Type 0 where
 
 -- The response with the answer to a command, the clock readings `moments` that remain, and the base
 -- after the command.
-abbrev pub did : List ℕ → Answer × Base → Responded
-did moments (answer, base) = record { response = Came (Did answer); moments = moments; base = base }
+abbrev pub responded_to_command : List ℕ → Answer × Base → Responded
+responded_to_command moments (answer, base) = record { response = Came (Did answer); moments = moments; base = base }
 
 -- The outcome of a query: its view or its refusal.
-abbrev pub saw : Result View Refusal → Outcome
-saw (Ok view) = Saw view
-saw (Err refusal) = NoView refusal
+abbrev pub outcome_of_query_result : Result View Refusal → Outcome
+outcome_of_query_result (Ok view) = Saw view
+outcome_of_query_result (Err refusal) = NoView refusal
 
 -- The response to a demand on `base`, the clock readings that remain and the base after it, if no
 -- call fails. A command for which no clock reading remains has the fault `Store`.
-abbrev pub responded : Base → List ℕ → Asked → Responded
-responded base moments (HasResponse said) = record { response = said; moments = moments; base = base }
-responded base moments (Calls (Ask query)) = record { response = Came (saw (ask base query)); moments = moments; base = base }
-responded base (now ∷ moments) (Calls (Do command key)) = did moments (keyed_step base now command key)
-responded base [] (Calls (Do command key)) = record { response = Came (Failed Store); moments = []; base = base }
+abbrev pub response_to_demand : Base → List ℕ → Asked → Responded
+response_to_demand base moments (HasResponse said) = record { response = said; moments = moments; base = base }
+response_to_demand base moments (Calls (Ask query)) = record { response = Came (outcome_of_query_result (ask base query)); moments = moments; base = base }
+response_to_demand base (now ∷ moments) (Calls (Do command key)) = responded_to_command moments (keyed_step base now command key)
+response_to_demand base [] (Calls (Do command key)) = record { response = Came (Failed Store); moments = []; base = base }
 
 -- True if the response is the last of its stream, after `n` earlier requests: the request is number
 -- `most_requests` or asks to close the stream, or the response is a fault.
-abbrev pub is_last : ℕ → Request → Response → Bool
-is_last n request response = (n + 1 == most_requests) || request.closes || is_fault response
+abbrev pub is_last_response : ℕ → Request → Response → Bool
+is_last_response n request response = (n + 1 == most_requests) || request.closes || is_fault_response response
 
 -- The reply to a request, followed by the replies that `more` returns for the base and the clock
 -- readings after it, unless the reply ends the stream.
-abbrev pub and_replies : ℕ → Request → Responded → (Base → List ℕ → List Text) → List Text
-and_replies n request r more = reply_text r.response (is_last n request r.response) ∷ (if is_last n request r.response then [] else more r.base r.moments)
+abbrev pub reply_then_more : ℕ → Request → Responded → (Base → List ℕ → List Text) → List Text
+reply_then_more n request r more = reply_text r.response (is_last_response n request r.response) ∷ (if is_last_response n request r.response then [] else more r.base r.moments)
 
 -- The replies to the requests, executed in sequence from `base` on with the clock readings
 -- `moments`, after `n` earlier requests of the stream. Requests after the last reply have none.
-abbrev pub replies_from : ℕ → Base → List ℕ → List Request → List Text
-replies_from n base moments [] = []
-replies_from n base moments (request ∷ requests) =
-    and_replies n request (responded base moments (asked_of all_forms request)) (λ after left. replies_from (n + 1) after left requests)
+abbrev pub replies_to_requests : ℕ → Base → List ℕ → List Request → List Text
+replies_to_requests n base moments [] = []
+replies_to_requests n base moments (request ∷ requests) =
+    reply_then_more n request (response_to_demand base moments (demand_of_request model_parsers request)) (λ after left. replies_to_requests (n + 1) after left requests)

@@ -5,43 +5,43 @@ use Rattle.brk_http_model.specs.declared.head_end.HeadEnd.{HeadEnd}
 use Rattle.brk_http_model.specs.declared.head_end.HeadEnd.TheVariants.{Nothing, TooLong, Cut, At}
 
 -- The greatest length of a request's head with its empty line, in bytes.
-abbrev pub head_limit : ℕ
-head_limit = 16384
+abbrev pub most_head_bytes : ℕ
+most_head_bytes = 16384
 
 -- The length of the line end (LF or CR LF) with which the bytes begin; none if they begin with no
 -- line end.
-abbrev pub begins_line_end : Text → Option ℕ
-begins_line_end [] = None
-begins_line_end (b ∷ []) = if b == 10 then Some 1 else None
-begins_line_end (b ∷ c ∷ bytes) = if b == 10 then Some 1 else (if b == 13 && c == 10 then Some 2 else None)
+abbrev pub leading_line_end_length : Text → Option ℕ
+leading_line_end_length [] = None
+leading_line_end_length (b ∷ []) = if b == 10 then Some 1 else None
+leading_line_end_length (b ∷ c ∷ bytes) = if b == 10 then Some 1 else (if b == 13 && c == 10 then Some 2 else None)
 
 -- The length of the line end (LF or CR LF) with which `bytes` begin, if the byte `b` before them is
 -- an LF; otherwise none.
-abbrev pub line_end_after : ℕ → Text → Option ℕ
-line_end_after b bytes = if b == 10 then begins_line_end bytes else None
+abbrev pub line_end_length_after_byte : ℕ → Text → Option ℕ
+line_end_length_after_byte b bytes = if b == 10 then leading_line_end_length bytes else None
 
 -- The first number plus 1 if there is one, otherwise `further` plus 1; none if there is neither.
-abbrev pub or_further : Option ℕ → Option ℕ → Option ℕ
-or_further None further = option_map (λ n. n + 1) further
-or_further (Some n) further = Some (n + 1)
+abbrev pub incremented_first_present : Option ℕ → Option ℕ → Option ℕ
+incremented_first_present None further = option_map (λ n. n + 1) further
+incremented_first_present (Some n) further = Some (n + 1)
 
 -- The number of bytes up to the end of the first empty line (LF LF or LF CR LF); none if there is
 -- no empty line.
-unfoldable pub head_len : Text → Option ℕ
-head_len [] = None
-head_len (b ∷ bytes) = or_further (line_end_after b bytes) (head_len bytes)
+unfoldable pub head_length : Text → Option ℕ
+head_length [] = None
+head_length (b ∷ bytes) = incremented_first_present (line_end_length_after_byte b bytes) (head_length bytes)
 
 -- The end of a head in an input of `len` bytes: after `n` bytes if the second parameter is
 -- `Some n`, the end of the first empty line. Without an empty line it is `Nothing` for an empty
 -- input, `TooLong` from `limit` bytes on, and `Cut` below.
-abbrev pub head_end_of : ℕ → Option ℕ → ℕ → HeadEnd
-head_end_of limit (Some n) len = At n
-head_end_of limit None len = if len == 0 then Nothing else (if nat_le limit len then TooLong else Cut)
+abbrev pub head_end_by_length : ℕ → Option ℕ → ℕ → HeadEnd
+head_end_by_length limit (Some n) len = At n
+head_end_by_length limit None len = if len == 0 then Nothing else (if nat_le limit len then TooLong else Cut)
 
 -- The end of the head at the front of `input`, if a head may have at most `limit` bytes.
 abbrev pub head_end_within : ℕ → Text → HeadEnd
-head_end_within limit input = head_end_of limit (head_len (take limit input)) (length input)
+head_end_within limit input = head_end_by_length limit (head_length (take limit input)) (length input)
 
--- The end of the head at the front of `input`, if a head may have at most `head_limit` bytes.
+-- The end of the head at the front of `input`, if a head may have at most `most_head_bytes` bytes.
 unfoldable pub head_end : Text → HeadEnd
-head_end input = head_end_within head_limit input
+head_end input = head_end_within most_head_bytes input

@@ -4,11 +4,11 @@ use Rattle.std.specs.List.{list_any, slice_split}
 use Rattle.std.specs.Str.{is_utf8}
 use Rattle.brk_money.specs.Spelling.{Text}
 use Rattle.brk_model.specs.Records.{Key}
-use Rattle.brk_model.specs.Forms.{Read, is_batch_name, read_id}
+use Rattle.brk_model.specs.Forms.{ReadResult, is_batch_name, read_id}
 
 -- The parts into which the text is split at each byte equal to `cut`, which is in none of them.
-unfoldable pub parts_at : ℕ → Text → List Text
-parts_at cut text = slice_split (λ b. eqb b cut) text
+unfoldable pub split_at_byte : ℕ → Text → List Text
+split_at_byte cut text = slice_split (λ b. eqb b cut) text
 
 -- The route of a target: a row, with or without a key, or a view.
 pub data Route : Type 0 where
@@ -17,26 +17,26 @@ pub data Route : Type 0 where
 
 -- The key of a batch name and a row number; none if the number is malformed or the name is not a
 -- batch name.
-abbrev pub row_of_batch : Text → Read ℕ → Option Key
-row_of_batch batch (Err refusal) = None
-row_of_batch batch (Ok n) = if is_batch_name batch then Some (record { batch = batch; row = n }) else None
+abbrev pub key_of_batch_row : Text → ReadResult ℕ → Option Key
+key_of_batch_row batch (Err refusal) = None
+key_of_batch_row batch (Ok n) = if is_batch_name batch then Some (record { batch = batch; row = n }) else None
 
 -- True if `first`, the part before the first slash of a target, is empty, and `word`, the part
 -- after it, equals `name`.
-abbrev pub begins_with : Text → Text → Text → Bool
-begins_with first word name = bytes_eq first [] && bytes_eq word name
+abbrev pub has_first_segment : Text → Text → Text → Bool
+has_first_segment first word name = bytes_eq first [] && bytes_eq word name
 
 -- The route of a target with these parts between its slashes: /rows, /rows/BATCH/N, or /ask/VIEW
 -- with one of `views`; none for any other.
-abbrev pub route_by : List Text → List Text → Option Route
-route_by views (first ∷ word ∷ []) = if begins_with first word (codes "rows") then Some (ToRow None) else None
-route_by views (first ∷ word ∷ view ∷ []) =
-    if begins_with first word (codes "ask") && list_any (λ v. bytes_eq v view) views then Some (ToView view) else None
-route_by views (first ∷ word ∷ batch ∷ n ∷ []) =
-    if begins_with first word (codes "rows") then option_map (λ key. ToRow (Some key)) (row_of_batch batch (read_id n)) else None
-route_by views _ = None
+abbrev pub route_of_segments : List Text → List Text → Option Route
+route_of_segments views (first ∷ word ∷ []) = if has_first_segment first word (codes "rows") then Some (ToRow None) else None
+route_of_segments views (first ∷ word ∷ view ∷ []) =
+    if has_first_segment first word (codes "ask") && list_any (λ v. bytes_eq v view) views then Some (ToView view) else None
+route_of_segments views (first ∷ word ∷ batch ∷ n ∷ []) =
+    if has_first_segment first word (codes "rows") then option_map (λ key. ToRow (Some key)) (key_of_batch_row batch (read_id n)) else None
+route_of_segments views _ = None
 
 -- The route of the target, if `views` are the known views; none if the target is not UTF-8 or has
 -- no route. Nothing in the target is decoded.
-unfoldable pub route_of : List Text → Text → Option Route
-route_of views target = if is_utf8 target then route_by views (parts_at 47 target) else None
+unfoldable pub route_of_target : List Text → Text → Option Route
+route_of_target views target = if is_utf8 target then route_of_segments views (split_at_byte 47 target) else None

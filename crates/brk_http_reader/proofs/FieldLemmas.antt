@@ -12,8 +12,8 @@ use Rattle.std.proofs.lemmas.Grind.{pow_more}
 use Rattle.httparse.proofs.ChunkLemmas.{digits_value_after_push}
 use Rattle.httparse.specs.Spans.{header_bytes}
 use Rattle.httparse.specs.declared.spans.HeaderSpan.{HeaderSpan}
-use Rattle.brk_http_model.specs.Fields.{Pair, same_word, values_of, has_field, only_length, length_value}
-use Rattle.brk_http_reader.specs.Seen.{add_field, seen_of}
+use Rattle.brk_http_model.specs.Fields.{HeadField, equals_ignoring_case, values_of_field, has_field_named, body_length_of_values, body_length_of_value}
+use Rattle.brk_http_reader.specs.Seen.{facts_with_field, facts_of_fields}
 use Rattle.brk_http_model.specs.declared.problem.Problem.TheVariants.{BadRequest}
 use Rattle.brk_http_reader.specs.declared.fields.Seen.{Seen}
 
@@ -25,63 +25,63 @@ or_false : (a : Bool) → a || false ≡ false || a
 or_false true = refl
 or_false false = refl
 
-pub any_push : (p : Pair → Bool) (ps : List Pair) (q : Pair) → list_any p (ps ++ q ∷ []) ≡ list_any p ps || p q
+pub any_push : (p : HeadField → Bool) (ps : List HeadField) (q : HeadField) → list_any p (ps ++ q ∷ []) ≡ list_any p ps || p q
 any_push p [] q = or_false (p q)
 any_push p (x ∷ ps) q = ap (λ b. p x || b) (any_push p ps q) ∙ or_last (p x) (list_any p ps) (p q)
 
 -- the values and whether there is one
-values_any : (name : List ℕ) (ps : List Pair) → has_field name ps ≡ false → values_of name ps ≡ []
+values_any : (name : List ℕ) (ps : List HeadField) → has_field_named name ps ≡ false → values_of_field name ps ≡ []
 values_any name [] none = refl
-values_any name (p ∷ ps) none = by (same_word p.0 name) refl (values_any name ps)
+values_any name (p ∷ ps) none = by (equals_ignoring_case p.0 name) refl (values_any name ps)
   where
-    by : (b : Bool) → same_word p.0 name ≡ b → (has_field name ps ≡ false → values_of name ps ≡ []) → values_of name (p ∷ ps) ≡ []
+    by : (b : Bool) → equals_ignoring_case p.0 name ≡ b → (has_field_named name ps ≡ false → values_of_field name ps ≡ []) → values_of_field name (p ∷ ps) ≡ []
     by true e rest = let f = rw e at none in cc
     by false e rest = let f = rw e at none in rw e (rest f)
 
-values_some : (name : List ℕ) (ps : List Pair) → has_field name ps ≡ true → (v : List ℕ) × (vs : List (List ℕ)) × (values_of name ps ≡ v ∷ vs)
+values_some : (name : List ℕ) (ps : List HeadField) → has_field_named name ps ≡ true → (v : List ℕ) × (vs : List (List ℕ)) × (values_of_field name ps ≡ v ∷ vs)
 values_some name [] some = cc
-values_some name (p ∷ ps) some = by (same_word p.0 name) refl (values_some name ps)
+values_some name (p ∷ ps) some = by (equals_ignoring_case p.0 name) refl (values_some name ps)
   where
-    by : (b : Bool) → same_word p.0 name ≡ b → (has_field name ps ≡ true → (v : List ℕ) × (vs : List (List ℕ)) × (values_of name ps ≡ v ∷ vs))
-        → (v : List ℕ) × (vs : List (List ℕ)) × (values_of name (p ∷ ps) ≡ v ∷ vs)
-    by true e rest = (p.1, values_of name ps, rw e refl)
+    by : (b : Bool) → equals_ignoring_case p.0 name ≡ b → (has_field_named name ps ≡ true → (v : List ℕ) × (vs : List (List ℕ)) × (values_of_field name ps ≡ v ∷ vs))
+        → (v : List ℕ) × (vs : List (List ℕ)) × (values_of_field name (p ∷ ps) ≡ v ∷ vs)
+    by true e rest = (p.1, values_of_field name ps, rw e refl)
     by false e rest = let r = rest (rw e at some) in (r.0, r.1, rw e r.2)
 
-many : (vs : List (List ℕ)) (v w : List ℕ) → only_length ((v ∷ vs) ++ w ∷ []) ≡ Err BadRequest
+many : (vs : List (List ℕ)) (v w : List ℕ) → body_length_of_values ((v ∷ vs) ++ w ∷ []) ≡ Err BadRequest
 many [] v w = refl
 many (u ∷ vs) v w = refl
 
-len_push : (name : List ℕ) (ps : List Pair) (q : Pair)
-    → only_length (values_of name (ps ++ q ∷ [])) ≡ (if same_word q.0 name then (if has_field name ps then Err BadRequest else length_value q.1) else only_length (values_of name ps))
-len_push name ps q = rw (filter_map-append (λ p. if same_word p.0 name then Some p.1 else None) ps (q ∷ [])) (by (same_word q.0 name) (has_field name ps) refl refl)
+len_push : (name : List ℕ) (ps : List HeadField) (q : HeadField)
+    → body_length_of_values (values_of_field name (ps ++ q ∷ [])) ≡ (if equals_ignoring_case q.0 name then (if has_field_named name ps then Err BadRequest else body_length_of_value q.1) else body_length_of_values (values_of_field name ps))
+len_push name ps q = rw (filter_map-append (λ p. if equals_ignoring_case p.0 name then Some p.1 else None) ps (q ∷ [])) (by (equals_ignoring_case q.0 name) (has_field_named name ps) refl refl)
   where
-    by : (b c : Bool) → same_word q.0 name ≡ b → has_field name ps ≡ c
-        → only_length (values_of name ps ++ values_of name (q ∷ [])) ≡ (if b then (if c then Err BadRequest else length_value q.1) else only_length (values_of name ps))
+    by : (b c : Bool) → equals_ignoring_case q.0 name ≡ b → has_field_named name ps ≡ c
+        → body_length_of_values (values_of_field name ps ++ values_of_field name (q ∷ [])) ≡ (if b then (if c then Err BadRequest else body_length_of_value q.1) else body_length_of_values (values_of_field name ps))
     by true true e f = let r = values_some name ps f in rw (e, r.2) (many r.1 r.0 q.1)
     by true false e f = rw (e, values_any name ps f) refl
-    by false c e f = rw e (rw (nil (values_of name ps)) refl)
+    by false c e f = rw e (rw (nil (values_of_field name ps)) refl)
       where
         nil : (xs : List (List ℕ)) → xs ++ [] ≡ xs
         nil [] = refl
         nil (x ∷ xs) = ap (λ ys. x ∷ ys) (nil xs)
 
-pub seen_push : (ps : List Pair) (q : Pair) → seen_of (ps ++ q ∷ []) ≡ add_field (seen_of ps) q
+pub seen_push : (ps : List HeadField) (q : HeadField) → facts_of_fields (ps ++ q ∷ []) ≡ facts_with_field (facts_of_fields ps) q
 seen_push ps q =
-    let a = any_push (λ p. same_word p.0 (codes "transfer-encoding")) ps q in
-    let b = any_push (λ p. same_word p.0 (codes "connection") && same_word p.1 (codes "close")) ps q in
-    let d = any_push (λ p. same_word p.0 (codes "content-length")) ps q in
+    let a = any_push (λ p. equals_ignoring_case p.0 (codes "transfer-encoding")) ps q in
+    let b = any_push (λ p. equals_ignoring_case p.0 (codes "connection") && equals_ignoring_case p.1 (codes "close")) ps q in
+    let d = any_push (λ p. equals_ignoring_case p.0 (codes "content-length")) ps q in
     let e = len_push (codes "content-length") ps q in
-    (let made : seen_of (ps ++ q ∷ []) ≡ add_field (seen_of ps) q = cc (a, b, d, e) in made)
+    (let made : facts_of_fields (ps ++ q ∷ []) ≡ facts_with_field (facts_of_fields ps) q = cc (a, b, d, e) in made)
 
 pub seen_more : (front : List ℕ) (hs : List HeaderSpan) (i : ℕ) (d : HeaderSpan) (s : Seen) → i < length hs
-    → s ≡ seen_of (map (header_bytes front) (take i hs))
-    → add_field s (header_bytes front (get_or hs i d)) ≡ seen_of (map (header_bytes front) (take (i + 1) hs))
+    → s ≡ facts_of_fields (map (header_bytes front) (take i hs))
+    → facts_with_field s (header_bytes front (get_or hs i d)) ≡ facts_of_fields (map (header_bytes front) (take (i + 1) hs))
 seen_more front hs i d s within all =
     let e : map (header_bytes front) (take (i + 1) hs) ≡ map (header_bytes front) (take i hs) ++ header_bytes front (get_or hs i d) ∷ [] =
     rw (take_more hs i d within) (map-append (header_bytes front) (take i hs) (get_or hs i d ∷ [])) in
-    ap (λ t. add_field t (header_bytes front (get_or hs i d))) all
+    ap (λ t. facts_with_field t (header_bytes front (get_or hs i d))) all
     ∙ sym (seen_push (map (header_bytes front) (take i hs)) (header_bytes front (get_or hs i d)))
-    ∙ ap seen_of (sym e)
+    ∙ ap facts_of_fields (sym e)
 
 -- ---- digits
 

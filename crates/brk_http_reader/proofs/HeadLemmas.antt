@@ -4,7 +4,7 @@ use Rattle.std.specs.Prelude.{◌==◌, ◌&&◌, if◌then◌else◌, nat_le}
 use Rattle.std.specs.List.{flat_map}
 use Rattle.std.proofs.lemmas.List.{length-append, nil_from_length}
 use Rattle.httparse.specs.Grammar.{LineEnd, crlf, lf, print_end, Field, print_field, print_section, RequestHead, print_request, ReadsRequest}
-use Rattle.brk_http_model.specs.Heads.{begins_line_end, or_further, line_end_after, head_len}
+use Rattle.brk_http_model.specs.Heads.{leading_line_end_length, incremented_first_present, line_end_length_after_byte, head_length}
 use Rattle.brk_http_reader.proofs.FrontLemmas.{head_len-cons, head_len-nil}
 use Rattle.brk_http_model.specs.Heads.{head_end_within}
 use Rattle.brk_http_model.specs.declared.head_end.HeadEnd.TheVariants.{Nothing, TooLong, Cut, At}
@@ -43,7 +43,7 @@ head_empty h = section_empty h.fields h.last _ (after _ (print_end h.line_end) (
 
 -- ---- the first empty line is no later
 
-begins_end : (e : LineEnd) (rest : List ℕ) → begins_line_end (print_end e ++ rest) ≡ Some (length (print_end e))
+begins_end : (e : LineEnd) (rest : List ℕ) → leading_line_end_length (print_end e ++ rest) ≡ Some (length (print_end e))
 begins_end crlf rest = refl
 begins_end lf [] = refl
 begins_end lf (b ∷ rest) = refl
@@ -62,19 +62,19 @@ short_one : (s : Bool) → IfSome (if s then Some 1 else None) (λ k. k ≤ 2)
 short_one true = omega arith
 short_one false = tt
 
-short : (bytes : List ℕ) → IfSome (begins_line_end bytes) (λ n. n ≤ 2)
+short : (bytes : List ℕ) → IfSome (leading_line_end_length bytes) (λ n. n ≤ 2)
 short [] = tt
 short (b ∷ []) = short_one (b == 10)
 short (b ∷ c ∷ bytes) = short_two (b == 10) (b == 13) (c == 10)
 
-short_after : (b : ℕ) (bytes : List ℕ) → IfSome (line_end_after b bytes) (λ n. n ≤ 2)
+short_after : (b : ℕ) (bytes : List ℕ) → IfSome (line_end_length_after_byte b bytes) (λ n. n ≤ 2)
 short_after b bytes = by (b == 10)
   where
-    by : (t : Bool) → IfSome (if t then begins_line_end bytes else None) (λ n. n ≤ 2)
+    by : (t : Bool) → IfSome (if t then leading_line_end_length bytes else None) (λ n. n ≤ 2)
     by true = short bytes
     by false = tt
 
-further_most : (x y : Option ℕ) (n : ℕ) → IfSome x (λ k. k ≤ 2) → 2 ≤ n → AtMost y n → AtMost (or_further x y) (suc n)
+further_most : (x y : Option ℕ) (n : ℕ) → IfSome x (λ k. k ≤ 2) → 2 ≤ n → AtMost y n → AtMost (incremented_first_present x y) (suc n)
 further_most (Some k) y n p two q = omega arith
 further_most None (Some k) n p two q = omega arith
 further_most None None n p two q = absurd q
@@ -86,20 +86,20 @@ end_some lf = omega arith
 most_here : (n k : ℕ) → n + 1 ≡ suc k → n + 1 ≤ suc k
 most_here n k e = omega arith
 
-pub first_by : (before rest : List ℕ) (e : LineEnd) → AtMost (head_len ((before ++ 10 ∷ print_end e) ++ rest)) (length (before ++ 10 ∷ print_end e))
+pub first_by : (before rest : List ℕ) (e : LineEnd) → AtMost (head_length ((before ++ 10 ∷ print_end e) ++ rest)) (length (before ++ 10 ∷ print_end e))
 first_by [] rest e = rw (head_len-cons 10 (print_end e ++ rest), begins_end e rest) (omega arith)
 first_by (b ∷ before) rest e =
     let two : 2 ≤ length (before ++ 10 ∷ print_end e) = omega (arith, length-append before (10 ∷ print_end e), end_some e) in
     rw (head_len-cons b ((before ++ 10 ∷ print_end e) ++ rest))
-    (further_most (line_end_after b ((before ++ 10 ∷ print_end e) ++ rest)) (head_len ((before ++ 10 ∷ print_end e) ++ rest)) (length (before ++ 10 ∷ print_end e))
+    (further_most (line_end_length_after_byte b ((before ++ 10 ∷ print_end e) ++ rest)) (head_length ((before ++ 10 ∷ print_end e) ++ rest)) (length (before ++ 10 ∷ print_end e))
     (short_after b ((before ++ 10 ∷ print_end e) ++ rest)) two (first_by before rest e))
 
 -- in the bytes up to the first empty line a head is all
-pub head_whole : (front rest : List ℕ) (h : RequestHead) → head_len front ≡ Some (length front) → ReadsRequest front h rest → rest ≡ []
+pub head_whole : (front rest : List ℕ) (h : RequestHead) → head_length front ≡ Some (length front) → ReadsRequest front h rest → rest ≡ []
 head_whole front rest h first reads =
     let w = head_empty h in
     let e : front ≡ (w.before ++ 10 ∷ print_end w.end) ++ rest = reads.1 ∙ ap (λ l. l ++ rest) w.is in
-    let P : List ℕ → Type 0 = λ l. AtMost (head_len l) (length (w.before ++ 10 ∷ print_end w.end)) in
+    let P : List ℕ → Type 0 = λ l. AtMost (head_length l) (length (w.before ++ 10 ∷ print_end w.end)) in
     let m : P front = subst P (sym e) (first_by w.before rest w.end) in
     let n : length front ≤ length (w.before ++ 10 ∷ print_end w.end) = rw first at m in
     let l : length front ≡ length (w.before ++ 10 ∷ print_end w.end) + length rest = ap length e ∙ length-append _ rest in
@@ -107,25 +107,25 @@ head_whole front rest h first reads =
 
 -- ---- the bytes up to the first empty line have it at their end
 
-one_take : (b k : ℕ) (s : Bool) → (b == 10) ≡ s → (if s then Some 1 else None) ≡ Some k → begins_line_end (take k (b ∷ [])) ≡ Some k
+one_take : (b k : ℕ) (s : Bool) → (b == 10) ≡ s → (if s then Some 1 else None) ≡ Some k → leading_line_end_length (take k (b ∷ [])) ≡ Some k
 one_take b k true e f = let n : 1 ≡ k = cc in rw (← n, e) refl
 one_take b k false e f = cc
 
 two_take : (b c k : ℕ) (bytes : List ℕ) (s t : Bool) → (b == 10) ≡ s → (b == 13 && c == 10) ≡ t → (if s then Some 1 else (if t then Some 2 else None)) ≡ Some k
-    → begins_line_end (take k (b ∷ c ∷ bytes)) ≡ Some k
+    → leading_line_end_length (take k (b ∷ c ∷ bytes)) ≡ Some k
 two_take b c k bytes true t e g f = let n : 1 ≡ k = cc in rw (← n, e) refl
 two_take b c k bytes false true e g f = let n : 2 ≡ k = cc in rw (← n, e, g) refl
 two_take b c k bytes false false e g f = cc
 
-begins-take : (bytes : List ℕ) (k : ℕ) → begins_line_end bytes ≡ Some k → begins_line_end (take k bytes) ≡ Some k
+begins-take : (bytes : List ℕ) (k : ℕ) → leading_line_end_length bytes ≡ Some k → leading_line_end_length (take k bytes) ≡ Some k
 begins-take [] k e = cc
 begins-take (b ∷ []) k e = one_take b k (b == 10) refl e
 begins-take (b ∷ c ∷ bytes) k e = two_take b c k bytes (b == 10) (b == 13 && c == 10) refl refl e
 
-after-take : (b : ℕ) (bytes : List ℕ) (k : ℕ) → line_end_after b bytes ≡ Some k → line_end_after b (take k bytes) ≡ Some k
+after-take : (b : ℕ) (bytes : List ℕ) (k : ℕ) → line_end_length_after_byte b bytes ≡ Some k → line_end_length_after_byte b (take k bytes) ≡ Some k
 after-take b bytes k e = by (b == 10) e
   where
-    by : (t : Bool) → (if t then begins_line_end bytes else None) ≡ Some k → (if t then begins_line_end (take k bytes) else None) ≡ Some k
+    by : (t : Bool) → (if t then leading_line_end_length bytes else None) ≡ Some k → (if t then leading_line_end_length (take k bytes) else None) ≡ Some k
     by true f = begins-take bytes k f
     by false f = cc
 
@@ -135,11 +135,11 @@ some_one = Some 1
 abbrev some_two : Option ℕ
 some_two = Some 2
 
-one_none : (b : ℕ) (s t : Bool) → (b == 10) ≡ s → (if s then some_one else (if t then some_two else None)) ≡ None → begins_line_end (b ∷ []) ≡ None
+one_none : (b : ℕ) (s t : Bool) → (b == 10) ≡ s → (if s then some_one else (if t then some_two else None)) ≡ None → leading_line_end_length (b ∷ []) ≡ None
 one_none b true t e f = cc
 one_none b false t e f = rw e refl
 
-begins-take-none : (bytes : List ℕ) (k : ℕ) → begins_line_end bytes ≡ None → begins_line_end (take k bytes) ≡ None
+begins-take-none : (bytes : List ℕ) (k : ℕ) → leading_line_end_length bytes ≡ None → leading_line_end_length (take k bytes) ≡ None
 begins-take-none bytes zero e = refl
 begins-take-none [] (suc k) e = refl
 begins-take-none (b ∷ []) (suc zero) e = e
@@ -147,21 +147,21 @@ begins-take-none (b ∷ []) (suc (suc k)) e = e
 begins-take-none (b ∷ c ∷ bytes) (suc zero) e = one_none b (b == 10) (b == 13 && c == 10) refl e
 begins-take-none (b ∷ c ∷ bytes) (suc (suc k)) e = e
 
-after-take-none : (b : ℕ) (bytes : List ℕ) (k : ℕ) → line_end_after b bytes ≡ None → line_end_after b (take k bytes) ≡ None
+after-take-none : (b : ℕ) (bytes : List ℕ) (k : ℕ) → line_end_length_after_byte b bytes ≡ None → line_end_length_after_byte b (take k bytes) ≡ None
 after-take-none b bytes k e = by (b == 10) e
   where
-    by : (t : Bool) → (if t then begins_line_end bytes else None) ≡ None → (if t then begins_line_end (take k bytes) else None) ≡ None
+    by : (t : Bool) → (if t then leading_line_end_length bytes else None) ≡ None → (if t then leading_line_end_length (take k bytes) else None) ≡ None
     by true f = begins-take-none bytes k f
     by false f = refl
 
-pub head_len-take : (xs : List ℕ) (n : ℕ) → head_len xs ≡ Some n → head_len (take n xs) ≡ Some n
+pub head_len-take : (xs : List ℕ) (n : ℕ) → head_length xs ≡ Some n → head_length (take n xs) ≡ Some n
 head_len-take [] n e = let f = rw head_len-nil at e in cc
 head_len-take (b ∷ bytes) n e =
     let f = rw (head_len-cons b bytes) at e in
-    by (line_end_after b bytes) (head_len bytes) refl refl f (λ m. head_len-take bytes m)
+    by (line_end_length_after_byte b bytes) (head_length bytes) refl refl f (λ m. head_len-take bytes m)
   where
-    by : (x y : Option ℕ) → line_end_after b bytes ≡ x → head_len bytes ≡ y → or_further x y ≡ Some n
-        → ((m : ℕ) → head_len bytes ≡ Some m → head_len (take m bytes) ≡ Some m) → head_len (take n (b ∷ bytes)) ≡ Some n
+    by : (x y : Option ℕ) → line_end_length_after_byte b bytes ≡ x → head_length bytes ≡ y → incremented_first_present x y ≡ Some n
+        → ((m : ℕ) → head_length bytes ≡ Some m → head_length (take m bytes) ≡ Some m) → head_length (take n (b ∷ bytes)) ≡ Some n
     by (Some k) y p q f ih =
         let g : k + 1 ≡ n = cc in
         let h : n ≡ suc k = omega arith in
@@ -172,14 +172,14 @@ head_len-take (b ∷ bytes) n e =
         rw (h, head_len-cons b (take m bytes), after-take-none b bytes m p, ih m q) (ap (λ (i : ℕ). Some i) (omega arith))
     by None None p q f ih = cc
 
-pub ends_at : (limit : ℕ) (input : List ℕ) (n : ℕ) → At n ≡ head_end_within limit input → head_len (take limit input) ≡ Some n
-ends_at limit input n e = by (head_len (take limit input)) refl
+pub ends_at : (limit : ℕ) (input : List ℕ) (n : ℕ) → At n ≡ head_end_within limit input → head_length (take limit input) ≡ Some n
+ends_at limit input n e = by (head_length (take limit input)) refl
   where
-    by : (o : Option ℕ) → head_len (take limit input) ≡ o → head_len (take limit input) ≡ Some n
+    by : (o : Option ℕ) → head_length (take limit input) ≡ o → head_length (take limit input) ≡ Some n
     by (Some k) f = let g : At n ≡ At k = rw f at e in let h : n ≡ k = cc in rw h f
     by None f = let g = rw f at e in other (length input == 0) (nat_le limit (length input)) g
       where
-        other : (s t : Bool) → At n ≡ (if s then Nothing else (if t then TooLong else Cut)) → head_len (take limit input) ≡ Some n
+        other : (s t : Bool) → At n ≡ (if s then Nothing else (if t then TooLong else Cut)) → head_length (take limit input) ≡ Some n
         other true t h = cc
         other false true h = cc
         other false false h = cc

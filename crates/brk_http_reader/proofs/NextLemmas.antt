@@ -7,11 +7,11 @@ use Rattle.std.proofs.lemmas.List.{append-nil, length-append, length-take, lengt
 use Rattle.httparse.specs.Grammar.{RequestHead}
 use Rattle.httparse.specs.Spans.{span_bytes, IsWithin}
 use Rattle.httparse.specs.declared.spans.Span.{Span}
-use Rattle.brk_http_model.specs.Heads.{head_len, head_end, head_limit}
-use Rattle.brk_http_model.specs.Found.{Found, Unreadable, Asks, IsHead, after_head, with_length, Finds, FindsHead, FindsEnd}
-use Rattle.brk_http_reader.specs.Heads.{IsHeadAt}
-use Rattle.brk_http_reader.specs.Moves.{Moves}
-use Rattle.brk_http_reader.specs.Shown.{Shows}
+use Rattle.brk_http_model.specs.Heads.{head_length, head_end, most_head_bytes}
+use Rattle.brk_http_model.specs.Found.{Found, Unreadable, Asks, IsRequestHead, request_after_head, request_with_body_length, ReadsFirstRequest, ReadsHeadAndBody, ReadsByHeadEnd}
+use Rattle.brk_http_reader.specs.Heads.{FactsDescribeHead}
+use Rattle.brk_http_reader.specs.Moves.{ReadsIntoBuffer}
+use Rattle.brk_http_reader.specs.Shown.{MatchesNextRequest}
 use Rattle.brk_http_reader.specs.declared.head.HeadFacts.{HeadFacts}
 use Rattle.brk_http_reader.specs.declared.next.Places.{Places}
 use Rattle.brk_http_reader.specs.declared.next.Front.TheVariants.{Whole}
@@ -22,23 +22,23 @@ use Rattle.brk_http_model.specs.declared.head_end.HeadEnd.TheVariants.{At}
 use Rattle.brk_http_reader.proofs.FrontLemmas.{moved_all, head_len_within}
 use Rattle.brk_http_reader.proofs.HeadLemmas.{head_whole, head_len-take, ends_at}
 
-finds_at : (input : List ℕ) (n : ℕ) (found : Found) → At n ≡ head_end input → FindsHead (take n input) (drop n input) found → Finds input found
-finds_at input n found e h = let P : HeadEnd → Type 0 = λ end. FindsEnd end input found in subst P e h
+finds_at : (input : List ℕ) (n : ℕ) (found : Found) → At n ≡ head_end input → ReadsHeadAndBody (take n input) (drop n input) found → ReadsFirstRequest input found
+finds_at input n found e h = let P : HeadEnd → Type 0 = λ end. ReadsByHeadEnd end input found in subst P e h
 
-front_len : (input : List ℕ) (n : ℕ) → At n ≡ head_end input → head_len (take n input) ≡ Some n
+front_len : (input : List ℕ) (n : ℕ) → At n ≡ head_end input → head_length (take n input) ≡ Some n
 unfolding head_end
 front_len input n e =
-    let f = ends_at head_limit input n e in
-    let w : n ≤ length (take head_limit input) = rw f at (head_len_within (take head_limit input)) in
-    let l : n ≤ head_limit = omega (arith, w, length-take head_limit input) in
-    rw (take-take n head_limit input l) at (head_len-take (take head_limit input) n f)
+    let f = ends_at most_head_bytes input n e in
+    let w : n ≤ length (take most_head_bytes input) = rw f at (head_len_within (take most_head_bytes input)) in
+    let l : n ≤ most_head_bytes = omega (arith, w, length-take most_head_bytes input) in
+    rw (take-take n most_head_bytes input l) at (head_len-take (take most_head_bytes input) n f)
 
 finds_head : (input : List ℕ) (n : ℕ) (facts : HeadFacts) (h : RequestHead) (r : List ℕ) → At n ≡ head_end input → n ≤ length input
-    → IsHeadAt (take n input) facts h r → Finds input (after_head h (drop n input))
+    → FactsDescribeHead (take n input) facts h r → ReadsFirstRequest input (request_after_head h (drop n input))
 finds_head input n facts h r e within head =
-    let f : head_len (take n input) ≡ Some (length (take n input)) = rw (length-take-le n input within) (front_len input n e) in
+    let f : head_length (take n input) ≡ Some (length (take n input)) = rw (length-take-le n input within) (front_len input n e) in
     let none = head_whole (take n input) r h f head.reads in
-    finds_at input n (after_head h (drop n input)) e (inl (h, (rw none at head.reads, head.few), refl))
+    finds_at input n (request_after_head h (drop n input)) e (inl (h, (rw none at head.reads, head.few), refl))
 
 on_some : (a : Option (List ℕ)) (P : List ℕ → Type 0) → ((l : List ℕ) → a ≡ Some l → P l) → IfSome a P
 on_some None P f = tt
@@ -66,53 +66,53 @@ request_of facts n len = record { method = facts.method; target = facts.target; 
 
 -- ---- each outcome
 
-module _ (a b : Option (List ℕ)) (x y : List ℕ) (n : ℕ) (moves : Moves a b x y) (value : IfSome a (λ xs. At n ≡ head_end (x ++ xs))) (within : n ≤ length y) where
+module _ (a b : Option (List ℕ)) (x y : List ℕ) (n : ℕ) (moves : ReadsIntoBuffer a b x y) (value : IfSome a (λ xs. At n ≡ head_end (x ++ xs))) (within : n ≤ length y) where
   front_same : (l m : List ℕ) → x ++ l ≡ y ++ m → take n (x ++ l) ≡ take n y
   front_same l m e = ap (take n) e ∙ take-append-le n y m within
 
   long_enough : (l m : List ℕ) → x ++ l ≡ y ++ m → n ≤ length (x ++ l)
   long_enough l m e = omega (arith, ap length e, length-append y m)
 
-  pub no_head : ((h : RequestHead) → ¬ (IsHead (take n y) h))
-      → IfSome a (λ xs. (found : Found) × Finds (x ++ xs) found × (found ≡ Unreadable BadRequest))
-  no_head none = on_some a (λ xs. (found : Found) × Finds (x ++ xs) found × (found ≡ Unreadable BadRequest)) (λ l e.
+  pub no_head : ((h : RequestHead) → ¬ (IsRequestHead (take n y) h))
+      → IfSome a (λ xs. (found : Found) × ReadsFirstRequest (x ++ xs) found × (found ≡ Unreadable BadRequest))
+  no_head none = on_some a (λ xs. (found : Found) × ReadsFirstRequest (x ++ xs) found × (found ≡ Unreadable BadRequest)) (λ l e.
       let m = moved_all a b x y l e moves in
       let f = front_same l m.0 m.2 in
       let v = at_some a l (λ xs. At n ≡ head_end (x ++ xs)) e value in
-      (Unreadable BadRequest, finds_at (x ++ l) n (Unreadable BadRequest) v (inr ((λ h p. none h (subst (λ t. IsHead t h) f p)), refl)), refl))
+      (Unreadable BadRequest, finds_at (x ++ l) n (Unreadable BadRequest) v (inr ((λ h p. none h (subst (λ t. IsRequestHead t h) f p)), refl)), refl))
 
-  known : (l m : List ℕ) (facts : HeadFacts) (h : RequestHead) (r : List ℕ) → a ≡ Some l → x ++ l ≡ y ++ m → IsHeadAt (take n y) facts h r
-      → Finds (x ++ l) (after_head h (drop n (x ++ l)))
+  known : (l m : List ℕ) (facts : HeadFacts) (h : RequestHead) (r : List ℕ) → a ≡ Some l → x ++ l ≡ y ++ m → FactsDescribeHead (take n y) facts h r
+      → ReadsFirstRequest (x ++ l) (request_after_head h (drop n (x ++ l)))
   known l m facts h r e same head =
       finds_head (x ++ l) n facts h r (at_some a l (λ xs. At n ≡ head_end (x ++ xs)) e value) (long_enough l m same)
-      (subst (λ t. IsHeadAt t facts h r) (sym (front_same l m same)) head)
+      (subst (λ t. FactsDescribeHead t facts h r) (sym (front_same l m same)) head)
 
-  pub bad_len : (facts : HeadFacts) (h : RequestHead) (r : List ℕ) (problem : Problem) → IsHeadAt (take n y) facts h r → facts.len ≡ Err problem
-      → IfSome a (λ xs. (found : Found) × Finds (x ++ xs) found × (found ≡ Unreadable problem))
-  bad_len facts h r problem head e = on_some a (λ xs. (found : Found) × Finds (x ++ xs) found × (found ≡ Unreadable problem)) (λ l some.
+  pub bad_len : (facts : HeadFacts) (h : RequestHead) (r : List ℕ) (problem : Problem) → FactsDescribeHead (take n y) facts h r → facts.len ≡ Err problem
+      → IfSome a (λ xs. (found : Found) × ReadsFirstRequest (x ++ xs) found × (found ≡ Unreadable problem))
+  bad_len facts h r problem head e = on_some a (λ xs. (found : Found) × ReadsFirstRequest (x ++ xs) found × (found ≡ Unreadable problem)) (λ l some.
       let m = moved_all a b x y l some moves in
-      (after_head h (drop n (x ++ l)), known l m.0 facts h r some m.2 head, ap (with_length h (drop n (x ++ l))) (sym head.len ∙ e)))
+      (request_after_head h (drop n (x ++ l)), known l m.0 facts h r some m.2 head, ap (request_with_body_length h (drop n (x ++ l))) (sym head.len ∙ e)))
 
-  pub cut_body : (facts : HeadFacts) (h : RequestHead) (r : List ℕ) (len : ℕ) (c : Option (List ℕ)) (z : List ℕ) → IsHeadAt (take n y) facts h r → facts.len ≡ Ok len
-      → Moves b c y z → IsAtEnd c → length z < n + len
-      → IfSome a (λ xs. (found : Found) × Finds (x ++ xs) found × (found ≡ Unreadable BadRequest))
-  cut_body facts h r len c z head e more end short = on_some a (λ xs. (found : Found) × Finds (x ++ xs) found × (found ≡ Unreadable BadRequest)) (λ l some.
+  pub cut_body : (facts : HeadFacts) (h : RequestHead) (r : List ℕ) (len : ℕ) (c : Option (List ℕ)) (z : List ℕ) → FactsDescribeHead (take n y) facts h r → facts.len ≡ Ok len
+      → ReadsIntoBuffer b c y z → IsAtEnd c → length z < n + len
+      → IfSome a (λ xs. (found : Found) × ReadsFirstRequest (x ++ xs) found × (found ≡ Unreadable BadRequest))
+  cut_body facts h r len c z head e more end short = on_some a (λ xs. (found : Found) × ReadsFirstRequest (x ++ xs) found × (found ≡ Unreadable BadRequest)) (λ l some.
       let m = moved_all a b x y l some moves in
       let k = moved_all b c y z m.0 m.1 more in
       let nil : k.0 ≡ [] = at_some c k.0 (λ t. t ≡ []) k.1 (ended_nil c end) in
       let all : x ++ l ≡ z = m.2 ∙ k.2 ∙ ap (λ t. z ++ t) nil ∙ append-nil z in
       let few : length (drop n (x ++ l)) < len = omega (arith, length-drop n (x ++ l), ap length all, long_enough l m.0 m.2) in
-      let open_len : after_head h (drop n (x ++ l)) ≡ with_length h (drop n (x ++ l)) (Ok len) = ap (with_length h (drop n (x ++ l))) (sym head.len ∙ e) in
-      (after_head h (drop n (x ++ l)), known l m.0 facts h r some m.2 head, open_len ∙ rw (lt_yes (length (drop n (x ++ l))) len few) refl))
+      let open_len : request_after_head h (drop n (x ++ l)) ≡ request_with_body_length h (drop n (x ++ l)) (Ok len) = ap (request_with_body_length h (drop n (x ++ l))) (sym head.len ∙ e) in
+      (request_after_head h (drop n (x ++ l)), known l m.0 facts h r some m.2 head, open_len ∙ rw (lt_yes (length (drop n (x ++ l))) len few) refl))
     where
       ended_nil : (c : Option (List ℕ)) → IsAtEnd c → IfSome c (λ t. t ≡ [])
       ended_nil None h = tt
       ended_nil (Some t) h = h
 
-  pub whole_body : (facts : HeadFacts) (h : RequestHead) (r : List ℕ) (len : ℕ) (c : Option (List ℕ)) (z : List ℕ) → IsHeadAt (take n y) facts h r → facts.len ≡ Ok len
-      → Moves b c y z → n + len ≤ length z → IsWithin (length (take n y)) facts.method → IsWithin (length (take n y)) facts.target
-      → IfSome a (λ xs. (found : Found) × Finds (x ++ xs) found × Shows (Whole (request_of facts n len)) z c found)
-  whole_body facts h r len c z head e more long ms ts = on_some a (λ xs. (found : Found) × Finds (x ++ xs) found × Shows (Whole (request_of facts n len)) z c found) (λ l some.
+  pub whole_body : (facts : HeadFacts) (h : RequestHead) (r : List ℕ) (len : ℕ) (c : Option (List ℕ)) (z : List ℕ) → FactsDescribeHead (take n y) facts h r → facts.len ≡ Ok len
+      → ReadsIntoBuffer b c y z → n + len ≤ length z → IsWithin (length (take n y)) facts.method → IsWithin (length (take n y)) facts.target
+      → IfSome a (λ xs. (found : Found) × ReadsFirstRequest (x ++ xs) found × MatchesNextRequest (Whole (request_of facts n len)) z c found)
+  whole_body facts h r len c z head e more long ms ts = on_some a (λ xs. (found : Found) × ReadsFirstRequest (x ++ xs) found × MatchesNextRequest (Whole (request_of facts n len)) z c found) (λ l some.
       let m = moved_all a b x y l some moves in
       let k = moved_all b c y z m.0 m.1 more in
       let all : x ++ l ≡ z ++ k.0 = m.2 ∙ k.2 in
@@ -120,14 +120,14 @@ module _ (a b : Option (List ℕ)) (x y : List ℕ) (n : ℕ) (moves : Moves a b
       let at : rest ≡ drop n z ++ k.0 = ap (drop n) all ∙ drop-append-le n z k.0 (omega arith) in
       let some_len : len ≤ length (drop n z) = omega (arith, length-drop n z) in
       let enough : len ≤ length rest = omega (arith, ap length at, length-append (drop n z) k.0) in
-      let open_len : after_head h rest ≡ with_length h rest (Ok len) = ap (with_length h rest) (sym head.len ∙ e) in
+      let open_len : request_after_head h rest ≡ request_with_body_length h rest (Ok len) = ap (request_with_body_length h rest) (sym head.len ∙ e) in
       let z_is : z ≡ take n y ++ (drop n y ++ more.0) = more.2 ∙ ap (λ t. t ++ more.0) (sym (take-append-drop n y)) ∙ append_assoc (take n y) (drop n y) more.0 in
       let method : h.method ≡ span_bytes z facts.method = sym head.method ∙ sym (span_front (take n y) (drop n y ++ more.0) facts.method ms) ∙ ap (λ t. span_bytes t facts.method) (sym z_is) in
       let target : h.target ≡ span_bytes z facts.target = sym head.target ∙ sym (span_front (take n y) (drop n y ++ more.0) facts.target ts) ∙ ap (λ t. span_bytes t facts.target) (sym z_is) in
       let count : len ≡ n + len - n = omega arith in
       let body : take len rest ≡ take (n + len - n) (drop n z) = ap (take len) at ∙ take-append-le len (drop n z) k.0 some_len ∙ ap (λ i. take i (drop n z)) count in
       let after : drop len rest ≡ drop (n + len) z ++ k.0 = ap (drop len) at ∙ drop-append-le len (drop n z) k.0 some_len ∙ ap (λ t. t ++ k.0) (drop-drop len n z) in (
-        after_head h rest,
+        request_after_head h rest,
         known l m.0 facts h r some m.2 head,
         (drop (n + len) z ++ k.0, ap (prepend_known (drop (n + len) z)) k.1, open_len ∙ rw (lt_no (length rest) len enough) (made method target (sym head.closes) body after)),
       ))

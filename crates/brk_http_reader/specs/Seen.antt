@@ -1,24 +1,24 @@
 -- The facts of the fields read so far, for private contracts.
 use Rattle.std.specs.Prelude.{List, codes, ◌&&◌, ◌||◌, if◌then◌else◌, Err}
-use Rattle.brk_http_model.specs.Fields.{Pair, same_word, has_field, asks_close, only_length, values_of, length_value}
+use Rattle.brk_http_model.specs.Fields.{HeadField, equals_ignoring_case, has_field_named, asks_to_close_stream, body_length_of_values, values_of_field, body_length_of_value}
 use Rattle.brk_http_model.specs.declared.problem.Problem.TheVariants.{BadRequest}
 use Rattle.brk_http_reader.specs.declared.fields.Seen.{Seen}
 
 -- The facts of the fields read so far, `s`, with those of one more field `p`, a name and a value.
-abbrev pub add_field : Seen → Pair → Seen
-add_field s p = record {
-  chunked = s.chunked || same_word p.0 (codes "transfer-encoding");
-  closes = s.closes || (same_word p.0 (codes "connection") && same_word p.1 (codes "close"));
-  any_length = s.any_length || same_word p.0 (codes "content-length");
-  len = if same_word p.0 (codes "content-length") then (if s.any_length then Err BadRequest else length_value p.1) else s.len;
+abbrev pub facts_with_field : Seen → HeadField → Seen
+facts_with_field s p = record {
+  chunked = s.chunked || equals_ignoring_case p.0 (codes "transfer-encoding");
+  closes = s.closes || (equals_ignoring_case p.0 (codes "connection") && equals_ignoring_case p.1 (codes "close"));
+  any_length = s.any_length || equals_ignoring_case p.0 (codes "content-length");
+  len = if equals_ignoring_case p.0 (codes "content-length") then (if s.any_length then Err BadRequest else body_length_of_value p.1) else s.len;
 }
 
 -- The facts of the fields `ps` of a head: whether its body is chunked, whether it asks to close,
 -- whether it has a length, and the body length or the problem with it.
-abbrev pub seen_of : List Pair → Seen
-seen_of ps = record {
-  chunked = has_field (codes "transfer-encoding") ps;
-  closes = asks_close ps;
-  any_length = has_field (codes "content-length") ps;
-  len = only_length (values_of (codes "content-length") ps);
+abbrev pub facts_of_fields : List HeadField → Seen
+facts_of_fields ps = record {
+  chunked = has_field_named (codes "transfer-encoding") ps;
+  closes = asks_to_close_stream ps;
+  any_length = has_field_named (codes "content-length") ps;
+  len = body_length_of_values (values_of_field (codes "content-length") ps);
 }

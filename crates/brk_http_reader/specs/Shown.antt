@@ -21,7 +21,7 @@ request_at buffer r = record { method = span_bytes buffer r.method; target = spa
 -- The result of reading is the next request as specified, `found`: no more input, an unreadable
 -- request with this problem, or a whole request. After a whole request, the bytes of the buffer
 -- after its body and the bytes `left` in the reader are together the rest of the input.
-abbrev pub Shows : Front → List ℕ → Option (List ℕ) → Found → Type 0
-Shows Ended buffer left found = found ≡ NoMore
-Shows (Broken b) buffer left found = found ≡ Unreadable b
-Shows (Whole r) buffer left found = (rest : List ℕ) × (prepend_known (drop r.body.end buffer) left ≡ Some rest) × (found ≡ Asks (request_at buffer r) rest)
+abbrev pub MatchesNextRequest : Front → List ℕ → Option (List ℕ) → Found → Type 0
+MatchesNextRequest Ended buffer left found = found ≡ NoMore
+MatchesNextRequest (Broken b) buffer left found = found ≡ Unreadable b
+MatchesNextRequest (Whole r) buffer left found = (rest : List ℕ) × (prepend_known (drop r.body.end buffer) left ≡ Some rest) × (found ≡ Asks (request_at buffer r) rest)

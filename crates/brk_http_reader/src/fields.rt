@@ -5,7 +5,7 @@ ghost use Rattle.std.specs.Char.{is_ascii_digit};
 ghost use Rattle.std.specs.Str.Parse.{digits_value};
 ghost use Rattle.httparse.specs.Spans.{header_bytes, IsHeaderWithin};
 ghost use Rattle.brk_http_model.specs.Fields as spec;
-ghost use Rattle.brk_http_reader.specs.Seen.{add_field};
+ghost use Rattle.brk_http_reader.specs.Seen.{facts_with_field};
 
 use brk_http_model::Problem;
 use httparse::spans::HeaderSpan;
@@ -20,28 +20,28 @@ pub struct FieldFacts {
 }
 
 // Returns true if two texts are equal, apart from the case of ASCII letters.
-fn same_word(a: &[u8], b: &[u8]) -> bool
-    ensures { result ≡ spec.same_word a.now b.now }
+fn equals_ignoring_case(a: &[u8], b: &[u8]) -> bool
+    ensures { result ≡ spec.equals_ignoring_case a.now b.now }
 {
     a.eq_ignore_ascii_case(b)
 }
 
 // Returns true if every byte is an ASCII digit, and for no byte.
-fn all_digits(value: &[u8]) -> bool
+fn consists_of_digits(value: &[u8]) -> bool
     ensures { result ≡ list_all is_ascii_digit value.now }
 {
     value.iter().all(|b| b.is_ascii_digit())
 }
 
 /// Returns true if `value` is one or more ASCII digits.
-fn is_digits(value: &[u8]) -> bool
-    ensures { result ≡ spec.is_digits value.now }
+fn has_only_digits(value: &[u8]) -> bool
+    ensures { result ≡ spec.has_only_digits value.now }
 {
-    value.len() > 0 && all_digits(value)
+    value.len() > 0 && consists_of_digits(value)
 }
 
 /// Returns the decimal value of at most nine digits.
-fn number(value: &[u8]) -> usize
+fn value_of_digits(value: &[u8]) -> usize
     requires few { length value.now ≤ 9 }
     requires digits { list_all is_ascii_digit value.now ≡ true }
     ensures { result ≡ digits_value 10 value.now }
@@ -57,17 +57,17 @@ fn number(value: &[u8]) -> usize
 ///
 /// Fails with `BadRequest` if `value` is not one or more digits, and with `TooLarge` if it has more
 /// than nine digits or exceeds the limit.
-fn length_value(value: &[u8]) -> Result<usize, Problem>
-    ensures value { result ≡ spec.length_value value.now }
+fn body_length_of_value(value: &[u8]) -> Result<usize, Problem>
+    ensures value { result ≡ spec.body_length_of_value value.now }
     ensures small { IfOk result (λ n. n ≤ 65536) }
 {
-    if !is_digits(value) {
+    if !has_only_digits(value) {
         return Err(Problem::BadRequest);
     }
     if value.len() > 9 {
         return Err(Problem::TooLarge);
     }
-    let len = number(value);
+    let len = value_of_digits(value);
     if len > 65536 {
         Err(Problem::TooLarge)
     } else {
@@ -85,21 +85,22 @@ struct Seen {
 }
 
 /// Returns the facts `seen` of the fields read so far, with those of one more field.
-fn add_field(seen: Seen, name: &[u8], value: &[u8]) -> Seen
-    ensures value { result ≡ add_field seen (name.now, value.now) }
+fn add_field_facts(seen: Seen, name: &[u8], value: &[u8]) -> Seen
+    ensures value { result ≡ facts_with_field seen (name.now, value.now) }
     ensures small { IfOk seen.len (λ n. n ≤ 65536) → IfOk result.len (λ n. n ≤ 65536) }
 {
-    let is_length = same_word(name, b"content-length");
-    let is_close = same_word(name, b"connection") && same_word(value, b"close");
+    let is_length = equals_ignoring_case(name, b"content-length");
+    let is_close = equals_ignoring_case(name, b"connection")
+        && equals_ignoring_case(value, b"close");
     let len = match is_length {
         false => seen.len,
         true => match seen.any_length {
             true => Err(Problem::BadRequest),
-            false => length_value(value),
+            false => body_length_of_value(value),
         },
     };
     Seen {
-        chunked: seen.chunked || same_word(name, b"transfer-encoding"),
+        chunked: seen.chunked || equals_ignoring_case(name, b"transfer-encoding"),
         closes: seen.closes || is_close,
         any_length: seen.any_length || is_length,
         len,
@@ -111,11 +112,11 @@ fn add_field(seen: Seen, name: &[u8], value: &[u8]) -> Seen
 /// The length is at most 65,536 bytes, and 0 without a `Content-Length` field. It is
 /// `NotImplemented` with a `Transfer-Encoding` field, otherwise `BadRequest` if `Content-Length` is
 /// repeated or not digits, and `TooLarge` above the limit.
-pub fn field_facts(front: &[u8], headers: &[HeaderSpan]) -> FieldFacts
+pub fn facts_from_fields(front: &[u8], headers: &[HeaderSpan]) -> FieldFacts
     requires { All (IsHeaderWithin (length front.now)) headers.now }
-    ensures len { result.len ≡ spec.body_len (map (header_bytes front.now) headers.now) }
+    ensures len { result.len ≡ spec.body_length_of_fields (map (header_bytes front.now) headers.now) }
     ensures small { IfOk result.len (λ n. n ≤ 65536) }
-    ensures closes { result.closes ≡ spec.asks_close (map (header_bytes front.now) headers.now) }
+    ensures closes { result.closes ≡ spec.asks_to_close_stream (map (header_bytes front.now) headers.now) }
 {
     let mut seen = Seen {
         chunked: false,
@@ -124,7 +125,7 @@ pub fn field_facts(front: &[u8], headers: &[HeaderSpan]) -> FieldFacts
         len: Ok(0),
     };
     for header in headers {
-        seen = add_field(seen, header.name.of(front), header.value.of(front));
+        seen = add_field_facts(seen, header.name.of(front), header.value.of(front));
     }
     FieldFacts {
         len: if seen.chunked {

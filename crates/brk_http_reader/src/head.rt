@@ -2,10 +2,10 @@
 ghost use Rattle.std.specs.Prelude.{◌≡◌, ◌||◌, ◌≤◌, ℕ, List, length, IfSome, IfNone, IfOk};
 ghost use Rattle.httparse.specs.Grammar.{RequestHead};
 ghost use Rattle.httparse.specs.Spans.{span_bytes, IsWithin};
-ghost use Rattle.brk_http_model.specs.Found.{IsHead};
-ghost use Rattle.brk_http_reader.specs.Heads.{IsHeadAt};
+ghost use Rattle.brk_http_model.specs.Found.{IsRequestHead};
+ghost use Rattle.brk_http_reader.specs.Heads.{FactsDescribeHead};
 
-use crate::fields::field_facts;
+use crate::fields::facts_from_fields;
 use brk_http_model::Problem;
 use httparse::Status;
 use httparse::spans::{EMPTY_HEADER_SPAN, Span, parse_request};
@@ -24,7 +24,7 @@ pub struct HeadFacts {
 }
 
 // Returns true if `a` or `b` is true.
-fn either(a: bool, b: bool) -> bool
+fn is_either_true(a: bool, b: bool) -> bool
     ensures { result ≡ (a || b) }
 {
     a || b
@@ -32,20 +32,20 @@ fn either(a: bool, b: bool) -> bool
 
 /// Parses the head at the front of `front`. Returns its parts, whose spans are within `front`, or
 /// `None` if these bytes do not begin with a head of at most 100 fields.
-pub fn parse_front(front: &[u8]) -> Option<HeadFacts>
+pub fn parse_head(front: &[u8]) -> Option<HeadFacts>
     ensures within { IfSome result (λ facts. IsWithin (length front.now) facts.method × IsWithin (length front.now) facts.target) }
     ensures small { IfSome result (λ facts. IfOk facts.len (λ n. n ≤ 65536)) }
-    ensures head { IfSome result (λ facts. (h : RequestHead) × (rest : List ℕ) × IsHeadAt front.now facts h rest) }
-    ensures none { IfNone result ((h : RequestHead) → ¬ (IsHead front.now h)) }
+    ensures head { IfSome result (λ facts. (h : RequestHead) × (rest : List ℕ) × FactsDescribeHead front.now facts h rest) }
+    ensures none { IfNone result ((h : RequestHead) → ¬ (IsRequestHead front.now h)) }
 {
     let mut headers = [EMPTY_HEADER_SPAN; MOST_FIELDS];
     match parse_request(front, &mut headers) {
         Ok(Status::Complete(found)) => {
-            let fields = field_facts(front, &headers[..found.headers]);
+            let fields = facts_from_fields(front, &headers[..found.headers]);
             Some(HeadFacts {
                 method: found.method,
                 target: found.path,
-                closes: either(found.version == 0, fields.closes),
+                closes: is_either_true(found.version == 0, fields.closes),
                 len: fields.len,
             })
         }

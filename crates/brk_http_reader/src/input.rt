@@ -2,7 +2,7 @@
 ghost use Rattle.std.specs.Prelude.{◌≡◌, ℕ, ◌+◌, ◌<◌, ◌≤◌, ◌++◌, List, length, true, false, Ok, IfOk, OnOk, IfSome};
 ghost use Rattle.std.specs.Io.KnownBytes.{IsAtEnd};
 ghost use Rattle.brk_http_model.specs.Heads as spec;
-ghost use Rattle.brk_http_reader.specs.Moves.{Moves, IsEndWithin};
+ghost use Rattle.brk_http_reader.specs.Moves.{ReadsIntoBuffer, HeadEndIsWithin};
 
 use brk_http_model::HeadEnd;
 use std::alloc::{AllocError, Global};
@@ -32,8 +32,8 @@ impl From<AllocError> for InputFault {
 
 /// Returns the length in bytes of the line end, LF or CR LF, at the front of `bytes`, or `None` if
 /// there is none.
-fn line_end_at(bytes: &[u8]) -> Option<usize>
-    ensures { result ≡ spec.begins_line_end bytes.now }
+fn line_end_len(bytes: &[u8]) -> Option<usize>
+    ensures { result ≡ spec.leading_line_end_length bytes.now }
 {
     match bytes {
         [b'\n', ..] => Some(1),
@@ -44,11 +44,11 @@ fn line_end_at(bytes: &[u8]) -> Option<usize>
 
 /// Returns the length of the line end at the front of `rest` if `byte` is LF, so that the two form
 /// an empty line, and otherwise `None`.
-fn line_end_after(byte: u8, rest: &[u8]) -> Option<usize>
-    ensures { result ≡ spec.line_end_after byte rest.now }
+fn line_end_length_after_byte(byte: u8, rest: &[u8]) -> Option<usize>
+    ensures { result ≡ spec.line_end_length_after_byte byte rest.now }
 {
     if byte == b'\n' {
-        line_end_at(rest)
+        line_end_len(rest)
     } else {
         None
     }
@@ -57,11 +57,11 @@ fn line_end_after(byte: u8, rest: &[u8]) -> Option<usize>
 /// Returns the number of bytes up to and including the first empty line, or `None` if there is
 /// none.
 pub fn head_len(bytes: &[u8]) -> Option<usize>
-    ensures value { result ≡ spec.head_len bytes.now }
+    ensures value { result ≡ spec.head_length bytes.now }
     ensures within { IfSome result (λ n. n ≤ length bytes.now) }
 {
     for (i, byte) in bytes.iter().enumerate() {
-        match line_end_after(*byte, &bytes[i + 1..]) {
+        match line_end_length_after_byte(*byte, &bytes[i + 1..]) {
             Some(n) => return Some(i + 1 + n),
             None => {}
         }
@@ -73,8 +73,8 @@ pub fn head_len(bytes: &[u8]) -> Option<usize>
 /// the input.
 ///
 /// Fails with `Read` or `Memory`.
-pub fn fill<R: Read>(reader: &mut R, buffer: &mut Vec<u8>) -> Result<bool, InputFault>
-    ensures moves { OnOk result (Moves (R.remaining reader.old) (R.remaining reader.new) buffer.old.items buffer.new.items) }
+pub fn read_into_buffer<R: Read>(reader: &mut R, buffer: &mut Vec<u8>) -> Result<bool, InputFault>
+    ensures moves { OnOk result (ReadsIntoBuffer (R.remaining reader.old) (R.remaining reader.new) buffer.old.items buffer.new.items) }
     ensures more { result ≡ Ok true → length buffer.old.items < length buffer.new.items }
     ensures end { result ≡ Ok false → IsAtEnd (R.remaining reader.new) × (buffer.new.items ≡ buffer.old.items) }
 {
@@ -91,8 +91,8 @@ pub fn fill<R: Read>(reader: &mut R, buffer: &mut Vec<u8>) -> Result<bool, Input
 ///
 /// Fails with `Read` or `Memory`.
 pub fn read_head<R: Read>(reader: &mut R, buffer: &mut Vec<u8>) -> Result<HeadEnd, InputFault>
-    ensures moves { OnOk result (Moves (R.remaining reader.old) (R.remaining reader.new) buffer.old.items buffer.new.items) }
-    ensures within { IfOk result (λ end. IsEndWithin end (length buffer.new.items)) }
+    ensures moves { OnOk result (ReadsIntoBuffer (R.remaining reader.old) (R.remaining reader.new) buffer.old.items buffer.new.items) }
+    ensures within { IfOk result (λ end. HeadEndIsWithin end (length buffer.new.items)) }
     ensures value { IfOk result (λ end. IfSome (R.remaining reader.old) (λ xs. end ≡ spec.head_end (buffer.old.items ++ xs))) }
 {
     'filling: loop {
@@ -105,7 +105,7 @@ pub fn read_head<R: Read>(reader: &mut R, buffer: &mut Vec<u8>) -> Result<HeadEn
         if len >= HEAD_LIMIT {
             return Ok(HeadEnd::TooLong);
         }
-        if !fill(reader, buffer)? {
+        if !read_into_buffer(reader, buffer)? {
             if len == 0 {
                 return Ok(HeadEnd::Nothing);
             }
@@ -122,7 +122,7 @@ pub fn read_body<R: Read>(
     buffer: &mut Vec<u8>,
     len: usize,
 ) -> Result<bool, InputFault>
-    ensures moves { OnOk result (Moves (R.remaining reader.old) (R.remaining reader.new) buffer.old.items buffer.new.items) }
+    ensures moves { OnOk result (ReadsIntoBuffer (R.remaining reader.old) (R.remaining reader.new) buffer.old.items buffer.new.items) }
     ensures there { result ≡ Ok true → len ≤ length buffer.new.items }
     ensures short { result ≡ Ok false → (length buffer.new.items < len) × IsAtEnd (R.remaining reader.new) }
 {
@@ -130,7 +130,7 @@ pub fn read_body<R: Read>(
         if buffer.len() >= len {
             return Ok(true);
         }
-        if !fill(reader, buffer)? {
+        if !read_into_buffer(reader, buffer)? {
             return Ok(false);
         }
     }

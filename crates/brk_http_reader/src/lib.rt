@@ -7,8 +7,8 @@ mod input;
 mod next;
 mod rest;
 
-pub use fields::{FieldFacts, field_facts};
-pub use head::{HeadFacts, parse_front};
-pub use input::{InputFault, fill, head_len, read_body, read_head};
-pub use next::{Front, Places, next_request};
-pub use rest::consume;
+pub use fields::{FieldFacts, facts_from_fields};
+pub use head::{HeadFacts, parse_head};
+pub use input::{InputFault, head_len, read_body, read_head, read_into_buffer};
+pub use next::{Front, Places, read_next_request};
+pub use rest::remove_front_bytes;

@@ -1,10 +1,10 @@
 //! The next request of a stream.
 ghost use Rattle.std.specs.Prelude.{◌≡◌, ◌++◌, List, ℕ, length, IfOk, OnOk, IfSome};
-ghost use Rattle.brk_http_model.specs.Found.{Found, Finds};
-ghost use Rattle.brk_http_reader.specs.Moves.{Moves};
-ghost use Rattle.brk_http_reader.specs.Shown.{Shows, IsRequestWithin};
+ghost use Rattle.brk_http_model.specs.Found.{Found, ReadsFirstRequest};
+ghost use Rattle.brk_http_reader.specs.Moves.{ReadsIntoBuffer};
+ghost use Rattle.brk_http_reader.specs.Shown.{MatchesNextRequest, IsRequestWithin};
 
-use crate::head::parse_front;
+use crate::head::parse_head;
 use crate::input::{InputFault, read_body, read_head};
 use brk_http_model::{HeadEnd, Problem};
 use httparse::spans::Span;
@@ -34,11 +34,11 @@ pub enum Front {
 ///
 /// Returns `Ended` if no byte is left, and `Broken` with a problem if no request can be read. Fails
 /// with `Read` or `Memory`.
-pub fn next_request<R: Read>(reader: &mut R, buffer: &mut Vec<u8>) -> Result<Front, InputFault>
-    ensures moves { OnOk result (Moves (R.remaining reader.old) (R.remaining reader.new) buffer.old.items buffer.new.items) }
+pub fn read_next_request<R: Read>(reader: &mut R, buffer: &mut Vec<u8>) -> Result<Front, InputFault>
+    ensures moves { OnOk result (ReadsIntoBuffer (R.remaining reader.old) (R.remaining reader.new) buffer.old.items buffer.new.items) }
     ensures within { IfOk result (λ front. IsRequestWithin front (length buffer.new.items)) }
-    ensures found { IfOk result (λ front. IfSome (R.remaining reader.old) (λ xs. (found : Found) × Finds (buffer.old.items ++ xs) found
-        × Shows front buffer.new.items (R.remaining reader.new) found)) }
+    ensures found { IfOk result (λ front. IfSome (R.remaining reader.old) (λ xs. (found : Found) × ReadsFirstRequest (buffer.old.items ++ xs) found
+        × MatchesNextRequest front buffer.new.items (R.remaining reader.new) found)) }
 {
     let end = match read_head(reader, buffer)? {
         HeadEnd::Nothing => return Ok(Front::Ended),
@@ -46,7 +46,7 @@ pub fn next_request<R: Read>(reader: &mut R, buffer: &mut Vec<u8>) -> Result<Fro
         HeadEnd::Cut => return Ok(Front::Broken(Problem::BadRequest)),
         HeadEnd::At(end) => end,
     };
-    let Some(facts) = parse_front(&buffer[..end]) else {
+    let Some(facts) = parse_head(&buffer[..end]) else {
         return Ok(Front::Broken(Problem::BadRequest));
     };
     let len = match facts.len {

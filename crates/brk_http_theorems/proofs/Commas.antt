@@ -4,14 +4,14 @@ use Rattle.std.specs.Prelude.{⊤, decimal, ℤ, pos, negsuc, ◌==◌}
 use Rattle.std.specs.Fmt.{digits, digits_onto, digit_glyph}
 use Rattle.std.specs.List.{join_with_byte, onto_first, slice_split}
 use Rattle.std.proofs.lemmas.Bool.Decides.{nat_tests}
-use Rattle.brk_money.specs.Spelling.{Text, cents_text, day_text, date_text, magnitude_text, padded_decimal}
-use Rattle.brk_money.specs.Moments.{Civil, civil_of}
-use Rattle.brk_money.specs.Kinds.{status_code}
+use Rattle.brk_money.specs.Spelling.{Text, cents_text, day_text, date_text, unsigned_cents_text, padded_decimal}
+use Rattle.brk_money.specs.Moments.{Civil, civil_date_of_day}
+use Rattle.brk_money.specs.Kinds.{trade_status_code}
 use Rattle.brk_money.specs.declared.status.Status.{Status}
 use Rattle.brk_money.specs.declared.status.Status.TheVariants.{Completed, Active, Submitted, Pending, Canceled}
 use Rattle.brk_model.specs.Commands.{Reply, Booked, Ordered, Ticked, CanceledTrade, CompletedTrade, Changed, Estimate, Completion, MovedCash}
-use Rattle.brk_model.specs.Rows.{completion_fields, estimate_fields, line_text, price_text, reply_fields}
-use Rattle.brk_http_model.specs.Routes.{parts_at}
+use Rattle.brk_model.specs.Rows.{completion_fields, estimate_fields, line_text, nonnegative_cents_text, reply_fields}
+use Rattle.brk_http_model.specs.Routes.{split_at_byte}
 
 -- none of the bytes is a comma
 abbrev Plain : Text → Type 0
@@ -50,7 +50,7 @@ zeros (suc k) = (refl, zeros k)
 digit : (n : ℕ) → eqb (48 + n) 44 ≡ false
 digit n = grind (arith, nat_tests)
 
-magnitude : (n : ℕ) → Plain (magnitude_text n)
+magnitude : (n : ℕ) → Plain (unsigned_cents_text n)
 magnitude n = joins (decimal (n / 100)) _ (number (n / 100)) (refl, (digit (n % 100 / 10), (digit (n % 10), tt)))
 
 cents : (n : ℤ) → Plain (cents_text n)
@@ -65,7 +65,7 @@ date d =
     joins (padded_decimal 4 d.year ++ 45 ∷ padded_decimal 2 d.month) (45 ∷ padded_decimal 2 d.day)
     (joins (padded_decimal 4 d.year) (45 ∷ padded_decimal 2 d.month) (padded 4 d.year) (refl, padded 2 d.month)) (refl, padded 2 d.day)
 
-status : (s : Status) → Plain (status_code s)
+status : (s : Status) → Plain (trade_status_code s)
 status Completed = (refl, (refl, (refl, (refl, tt))))
 status Active = (refl, (refl, (refl, (refl, tt))))
 status Submitted = (refl, (refl, (refl, (refl, tt))))
@@ -82,7 +82,7 @@ estimate e =
 
 completion : (c : Completion) → AllPlain (completion_fields c)
 completion c =
-    (cents (pos c.commission), (cents (pos c.tax), (cents c.amount, (date (civil_of c.due_day), (cents (pos c.buy_value), (cents (pos c.sell_value), (cents c.balance, tt)))))))
+    (cents (pos c.commission), (cents (pos c.tax), (cents c.amount, (date (civil_date_of_day c.due_day), (cents (pos c.buy_value), (cents (pos c.sell_value), (cents c.balance, tt)))))))
 
 fields : (reply : Reply) → AllPlain (reply_fields reply)
 unfolding reply_fields
@@ -111,8 +111,8 @@ cut : (text : Text) (texts : List Text) → AllPlain (text ∷ texts) → slice_
 cut text [] (p, q) = cut_last text p
 cut text (next ∷ texts) (p, q) = cut_first text (join_with_byte 44 (next ∷ texts)) p ∙ ap (λ ts. text ∷ ts) (cut next texts q)
 
-pub fields_cut : (reply : Reply) → parts_at 44 (line_text reply) ≡ reply_fields reply
-unfolding parts_at reply_fields
+pub fields_cut : (reply : Reply) → split_at_byte 44 (line_text reply) ≡ reply_fields reply
+unfolding split_at_byte reply_fields
 fields_cut (Booked stamp) = cut _ _ (fields (Booked stamp))
 fields_cut (Ordered stamp trade s e) = cut _ _ (fields (Ordered stamp trade s e))
 fields_cut (Ticked stamp triggered) = cut _ _ (fields (Ticked stamp triggered))

@@ -9,28 +9,28 @@ use Rattle.sqlite.specs.State.{HasCleanDisk}
 use Rattle.std.specs.Io.KnownBytes.{Appends}
 use Rattle.brk_money.specs.Spelling.{Text}
 use Rattle.brk_money.specs.declared.fault.Fault.{Fault}
-use Rattle.brk_model.specs.Answers.{Fields, calls_of, formed_from}
+use Rattle.brk_model.specs.Answers.{Fields, calls_of_rows, well_formed_rows_from}
 use Rattle.brk_model.specs.Base.{Base}
 use Rattle.brk_model.specs.Batch as model
-use Rattle.brk_model.specs.Batch.{AreDecided, Ending, Ends, row_step}
+use Rattle.brk_model.specs.Batch.{AreDecided, Ending, MatchesEnding, step_of_row}
 use Rattle.brk_model.specs.Commands.{Answer, Command}
-use Rattle.brk_model.specs.Forms.{Read}
-use Rattle.brk_model.specs.Input.{Begins, IsEnd, end_of, header_of}
-use Rattle.brk_model.specs.Lines.{end_line, lines_from}
+use Rattle.brk_model.specs.Forms.{ReadResult}
+use Rattle.brk_model.specs.Input.{BeginsWithRecords, IsEndRecord, end_record_after, batch_header}
+use Rattle.brk_model.specs.Lines.{batch_end_line, answer_lines_from}
 use Rattle.brk_model.specs.Sheets.{sheets}
-use Rattle.brk_model_theorems.specs.Laws.{IsBookedNext, IsCompleted}
+use Rattle.brk_model_theorems.specs.Laws.{NextRowLeadsTo, IsCompletedByRetry}
 use Rattle.brk_model_theorems.proofs.BatchLaws.{All-front}
 use Rattle.brk_model_theorems.proofs.LeftLaws.{done-kept, left-over, one-run}
 use Rattle.brk_model_theorems.proofs.StoppedLaws.{booked-completed, completed, next-goes-on, rows-go-on}
-use Rattle.brk_io.specs.Moments.{Moments}
-use Rattle.brk_io.specs.Span.{Outside, with_base}
-use Rattle.brk_store.specs.Audited.{AdoptPost, OnAnswer, Represents}
-use Rattle.brk_store.specs.Holds.{AreTreesOf}
-use Rattle.brk_desk.specs.Reopening.{IsConsistent, IsReopened, IsDurable}
+use Rattle.brk_io.specs.Moments.{ClockReturnsInOrder}
+use Rattle.brk_io.specs.Span.{ClockAndWriterChange, change_with_bases}
+use Rattle.brk_store.specs.Audited.{AdoptPost, OnAuditAnswer, Represents}
+use Rattle.brk_store.specs.Holds.{AreTreesOfRows}
+use Rattle.brk_desk.specs.Reopening.{IsConsistent, IsReopenedAfterCrash, RepresentsDurableBase}
 use Rattle.brk_desk.proofs.Reopened.{Settles, kept_can_be, taken_over}
-use Rattle.brk_batch_engine.specs.Batch.{BatchGives, CameTo, Faulted, IsUnderWay, RefinesModel, LeavesAt, CrashStates, Stopped}
-use Rattle.brk_import.specs.Leaving.{LeavesOneOf}
-use Rattle.brk_import.specs.SentAgain.{AreOneRun, IsSentAgain}
+use Rattle.brk_batch_engine.specs.Batch.{IsBatchResult, BatchEndsWith, BatchFailsWith, CrashMayCommitFailedRow, BatchRefinesModel, BoundsBatchCrashStates, IsBatchCrashSafe, BatchProgress}
+use Rattle.brk_import.specs.Leaving.{CrashExposesOnlyOneOf}
+use Rattle.brk_import.specs.SentAgain.{RunAndRetryEqualOneRun, RetryCompletesBatch}
 use Rattle.brk_io.specs.declared.batch_fault.BatchFault.{BatchFault}
 use Rattle.brk_io.specs.declared.batch_fault.FaultKind.{FaultKind}
 use Rattle.brk_io.specs.declared.batch_fault.FaultKind.TheVariants as kinds
@@ -39,8 +39,8 @@ use Rattle.brk_batch_engine.proofs.Pushes.{moments_push}
 use Rattle.brk_batch_engine.proofs.Reading.{begins_front, begins_less}
 use Rattle.brk_import.proofs.Settled.{settled_push}
 
-module _ {S C : Type 0} (g : Ghosts S) (rests : Settles g) (form : Fields → Read Command) (apart : (n : ℕ) (command : Command) → form (end_of n) ≡ Ok command → ⊥) (gives : C → ℕ → C → Type 0)
-    (text : Text) (one : Outside C) (base : Base) where
+module _ {S C : Type 0} (g : Ghosts S) (rests : Settles g) (form : Fields → ReadResult Command) (apart : (n : ℕ) (command : Command) → form (end_record_after n) ≡ Ok command → ⊥) (gives : C → ℕ → C → Type 0)
+    (text : Text) (one : ClockAndWriterChange C) (base : Base) where
   -- the rows that the first run decided
   record Part (after : Base) : Type 0 where
     pub name : Text
@@ -48,20 +48,20 @@ module _ {S C : Type 0} (g : Ghosts S) (rests : Settles g) (form : Fields → Re
     pub answers : List Answer
     pub moments : List ℕ
     pub mid : C
-    pub taken : Moments gives one.clock moments mid
-    pub settled : AreDecided form row_step name base moments rows answers after
-    pub begins : Begins (Some text) (header_of name ∷ rows)
+    pub taken : ClockReturnsInOrder gives one.clock moments mid
+    pub settled : AreDecided form step_of_row name base moments rows answers after
+    pub begins : BeginsWithRecords (Some text) (batch_header name ∷ rows)
 
   -- the call of the row after them failed, and the row was committed
   record Under (after stood : Base) : Type 0 where
     pub part : Part after
     pub row : Fields
-    pub begins : Begins (Some text) (header_of part.name ∷ (part.rows ++ row ∷ []))
+    pub begins : BeginsWithRecords (Some text) (batch_header part.name ∷ (part.rows ++ row ∷ []))
     pub command : Command
     pub formed : form row ≡ Ok command
     pub moment : ℕ
     pub given : gives part.mid moment one.later
-    pub booked : (row_step after moment command (record { batch = part.name; row = length part.rows + 1 })).1 ≡ stood
+    pub booked : (step_of_row after moment command (record { batch = part.name; row = length part.rows + 1 })).1 ≡ stood
 
   -- no row was decided, or some were
   abbrev First : Base → Type 0
@@ -72,19 +72,19 @@ module _ {S C : Type 0} (g : Ghosts S) (rests : Settles g) (form : Fields → Re
     pub after : Base
     pub stood : Base
     pub can : IsConsistent stood
-    pub are : AreTreesOf (sheets stood) trees
+    pub are : AreTreesOfRows (sheets stood) trees
     pub how : ((stood ≡ after) × First after) ⊎ Under after stood
 
   -- ---- the first run
 
-  ending_begins : (ending : Ending) (name : Text) (rows : List Fields) (answers told : List Answer) (out : Text) → Ends (Some text) ending name rows answers told out → Begins (Some text) (header_of name ∷ rows)
-  ending_begins model.EndedWell name rows answers told out ends = begins_front (Some text) (header_of name ∷ rows) (end_of (length rows) ∷ []) ends.0
-  ending_begins model.BadEnd name rows answers told out ends = begins_front (Some text) (header_of name ∷ rows) (ends.0.0 ∷ []) ends.0.3
-  ending_begins model.NoEnd name rows answers told out (inl cut, said) = ([], subst (λ (rs : List Fields). records default_config text ≡ header_of name ∷ (rs ++ [])) (sym cut.0) cut.1)
+  ending_begins : (ending : Ending) (name : Text) (rows : List Fields) (answers told : List Answer) (out : Text) → MatchesEnding (Some text) ending name rows answers told out → BeginsWithRecords (Some text) (batch_header name ∷ rows)
+  ending_begins model.EndedWell name rows answers told out ends = begins_front (Some text) (batch_header name ∷ rows) (end_record_after (length rows) ∷ []) ends.0
+  ending_begins model.BadEnd name rows answers told out ends = begins_front (Some text) (batch_header name ∷ rows) (ends.0.0 ∷ []) ends.0.3
+  ending_begins model.NoEnd name rows answers told out (inl cut, said) = ([], subst (λ (rs : List Fields). records default_config text ≡ batch_header name ∷ (rs ++ [])) (sym cut.0) cut.1)
   ending_begins model.NoEnd name rows answers told out (inr cut, said) = (cut.0 ∷ [], cut.2)
   ending_begins model.BadHeader name rows answers told out ends = absurd ends
 
-  ended : (ending : Ending) (count : ℕ) (after : Base) → CameTo form row_step gives (Some text) (with_base base after one) ending count → Part after
+  ended : (ending : Ending) (count : ℕ) (after : Base) → BatchEndsWith form step_of_row gives (Some text) (change_with_bases base after one) ending count → Part after
   ended ending count after c = record {
     name = c.answered.name;
     rows = c.answered.rows;
@@ -96,7 +96,7 @@ module _ {S C : Type 0} (g : Ghosts S) (rests : Settles g) (form : Fields → Re
     begins = ending_begins ending c.answered.name c.answered.rows c.answered.answers c.answered.told c.lines c.answered.ends;
   }
 
-  abbrev stopped : (count : ℕ) (after : Base) → Stopped form row_step gives (Some text) (with_base base after one) count → Part after
+  abbrev stopped : (count : ℕ) (after : Base) → BatchProgress form step_of_row gives (Some text) (change_with_bases base after one) count → Part after
   stopped count after s = record {
     name = s.name;
     rows = s.rows;
@@ -108,7 +108,7 @@ module _ {S C : Type 0} (g : Ghosts S) (rests : Settles g) (form : Fields → Re
     begins = s.begins;
   }
 
-  by_kind : (count : ℕ) (kind : FaultKind) (after : Base) → Faulted form row_step gives (Some text) (with_base base after one) count kind → First after
+  by_kind : (count : ℕ) (kind : FaultKind) (after : Base) → BatchFailsWith form step_of_row gives (Some text) (change_with_bases base after one) count kind → First after
   by_kind count kinds.BadHeader after f = inl f.0.base
   by_kind count kinds.NoEnd after f = inr (ended model.NoEnd count after f)
   by_kind count kinds.BadEnd after f = inr (ended model.BadEnd count after f)
@@ -119,12 +119,12 @@ module _ {S C : Type 0} (g : Ghosts S) (rests : Settles g) (form : Fields → Re
   by_kind count (kinds.Desk fault) after (inr (inl f)) = inr (stopped count after f.0)
   by_kind count (kinds.Desk fault) after (inr (inr f)) = inr (stopped count after f.0)
 
-  by_result : (result : Result Counts BatchFault) (after : Base) → BatchGives form row_step gives (Some text) (with_base base after one) result → First after
+  by_result : (result : Result Counts BatchFault) (after : Base) → IsBatchResult form step_of_row gives (Some text) (change_with_bases base after one) result → First after
   by_result (Ok counts) after h = inr (ended model.EndedWell (counts.ok + counts.again + counts.no) after h.0)
   by_result (Err fault) after h = by_kind fault.rows fault.kind after h
 
-  under_way : (after : Base) (left : Held S) (fault : BatchFault) (w : IsUnderWay form row_step gives (LeavesOneOf g) (Some text) (with_base base after one) left fault)
-      → Under after (row_step after w.failed.moment w.failed.command (record { batch = w.failed.stopped.name; row = fault.rows + 1 })).1
+  under_way : (after : Base) (left : Held S) (fault : BatchFault) (w : CrashMayCommitFailedRow form step_of_row gives (CrashExposesOnlyOneOf g) (Some text) (change_with_bases base after one) left fault)
+      → Under after (step_of_row after w.failed.moment w.failed.command (record { batch = w.failed.stopped.name; row = fault.rows + 1 })).1
   under_way after left fault w = record {
     part = stopped fault.rows after w.failed.stopped;
     row = w.failed.row;
@@ -134,12 +134,12 @@ module _ {S C : Type 0} (g : Ghosts S) (rests : Settles g) (form : Fields → Re
     moment = w.failed.moment;
     given = w.failed.given;
     booked =
-        ap (λ (n : ℕ). (row_step after w.failed.moment w.failed.command (record { batch = w.failed.stopped.name; row = n + 1 })).1)
+        ap (λ (n : ℕ). (step_of_row after w.failed.moment w.failed.command (record { batch = w.failed.stopped.name; row = n + 1 })).1)
         (sym (w.failed.stopped.counted ∙ ap (λ (l : List Answer). length l) w.failed.told ∙ w.failed.stopped.settled.each));
   }
 
   module _ (left : Held S) (trees : Trees) (may : (state g left).may_leave trees) (after : Base) (keeps : Represents g left after) (first : First after) where
-    found_alone : LeavesOneOf g left after after → Found trees
+    found_alone : CrashExposesOnlyOneOf g left after after → Found trees
     found_alone only = record {
       after = after;
       stood = after;
@@ -148,25 +148,25 @@ module _ {S C : Type 0} (g : Ghosts S) (rests : Settles g) (form : Fields → Re
       how = inl (refl, first);
     }
 
-    found_under : (fault : BatchFault) → IsUnderWay form row_step gives (LeavesOneOf g) (Some text) (with_base base after one) left fault → Found trees
+    found_under : (fault : BatchFault) → CrashMayCommitFailedRow form step_of_row gives (CrashExposesOnlyOneOf g) (Some text) (change_with_bases base after one) left fault → Found trees
     found_under fault w = elim (w.may trees may) [
       | inl are ↦ record { after = after; stood = after; can = kept_can_be g left after keeps; are = are; how = inl (refl, first) }
       | inr booked ↦ record {
         after = after;
-        stood = (row_step after w.failed.moment w.failed.command (record { batch = w.failed.stopped.name; row = fault.rows + 1 })).1;
+        stood = (step_of_row after w.failed.moment w.failed.command (record { batch = w.failed.stopped.name; row = fault.rows + 1 })).1;
         can = booked.1;
         are = booked.0;
         how = inr (under_way after left fault w);
       }
     ]
 
-    found_at : (result : Result Counts BatchFault) → LeavesAt form row_step gives (LeavesOneOf g) (Some text) (with_base base after one) left result → Found trees
+    found_at : (result : Result Counts BatchFault) → BoundsBatchCrashStates form step_of_row gives (CrashExposesOnlyOneOf g) (Some text) (change_with_bases base after one) left result → Found trees
     found_at (Ok counts) only = found_alone only
     found_at (Err fault) (inl only) = found_alone only
     found_at (Err fault) (inr w) = found_under fault w
 
-  found : (first left : Held S) (result : Result Counts BatchFault) → IsDurable g first base
-      → CrashStates (λ desk. HasCleanDisk (state g desk)) (λ desk. Represents g desk) (LeavesOneOf g) form row_step gives (Some text) first left one result
+  found : (first left : Held S) (result : Result Counts BatchFault) → RepresentsDurableBase g first base
+      → IsBatchCrashSafe (λ desk. HasCleanDisk (state g desk)) (λ desk. Represents g desk) (CrashExposesOnlyOneOf g) form step_of_row gives (Some text) first left one result
       → HasCleanDisk (state g left) → (trees : Trees) → (state g left).may_leave trees → Found trees
   found first left result at leaves clean trees may =
       let l = leaves clean base at.keeps (λ t m. inl (at.alone t m)) in
@@ -174,7 +174,7 @@ module _ {S C : Type 0} (g : Ghosts S) (rests : Settles g) (form : Fields → Re
 
   -- ---- the retry
 
-  module _ (after stood last : Base) (two : Outside C) (count : ℕ) (c : CameTo form row_step gives (Some text) (with_base stood last two) model.EndedWell count) where
+  module _ (after stood last : Base) (two : ClockAndWriterChange C) (count : ℕ) (c : BatchEndsWith form step_of_row gives (Some text) (change_with_bases stood last two) model.EndedWell count) where
     -- if no row was decided, the rows are none
     none_settled : after ≡ base → Part after
     none_settled same = record {
@@ -185,30 +185,30 @@ module _ {S C : Type 0} (g : Ghosts S) (rests : Settles g) (form : Fields → Re
       mid = one.clock;
       taken = refl;
       settled = record { named = c.answered.settled.named; rows_only = tt; answered = record { replies = []; one_each = refl; run = same; all = refl }; each = refl };
-      begins = begins_front (Some text) (header_of c.answered.name ∷ []) (c.answered.rows ++ end_of (length c.answered.rows) ∷ []) c.answered.ends.0;
+      begins = begins_front (Some text) (batch_header c.answered.name ∷ []) (c.answered.rows ++ end_record_after (length c.answered.rows) ∷ []) c.answered.ends.0;
     }
 
     part_of : First after → Part after
     part_of (inl same) = none_settled same
     part_of (inr part) = part
 
-    wrote : Appends two.old two.new (lines_from 1 c.answered.answers ++ end_line c.answered.answers)
+    wrote : Appends two.old two.new (answer_lines_from 1 c.answered.answers ++ batch_end_line c.answered.answers)
     wrote = subst (λ l. Appends two.old two.new l) c.answered.ends.2 c.written
 
     module _ (p : Part after) (more : List Fields) (named : p.name ≡ c.answered.name) (rows_are : c.answered.rows ≡ p.rows ++ more) where
-      second : AreDecided form row_step p.name stood c.moments (p.rows ++ more) c.answered.answers last
+      second : AreDecided form step_of_row p.name stood c.moments (p.rows ++ more) c.answered.answers last
       second =
-          subst (λ (rs : List Fields). AreDecided form row_step p.name stood c.moments rs c.answered.answers last) rows_are
-          (subst (λ (n : Text). AreDecided form row_step n stood c.moments c.answered.rows c.answered.answers last) (sym named) c.answered.settled)
+          subst (λ (rs : List Fields). AreDecided form step_of_row p.name stood c.moments rs c.answered.answers last) rows_are
+          (subst (λ (n : Text). AreDecided form step_of_row n stood c.moments c.answered.rows c.answered.answers last) (sym named) c.answered.settled)
 
-      named_again : (moments : List ℕ) (answers : List Answer) → IsCompleted form p.name base moments c.moments (p.rows ++ more) answers c.answered.answers last
-          → IsCompleted form c.answered.name base moments c.moments c.answered.rows answers c.answered.answers last
+      named_again : (moments : List ℕ) (answers : List Answer) → IsCompletedByRetry form p.name base moments c.moments (p.rows ++ more) answers c.answered.answers last
+          → IsCompletedByRetry form c.answered.name base moments c.moments c.answered.rows answers c.answered.answers last
       named_again moments answers k =
-          subst (λ (n : Text). IsCompleted form n base moments c.moments c.answered.rows answers c.answered.answers last) named
-          (subst (λ (rs : List Fields). IsCompleted form p.name base moments c.moments rs answers c.answered.answers last) (sym rows_are) k)
+          subst (λ (n : Text). IsCompletedByRetry form n base moments c.moments c.answered.rows answers c.answered.answers last) named
+          (subst (λ (rs : List Fields). IsCompletedByRetry form p.name base moments c.moments rs answers c.answered.answers last) (sym rows_are) k)
 
     -- no call failed, or its row was not committed
-    from_part : stood ≡ after → Part after → IsSentAgain form gives (Some text) base last one two
+    from_part : stood ≡ after → Part after → RetryCompletesBatch form gives (Some text) base last one two
     from_part same p = record {
       name = c.answered.name;
       rows = c.answered.rows;
@@ -223,14 +223,14 @@ module _ {S C : Type 0} (g : Ghosts S) (rests : Settles g) (form : Fields → Re
       written = wrote;
       completed = λ none. inl (named_again p on.1.0 on.0 on.1.1 p.moments p.answers
           (completed form p.name base after last p.moments c.moments p.rows on.1.0 p.answers c.answered.answers none p.settled
-          (subst (λ (b : Base). AreDecided form row_step p.name b c.moments (p.rows ++ on.1.0) c.answered.answers last) same (second p on.1.0 on.0 on.1.1))));
+          (subst (λ (b : Base). AreDecided form step_of_row p.name b c.moments (p.rows ++ on.1.0) c.answered.answers last) same (second p on.1.0 on.0 on.1.1))));
     }
       where
         on : (p.name ≡ c.answered.name) × ((back : List Fields) × (c.answered.rows ≡ p.rows ++ back))
         on = rows-go-on text p.name c.answered.name p.rows c.answered.rows p.settled.rows_only p.begins c.answered.ends.0
 
     -- a row was committed and not answered
-    from_under : Under after stood → IsSentAgain form gives (Some text) base last one two
+    from_under : Under after stood → RetryCompletesBatch form gives (Some text) base last one two
     from_under u = record {
       name = c.answered.name;
       rows = c.answered.rows;
@@ -257,18 +257,18 @@ module _ {S C : Type 0} (g : Ghosts S) (rests : Settles g) (form : Fields → Re
         on = next-goes-on text p.name c.answered.name p.rows c.answered.rows u.row p.settled.rows_only u.begins c.answered.ends.0 (λ n e. apart n u.command (ap form (sym e) ∙ u.formed))
 
         answer : Answer
-        answer = (row_step after u.moment u.command (record { batch = p.name; row = length p.rows + 1 })).0
+        answer = (step_of_row after u.moment u.command (record { batch = p.name; row = length p.rows + 1 })).0
 
-        next : IsBookedNext form p.name after p.rows (u.row ∷ on.1.0) u.moment answer stood
+        next : NextRowLeadsTo form p.name after p.rows (u.row ∷ on.1.0) u.moment answer stood
         next = record { row = u.row; rest = on.1.0; next = refl; command = u.command; formed = u.formed; booked = ap (λ (b : Base). (answer, b)) u.booked }
 
-    from_how : ((stood ≡ after) × First after) ⊎ Under after stood → IsSentAgain form gives (Some text) base last one two
+    from_how : ((stood ≡ after) × First after) ⊎ Under after stood → RetryCompletesBatch form gives (Some text) base last one two
     from_how (inl (same, first)) = from_part same (part_of first)
     from_how (inr u) = from_under u
 
     -- whatever was refused, both runs are one: the rows that the first run accepted, then the others
-    one_run_of : (front back : List Fields) (moments : List ℕ) (mid : C) (answers : List Answer) → Moments gives one.clock moments mid → c.answered.rows ≡ front ++ back
-        → AreDecided form row_step c.answered.name base moments front answers stood → AreOneRun form gives (Some text) base last one two
+    one_run_of : (front back : List Fields) (moments : List ℕ) (mid : C) (answers : List Answer) → ClockReturnsInOrder gives one.clock moments mid → c.answered.rows ≡ front ++ back
+        → AreDecided form step_of_row c.answered.name base moments front answers stood → RunAndRetryEqualOneRun form gives (Some text) base last one two
     one_run_of front back moments mid answers taken split first = record {
       name = c.answered.name;
       rows = c.answered.rows;
@@ -287,29 +287,29 @@ module _ {S C : Type 0} (g : Ghosts S) (rests : Settles g) (form : Fields → Re
       asked = c.taken;
       second = c.answered.settled;
       written = wrote;
-      run = one-run base stood last (calls_of c.answered.name moments (formed_from form 1 front)) (calls_of c.answered.name c.moments (formed_from form 1 c.answered.rows))
+      run = one-run base stood last (calls_of_rows c.answered.name moments (well_formed_rows_from form 1 front)) (calls_of_rows c.answered.name c.moments (well_formed_rows_from form 1 c.answered.rows))
           first.answered.replies c.answered.settled.answered.replies first.answered.run c.answered.settled.answered.run;
-      stored = done-kept base stood (calls_of c.answered.name moments (formed_from form 1 front)) first.answered.replies first.answered.run;
-      repeated = (left-over stood last (calls_of c.answered.name c.moments (formed_from form 1 c.answered.rows)) c.answered.settled.answered.replies c.answered.settled.answered.run).1;
+      stored = done-kept base stood (calls_of_rows c.answered.name moments (well_formed_rows_from form 1 front)) first.answered.replies first.answered.run;
+      repeated = (left-over stood last (calls_of_rows c.answered.name c.moments (well_formed_rows_from form 1 c.answered.rows)) c.answered.settled.answered.replies c.answered.settled.answered.run).1;
     }
 
-    one_from_part : stood ≡ after → Part after → AreOneRun form gives (Some text) base last one two
+    one_from_part : stood ≡ after → Part after → RunAndRetryEqualOneRun form gives (Some text) base last one two
     one_from_part same p =
         one_run_of p.rows on.1.0 p.moments p.mid p.answers p.taken on.1.1
-        (subst (λ (n : Text). AreDecided form row_step n base p.moments p.rows p.answers stood) on.0
-        (subst (λ (b : Base). AreDecided form row_step p.name base p.moments p.rows p.answers b) (sym same) p.settled))
+        (subst (λ (n : Text). AreDecided form step_of_row n base p.moments p.rows p.answers stood) on.0
+        (subst (λ (b : Base). AreDecided form step_of_row p.name base p.moments p.rows p.answers b) (sym same) p.settled))
       where
         on : (p.name ≡ c.answered.name) × ((back : List Fields) × (c.answered.rows ≡ p.rows ++ back))
         on = rows-go-on text p.name c.answered.name p.rows c.answered.rows p.settled.rows_only p.begins c.answered.ends.0
 
-    one_from_under : Under after stood → AreOneRun form gives (Some text) base last one two
+    one_from_under : Under after stood → RunAndRetryEqualOneRun form gives (Some text) base last one two
     one_from_under u =
         one_run_of (p.rows ++ u.row ∷ []) on.1.0 (p.moments ++ u.moment ∷ []) one.later (p.answers ++ answer ∷ [])
         (moments_push gives one.clock p.mid one.later p.moments u.moment p.taken u.given) split
-        (subst (λ (n : Text). AreDecided form row_step n base (p.moments ++ u.moment ∷ []) (p.rows ++ u.row ∷ []) (p.answers ++ answer ∷ []) stood) on.0
-        (settled_push form row_step p.name base after stood p.moments p.rows p.answers p.settled u.row u.command u.formed u.moment answer
+        (subst (λ (n : Text). AreDecided form step_of_row n base (p.moments ++ u.moment ∷ []) (p.rows ++ u.row ∷ []) (p.answers ++ answer ∷ []) stood) on.0
+        (settled_push form step_of_row p.name base after stood p.moments p.rows p.answers p.settled u.row u.command u.formed u.moment answer
         acted
-        (All-front (λ row. ¬ (IsEnd row)) (p.rows ++ u.row ∷ []) on.1.0 (subst (λ (rs : List Fields). AllByRecursion (λ row. ¬ (IsEnd row)) rs) split c.answered.settled.rows_only))))
+        (All-front (λ row. ¬ (IsEndRecord row)) (p.rows ++ u.row ∷ []) on.1.0 (subst (λ (rs : List Fields). AllByRecursion (λ row. ¬ (IsEndRecord row)) rs) split c.answered.settled.rows_only))))
       where
         p : Part after
         p = u.part
@@ -318,28 +318,28 @@ module _ {S C : Type 0} (g : Ghosts S) (rests : Settles g) (form : Fields → Re
         on = next-goes-on text p.name c.answered.name p.rows c.answered.rows u.row p.settled.rows_only u.begins c.answered.ends.0 (λ n e. apart n u.command (ap form (sym e) ∙ u.formed))
 
         answer : Answer
-        answer = (row_step after u.moment u.command (record { batch = p.name; row = length p.rows + 1 })).0
+        answer = (step_of_row after u.moment u.command (record { batch = p.name; row = length p.rows + 1 })).0
 
-        acted : row_step after u.moment u.command (record { batch = p.name; row = 1 + length p.rows }) ≡ (answer, stood)
+        acted : step_of_row after u.moment u.command (record { batch = p.name; row = 1 + length p.rows }) ≡ (answer, stood)
         acted =
             let place : 1 + length p.rows ≡ length p.rows + 1 = omega arith in
-            ap (λ (n : ℕ). row_step after u.moment u.command (record { batch = p.name; row = n })) place ∙ ap (λ (b : Base). (answer, b)) u.booked
+            ap (λ (n : ℕ). step_of_row after u.moment u.command (record { batch = p.name; row = n })) place ∙ ap (λ (b : Base). (answer, b)) u.booked
 
         split : c.answered.rows ≡ (p.rows ++ u.row ∷ []) ++ on.1.0
         split = on.1.1 ∙ sym (append_assoc p.rows (u.row ∷ []) on.1.0)
 
-    one_from_how : ((stood ≡ after) × First after) ⊎ Under after stood → AreOneRun form gives (Some text) base last one two
+    one_from_how : ((stood ≡ after) × First after) ⊎ Under after stood → RunAndRetryEqualOneRun form gives (Some text) base last one two
     one_from_how (inl (same, first)) = one_from_part same (part_of first)
     one_from_how (inr u) = one_from_under u
 
   -- ---- both
 
-  pub sent_again : (first left conn store last : Held S) (two : Outside C) (ended : Result Counts BatchFault) (taken : Result (Unit {0}) Fault) (counts : Counts) → IsDurable g first base
-      → CrashStates (λ desk. HasCleanDisk (state g desk)) (λ desk. Represents g desk) (LeavesOneOf g) form row_step gives (Some text) first left one ended
-      → HasCleanDisk (state g left) → IsReopened g left conn → AdoptPost g conn store taken → HasCleanDisk (state g store)
-      → OnAnswer taken (λ failing. failing ≡ None)
-      × (RefinesModel (λ desk. HasCleanDisk (state g desk)) (λ desk. Represents g desk) form row_step gives (Some text) store last two (Ok counts) → HasCleanDisk (state g last)
-      → (after : Base) × Represents g last after × IsSentAgain form gives (Some text) base after one two × AreOneRun form gives (Some text) base after one two)
+  pub sent_again : (first left conn store last : Held S) (two : ClockAndWriterChange C) (ended : Result Counts BatchFault) (taken : Result (Unit {0}) Fault) (counts : Counts) → RepresentsDurableBase g first base
+      → IsBatchCrashSafe (λ desk. HasCleanDisk (state g desk)) (λ desk. Represents g desk) (CrashExposesOnlyOneOf g) form step_of_row gives (Some text) first left one ended
+      → HasCleanDisk (state g left) → IsReopenedAfterCrash g left conn → AdoptPost g conn store taken → HasCleanDisk (state g store)
+      → OnAuditAnswer taken (λ failing. failing ≡ None)
+      × (BatchRefinesModel (λ desk. HasCleanDisk (state g desk)) (λ desk. Represents g desk) form step_of_row gives (Some text) store last two (Ok counts) → HasCleanDisk (state g last)
+      → (after : Base) × Represents g last after × RetryCompletesBatch form gives (Some text) base after one two × RunAndRetryEqualOneRun form gives (Some text) base after one two)
   sent_again first left conn store last two ended taken counts at leaves clean again adopted next =
       let f = found first left ended at leaves clean again.0 again.1 in
       let t = taken_over g rests again.0 conn store taken again.2 adopted next f.stood f.can f.are (λ (b : Base). b ≡ f.stood) refl in (

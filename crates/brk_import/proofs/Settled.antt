@@ -4,41 +4,41 @@ use Rattle.std.specs.Prelude.{Ok}
 use Rattle.std.specs.List.{AllByRecursion}
 use Rattle.std.proofs.lemmas.List.{length-append}
 use Rattle.brk_money.specs.Spelling.{Text}
-use Rattle.brk_model.specs.Answers.{Fields, InTurn, RowCall, RowStep, call_step, calls_of, formed_from, with_formed, woven}
+use Rattle.brk_model.specs.Answers.{Fields, CallsHaveAnswers, RowCall, RowStep, answer_to_row_call, calls_of_rows, well_formed_rows_from, with_well_formed_row, answers_interleaved_with_refusals}
 use Rattle.brk_model.specs.Batch.{AreDecided}
 use Rattle.brk_model.specs.Commands.{Answer}
-use Rattle.brk_model.specs.Forms.{Read}
-use Rattle.brk_model.specs.Input.{IsEnd}
+use Rattle.brk_model.specs.Forms.{ReadResult}
+use Rattle.brk_model.specs.Input.{IsEndRecord}
 use Rattle.brk_batch_engine.proofs.Pushes.{calls_length, calls_push, formed_push, run_push, woven_push}
 
 -- calls in turn have one answer each
-turned : {S X : Type 0} (step : RowStep S X) (base after : S) (calls : List (RowCall X)) (answers : List Answer) → InTurn step base calls answers after → length answers ≡ length calls
+turned : {S X : Type 0} (step : RowStep S X) (base after : S) (calls : List (RowCall X)) (answers : List Answer) → CallsHaveAnswers step base calls answers after → length answers ≡ length calls
 turned step base after [] [] r = refl
 turned step base after [] (a ∷ rs) r = absurd r
 turned step base after (c ∷ cs) [] r = absurd r
-turned step base after (c ∷ cs) (a ∷ rs) r = let more = turned step (call_step step base c).1 after cs rs r.1 in omega arith
+turned step base after (c ∷ cs) (a ∷ rs) r = let more = turned step (answer_to_row_call step base c).1 after cs rs r.1 in omega arith
 
-module _ {S X : Type 0} (form : Fields → Read X) (step : RowStep S X) (name : Text) (base mid after : S) (moments : List ℕ) (rows : List Fields) (answers : List Answer)
+module _ {S X : Type 0} (form : Fields → ReadResult X) (step : RowStep S X) (name : Text) (base mid after : S) (moments : List ℕ) (rows : List Fields) (answers : List Answer)
     (h : AreDecided form step name base moments rows answers mid) (row : Fields) (command : X) (formed : form row ≡ Ok command) (moment : ℕ) (answer : Answer)
     (acted : step mid moment command (record { batch = name; row = 1 + length rows }) ≡ (answer, after)) where
-  calls : formed_from form 1 (rows ++ row ∷ []) ≡ formed_from form 1 rows ++ (1 + length rows, command) ∷ []
-  calls = formed_push form 1 rows row ∙ ap (λ (o : Read X). formed_from form 1 rows ++ with_formed o (1 + length rows) []) formed
+  calls : well_formed_rows_from form 1 (rows ++ row ∷ []) ≡ well_formed_rows_from form 1 rows ++ (1 + length rows, command) ∷ []
+  calls = formed_push form 1 rows row ∙ ap (λ (o : ReadResult X). well_formed_rows_from form 1 rows ++ with_well_formed_row o (1 + length rows) []) formed
 
-  longer : length (formed_from form 1 (rows ++ row ∷ [])) ≡ length (formed_from form 1 rows) + 1
-  longer = ap length calls ∙ length-append (formed_from form 1 rows) ((1 + length rows, command) ∷ [])
+  longer : length (well_formed_rows_from form 1 (rows ++ row ∷ [])) ≡ length (well_formed_rows_from form 1 rows) + 1
+  longer = ap length calls ∙ length-append (well_formed_rows_from form 1 rows) ((1 + length rows, command) ∷ [])
 
-  run : InTurn step base (calls_of name (moments ++ moment ∷ []) (formed_from form 1 (rows ++ row ∷ []))) (h.answered.replies ++ answer ∷ []) after
+  run : CallsHaveAnswers step base (calls_of_rows name (moments ++ moment ∷ []) (well_formed_rows_from form 1 (rows ++ row ∷ []))) (h.answered.replies ++ answer ∷ []) after
   run =
-      rw (calls, calls_push name moments (formed_from form 1 rows) moment (1 + length rows, command) h.answered.one_each)
+      rw (calls, calls_push name moments (well_formed_rows_from form 1 rows) moment (1 + length rows, command) h.answered.one_each)
       (run_push step base mid after _ h.answered.replies _ answer h.answered.run acted)
 
-  replied : length h.answered.replies ≡ length (formed_from form 1 rows)
-  replied = turned step base mid (calls_of name moments (formed_from form 1 rows)) h.answered.replies h.answered.run ∙ calls_length name moments (formed_from form 1 rows) h.answered.one_each
+  replied : length h.answered.replies ≡ length (well_formed_rows_from form 1 rows)
+  replied = turned step base mid (calls_of_rows name moments (well_formed_rows_from form 1 rows)) h.answered.replies h.answered.run ∙ calls_length name moments (well_formed_rows_from form 1 rows) h.answered.one_each
 
-  wove : woven form (rows ++ row ∷ []) (h.answered.replies ++ answer ∷ []) ≡ woven form rows h.answered.replies ++ answer ∷ []
+  wove : answers_interleaved_with_refusals form (rows ++ row ∷ []) (h.answered.replies ++ answer ∷ []) ≡ answers_interleaved_with_refusals form rows h.answered.replies ++ answer ∷ []
   wove = rw formed at (woven_push form 1 rows row h.answered.replies (answer ∷ []) replied)
 
-  pub settled_push : AllByRecursion (λ r. ¬ (IsEnd r)) (rows ++ row ∷ []) → AreDecided form step name base (moments ++ moment ∷ []) (rows ++ row ∷ []) (answers ++ answer ∷ []) after
+  pub settled_push : AllByRecursion (λ r. ¬ (IsEndRecord r)) (rows ++ row ∷ []) → AreDecided form step name base (moments ++ moment ∷ []) (rows ++ row ∷ []) (answers ++ answer ∷ []) after
   settled_push only = record {
     named = h.named;
     rows_only = only;

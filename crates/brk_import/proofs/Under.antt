@@ -6,20 +6,20 @@ use Rattle.sqlite.specs.Held.{Held, state}
 use Rattle.sqlite.specs.State.{HasCleanDisk}
 use Rattle.brk_money.specs.declared.fault.Fault.{Fault}
 use Rattle.brk_model.specs.Base.{Base}
-use Rattle.brk_model.specs.Batch.{row_step}
+use Rattle.brk_model.specs.Batch.{step_of_row}
 use Rattle.brk_model.specs.Commands as model
 use Rattle.brk_model.specs.Commands.{Command}
 use Rattle.brk_model.specs.Records.{Key}
 use Rattle.brk_model.specs.Run.{Did, Failed}
 use Rattle.brk_model.specs.Sheets.{sheets}
-use Rattle.brk_store.specs.Holds.{AreTreesOf}
-use Rattle.brk_commit.specs.Answers.{answer_of}
+use Rattle.brk_store.specs.Holds.{AreTreesOfRows}
+use Rattle.brk_commit.specs.Answers.{model_answer}
 use Rattle.brk_commit.specs.Booked.{CallPost}
 use Rattle.brk_store.specs.Audited.{Represents}
-use Rattle.brk_commit.specs.Keys.{key_for}
-use Rattle.brk_commands.specs.Commands.{command_of}
+use Rattle.brk_commit.specs.Keys.{optional_model_key}
+use Rattle.brk_commands.specs.Commands.{abstract_command}
 use Rattle.brk_commands.specs.declared.command.Command as commands
-use Rattle.brk_ref.specs.Records.{key_of}
+use Rattle.brk_ref.specs.Records.{abstract_key}
 use Rattle.brk_ref.specs.declared.key.Key as keys
 use Rattle.brk_desk.specs.Reopening.{IsConsistent}
 use Rattle.brk_desk.specs.declared.call.Call.TheVariants as made
@@ -28,53 +28,53 @@ use Rattle.brk_commit.specs.declared.answer.Answer.{Answer}
 use Rattle.brk_commit.specs.declared.answer.Answer.TheVariants as given
 use Rattle.brk_desk.proofs.Reopened.{booked_can_be}
 use Rattle.brk_desk.proofs.Stopping.{quiet_leaves}
-use Rattle.brk_batch_engine.specs.Answers.{Acts, MayAct, RepresentsDurably}
-use Rattle.brk_import.specs.Leaving.{LeavesOneOf}
-use Rattle.brk_import.specs.Rows.{DeskActs}
+use Rattle.brk_batch_engine.specs.Answers.{CallRefinesStep, IsFailedCallCrashSafe, RepresentsDurably}
+use Rattle.brk_import.specs.Leaving.{CrashExposesOnlyOneOf}
+use Rattle.brk_import.specs.Rows.{RowCallHasOutcome}
 
 module _ {S : Type 0} (g : Ghosts S) (old new : Held S) (now : ℕ) (command : Command) where
   -- after a call that committed nothing, a crash exposes what it exposed before
-  quiet_left : (key : Key) (answer : Answer) → ((base after : Base) → row_step base now command key ≡ (answer_of answer, after) → after ≡ base) → CallPost g old new now command (Some key) (Ok answer)
-      → Acts (λ desk. HasCleanDisk (state g desk)) (RepresentsDurably (λ desk. Represents g desk) (LeavesOneOf g) true) row_step old new now command key (answer_of answer)
+  quiet_left : (key : Key) (answer : Answer) → ((base after : Base) → step_of_row base now command key ≡ (model_answer answer, after) → after ≡ base) → CallPost g old new now command (Some key) (Ok answer)
+      → CallRefinesStep (λ desk. HasCleanDisk (state g desk)) (RepresentsDurably (λ desk. Represents g desk) (CrashExposesOnlyOneOf g) true) step_of_row old new now command key (model_answer answer)
   quiet_left key answer quiet called clean base sure =
       let told = called.answered clean base sure.0 in
       let same : told.0 ≡ base = quiet base told.0 told.2 in
-      let step : (row_step base now command key).1 ≡ told.0 = ap (λ (x : model.Answer × Base). x.1) told.2 in (
+      let step : (step_of_row base now command key).1 ≡ told.0 = ap (λ (x : model.Answer × Base). x.1) told.2 in (
         told.0,
         (
           told.1,
           λ trees may. elim (called.survives.crash clean trees may) [
-            | inl earlier ↦ inl (subst (λ b. AreTreesOf (sheets b) trees) (sym same) (either trees base (sure.1 trees earlier)))
-            | inr come ↦ inl (subst (λ b. AreTreesOf (sheets b) trees) step (come.1 base sure.0))
+            | inl earlier ↦ inl (subst (λ b. AreTreesOfRows (sheets b) trees) (sym same) (either trees base (sure.1 trees earlier)))
+            | inr come ↦ inl (subst (λ b. AreTreesOfRows (sheets b) trees) step (come.1 base sure.0))
           ],
         ),
         told.2,
       )
     where
-      either : (trees : Trees) (base : Base) → AreTreesOf (sheets base) trees ⊎ (AreTreesOf (sheets base) trees × IsConsistent base) → AreTreesOf (sheets base) trees
+      either : (trees : Trees) (base : Base) → AreTreesOfRows (sheets base) trees ⊎ (AreTreesOfRows (sheets base) trees × IsConsistent base) → AreTreesOfRows (sheets base) trees
       either trees base (inl are) = are
       either trees base (inr are) = are.0
 
   answered_left : (key : Key) (answer : Answer) → CallPost g old new now command (Some key) (Ok answer)
-      → Acts (λ desk. HasCleanDisk (state g desk)) (RepresentsDurably (λ desk. Represents g desk) (LeavesOneOf g) true) row_step old new now command key (answer_of answer)
+      → CallRefinesStep (λ desk. HasCleanDisk (state g desk)) (RepresentsDurably (λ desk. Represents g desk) (CrashExposesOnlyOneOf g) true) step_of_row old new now command key (model_answer answer)
   answered_left key (given.Done reply) called = λ clean base sure.
       let told = called.answered clean base sure.0 in
-      let step : (row_step base now command key).1 ≡ told.0 = ap (λ (x : model.Answer × Base). x.1) told.2 in (
+      let step : (step_of_row base now command key).1 ≡ told.0 = ap (λ (x : model.Answer × Base). x.1) told.2 in (
         told.0,
-        (told.1, λ trees may. inl (subst (λ b. AreTreesOf (sheets b) trees) step (called.durable clean tt base sure.0 trees may))),
+        (told.1, λ trees may. inl (subst (λ b. AreTreesOfRows (sheets b) trees) step (called.durable clean tt base sure.0 trees may))),
         told.2,
       )
-  answered_left key (given.Again line) called = quiet_left key (given.Again line) (λ base after e. quiet_leaves base now command (Some key) (answer_of (given.Again line)) after e tt) called
-  answered_left key (given.Refused refusal) called = quiet_left key (given.Refused refusal) (λ base after e. quiet_leaves base now command (Some key) (answer_of (given.Refused refusal)) after e tt) called
+  answered_left key (given.Again line) called = quiet_left key (given.Again line) (λ base after e. quiet_leaves base now command (Some key) (model_answer (given.Again line)) after e tt) called
+  answered_left key (given.Refused refusal) called = quiet_left key (given.Refused refusal) (λ base after e. quiet_leaves base now command (Some key) (model_answer (given.Refused refusal)) after e tt) called
 
   pub acts : (key : Key) (answer : Answer) → CallPost g old new now command (Some key) (Ok answer) → (sure : Bool)
-      → Acts (λ desk. HasCleanDisk (state g desk)) (RepresentsDurably (λ desk. Represents g desk) (LeavesOneOf g) sure) row_step old new now command key (answer_of answer)
+      → CallRefinesStep (λ desk. HasCleanDisk (state g desk)) (RepresentsDurably (λ desk. Represents g desk) (CrashExposesOnlyOneOf g) sure) step_of_row old new now command key (model_answer answer)
   acts key answer called false = called.answered
   acts key answer called true = answered_left key answer called
 
   -- the call failed
   pub may_act : (key : Key) (fault : Fault) → CallPost g old new now command (Some key) (Err fault)
-      → MayAct (λ desk. HasCleanDisk (state g desk)) (λ desk. Represents g desk) (LeavesOneOf g) row_step old new now command key
+      → IsFailedCallCrashSafe (λ desk. HasCleanDisk (state g desk)) (λ desk. Represents g desk) (CrashExposesOnlyOneOf g) step_of_row old new now command key
   may_act key fault called clean base keeps alone trees may = elim (called.survives.crash clean trees may) [
     | inl earlier ↦ elim (alone trees earlier) [ inl are ↦ inl are | inr are ↦ inl are.0 ]
     | inr come ↦ inr (come.1 base keeps, booked_can_be g old new base now command (Some key) (Err fault) trees called keeps come)
@@ -82,8 +82,8 @@ module _ {S : Type 0} (g : Ghosts S) (old new : Held S) (now : ℕ) (command : C
 
 -- one call was made, and nothing else
 module _ {S : Type 0} (g : Ghosts S) (old new : Held S) (now : ℕ) (command : commands.Command) (key : keys.Key) where
-  pub did : (answer : Answer) → CallPost g old new now (command_of command) (key_for (Some key)) (Ok answer) → DeskActs g old now (command_of command, key_of key) (Did (answer_of answer)) new
+  pub did : (answer : Answer) → CallPost g old new now (abstract_command command) (optional_model_key (Some key)) (Ok answer) → RowCallHasOutcome g old now (abstract_command command, abstract_key key) (Did (model_answer answer)) new
   did answer h = record { made = made.Do command (Some key); came = came.Did answer; call_is = refl; outcome_is = refl; is_made = (Ok answer, refl, h) }
 
-  pub failed : (fault : Fault) → CallPost g old new now (command_of command) (key_for (Some key)) (Err fault) → DeskActs g old now (command_of command, key_of key) (Failed fault) new
+  pub failed : (fault : Fault) → CallPost g old new now (abstract_command command) (optional_model_key (Some key)) (Err fault) → RowCallHasOutcome g old now (abstract_command command, abstract_key key) (Failed fault) new
   failed fault h = record { made = made.Do command (Some key); came = came.Failed fault; call_is = refl; outcome_is = refl; is_made = (Err fault, refl, h) }

@@ -4,10 +4,10 @@ use Rattle.sqlite.specs.Held.{Held}
 use Rattle.sqlite_trees.specs.declared.store.Store.{Ghosts}
 use Rattle.brk_model.specs.Base.{Base}
 use Rattle.brk_model.specs.Sheets.{sheets}
-use Rattle.brk_store.specs.Holds.{AreTreesOf, OnlyCrashState}
+use Rattle.brk_store.specs.Holds.{AreTreesOfRows, CrashStatesSatisfy}
 use Rattle.brk_desk.specs.Reopening.{IsConsistent}
 
 -- A crash exposes only the tables of `base`, or those of `other`; in the latter case `other` is
 -- consistent.
-abbrev pub LeavesOneOf : {S : Type 0} → Ghosts S → Held S → Base → Base → Type 0
-LeavesOneOf g desk base other = OnlyCrashState g desk (λ trees. AreTreesOf (sheets base) trees ⊎ (AreTreesOf (sheets other) trees × IsConsistent other))
+abbrev pub CrashExposesOnlyOneOf : {S : Type 0} → Ghosts S → Held S → Base → Base → Type 0
+CrashExposesOnlyOneOf g desk base other = CrashStatesSatisfy g desk (λ trees. AreTreesOfRows (sheets base) trees ⊎ (AreTreesOfRows (sheets other) trees × IsConsistent other))

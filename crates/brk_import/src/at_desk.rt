@@ -1,15 +1,15 @@
 ghost use Rattle.std.specs.Prelude.{◌≡◌};
 ghost use Rattle.brk_model.specs.Base.{Base};
-ghost use Rattle.brk_model.specs.Batch.{row_step};
+ghost use Rattle.brk_model.specs.Batch.{step_of_row};
 ghost use Rattle.brk_model.specs.Commands as model;
-ghost use Rattle.brk_model.specs.Parse.{parse_by, readers};
+ghost use Rattle.brk_model.specs.Parse.{parse_by_first_field, row_parsers};
 ghost use Rattle.brk_batch_engine.specs.Answers as engine;
-ghost use Rattle.brk_commands.specs.Commands.{command_of};
-ghost use Rattle.brk_commit.specs.Answers.{answer_of};
-ghost use Rattle.brk_plans.specs.Replies.{reply_of};
+ghost use Rattle.brk_commands.specs.Commands.{abstract_command};
+ghost use Rattle.brk_commit.specs.Answers.{model_answer};
+ghost use Rattle.brk_plans.specs.Replies.{abstract_reply};
 ghost use Rattle.brk_store.specs.Audited.{Represents};
-ghost use Rattle.brk_import.specs.Leaving.{LeavesOneOf};
-ghost use Rattle.brk_import.specs.Rows.{DeskActs};
+ghost use Rattle.brk_import.specs.Leaving.{CrashExposesOnlyOneOf};
+ghost use Rattle.brk_import.specs.Rows.{RowCallHasOutcome};
 ghost use Rattle.sqlite.specs.Held.{state};
 ghost use Rattle.sqlite.specs.State.{HasCleanDisk};
 
@@ -23,8 +23,8 @@ use std::alloc::{AllocError, Global};
 use std::marker::PhantomData;
 
 // Converts the desk's answer to a row into an answer of the batch engine.
-fn row_answer(answer: Answer) -> RowAnswer<Reply>
-    ensures { engine.answer_in_model reply_of result ≡ answer_of answer }
+fn batch_answer_of_desk(answer: Answer) -> RowAnswer<Reply>
+    ensures { engine.answer_in_model abstract_reply result ≡ model_answer answer }
 {
     match answer {
         Answer::Done(reply) => RowAnswer::Done(reply),
@@ -53,17 +53,17 @@ impl<S: Alter> Rows for DeskRows<S> {
 
     ghost stands = { λ desk. Represents S.Store desk };
 
-    ghost leaves = { LeavesOneOf S.Store };
+    ghost leaves = { CrashExposesOnlyOneOf S.Store };
 
-    ghost acts = { λ old now row outcome new. DeskActs S.Store old now row outcome new };
+    ghost acts = { λ old now row outcome new. RowCallHasOutcome S.Store old now row outcome new };
 
-    ghost asked = { command_of };
+    ghost asked = { abstract_command };
 
-    ghost told = { reply_of };
+    ghost told = { abstract_reply };
 
-    ghost form = { parse_by readers };
+    ghost form = { parse_by_first_field row_parsers };
 
-    ghost step = { row_step };
+    ghost step = { step_of_row };
 
     fn parse(alloc: Global, row: &[&[u8]]) -> Planned<Command> {
         parse_row(alloc, row)
@@ -77,7 +77,7 @@ impl<S: Alter> Rows for DeskRows<S> {
         key: &Key,
     ) -> Result<RowAnswer<Reply>, Fault> {
         match desk.call(alloc, now, command, Some(key)) {
-            Ok(answer) => Ok(row_answer(answer)),
+            Ok(answer) => Ok(batch_answer_of_desk(answer)),
             Err(fault) => Err(fault),
         }
     }

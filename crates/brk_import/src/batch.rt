@@ -1,16 +1,16 @@
 ghost use Rattle.std.specs.Prelude.{ℕ, List, map, option_map};
-ghost use Rattle.brk_model.specs.Batch.{row_step};
-ghost use Rattle.brk_model.specs.Input.{text_of};
-ghost use Rattle.brk_model.specs.Parse.{parse_by, readers};
+ghost use Rattle.brk_model.specs.Batch.{step_of_row};
+ghost use Rattle.brk_model.specs.Input.{input_text};
+ghost use Rattle.brk_model.specs.Parse.{parse_by_first_field, row_parsers};
 ghost use Rattle.brk_store.specs.Audited.{Represents};
-ghost use Rattle.brk_batch_engine.specs.Batch.{RefinesModel, CrashStates};
-ghost use Rattle.brk_desk.specs.Answers.{outcome_of};
-ghost use Rattle.brk_desk.specs.Commands.{call_of};
-ghost use Rattle.brk_desk.specs.Runs.{IsRunOf};
+ghost use Rattle.brk_batch_engine.specs.Batch.{BatchRefinesModel, IsBatchCrashSafe};
+ghost use Rattle.brk_desk.specs.Answers.{model_outcome};
+ghost use Rattle.brk_desk.specs.Commands.{model_call};
+ghost use Rattle.brk_desk.specs.Runs.{IsRunWithOutcomes};
 ghost use Rattle.brk_desk.specs.declared.call.Call as made;
 ghost use Rattle.brk_desk.specs.declared.call.Outcome as came;
-ghost use Rattle.brk_import.specs.Leaving.{LeavesOneOf};
-ghost use Rattle.brk_import.specs.Rows.{TellsRows};
+ghost use Rattle.brk_import.specs.Leaving.{CrashExposesOnlyOneOf};
+ghost use Rattle.brk_import.specs.Rows.{BatchMatchesRowCalls};
 ghost use Rattle.sqlite.specs.Held.{state};
 ghost use Rattle.sqlite.specs.State.{HasCleanDisk};
 
@@ -30,8 +30,8 @@ use std::io::{Read, Write};
 /// the last row of a cut input is never executed: it is refused with 18.
 ///
 /// Row n of batch NAME has the key (NAME, n), under which it is accepted at most once. Each decided
-/// row that is well-formed and has a record after it is one call of the desk; one more call may have
-/// failed at the end. The clock is read once for each call, and not otherwise. The lines are
+/// row that is well-formed and has a record after it is one call of the desk; one more call may
+/// have failed at the end. The clock is read once for each call, and not otherwise. The lines are
 /// `n,ok,FIELDS`, `n,again,FIELDS` or `n,no,FIELDS`, and after the correct end record
 /// `end,OK,AGAIN,NO`.
 ///
@@ -49,19 +49,19 @@ pub fn run_batch<R: Read + Drop, W: Write, C: Clock, S: Alter>(
     // guarantee of a run holds. They are those of the rows: each decided row that is well-formed
     // and has a record after it is one call, under its key, and one more call may have failed at
     // the end. The clock is read once for each call, and the lines are those of the outcomes.
-    ensures told { (calls : List (ℕ × made.Call)) × (outcomes : List came.Outcome) × IsRunOf S.Store desk.old desk.new calls outcomes
-        × TellsRows C.gives (option_map text_of (R.remaining reader)) (map call_of calls) (map outcome_of outcomes)
+    ensures told { (calls : List (ℕ × made.Call)) × (outcomes : List came.Outcome) × IsRunWithOutcomes S.Store desk.old desk.new calls outcomes
+        × BatchMatchesRowCalls C.gives (option_map input_text (R.remaining reader)) (map model_call calls) (map model_outcome outcomes)
         (record { clock = clock.old; later = clock.new; old = W.contents writer.old; new = W.contents writer.new }) result }
     // Under the disk assumption, for every base that the desk represented, the answers are those of
     // the model, and the desk represents the base after them.
-    ensures kept { RefinesModel (λ desk. HasCleanDisk (state S.Store desk)) (λ desk. Represents S.Store desk) (parse_by readers) row_step C.gives
-        (option_map text_of (R.remaining reader)) desk.old desk.new
+    ensures kept { BatchRefinesModel (λ desk. HasCleanDisk (state S.Store desk)) (λ desk. Represents S.Store desk) (parse_by_first_field row_parsers) step_of_row C.gives
+        (option_map input_text (R.remaining reader)) desk.old desk.new
         (record { clock = clock.old; later = clock.new; old = W.contents writer.old; new = W.contents writer.new }) result }
     // Crash safety: if a crash before the batch exposes only the tables of such a base, a crash
     // after it exposes those of the base after it. If the desk answered a row with a fault, a crash
     // may also expose the tables after that row's command.
-    ensures left { CrashStates (λ desk. HasCleanDisk (state S.Store desk)) (λ desk. Represents S.Store desk) (LeavesOneOf S.Store) (parse_by readers) row_step
-        C.gives (option_map text_of (R.remaining reader)) desk.old desk.new
+    ensures left { IsBatchCrashSafe (λ desk. HasCleanDisk (state S.Store desk)) (λ desk. Represents S.Store desk) (CrashExposesOnlyOneOf S.Store) (parse_by_first_field row_parsers) step_of_row
+        C.gives (option_map input_text (R.remaining reader)) desk.old desk.new
         (record { clock = clock.old; later = clock.new; old = W.contents writer.old; new = W.contents writer.new }) result }
 {
     run::<R, W, C, DeskRows<S>>(alloc, reader, writer, clock, desk)

@@ -8,10 +8,10 @@ use Rattle.std.proofs.lemmas.List.Sums.{sum_by-cons}
 use Rattle.brk_money.specs.Amounts.{commission, half_up, tax}
 use Rattle.brk_money.specs.declared.side.Side.{Side}
 use Rattle.brk_money.specs.declared.side.Side.TheVariants.{Buy, Sell}
-use Rattle.brk_model.specs.Shares.{Share, Deal, closed_count, closed_shares, closing_value, gain, kept_shares, meets, opened_share, opened_shares, opening_value, sell_value, sell_value_by, shares_after, buy_value}
-use Rattle.brk_model.specs.Derived.{proceeds}
+use Rattle.brk_model.specs.Shares.{Share, Deal, closed_share_count_of_deal, closed_shares, closed_value_at_deal_price, realised_gain, remaining_shares, opposes_position, opened_share, opened_shares, closed_value_at_opening, sell_value, sell_value_for_side, shares_after_deal, buy_value}
+use Rattle.brk_model.specs.Derived.{signed_proceeds}
 use Rattle.brk_model.specs.Orders.{tax_on_deal}
-use Rattle.brk_model.specs.Base.{Base, customer_of_account, is_taxed, rates_of}
+use Rattle.brk_model.specs.Base.{Base, customer_id_of_account, is_taxable_account, tax_rate_sum_of_customer}
 use Rattle.brk_book_theorems.proofs.Same.{All-append}
 
 -- ---- shares
@@ -34,19 +34,19 @@ All-cond : {X : Type 0} (P : X → Type 0) (b : Bool) (xs ys : List X) → AllBy
 All-cond P true xs ys g h = g
 All-cond P false xs ys g h = h
 
-after_all : (P : Share → Type 0) (shares : List Share) (d : Deal) → AllByRecursion P shares → P (opened_share d) → AllByRecursion P (shares_after shares d)
-unfolding shares_after
+after_all : (P : Share → Type 0) (shares : List Share) (d : Deal) → AllByRecursion P shares → P (opened_share d) → AllByRecursion P (shares_after_deal shares d)
+unfolding shares_after_deal
 after_all P shares d h o =
-    All-append P (kept_shares d shares) (opened_shares d shares)
-    (All-cond P d.is_lifo (take (length shares - closed_count d shares) shares) (drop (closed_count d shares) shares)
-    (All-take P (length shares - closed_count d shares) shares h) (All-drop P (closed_count d shares) shares h))
-    (All-replicate P (d.qty - closed_count d shares) (opened_share d) o)
+    All-append P (remaining_shares d shares) (opened_shares d shares)
+    (All-cond P d.is_lifo (take (length shares - closed_share_count_of_deal d shares) shares) (drop (closed_share_count_of_deal d shares) shares)
+    (All-take P (length shares - closed_share_count_of_deal d shares) shares h) (All-drop P (closed_share_count_of_deal d shares) shares h))
+    (All-replicate P (d.qty - closed_share_count_of_deal d shares) (opened_share d) o)
 
 -- what holds of each deal's share holds of each share that is left
 pub replay_all : (P : Share → Type 0) (shares : List Share) (deals : List Deal) → AllByRecursion P shares → AllByRecursion (λ d. P (opened_share d)) deals
-    → AllByRecursion P (fold shares_after shares deals)
+    → AllByRecursion P (fold shares_after_deal shares deals)
 replay_all P shares [] h o = h
-replay_all P shares (d ∷ deals) h o = replay_all P (shares_after shares d) deals (after_all P shares d h o.0) o.1
+replay_all P shares (d ∷ deals) h o = replay_all P (shares_after_deal shares d) deals (after_all P shares d h o.0) o.1
 
 -- ---- values
 
@@ -66,38 +66,38 @@ sum_high (s ∷ shares) h =
     let p : s.price ≤ 9999999 = h.0 in
     omega (arith, c, ih, p)
 
-closed_long : (d : Deal) (shares : List Share) → length (closed_shares d shares) ≤ closed_count d shares
+closed_long : (d : Deal) (shares : List Share) → length (closed_shares d shares) ≤ closed_share_count_of_deal d shares
 closed_long d shares = by_end d.is_lifo
   where
     k : ℕ
-    k = closed_count d shares
+    k = closed_share_count_of_deal d shares
 
     by_end : (b : Bool) → length (cond b (drop (length shares - k) shares) (take k shares)) ≤ k
     by_end true = let e = length-drop (length shares - k) shares in omega (arith, e)
     by_end false = let e = length-take k shares in omega (arith, e)
 
-opening_high : (d : Deal) (shares : List Share) → d.qty ≤ 9999999 → AllByRecursion IsCheap shares → opening_value d shares ≤ 10 ^ 14
+opening_high : (d : Deal) (shares : List Share) → d.qty ≤ 9999999 → AllByRecursion IsCheap shares → closed_value_at_opening d shares ≤ 10 ^ 14
 opening_high d shares q h =
     let cheap : AllByRecursion IsCheap (closed_shares d shares) =
-    All-cond IsCheap d.is_lifo (drop (length shares - closed_count d shares) shares) (take (closed_count d shares) shares)
-    (All-drop IsCheap (length shares - closed_count d shares) shares h) (All-take IsCheap (closed_count d shares) shares h) in
+    All-cond IsCheap d.is_lifo (drop (length shares - closed_share_count_of_deal d shares) shares) (take (closed_share_count_of_deal d shares) shares)
+    (All-drop IsCheap (length shares - closed_share_count_of_deal d shares) shares h) (All-take IsCheap (closed_share_count_of_deal d shares) shares h) in
     let s = sum_high (closed_shares d shares) cheap in
     let l = closed_long d shares in
-    let c = count_low (meets d shares) d.qty (length shares) in
+    let c = count_low (opposes_position d shares) d.qty (length shares) in
     omega (arith, s, l, c, q)
 
-closing_high : (d : Deal) (shares : List Share) → d.qty ≤ 9999999 → d.price ≤ 9999999 → closing_value d shares ≤ 10 ^ 14
+closing_high : (d : Deal) (shares : List Share) → d.qty ≤ 9999999 → d.price ≤ 9999999 → closed_value_at_deal_price d shares ≤ 10 ^ 14
 closing_high d shares q p =
-    let c = count_low (meets d shares) d.qty (length shares) in
-    let k : closed_count d shares ≤ 9999999 = omega (arith, c, q) in
-    let all : closed_count d shares * d.price ≤ 9999999 * 9999999 = mul-le-mul k p in
+    let c = count_low (opposes_position d shares) d.qty (length shares) in
+    let k : closed_share_count_of_deal d shares ≤ 9999999 = omega (arith, c, q) in
+    let all : closed_share_count_of_deal d shares * d.price ≤ 9999999 * 9999999 = mul-le-mul k p in
     omega (arith, all)
 
 sell_high : (d : Deal) (shares : List Share) → d.qty ≤ 9999999 → d.price ≤ 9999999 → AllByRecursion IsCheap shares → sell_value d shares ≤ 10 ^ 14
 unfolding sell_value
 sell_high d shares q p h = by_side d.side
   where
-    by_side : (s : Side) → sell_value_by s d shares ≤ 10 ^ 14
+    by_side : (s : Side) → sell_value_for_side s d shares ≤ 10 ^ 14
     by_side Sell = closing_high d shares q p
     by_side Buy = opening_high d shares q h
 
@@ -116,11 +116,11 @@ gained s b h = omega (arith, ints, h)
 
 -- the tax on a completion
 pub tax_within : (base : Base) (account : ℕ) (d : Deal) (shares : List Share) → d.qty ≤ 9999999 → d.price ≤ 9999999 → AllByRecursion IsCheap shares
-    → rates_of base (customer_of_account base account) ≤ 100000 → tax_on_deal base account d shares ≤ 10 ^ 14
-tax_within base account d shares q p h r = by_status (is_taxed base account)
+    → tax_rate_sum_of_customer base (customer_id_of_account base account) ≤ 100000 → tax_on_deal base account d shares ≤ 10 ^ 14
+tax_within base account d shares q p h r = by_status (is_taxable_account base account)
   where
-    by_status : (b : Bool) → cond b (tax (gain d shares) (rates_of base (customer_of_account base account))) 0 ≤ 10 ^ 14
-    by_status true = tax_high (gain d shares) (rates_of base (customer_of_account base account)) (gained (sell_value d shares) (buy_value d shares) (sell_high d shares q p h)) r
+    by_status : (b : Bool) → cond b (tax (realised_gain d shares) (tax_rate_sum_of_customer base (customer_id_of_account base account))) 0 ≤ 10 ^ 14
+    by_status true = tax_high (realised_gain d shares) (tax_rate_sum_of_customer base (customer_id_of_account base account)) (gained (sell_value d shares) (buy_value d shares) (sell_high d shares q p h)) r
     by_status false = omega arith
 
 halved : (n : ℕ) → n ≤ 10000 * 99999980000001 → half_up n 10000 ≤ 10 ^ 14
@@ -134,7 +134,7 @@ commission_low rate qty price r q p =
     halved (rate * qty * price) (omega (arith, all))
 
 -- what a trade settles for
-settled : (s : Side) (v w : ℕ) → v ≤ 10 ^ 14 → w ≤ 10 ^ 15 → nat_abs (proceeds s v -ℤ pos w) ≤ 10 ^ 17
+settled : (s : Side) (v w : ℕ) → v ≤ 10 ^ 14 → w ≤ 10 ^ 15 → nat_abs (signed_proceeds s v -ℤ pos w) ≤ 10 ^ 17
 settled Sell v w g h = omega (arith, ints, g, h)
 settled Buy v w g h = omega (arith, ints, g, h)
 
@@ -143,7 +143,7 @@ withheld_low true n = omega arith
 withheld_low false n = omega arith
 
 pub amount_within : (side : Side) (qty price charge commission tax : ℕ) (off : Bool) → qty ≤ 9999999 → price ≤ 9999999 → charge ≤ 1000000 → commission ≤ 10 ^ 14 → tax ≤ 10 ^ 14
-    → nat_abs (proceeds side (qty * price) -ℤ pos (charge + commission + cond off tax 0)) ≤ 10 ^ 17
+    → nat_abs (signed_proceeds side (qty * price) -ℤ pos (charge + commission + cond off tax 0)) ≤ 10 ^ 17
 amount_within side qty price charge commission tax off q p c m t =
     let all : qty * price ≤ 9999999 * 9999999 = mul-le-mul q p in
     let w = withheld_low off tax in

@@ -4,31 +4,31 @@ use Rattle.std.specs.Prelude.{bytes_eq, flat_map, nat_lt, ◌-ℤ◌}
 use Rattle.std.specs.List.{AllByRecursion}
 use Rattle.std.proofs.lemmas.Bool.{eqb-false}
 use Rattle.brk_money.specs.Spelling.{Text}
-use Rattle.brk_money.specs.Kinds.{status_code}
+use Rattle.brk_money.specs.Kinds.{trade_status_code}
 use Rattle.brk_money.specs.declared.status.Status.{Status}
 use Rattle.brk_money.specs.declared.status.Status.TheVariants.{Completed, Submitted, Pending, Canceled}
 use Rattle.brk_book_theorems.proofs.Postings.{numbered_stay}
 use Rattle.brk_audit_theorems.proofs.UpgradedForm.{numbered_rises}
 use Rattle.brk_model.specs.Lists.{is_zero, sort_by}
 use Rattle.brk_model.specs.Records.{Account, StatusChange, Security, Trade}
-use Rattle.brk_model.specs.Base.{Base, completed, has_status, is_completed, moment_of}
-use Rattle.brk_model.specs.Derived.{cash_trades, deal_of, deals_in, of_account, of_position, pending, summary_of, in_turn, postings_of}
-use Rattle.brk_model.specs.Shares.{Deal, Share, shares_after}
-use Rattle.brk_model.specs.Tables.{HistoryRow, SummaryRow, account_row, broker_row, cash_row, history_rows, holding_row, last_trade_row, lot_history, lot_rows, request_row, security_row, settlement_row, summary_rows, tables_at, trade_row}
-use Rattle.brk_model.specs.Sheets.{sheets, sheets_of}
-use Rattle.brk_model.specs.Form.{has_keys, rises}
+use Rattle.brk_model.specs.Base.{Base, completed_trades, has_status, is_completed, last_status_stamp_of_trade}
+use Rattle.brk_model.specs.Derived.{cash_trades, deal_of_trade, deals_of_position, trades_of_account, trades_of_position, pending_trades, holding_summary_quantity, postings_sorted_by_stamp, postings_of_base}
+use Rattle.brk_model.specs.Shares.{Deal, Share, shares_after_deal}
+use Rattle.brk_model.specs.Tables.{HistoryRow, SummaryRow, account_row, broker_row, cash_row, history_rows, holding_row, last_trade_row, holding_history_rows_of_lot, lot_rows_of_deals, request_row, security_row, settlement_row, summary_rows, tables_of_base_in_schema, trade_row}
+use Rattle.brk_model.specs.Sheets.{sheets, tables_sorted_by_key}
+use Rattle.brk_model.specs.Form.{tables_are_sorted_by_unique_key, is_sorted_by_unique_key}
 use Rattle.brk_model.specs.Keys.{KeyPart, number, word, kept_key, broker_key, customer_key, account_key, permission_key, security_key, last_trade_key, charge_key, band_key, tax_rate_key, customer_tax_key, trade_key, history_key, request_key, holding_key, summary_key, holding_history_key, settlement_key, cash_key, move_key}
-use Rattle.brk_model.specs.Ways.{is_valid_sequence}
+use Rattle.brk_model.specs.Ways.{is_valid_status_sequence}
 use Rattle.brk_model_theorems.proofs.FormParts.{keys_whole}
-use Rattle.brk_book_theorems.specs.Books.{DistinctAccounts, DistinctSymbols, BooksInvariant}
+use Rattle.brk_book_theorems.specs.Books.{HasDistinctAccountIds, HasDistinctSymbols, BooksInvariant}
 use Rattle.brk_book_theorems.proofs.NewKeys.{not_both, same_bytes}
 use Rattle.brk_book_theorems.proofs.Same.{All-filter, All-map, All-mapped, All-of}
 use Rattle.brk_book_theorems.proofs.LotReading.{IdsApart, numbered_rise, rise_apart}
 use Rattle.brk_book_theorems.proofs.LotReading.{rise_filter}
 use Rattle.brk_audit_theorems.proofs.Marks.{no_more_ways, three_ways}
 use Rattle.brk_audit_theorems.proofs.Sorted.{All-block, All-rows}
-use Rattle.brk_audit_theorems.specs.Told.{account_id, broker_id}
-use Rattle.brk_invariant_theorems.specs.Sound.{AuditInvariant, DistinctKeys}
+use Rattle.brk_audit_theorems.specs.Told.{account_id_key, broker_id_key}
+use Rattle.brk_invariant_theorems.specs.Sound.{AuditInvariant, HasDistinctKeys}
 use Rattle.brk_invariant_theorems.proofs.OneTrade.{false_true}
 use Rattle.brk_invariant_theorems.proofs.SortedRows.{OtherKeys, OthersApart, accounts_apart, apart_filter, apart_flat_map, apart_map, apart_rises, apart_sort, bands_apart, ids_apart, permissions_apart, symbols_apart}
 
@@ -49,27 +49,27 @@ second_number l k m n e = cc
 abbrev row_of : ℕ → StatusChange → HistoryRow
 row_of id m = record { trade = id; status = m.status; stamp = m.stamp }
 
-two_codes : (a b : Status) → is_valid_sequence (a ∷ b ∷ []) ≡ true → bytes_eq (status_code b) (status_code a) ≡ false
+two_codes : (a b : Status) → is_valid_status_sequence (a ∷ b ∷ []) ≡ true → bytes_eq (trade_status_code b) (trade_status_code a) ≡ false
 two_codes Submitted Completed w = refl
 two_codes Pending Canceled w = refl
 two_codes Pending Submitted w = refl
 two_codes a b w = false_true w
 
-other_code : (id : ℕ) (m n : StatusChange) → bytes_eq (status_code n.status) (status_code m.status) ≡ false → history_key (row_of id n) ≡ history_key (row_of id m) → ⊥
+other_code : (id : ℕ) (m n : StatusChange) → bytes_eq (trade_status_code n.status) (trade_status_code m.status) ≡ false → history_key (row_of id n) ≡ history_key (row_of id m) → ⊥
 other_code id m n h e =
-    not_both (bytes_eq (status_code n.status) (status_code m.status)) (same_bytes (status_code n.status) (status_code m.status) (second_word id id (status_code n.status) (status_code m.status) e)) h
+    not_both (bytes_eq (trade_status_code n.status) (trade_status_code m.status)) (same_bytes (trade_status_code n.status) (trade_status_code m.status) (second_word id id (trade_status_code n.status) (trade_status_code m.status) e)) h
 
-marks_apart : (id : ℕ) (ms : List StatusChange) → is_valid_sequence (map (λ m. m.status) ms) ≡ true → DistinctKeys history_key (map (row_of id) ms)
+marks_apart : (id : ℕ) (ms : List StatusChange) → is_valid_status_sequence (map (λ m. m.status) ms) ≡ true → HasDistinctKeys history_key (map (row_of id) ms)
 marks_apart id [] w = tt
 marks_apart id (m ∷ []) w = (tt, tt)
 marks_apart id (m ∷ n ∷ []) w = ((other_code id m n (two_codes m.status n.status w), tt), (tt, tt))
 marks_apart id (m ∷ n ∷ o ∷ []) w =
     let k = three_ways m.status n.status o.status w in (
       (
-        other_code id m n (λ i. bytes_eq (status_code (k.1 i)) (status_code (k.0 i))),
-        (other_code id m o (λ i. bytes_eq (status_code (k.2 i)) (status_code (k.0 i))), tt),
+        other_code id m n (λ i. bytes_eq (trade_status_code (k.1 i)) (trade_status_code (k.0 i))),
+        (other_code id m o (λ i. bytes_eq (trade_status_code (k.2 i)) (trade_status_code (k.0 i))), tt),
       ),
-      ((other_code id n o (λ i. bytes_eq (status_code (k.2 i)) (status_code (k.1 i))), tt), (tt, tt)),
+      ((other_code id n o (λ i. bytes_eq (trade_status_code (k.2 i)) (trade_status_code (k.1 i))), tt), (tt, tt)),
     )
 marks_apart id (m ∷ n ∷ o ∷ p ∷ ms) w = absurd (no_more_ways m.status n.status o.status p.status (map (λ m. m.status) ms) w)
 
@@ -77,7 +77,7 @@ other_histories : (t u : Trade) → (u.id == t.id) ≡ false → OtherKeys histo
 other_histories t u h =
     All-mapped (λ r. AllByRecursion (λ s. history_key s ≡ history_key r → ⊥) (history_rows u)) (row_of t.id) t.marks (All-of t.marks (λ m.
     All-mapped (λ s. history_key s ≡ history_key (row_of t.id m) → ⊥) (row_of u.id) u.marks (All-of u.marks (λ n e.
-    eqb-false u.id t.id h (first_part u.id t.id (word (status_code n.status) ∷ []) (word (status_code m.status) ∷ []) e)))))
+    eqb-false u.id t.id h (first_part u.id t.id (word (trade_status_code n.status) ∷ []) (word (trade_status_code m.status) ∷ []) e)))))
 
 histories_other : (ts : List Trade) → IdsApart ts → OthersApart history_key history_rows ts
 histories_other [] d = tt
@@ -91,11 +91,11 @@ rows_at done account s = summary_rows done account s.symbol
 abbrev rows_of : List Trade → List Security → Account → List SummaryRow
 rows_of done ss a = flat_map (rows_at done a.id) ss
 
-one_apart : (done : List Trade) (account : ℕ) (symbol : Text) → DistinctKeys summary_key (summary_rows done account symbol)
+one_apart : (done : List Trade) (account : ℕ) (symbol : Text) → HasDistinctKeys summary_key (summary_rows done account symbol)
 one_apart done account symbol =
-    apart_filter summary_key (λ row. not (is_zero row.qty)) (record { account = account; symbol = symbol; qty = summary_of done account symbol } ∷ []) (tt, tt)
+    apart_filter summary_key (λ row. not (is_zero row.qty)) (record { account = account; symbol = symbol; qty = holding_summary_quantity done account symbol } ∷ []) (tt, tt)
 
-symbols_other : (done : List Trade) (account : ℕ) (ss : List Security) → DistinctSymbols ss → OthersApart summary_key (rows_at done account) ss
+symbols_other : (done : List Trade) (account : ℕ) (ss : List Security) → HasDistinctSymbols ss → OthersApart summary_key (rows_at done account) ss
 symbols_other done account [] d = tt
 symbols_other done account (s ∷ ss) d = (
   All-map ss (λ u h.
@@ -105,7 +105,7 @@ symbols_other done account (s ∷ ss) d = (
   symbols_other done account ss d.1,
 )
 
-accounts_other : (done : List Trade) (ss : List Security) (as' : List Account) → DistinctAccounts as' → OthersApart summary_key (rows_of done ss) as'
+accounts_other : (done : List Trade) (ss : List Security) (as' : List Account) → HasDistinctAccountIds as' → OthersApart summary_key (rows_of done ss) as'
 accounts_other done ss [] d = tt
 accounts_other done ss (a ∷ as') d = (
   All-map as' (λ b h.
@@ -119,58 +119,58 @@ accounts_other done ss (a ∷ as') d = (
 
 -- what holds of a lot and of each deal's trade holds of the rows of that lot
 pub All-lots : (P : ℕ → ℕ → Type 0) (lot : ℕ) (shares : List Share) (deals : List Deal) → AllByRecursion (λ d. P lot d.trade) deals
-    → AllByRecursion (λ r. P r.lot r.trade) (lot_rows lot shares deals)
+    → AllByRecursion (λ r. P r.lot r.trade) (lot_rows_of_deals lot shares deals)
 All-lots P lot shares [] h = tt
-All-lots P lot shares (d ∷ deals) h = (h.0, All-lots P lot (shares_after shares d) deals h.1)
+All-lots P lot shares (d ∷ deals) h = (h.0, All-lots P lot (shares_after_deal shares d) deals h.1)
 
-pub All-history : (P : ℕ → ℕ → Type 0) (done : List Trade) (t : Trade) → AllByRecursion (λ d. P t.id d.trade) (deals_in done t.account t.symbol)
-    → AllByRecursion (λ r. P r.lot r.trade) (lot_history done t)
+pub All-history : (P : ℕ → ℕ → Type 0) (done : List Trade) (t : Trade) → AllByRecursion (λ d. P t.id d.trade) (deals_of_position done t.account t.symbol)
+    → AllByRecursion (λ r. P r.lot r.trade) (holding_history_rows_of_lot done t)
 All-history P done t h =
-    All-filter (λ r. P r.lot r.trade) (λ row. not (is_zero (row.before -ℤ row.after))) (lot_rows t.id [] (deals_in done t.account t.symbol)) (All-lots P t.id [] (deals_in done t.account t.symbol) h)
+    All-filter (λ r. P r.lot r.trade) (λ row. not (is_zero (row.before -ℤ row.after))) (lot_rows_of_deals t.id [] (deals_of_position done t.account t.symbol)) (All-lots P t.id [] (deals_of_position done t.account t.symbol) h)
 
-lots_apart : (lot : ℕ) (shares : List Share) (deals : List Deal) → DistinctKeys (λ d. number d.trade ∷ []) deals → DistinctKeys holding_history_key (lot_rows lot shares deals)
+lots_apart : (lot : ℕ) (shares : List Share) (deals : List Deal) → HasDistinctKeys (λ d. number d.trade ∷ []) deals → HasDistinctKeys holding_history_key (lot_rows_of_deals lot shares deals)
 lots_apart lot shares [] a = tt
 lots_apart lot shares (d ∷ deals) a = (
-  All-lots (λ l n. number l ∷ number n ∷ [] ≡ number lot ∷ number d.trade ∷ [] → ⊥) lot (shares_after shares d) deals
+  All-lots (λ l n. number l ∷ number n ∷ [] ≡ number lot ∷ number d.trade ∷ [] → ⊥) lot (shares_after_deal shares d) deals
       (All-map deals (λ x h e. h (ap (λ n. number n ∷ []) (second_number lot lot x.trade d.trade e))) a.0),
-  lots_apart lot (shares_after shares d) deals a.1,
+  lots_apart lot (shares_after_deal shares d) deals a.1,
 )
 
-history_apart : (done : List Trade) (t : Trade) → DistinctKeys id_key done → DistinctKeys holding_history_key (lot_history done t)
+history_apart : (done : List Trade) (t : Trade) → HasDistinctKeys id_key done → HasDistinctKeys holding_history_key (holding_history_rows_of_lot done t)
 history_apart done t a =
-    let before : Trade → Trade → Bool = λ x y. nat_lt (moment_of x) (moment_of y) in
-    apart_filter holding_history_key (λ row. not (is_zero (row.before -ℤ row.after))) (lot_rows t.id [] (deals_in done t.account t.symbol))
-    (lots_apart t.id [] (deals_in done t.account t.symbol)
-    (apart_map id_key (λ d. number d.trade ∷ []) deal_of (sort_by before (of_position done t.account t.symbol)) (λ u. refl)
-    (apart_sort id_key before (of_position done t.account t.symbol)
-    (apart_filter id_key (λ u. bytes_eq u.symbol t.symbol) (of_account done t.account) (apart_filter id_key (λ u. u.account == t.account) done a)))))
+    let before : Trade → Trade → Bool = λ x y. nat_lt (last_status_stamp_of_trade x) (last_status_stamp_of_trade y) in
+    apart_filter holding_history_key (λ row. not (is_zero (row.before -ℤ row.after))) (lot_rows_of_deals t.id [] (deals_of_position done t.account t.symbol))
+    (lots_apart t.id [] (deals_of_position done t.account t.symbol)
+    (apart_map id_key (λ d. number d.trade ∷ []) deal_of_trade (sort_by before (trades_of_position done t.account t.symbol)) (λ u. refl)
+    (apart_sort id_key before (trades_of_position done t.account t.symbol)
+    (apart_filter id_key (λ u. bytes_eq u.symbol t.symbol) (trades_of_account done t.account) (apart_filter id_key (λ u. u.account == t.account) done a)))))
 
-lots_other : (done ts : List Trade) → IdsApart ts → OthersApart holding_history_key (lot_history done) ts
+lots_other : (done ts : List Trade) → IdsApart ts → OthersApart holding_history_key (holding_history_rows_of_lot done) ts
 lots_other done [] d = tt
 lots_other done (t ∷ ts) d = (
   All-map ts (λ u h.
-      All-history (λ l n. AllByRecursion (λ s. holding_history_key s ≡ number l ∷ number n ∷ [] → ⊥) (lot_history done u)) done t (All-of (deals_in done t.account t.symbol) (λ x.
-      All-history (λ l n. number l ∷ number n ∷ [] ≡ number t.id ∷ number x.trade ∷ [] → ⊥) done u (All-of (deals_in done u.account u.symbol) (λ y e.
+      All-history (λ l n. AllByRecursion (λ s. holding_history_key s ≡ number l ∷ number n ∷ [] → ⊥) (holding_history_rows_of_lot done u)) done t (All-of (deals_of_position done t.account t.symbol) (λ x.
+      All-history (λ l n. number l ∷ number n ∷ [] ≡ number t.id ∷ number x.trade ∷ [] → ⊥) done u (All-of (deals_of_position done u.account u.symbol) (λ y e.
       eqb-false u.id t.id h (first_part u.id t.id (number y.trade ∷ []) (number x.trade ∷ []) e)))))) d.0,
   lots_other done ts d.1,
 )
 
 -- ---- all tables
 
-pub keys_of : (base : Base) → BooksInvariant base → AuditInvariant base → has_keys (sheets base) ≡ true
-unfolding sheets_of tables_at
+pub keys_of : (base : Base) → BooksInvariant base → AuditInvariant base → tables_are_sorted_by_unique_key (sheets base) ≡ true
+unfolding tables_sorted_by_key tables_of_base_in_schema
 keys_of base books k =
-    let done : List Trade = completed base in
+    let done : List Trade = completed_trades base in
     let rise = numbered_rise 1 base.trades books.numbered in
-    let trades : DistinctKeys id_key base.trades = ids_apart base.trades (rise_apart base.trades rise) in
+    let trades : HasDistinctKeys id_key base.trades = ids_apart base.trades (rise_apart base.trades rise) in
     let doneIds : IdsApart done = rise_apart done (rise_filter is_completed base.trades rise) in
-    let dones : DistinctKeys id_key done = ids_apart done doneIds in
+    let dones : HasDistinctKeys id_key done = ids_apart done doneIds in
     keys_whole (sheets base) (record {
       kept = apart_rises kept_key base.kept k.kept_keys;
-      brokers = apart_rises broker_key (map (broker_row base.accounts done) base.brokers) (apart_map broker_id broker_key (broker_row base.accounts done) base.brokers (λ b. refl) k.broker_keys);
+      brokers = apart_rises broker_key (map (broker_row base.accounts done) base.brokers) (apart_map broker_id_key broker_key (broker_row base.accounts done) base.brokers (λ b. refl) k.broker_keys);
       customers = apart_rises customer_key base.customers k.customer_keys;
-      accounts = apart_rises account_key (map (account_row base.accounts (postings_of base)) base.accounts)
-          (apart_map account_id account_key (account_row base.accounts (postings_of base)) base.accounts (λ a. refl) (accounts_apart base.accounts books.owners));
+      accounts = apart_rises account_key (map (account_row base.accounts (postings_of_base base)) base.accounts)
+          (apart_map account_id_key account_key (account_row base.accounts (postings_of_base base)) base.accounts (λ a. refl) (accounts_apart base.accounts books.owners));
       permissions = apart_rises permission_key base.permissions (permissions_apart base.permissions books.permissions);
       securities = apart_rises security_key (map security_row base.securities)
           (apart_map (λ s. word s.symbol ∷ []) security_key security_row base.securities (λ s. refl) (symbols_apart base.securities books.symbols));
@@ -183,17 +183,17 @@ keys_of base books k =
       trades = apart_rises trade_key (map trade_row base.trades) (apart_map id_key trade_key trade_row base.trades (λ t. refl) trades);
       history = apart_rises history_key (flat_map history_rows base.trades)
           (apart_flat_map history_key history_rows base.trades (All-map base.trades (λ t h. marks_apart t.id t.marks h.way) k.trades) (histories_other base.trades (rise_apart base.trades rise)));
-      requests = apart_rises request_key (map (request_row base.accounts) (pending base.trades))
-          (apart_map id_key request_key (request_row base.accounts) (pending base.trades) (λ t. refl) (apart_filter id_key (has_status Pending) base.trades trades));
+      requests = apart_rises request_key (map (request_row base.accounts) (pending_trades base.trades))
+          (apart_map id_key request_key (request_row base.accounts) (pending_trades base.trades) (λ t. refl) (apart_filter id_key (has_status Pending) base.trades trades));
       holdings = apart_rises holding_key (filter (λ row. not (is_zero row.qty)) (map (holding_row done) done))
           (apart_filter holding_key (λ row. not (is_zero row.qty)) (map (holding_row done) done) (apart_map id_key holding_key (holding_row done) done (λ t. refl) dones));
       summaries = apart_rises summary_key (flat_map (rows_of done base.securities) base.accounts)
           (apart_flat_map summary_key (rows_of done base.securities) base.accounts
           (All-of base.accounts (λ a. apart_flat_map summary_key (rows_at done a.id) base.securities (All-of base.securities (λ s. one_apart done a.id s.symbol)) (symbols_other done a.id base.securities books.symbols)))
           (accounts_other done base.securities base.accounts books.owners));
-      holding_history = apart_rises holding_history_key (flat_map (lot_history done) done)
-          (apart_flat_map holding_history_key (lot_history done) done (All-of done (λ t. history_apart done t dones)) (lots_other done done doneIds));
+      holding_history = apart_rises holding_history_key (flat_map (holding_history_rows_of_lot done) done)
+          (apart_flat_map holding_history_key (holding_history_rows_of_lot done) done (All-of done (λ t. history_apart done t dones)) (lots_other done done doneIds));
       settlements = apart_rises settlement_key (map (settlement_row base.accounts base.rule) done) (apart_map id_key settlement_key (settlement_row base.accounts base.rule) done (λ t. refl) dones);
       cash = apart_rises cash_key [] tt;
-      moves = ap (rises move_key) (numbered_stay 1 (in_turn (postings_of base))) ∙ numbered_rises 1 (in_turn (postings_of base));
+      moves = ap (is_sorted_by_unique_key move_key) (numbered_stay 1 (postings_sorted_by_stamp (postings_of_base base))) ∙ numbered_rises 1 (postings_sorted_by_stamp (postings_of_base base));
     })

@@ -8,21 +8,21 @@ use Rattle.std.proofs.lemmas.List.Sums.{sum_by-cons, sum_by-append}
 use Rattle.brk_money.specs.Spelling.{Text}
 use Rattle.brk_model.specs.Schemas.{third_schema}
 use Rattle.brk_model.specs.Lists.{total_by}
-use Rattle.brk_model.specs.Limits.{greatest_amount, greatest_rate, greatest_tax_rate, most_accounts}
+use Rattle.brk_model.specs.Limits.{greatest_amount, greatest_commission_rate, greatest_tax_rate, most_accounts_per_customer}
 use Rattle.brk_model.specs.Records.{Account, Band, Broker, Charge, Customer, CustomerTax, Kept, Key, Permission, Security, TaxRate, Trade}
-use Rattle.brk_model.specs.Base.{Base, account_with, broker_in, completed, customer_with, rates_of, tax_rate_with}
-use Rattle.brk_model.specs.Derived.{amount_of, balance_of, cash_trades, commissions_of, of_account, of_broker, posted_to, postings, postings_of}
+use Rattle.brk_model.specs.Base.{Base, account_with_id, broker_id_in_accounts, completed_trades, customer_with_id, tax_rate_sum_of_customer, tax_rate_of_id}
+use Rattle.brk_model.specs.Derived.{settlement_amount, balance_of_account, cash_trades, commission_total_of_broker, trades_of_account, trades_of_broker, postings_to_account, postings, postings_of_base}
 use Rattle.brk_model.specs.Commands.{Command, Listing, Reply, AddBroker, AddCustomer, AddAccount, AddPermission, AddSecurity, AddCharge, AddBand, AddTaxRate, AddCustomerTax}
-use Rattle.brk_model.specs.Form.{band_form, charge_form, customer_form, is_amount, is_id, is_qty, is_tier, kept_form, tax_rate_form}
+use Rattle.brk_model.specs.Form.{is_well_formed_band_row, is_well_formed_charge_row, is_well_formed_customer_row, is_amount, is_id, is_quantity_in_schema, is_tier, is_well_formed_kept_row, is_well_formed_tax_rate_row}
 use Rattle.brk_model.specs.Forms.{is_exchange, is_name}
 use Rattle.brk_model.specs.Keys.{KeyPart, number, word, charge_key, customer_key, customer_tax_key, kept_key, tax_rate_key}
-use Rattle.brk_model.specs.Keyed.{keeping, kept_under}
+use Rattle.brk_model.specs.Keyed.{base_with_stored_reply, stored_row_with_key}
 use Rattle.brk_model.specs.Rows.{row_text, line_text}
-use Rattle.brk_model.specs.Step.{listed, records_after}
-use Rattle.brk_model.specs.Tests.{next_stamp, refusal_of, tests}
-use Rattle.brk_model.specs.Names.{AccountExists, SecurityExists}
+use Rattle.brk_model.specs.Step.{security_of_listing, base_after_command_unstamped}
+use Rattle.brk_model.specs.Tests.{stamp_of_next_command, refusal_of_command, checks_of_command}
+use Rattle.brk_model.specs.Names.{AccountOfTradeExists, SecurityOfTradeExists}
 use Rattle.brk_book_theorems.specs.Books.{BooksInvariant}
-use Rattle.brk_book_theorems.specs.Steps.{base_then}
+use Rattle.brk_book_theorems.specs.Steps.{base_after_command}
 use Rattle.brk_book_theorems.proofs.Order.{NewKey}
 use Rattle.brk_book_theorems.proofs.NewKeys.{charge_new, customer_tax_new, same_bytes, not_both}
 use Rattle.brk_book_theorems.proofs.Same.{NonePass, All-append, All-filter, All-map, any-none, filter-same, find-more, find-none, total_by-same}
@@ -33,18 +33,18 @@ use Rattle.brk_book_theorems.proofs.References.{amount_as_before, as_before, kno
 use Rattle.brk_book_theorems.proofs.Steps.{in_order}
 use Rattle.brk_audit_theorems.proofs.Again.{both_all}
 use Rattle.brk_model_theorems.proofs.Conjunctions.{parts3, parts5}
-use Rattle.brk_audit_theorems.specs.Told.{broker_id}
-use Rattle.brk_invariant_theorems.specs.Sound.{AuditInvariant, IsSoundBy, IsSoundTrade, DistinctKeys, NamesAccount, NamesCustomer, NamesTax, account_fields, broker_fields, is_named_by, is_past, permission_fields, security_fields, tax_id_key}
-use Rattle.brk_invariant_theorems.specs.InForm.{IsInForm, IsKeyInForm}
+use Rattle.brk_audit_theorems.specs.Told.{broker_id_key}
+use Rattle.brk_invariant_theorems.specs.Sound.{AuditInvariant, TradeAuditInvariant, BaseTradeAuditInvariant, HasDistinctKeys, PermissionAccountIsListed, TaxCustomerIsListed, TaxRateIsListed, is_well_formed_account, is_well_formed_broker, has_cash_text_for_name, is_up_to_last_stamp, is_well_formed_permission, is_well_formed_security, customer_tax_id_key}
+use Rattle.brk_invariant_theorems.specs.InForm.{MeetsAuditFormats, IsWellFormedKey}
 use Rattle.brk_invariant_theorems.proofs.OneTrade.{past_itself, sound_last}
 
 -- an accepted command in form leaves a sound base sound
 abbrev pub LeavesSound : Base → ℕ → Command → Type 0
-LeavesSound base now command = AuditInvariant base → BooksInvariant base → IsInForm command → refusal_of base now command ≡ None → AuditInvariant (base_then base now command)
+LeavesSound base now command = AuditInvariant base → BooksInvariant base → MeetsAuditFormats command → refusal_of_command base now command ≡ None → AuditInvariant (base_after_command base now command)
 
 -- ---- keys
 
-pub apart_more : {Row : Type 0} (key : Row → List KeyPart) (xs : List Row) (x : Row) → NewKey key x xs → DistinctKeys key xs → DistinctKeys key (xs ++ x ∷ [])
+pub apart_more : {Row : Type 0} (key : Row → List KeyPart) (xs : List Row) (x : Row) → NewKey key x xs → HasDistinctKeys key xs → HasDistinctKeys key (xs ++ x ∷ [])
 apart_more key [] x n a = (tt, tt)
 apart_more key (y ∷ ys) x n a = (All-append (λ z. key z ≡ key y → ⊥) ys (x ∷ []) a.0 ((λ e. n.0 (sym e)), tt), apart_more key ys x n.1 a.1)
 
@@ -57,18 +57,18 @@ new_text text y xs h = All-map xs (λ x k e. not_both (bytes_eq (text x) (text y
 -- ---- brokers, customers, permissions, charges, bands
 
 pub sound_broker : (base : Base) (now : ℕ) (b : Broker) → LeavesSound base now (AddBroker b)
-unfolding records_after tests
+unfolding base_after_command_unstamped checks_of_command
 sound_broker base now b k books form e =
     let l = sound_last base now k in
     let p = passed base now (AddBroker b) e in
     record {
       keyed = l.keyed;
       parties = record {
-        brokers = All-append (λ b. broker_fields b ≡ true) base.brokers (b ∷ []) k.brokers (form, tt);
+        brokers = All-append (λ b. is_well_formed_broker b ≡ true) base.brokers (b ∷ []) k.brokers (form, tt);
         customers = l.customers;
         accounts = l.accounts;
         permissions = l.permissions;
-        broker_keys = apart_more broker_id base.brokers b (new_number (λ x. x.id) b base.brokers (find-none (λ x. x.id == b.id) base.brokers p.0)) k.broker_keys;
+        broker_keys = apart_more broker_id_key base.brokers b (new_number (λ x. x.id) b base.brokers (find-none (λ x. x.id == b.id) base.brokers p.0)) k.broker_keys;
         customer_keys = l.customer_keys;
         tax_ids = l.tax_ids;
         permitted = l.permitted;
@@ -82,7 +82,7 @@ sound_broker base now b k books form e =
     }
 
 pub sound_customer : (base : Base) (now : ℕ) (c : Customer) → LeavesSound base now (AddCustomer c)
-unfolding records_after tests
+unfolding base_after_command_unstamped checks_of_command
 sound_customer base now x k books form e =
     let l = sound_last base now k in
     let p = passed base now (AddCustomer x) e in
@@ -90,12 +90,12 @@ sound_customer base now x k books form e =
       keyed = l.keyed;
       parties = record {
         brokers = l.brokers;
-        customers = All-append (λ c. customer_form c ≡ true) base.customers (x ∷ []) k.customers (form, tt);
+        customers = All-append (λ c. is_well_formed_customer_row c ≡ true) base.customers (x ∷ []) k.customers (form, tt);
         accounts = l.accounts;
         permissions = l.permissions;
         broker_keys = l.broker_keys;
         customer_keys = apart_more customer_key base.customers x (new_number (λ d. d.id) x base.customers (any-none (λ d. d.id == x.id) base.customers p.0)) k.customer_keys;
-        tax_ids = apart_more tax_id_key base.customers x (new_text (λ d. d.tax_id) x base.customers (any-none (λ d. bytes_eq d.tax_id x.tax_id) base.customers p.1.0)) k.tax_ids;
+        tax_ids = apart_more customer_tax_id_key base.customers x (new_text (λ d. d.tax_id) x base.customers (any-none (λ d. bytes_eq d.tax_id x.tax_id) base.customers p.1.0)) k.tax_ids;
         permitted = l.permitted;
         owned = l.owned;
       };
@@ -117,7 +117,7 @@ sound_customer base now x k books form e =
     }
 
 pub sound_permission : (base : Base) (now : ℕ) (p : Permission) → LeavesSound base now (AddPermission p)
-unfolding records_after tests
+unfolding base_after_command_unstamped checks_of_command
 sound_permission base now x k books form e =
     let l = sound_last base now k in
     let p = passed base now (AddPermission x) e in
@@ -127,11 +127,11 @@ sound_permission base now x k books form e =
         brokers = l.brokers;
         customers = l.customers;
         accounts = l.accounts;
-        permissions = All-append (λ p. permission_fields p ≡ true) base.permissions (x ∷ []) k.permissions (form, tt);
+        permissions = All-append (λ p. is_well_formed_permission p ≡ true) base.permissions (x ∷ []) k.permissions (form, tt);
         broker_keys = l.broker_keys;
         customer_keys = l.customer_keys;
         tax_ids = l.tax_ids;
-        permitted = All-append (NamesAccount base.accounts) base.permissions (x ∷ []) k.permitted (not_not (is_some (account_with base x.account)) p.0, tt);
+        permitted = All-append (PermissionAccountIsListed base.accounts) base.permissions (x ∷ []) k.permitted (not_not (is_some (account_with_id base x.account)) p.0, tt);
         owned = l.owned;
       };
       terms = l.terms;
@@ -142,7 +142,7 @@ sound_permission base now x k books form e =
     }
 
 pub sound_charge : (base : Base) (now : ℕ) (c : Charge) → LeavesSound base now (AddCharge c)
-unfolding records_after tests
+unfolding base_after_command_unstamped checks_of_command
 sound_charge base now x k books form e =
     let l = sound_last base now k in
     let p = passed base now (AddCharge x) e in
@@ -150,7 +150,7 @@ sound_charge base now x k books form e =
       keyed = l.keyed;
       parties = l.parties;
       terms = record {
-        charges = All-append (λ c. charge_form c ≡ true) base.charges (x ∷ []) k.charges (form, tt);
+        charges = All-append (λ c. is_well_formed_charge_row c ≡ true) base.charges (x ∷ []) k.charges (form, tt);
         bands = l.bands;
         tax_rates = l.tax_rates;
         charge_keys = apart_more charge_key base.charges x (charge_new x base.charges (find-none _ base.charges p.0)) k.charge_keys;
@@ -166,18 +166,18 @@ sound_charge base now x k books form e =
       sums = l.sums;
     }
 
-band_whole : (b : Band) → IsInForm (AddBand b) → nat_le b.from_qty b.to_qty ≡ true → band_form third_schema b ≡ true
+band_whole : (b : Band) → MeetsAuditFormats (AddBand b) → nat_le b.from_qty b.to_qty ≡ true → is_well_formed_band_row third_schema b ≡ true
 band_whole b form o =
-    let f = parts5 (is_tier b.tier) (is_exchange b.exchange) (is_qty third_schema b.from_qty) (is_qty third_schema b.to_qty) (nat_le b.rate greatest_rate) form in
+    let f = parts5 (is_tier b.tier) (is_exchange b.exchange) (is_quantity_in_schema third_schema b.from_qty) (is_quantity_in_schema third_schema b.to_qty) (nat_le b.rate greatest_commission_rate) form in
     let t = is_tier b.tier in
     let x = is_exchange b.exchange in
-    let m = is_qty third_schema b.from_qty in
-    let n = is_qty third_schema b.to_qty in
-    and_from (t && x && m && n && nat_le b.from_qty b.to_qty) (nat_le b.rate greatest_rate)
+    let m = is_quantity_in_schema third_schema b.from_qty in
+    let n = is_quantity_in_schema third_schema b.to_qty in
+    and_from (t && x && m && n && nat_le b.from_qty b.to_qty) (nat_le b.rate greatest_commission_rate)
     (and_from (t && x && m && n) (nat_le b.from_qty b.to_qty) (and_from (t && x && m) n (and_from (t && x) m (and_from t x f.0 f.1) f.2) f.3) o) f.4
 
 pub sound_band : (base : Base) (now : ℕ) (b : Band) → LeavesSound base now (AddBand b)
-unfolding records_after tests
+unfolding base_after_command_unstamped checks_of_command
 sound_band base now x k books form e =
     let l = sound_last base now k in
     let p = passed base now (AddBand x) e in
@@ -186,7 +186,7 @@ sound_band base now x k books form e =
       parties = l.parties;
       terms = record {
         charges = l.charges;
-        bands = All-append (λ b. band_form third_schema b ≡ true) base.bands (x ∷ []) k.bands (band_whole x form (in_order x.from_qty x.to_qty p.0), tt);
+        bands = All-append (λ b. is_well_formed_band_row third_schema b ≡ true) base.bands (x ∷ []) k.bands (band_whole x form (in_order x.from_qty x.to_qty p.0), tt);
         tax_rates = l.tax_rates;
         charge_keys = l.charge_keys;
         tax_rate_keys = l.tax_rate_keys;
@@ -207,16 +207,16 @@ pub sum-same : {X : Type 0} (f g : X → ℕ) (xs : List X) → AllByRecursion (
 sum-same f g [] h = refl
 sum-same f g (x ∷ xs) h = sum_by-cons f x xs ∙ (λ i. h.0 i + sum-same f g xs h.1 i) ∙ sym (sum_by-cons g x xs)
 
-more_rates : (base : Base) (r : TaxRate) (customer : ℕ) → AllByRecursion (NamesTax base.tax_rates) base.customer_taxes
-    → rates_of (record base { tax_rates = base.tax_rates ++ r ∷ [] }) customer ≡ rates_of base customer
+more_rates : (base : Base) (r : TaxRate) (customer : ℕ) → AllByRecursion (TaxRateIsListed base.tax_rates) base.customer_taxes
+    → tax_rate_sum_of_customer (record base { tax_rates = base.tax_rates ++ r ∷ [] }) customer ≡ tax_rate_sum_of_customer base customer
 more_rates base r customer h =
     let paid : List CustomerTax = filter (λ x. x.customer == customer) base.customer_taxes in
-    sum-same (λ x. option_map_or (λ r. r.rate) (find (λ s. s.id == x.tax) (base.tax_rates ++ r ∷ [])) 0) (λ x. option_map_or (λ r. r.rate) (tax_rate_with base x.tax) 0) paid
+    sum-same (λ x. option_map_or (λ r. r.rate) (find (λ s. s.id == x.tax) (base.tax_rates ++ r ∷ [])) 0) (λ x. option_map_or (λ r. r.rate) (tax_rate_of_id base x.tax) 0) paid
     (All-map paid (λ x n. ap (λ o. option_map_or (λ r. r.rate) o 0) (find-more (λ s. s.id == x.tax) base.tax_rates (r ∷ []) n))
-    (All-filter (NamesTax base.tax_rates) (λ x. x.customer == customer) base.customer_taxes h))
+    (All-filter (TaxRateIsListed base.tax_rates) (λ x. x.customer == customer) base.customer_taxes h))
 
 pub sound_tax_rate : (base : Base) (now : ℕ) (r : TaxRate) → LeavesSound base now (AddTaxRate r)
-unfolding records_after tests
+unfolding base_after_command_unstamped checks_of_command
 sound_tax_rate base now x k books form e =
     let l = sound_last base now k in
     let p = passed base now (AddTaxRate x) e in
@@ -226,7 +226,7 @@ sound_tax_rate base now x k books form e =
       terms = record {
         charges = l.charges;
         bands = l.bands;
-        tax_rates = All-append (λ r. tax_rate_form r ≡ true) base.tax_rates (x ∷ []) k.tax_rates (form, tt);
+        tax_rates = All-append (λ r. is_well_formed_tax_rate_row r ≡ true) base.tax_rates (x ∷ []) k.tax_rates (form, tt);
         charge_keys = l.charge_keys;
         tax_rate_keys = apart_more tax_rate_key base.tax_rates x (new_number (λ r. r.id) x base.tax_rates (find-none (λ r. r.id == x.id) base.tax_rates p.0)) k.tax_rate_keys;
         customer_tax_keys = l.customer_tax_keys;
@@ -241,10 +241,10 @@ sound_tax_rate base now x k books form e =
     }
 
 abbrev rate_in : Base → CustomerTax → ℕ
-rate_in base x = option_map_or (λ r. r.rate) (tax_rate_with base x.tax) 0
+rate_in base x = option_map_or (λ r. r.rate) (tax_rate_of_id base x.tax) 0
 
-paid_more : (base : Base) (x : CustomerTax) → rates_of base x.customer + rate_in base x ≤ greatest_tax_rate → ((customer : ℕ) → rates_of base customer ≤ greatest_tax_rate)
-    → (customer : ℕ) → rates_of (record base { customer_taxes = base.customer_taxes ++ x ∷ [] }) customer ≤ greatest_tax_rate
+paid_more : (base : Base) (x : CustomerTax) → tax_rate_sum_of_customer base x.customer + rate_in base x ≤ greatest_tax_rate → ((customer : ℕ) → tax_rate_sum_of_customer base customer ≤ greatest_tax_rate)
+    → (customer : ℕ) → tax_rate_sum_of_customer (record base { customer_taxes = base.customer_taxes ++ x ∷ [] }) customer ≤ greatest_tax_rate
 paid_more base x h k customer = by_test (x.customer == customer) refl
   where
     of_customer : CustomerTax → Bool
@@ -260,17 +260,17 @@ paid_more base x h k customer = by_test (x.customer == customer) refl
     by_test true e =
         let one : sum_by (rate_in base) (cond (x.customer == customer) (x ∷ []) []) ≡ sum_by (rate_in base) (x ∷ []) = ap (λ b. sum_by (rate_in base) (cond b (x ∷ []) [])) e in
         let c : sum_by (rate_in base) (x ∷ []) ≡ rate_in base x + 0 = sum_by-cons (rate_in base) x [] in
-        let m : rates_of base customer + rate_in base x ≤ greatest_tax_rate = subst (λ n. rates_of base n + rate_in base x ≤ greatest_tax_rate) (eqb-true x.customer customer e) h in
+        let m : tax_rate_sum_of_customer base customer + rate_in base x ≤ greatest_tax_rate = subst (λ n. tax_rate_sum_of_customer base n + rate_in base x ≤ greatest_tax_rate) (eqb-true x.customer customer e) h in
         let a = apart in
         omega (arith, a, one, c, m)
     by_test false e =
         let one : sum_by (rate_in base) (cond (x.customer == customer) (x ∷ []) []) ≡ 0 = ap (λ b. sum_by (rate_in base) (cond b (x ∷ []) [])) e in
-        let m : rates_of base customer ≤ greatest_tax_rate = k customer in
+        let m : tax_rate_sum_of_customer base customer ≤ greatest_tax_rate = k customer in
         let a = apart in
         omega (arith, a, one, m)
 
 pub sound_customer_tax : (base : Base) (now : ℕ) (x : CustomerTax) → LeavesSound base now (AddCustomerTax x)
-unfolding records_after tests
+unfolding base_after_command_unstamped checks_of_command
 sound_customer_tax base now x k books form e =
     let l = sound_last base now k in
     let p = passed base now (AddCustomerTax x) e in
@@ -284,8 +284,8 @@ sound_customer_tax base now x k books form e =
         charge_keys = l.charge_keys;
         tax_rate_keys = l.tax_rate_keys;
         customer_tax_keys = apart_more customer_tax_key base.customer_taxes x (customer_tax_new x base.customer_taxes (any-none (λ y. (y.customer == x.customer) && (y.tax == x.tax)) base.customer_taxes p.1.1.0)) k.customer_tax_keys;
-        payers = All-append (NamesCustomer base.customers) base.customer_taxes (x ∷ []) k.payers (not_not (is_some (customer_with base x.customer)) p.0, tt);
-        taxes = All-append (NamesTax base.tax_rates) base.customer_taxes (x ∷ []) k.taxes (not_not (is_some (tax_rate_with base x.tax)) p.1.0, tt);
+        payers = All-append (TaxCustomerIsListed base.customers) base.customer_taxes (x ∷ []) k.payers (not_not (is_some (customer_with_id base x.customer)) p.0, tt);
+        taxes = All-append (TaxRateIsListed base.tax_rates) base.customer_taxes (x ∷ []) k.taxes (not_not (is_some (tax_rate_of_id base x.tax)) p.1.0, tt);
         rates = paid_more base x (ltb-false greatest_tax_rate _ p.1.1.1.0) k.rates;
       };
       listed = l.listed;
@@ -298,27 +298,27 @@ sound_customer_tax base now x k books form e =
 
 pub trade_listed : (base : Base) (ss : List Security) (t : Trade)
     → option_map_or (λ s. s.name) (find (λ s. bytes_eq s.symbol t.symbol) ss) [] ≡ option_map_or (λ s. s.name) (find (λ s. bytes_eq s.symbol t.symbol) base.securities) []
-    → IsSoundTrade base t → IsSoundBy base.last base.rule base.accounts ss t
-trade_listed base ss t e k = record { alone = k.alone; past = k.past; due = k.due; cash_name = λ d. ap (is_named_by t) e ∙ k.cash_name d; amount = k.amount }
+    → BaseTradeAuditInvariant base t → TradeAuditInvariant base.last base.rule base.accounts ss t
+trade_listed base ss t e k = record { alone = k.alone; past = k.past; due = k.due; cash_name = λ d. ap (has_cash_text_for_name t) e ∙ k.cash_name d; amount = k.amount }
 
 pub sound_security : (base : Base) (now : ℕ) (l : Listing) → LeavesSound base now (AddSecurity l)
-unfolding records_after tests
+unfolding base_after_command_unstamped checks_of_command
 sound_security base now x k books form e =
     let l = sound_last base now k in
-    let stamp : ℕ = next_stamp base now in
+    let stamp : ℕ = stamp_of_next_command base now in
     let c : Base = record base { last = Some stamp } in
-    let s : Security = listed stamp x in
+    let s : Security = security_of_listing stamp x in
     record {
       keyed = l.keyed;
       parties = l.parties;
       terms = l.terms;
       listed = record {
-        securities = All-append (λ s. security_fields s ≡ true) base.securities (s ∷ []) k.securities (form, tt);
-        moments = All-append (λ s. is_past (Some stamp) s.moment ≡ true) base.securities (s ∷ []) l.moments (past_itself stamp, tt);
+        securities = All-append (λ s. is_well_formed_security s ≡ true) base.securities (s ∷ []) k.securities (form, tt);
+        moments = All-append (λ s. is_up_to_last_stamp (Some stamp) s.moment ≡ true) base.securities (s ∷ []) l.moments (past_itself stamp, tt);
       };
       trades = All-map base.trades (λ t h. trade_listed c (base.securities ++ s ∷ []) t
           (ap (λ o. option_map_or (λ s. s.name) o []) (find-more (λ u. bytes_eq u.symbol t.symbol) base.securities (s ∷ []) h.1)) h.0)
-          (both_all (IsSoundTrade c) (SecurityExists base) base.trades l.trades books.securities);
+          (both_all (BaseTradeAuditInvariant c) (SecurityOfTradeExists base) base.trades l.trades books.securities);
       cash = l.cash;
       sums = l.sums;
     }
@@ -330,48 +330,48 @@ find_other p [] x e = ap (λ b. cond b (Some x) None) e
 find_other p (y ∷ xs) x e = ap (λ o. cond (p y) (Some y) o) (find_other p xs x e)
 
 other_balance : (base : Base) (a : Account) (id : ℕ) → BooksInvariant base → (a.id == id) ≡ false
-    → balance_of (more base a) (postings (more base a) (completed base) base.movements) id ≡ balance_of base.accounts (postings_of base) id
-unfolding balance_of
+    → balance_of_account (more base a) (postings (more base a) (completed_trades base) base.movements) id ≡ balance_of_account base.accounts (postings_of_base base) id
+unfolding balance_of_account
 other_balance base a id books e =
-    λ i. option_map_or (λ a. a.opening) (find_other (λ b. b.id == id) base.accounts a e i) (pos 0) +ℤ total_by (λ p. p.amount) (posted_to (postings_as_before base a books i) id)
+    λ i. option_map_or (λ a. a.opening) (find_other (λ b. b.id == id) base.accounts a e i) (pos 0) +ℤ total_by (λ p. p.amount) (postings_to_account (postings_as_before base a books i) id)
 
-balances_more : (base : Base) (a : Account) → BooksInvariant base → is_some (account_with base a.id) ≡ false → is_amount a.opening ≡ true
-    → ((id : ℕ) → nat_abs (balance_of base.accounts (postings_of base) id) ≤ greatest_amount)
-    → (id : ℕ) → nat_abs (balance_of (more base a) (postings (more base a) (completed base) base.movements) id) ≤ greatest_amount
+balances_more : (base : Base) (a : Account) → BooksInvariant base → is_some (account_with_id base a.id) ≡ false → is_amount a.opening ≡ true
+    → ((id : ℕ) → nat_abs (balance_of_account base.accounts (postings_of_base base) id) ≤ greatest_amount)
+    → (id : ℕ) → nat_abs (balance_of_account (more base a) (postings (more base a) (completed_trades base) base.movements) id) ≤ greatest_amount
 balances_more base a books new form k id = by_test (a.id == id) refl
   where
     Low : ℕ → Type 0
-    Low n = nat_abs (balance_of (more base a) (postings (more base a) (completed base) base.movements) n) ≤ greatest_amount
+    Low n = nat_abs (balance_of_account (more base a) (postings (more base a) (completed_trades base) base.movements) n) ≤ greatest_amount
 
     by_test : (b : Bool) → (a.id == id) ≡ b → Low id
     by_test true e =
         subst Low (eqb-true a.id id e) (subst (λ z. nat_abs z ≤ greatest_amount) (sym (new_balance base a books new)) (leb-true (nat_abs a.opening) greatest_amount form))
     by_test false e = subst (λ z. nat_abs z ≤ greatest_amount) (sym (other_balance base a id books e)) (k id)
 
-same_broker : (base : Base) (a : Account) (id : ℕ) → BooksInvariant base → of_broker (more base a) (completed base) id ≡ of_broker base.accounts (completed base) id
+same_broker : (base : Base) (a : Account) (id : ℕ) → BooksInvariant base → trades_of_broker (more base a) (completed_trades base) id ≡ trades_of_broker base.accounts (completed_trades base) id
 same_broker base a id books =
-    filter-same (λ t. broker_in (more base a) t.account == id) (λ t. broker_in base.accounts t.account == id) (completed base)
-    (All-map (completed base) (λ t k. ap (λ o. option_map_or (λ a. a.broker) o 0 == id) (as_before base a t.account k)) (known_completed base books))
+    filter-same (λ t. broker_id_in_accounts (more base a) t.account == id) (λ t. broker_id_in_accounts base.accounts t.account == id) (completed_trades base)
+    (All-map (completed_trades base) (λ t k. ap (λ o. option_map_or (λ a. a.broker) o 0 == id) (as_before base a t.account k)) (known_completed base books))
 
-same_commissions : (base : Base) (a : Account) (id : ℕ) → BooksInvariant base → commissions_of (more base a) (completed base) id ≡ commissions_of base.accounts (completed base) id
-unfolding commissions_of
+same_commissions : (base : Base) (a : Account) (id : ℕ) → BooksInvariant base → commission_total_of_broker (more base a) (completed_trades base) id ≡ commission_total_of_broker base.accounts (completed_trades base) id
+unfolding commission_total_of_broker
 same_commissions base a id books = ap (sum_by (λ t. t.commission)) (same_broker base a id books)
 
 length-append : {X : Type 0} (xs ys : List X) → length (xs ++ ys) ≡ length xs + length ys
 length-append [] ys = omega arith
 length-append (x ∷ xs) ys = let h = length-append xs ys in omega (arith, h)
 
-owned_more : (accounts : List Account) (a : Account) → length (filter (λ b. b.customer == a.customer) accounts) < most_accounts
-    → ((customer : ℕ) → length (filter (λ b. b.customer == customer) accounts) ≤ most_accounts) → (customer : ℕ) → length (filter (λ b. b.customer == customer) (accounts ++ a ∷ [])) ≤ most_accounts
+owned_more : (accounts : List Account) (a : Account) → length (filter (λ b. b.customer == a.customer) accounts) < most_accounts_per_customer
+    → ((customer : ℕ) → length (filter (λ b. b.customer == customer) accounts) ≤ most_accounts_per_customer) → (customer : ℕ) → length (filter (λ b. b.customer == customer) (accounts ++ a ∷ [])) ≤ most_accounts_per_customer
 owned_more accounts a h k customer = by_test (a.customer == customer) refl
   where
     apart : length (filter (λ b. b.customer == customer) (accounts ++ a ∷ [])) ≡ length (filter (λ b. b.customer == customer) accounts) + length (filter (λ b. b.customer == customer) (a ∷ []))
     apart = ap length (filter-append (λ b. b.customer == customer) accounts (a ∷ [])) ∙ length-append (filter (λ b. b.customer == customer) accounts) (filter (λ b. b.customer == customer) (a ∷ []))
 
-    by_test : (b : Bool) → (a.customer == customer) ≡ b → length (filter (λ b. b.customer == customer) (accounts ++ a ∷ [])) ≤ most_accounts
+    by_test : (b : Bool) → (a.customer == customer) ≡ b → length (filter (λ b. b.customer == customer) (accounts ++ a ∷ [])) ≤ most_accounts_per_customer
     by_test true e =
         let one : length (cond (a.customer == customer) (a ∷ []) []) ≡ 1 = ap (λ b. length (cond b (a ∷ []) [])) e in
-        let m : length (filter (λ b. b.customer == customer) accounts) < most_accounts = subst (λ n. length (filter (λ b. b.customer == n) accounts) < most_accounts) (eqb-true a.customer customer e) h in
+        let m : length (filter (λ b. b.customer == customer) accounts) < most_accounts_per_customer = subst (λ n. length (filter (λ b. b.customer == n) accounts) < most_accounts_per_customer) (eqb-true a.customer customer e) h in
         let p = apart in
         omega (arith, p, one, m)
     by_test false e =
@@ -380,31 +380,31 @@ owned_more accounts a h k customer = by_test (a.customer == customer) refl
         let p = apart in
         omega (arith, p, one, m)
 
-trade_owned : (base : Base) (a : Account) (t : Trade) → AccountExists base t → IsSoundTrade base t → IsSoundBy base.last base.rule (more base a) base.securities t
+trade_owned : (base : Base) (a : Account) (t : Trade) → AccountOfTradeExists base t → BaseTradeAuditInvariant base t → TradeAuditInvariant base.last base.rule (more base a) base.securities t
 trade_owned base a t known k = record { alone = k.alone; past = k.past; due = k.due; cash_name = k.cash_name; amount = λ d. ap is_amount (amount_as_before base a t known) ∙ k.amount d }
 
 pub sound_account : (base : Base) (now : ℕ) (a : Account) → LeavesSound base now (AddAccount a)
-unfolding records_after tests
+unfolding base_after_command_unstamped checks_of_command
 sound_account base now a k books form e =
     let l = sound_last base now k in
     let p = passed base now (AddAccount a) e in
-    let c : Base = record base { last = Some (next_stamp base now) } in
+    let c : Base = record base { last = Some (stamp_of_next_command base now) } in
     record {
       keyed = l.keyed;
       parties = record {
         brokers = l.brokers;
         customers = l.customers;
-        accounts = All-append (λ a. account_fields a ≡ true) base.accounts (a ∷ []) k.accounts (form, tt);
+        accounts = All-append (λ a. is_well_formed_account a ≡ true) base.accounts (a ∷ []) k.accounts (form, tt);
         permissions = l.permissions;
         broker_keys = l.broker_keys;
         customer_keys = l.customer_keys;
         tax_ids = l.tax_ids;
         permitted = All-map base.permissions (λ q h. found_more (λ b. b.id == q.account) base.accounts (a ∷ []) h) k.permitted;
-        owned = owned_more base.accounts a (leb-false most_accounts _ p.1.1.1.0) k.owned;
+        owned = owned_more base.accounts a (leb-false most_accounts_per_customer _ p.1.1.1.0) k.owned;
       };
       terms = l.terms;
       listed = l.listed;
-      trades = All-map base.trades (λ t h. trade_owned c a t h.1 h.0) (both_all (IsSoundTrade c) (AccountExists base) base.trades l.trades books.accounts);
+      trades = All-map base.trades (λ t h. trade_owned c a t h.1 h.0) (both_all (BaseTradeAuditInvariant c) (AccountOfTradeExists base) base.trades l.trades books.accounts);
       cash = l.cash;
       sums = record {
         summaries = l.summaries;
@@ -428,13 +428,13 @@ kept_new key row ks s h = All-map ks (λ k n e.
 none_is : (o : Option Kept) → o ≡ None → is_some o ≡ false
 none_is o e = ap is_some e
 
-pub sound_kept : (base : Base) (key : Key) (command : Command) (reply : Reply) → AuditInvariant base → IsKeyInForm key → kept_under base key ≡ None → AuditInvariant (keeping (Some key) command reply base)
+pub sound_kept : (base : Base) (key : Key) (command : Command) (reply : Reply) → AuditInvariant base → IsWellFormedKey key → stored_row_with_key base key ≡ None → AuditInvariant (base_with_stored_reply (Some key) command reply base)
 sound_kept base key command reply k form e =
     let row : Kept = record { key = key; row_text = row_text command; line = line_text reply } in
     record {
       keyed = record {
-        kept = All-append (λ k. kept_form k ≡ true) base.kept (row ∷ []) k.kept (form, tt);
-        kept_keys = apart_more kept_key base.kept row (kept_new key row base.kept refl (find-none _ base.kept (none_is (kept_under base key) e))) k.kept_keys;
+        kept = All-append (λ k. is_well_formed_kept_row k ≡ true) base.kept (row ∷ []) k.kept (form, tt);
+        kept_keys = apart_more kept_key base.kept row (kept_new key row base.kept refl (find-none _ base.kept (none_is (stored_row_with_key base key) e))) k.kept_keys;
       };
       parties = k.parties;
       terms = k.terms;

@@ -1,62 +1,62 @@
 -- The fields of a command and of a key whose formats an audit needs. A typed command satisfies
--- them; not every command that does so is well-formed (`IsFormed`).
-use Rattle.brk_money.specs.OrderTypes.{price_asked}
-use Rattle.brk_money.specs.Moments.{last_day}
+-- them; not every command that does so is well-formed (`IsWellFormedCommand`).
+use Rattle.brk_money.specs.OrderTypes.{price_of_order}
+use Rattle.brk_money.specs.Moments.{greatest_day}
 use Rattle.std.specs.Prelude.{◌≡◌, ⊤, ℕ, ◌&&◌, Bool, true, nat_le, IfSome}
 use Rattle.std.specs.List.{AllByRecursion}
-use Rattle.brk_model.specs.Limits.{greatest_amount, greatest_rate}
+use Rattle.brk_model.specs.Limits.{greatest_amount, greatest_commission_rate}
 use Rattle.brk_model.specs.Schemas.{third_schema}
 use Rattle.brk_model.specs.Records.{Band, Key}
 use Rattle.brk_model.specs.Commands.{Command, Listing, Order, Tick, AddBroker, AddCustomer, AddAccount, AddPermission, AddSecurity, AddCharge, AddBand, AddTaxRate, AddCustomerTax, PlaceOrder, FeedTicks, CancelTrade, CompleteTrade, ChangeExecutors, ChangeCashTypes, ChangeCashNames, DepositCash, WithdrawCash, SetOneDay}
 use Rattle.brk_model.specs.Forms.{is_batch_name, is_exchange, is_name, is_symbol}
-use Rattle.brk_model.specs.Form.{charge_form, customer_form, is_id, is_price, is_qty, is_tier, tax_rate_form}
-use Rattle.brk_invariant_theorems.specs.Sound.{account_fields, broker_fields, permission_fields}
+use Rattle.brk_model.specs.Form.{is_well_formed_charge_row, is_well_formed_customer_row, is_id, is_price, is_quantity_in_schema, is_tier, is_well_formed_tax_rate_row}
+use Rattle.brk_invariant_theorems.specs.Sound.{is_well_formed_account, is_well_formed_broker, is_well_formed_permission}
 
 -- True if the symbol, name, exchange, sector and price of the listing are well-formed.
-abbrev pub listing_fields : Listing → Bool
-listing_fields l = is_symbol l.symbol && is_name l.name && is_exchange l.exchange && is_name l.sector && is_price l.price
+abbrev pub is_well_formed_listing : Listing → Bool
+is_well_formed_listing l = is_symbol l.symbol && is_name l.name && is_exchange l.exchange && is_name l.sector && is_price l.price
 
 -- True if the tier, the exchange, both bounds and the rate of the band are well-formed. The order
 -- of the bounds is not checked here.
-abbrev pub band_fields : Band → Bool
-band_fields b = is_tier b.tier && is_exchange b.exchange && is_qty third_schema b.from_qty && is_qty third_schema b.to_qty && nat_le b.rate greatest_rate
+abbrev pub is_well_formed_band : Band → Bool
+is_well_formed_band b = is_tier b.tier && is_exchange b.exchange && is_quantity_in_schema third_schema b.from_qty && is_quantity_in_schema third_schema b.to_qty && nat_le b.rate greatest_commission_rate
 
 -- The order's quantity is well-formed, and also its price if it has one.
-pub record IsOrderInForm (o : Order) : Type 0 where
-  pub qty : is_qty third_schema o.qty ≡ true
-  pub price : IfSome (price_asked o.order_type) (λ p. is_price p ≡ true)
+pub record OrderMeetsAuditFormats (o : Order) : Type 0 where
+  pub qty : is_quantity_in_schema third_schema o.qty ≡ true
+  pub price : IfSome (price_of_order o.order_type) (λ p. is_price p ≡ true)
 
 -- The price of the tick is well-formed. Its symbol and its quantity are not checked here.
-abbrev pub IsTickInForm : Tick → Type 0
-IsTickInForm tick = is_price tick.price ≡ true
+abbrev pub TickMeetsAuditFormats : Tick → Type 0
+TickMeetsAuditFormats tick = is_price tick.price ≡ true
 
 -- True if the amount of a movement is at least 1 and at most the greatest amount, in cents.
-abbrev pub is_moved_amount : ℕ → Bool
-is_moved_amount n = nat_le 1 n && nat_le n greatest_amount
+abbrev pub is_movement_amount : ℕ → Bool
+is_movement_amount n = nat_le 1 n && nat_le n greatest_amount
 
 -- The fields of the command whose formats an audit needs are well-formed. Ids that must exist, and
 -- the numbers of ids and ticks, are not checked here.
-abbrev pub IsInForm : Command → Type 0
-IsInForm (AddBroker b) = broker_fields b ≡ true
-IsInForm (AddCustomer c) = customer_form c ≡ true
-IsInForm (AddAccount a) = account_fields a ≡ true
-IsInForm (AddPermission p) = permission_fields p ≡ true
-IsInForm (AddSecurity l) = listing_fields l ≡ true
-IsInForm (AddCharge c) = charge_form c ≡ true
-IsInForm (AddBand b) = band_fields b ≡ true
-IsInForm (AddTaxRate r) = tax_rate_form r ≡ true
-IsInForm (AddCustomerTax x) = ⊤
-IsInForm (PlaceOrder o) = IsOrderInForm o
-IsInForm (FeedTicks ticks) = AllByRecursion IsTickInForm ticks
-IsInForm (CancelTrade id) = ⊤
-IsInForm (CompleteTrade id price) = is_price price ≡ true
-IsInForm (ChangeExecutors ids) = ⊤
-IsInForm (ChangeCashTypes account first last) = ⊤
-IsInForm (ChangeCashNames symbol first last) = ⊤
-IsInForm (DepositCash account amount) = is_moved_amount amount ≡ true
-IsInForm (WithdrawCash account amount) = is_moved_amount amount ≡ true
-IsInForm (SetOneDay day) = nat_le day last_day ≡ true
+abbrev pub MeetsAuditFormats : Command → Type 0
+MeetsAuditFormats (AddBroker b) = is_well_formed_broker b ≡ true
+MeetsAuditFormats (AddCustomer c) = is_well_formed_customer_row c ≡ true
+MeetsAuditFormats (AddAccount a) = is_well_formed_account a ≡ true
+MeetsAuditFormats (AddPermission p) = is_well_formed_permission p ≡ true
+MeetsAuditFormats (AddSecurity l) = is_well_formed_listing l ≡ true
+MeetsAuditFormats (AddCharge c) = is_well_formed_charge_row c ≡ true
+MeetsAuditFormats (AddBand b) = is_well_formed_band b ≡ true
+MeetsAuditFormats (AddTaxRate r) = is_well_formed_tax_rate_row r ≡ true
+MeetsAuditFormats (AddCustomerTax x) = ⊤
+MeetsAuditFormats (PlaceOrder o) = OrderMeetsAuditFormats o
+MeetsAuditFormats (FeedTicks ticks) = AllByRecursion TickMeetsAuditFormats ticks
+MeetsAuditFormats (CancelTrade id) = ⊤
+MeetsAuditFormats (CompleteTrade id price) = is_price price ≡ true
+MeetsAuditFormats (ChangeExecutors ids) = ⊤
+MeetsAuditFormats (ChangeCashTypes account first last) = ⊤
+MeetsAuditFormats (ChangeCashNames symbol first last) = ⊤
+MeetsAuditFormats (DepositCash account amount) = is_movement_amount amount ≡ true
+MeetsAuditFormats (WithdrawCash account amount) = is_movement_amount amount ≡ true
+MeetsAuditFormats (SetOneDay day) = nat_le day greatest_day ≡ true
 
 -- The batch name and the row number of the key are well-formed.
-abbrev pub IsKeyInForm : Key → Type 0
-IsKeyInForm key = is_batch_name key.batch && is_id key.row ≡ true
+abbrev pub IsWellFormedKey : Key → Type 0
+IsWellFormedKey key = is_batch_name key.batch && is_id key.row ≡ true

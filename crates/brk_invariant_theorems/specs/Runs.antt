@@ -1,17 +1,17 @@
 -- Runs of well-formed calls.
 use Rattle.std.specs.Prelude.{⊤, ℕ, IfSome}
-use Rattle.brk_model.specs.Formed.{IsFormed}
+use Rattle.brk_model.specs.Formed.{IsWellFormedCommand}
 use Rattle.brk_model.specs.Run.{Call, Do, Ask}
-use Rattle.brk_invariant_theorems.specs.InForm.{IsInForm, IsKeyInForm}
+use Rattle.brk_invariant_theorems.specs.InForm.{MeetsAuditFormats, IsWellFormedKey}
 
--- The command of the call satisfies `IsInForm`, and its key, if it has one, is well-formed. Vacuous
--- for a query.
-abbrev pub IsCallInForm : ℕ × Call → Type 0
-IsCallInForm (now, Do command key) = IsInForm command × IfSome key IsKeyInForm
-IsCallInForm (now, Ask query) = ⊤
+-- The command of the call satisfies `MeetsAuditFormats`, and its key, if it has one, is
+-- well-formed. Vacuous for a query.
+abbrev pub CallMeetsAuditFormats : ℕ × Call → Type 0
+CallMeetsAuditFormats (now, Do command key) = MeetsAuditFormats command × IfSome key IsWellFormedKey
+CallMeetsAuditFormats (now, Ask query) = ⊤
 
 -- The row text of the call's command parses as the command, and its key, if it has one, is
 -- well-formed. Vacuous for a query.
-abbrev pub IsFormedCall : ℕ × Call → Type 0
-IsFormedCall (now, Do command key) = IsFormed command × IfSome key IsKeyInForm
-IsFormedCall (now, Ask query) = ⊤
+abbrev pub IsWellFormedCall : ℕ × Call → Type 0
+IsWellFormedCall (now, Do command key) = IsWellFormedCommand command × IfSome key IsWellFormedKey
+IsWellFormedCall (now, Ask query) = ⊤

@@ -4,216 +4,216 @@ use Rattle.std.specs.Prelude.{◌≡◌, ◌≤◌, ⊤, ℕ, ◌+◌, ◌==◌,
 use Rattle.std.specs.List.{AllByRecursion}
 use Rattle.std.specs.Option.{option_map_or}
 use Rattle.brk_money.specs.Spelling.{Text}
-use Rattle.brk_money.specs.Moments.{last_day}
-use Rattle.brk_money.specs.Kinds.{same_status, type_name}
+use Rattle.brk_money.specs.Moments.{greatest_day}
+use Rattle.brk_money.specs.Kinds.{is_same_trade_status, trade_type_name}
 use Rattle.brk_money.specs.declared.status.Status.TheVariants.{Completed}
-use Rattle.brk_model.specs.Limits.{greatest_amount, greatest_charge, greatest_id, greatest_summary, greatest_tax_rate, most_accounts}
+use Rattle.brk_model.specs.Limits.{greatest_amount, greatest_charge, greatest_id, greatest_summary, greatest_tax_rate, most_accounts_per_customer}
 use Rattle.brk_model.specs.Records.{Account, Band, Broker, Charge, Customer, CustomerTax, Kept, StatusChange, Movement, Permission, Security, SettleRule, TaxRate, Trade}
-use Rattle.brk_model.specs.Base.{Base, completed, find_account, is_completed}
-use Rattle.brk_model.specs.Derived.{amount_of, balance_of, commissions_of, due_after, postings, summary_of}
+use Rattle.brk_model.specs.Base.{Base, completed_trades, account_with_id_in_list, is_completed}
+use Rattle.brk_model.specs.Derived.{settlement_amount, balance_of_account, commission_total_of_broker, due_day_of_completion_stamp, postings, holding_summary_quantity}
 use Rattle.brk_model.specs.Schemas.{third_schema}
 use Rattle.brk_model.specs.Forms.{is_acl, is_exchange, is_name, is_symbol, is_tax_id}
-use Rattle.brk_model.specs.Form.{band_form, charge_form, customer_form, is_amount, is_cash_type, is_id, is_movement, is_price, is_qty, kept_form, tax_rate_form}
-use Rattle.brk_model.specs.Ways.{is_rising}
+use Rattle.brk_model.specs.Form.{is_well_formed_band_row, is_well_formed_charge_row, is_well_formed_customer_row, is_amount, is_cash_type_of_trade, is_id, is_movement_name_and_amount, is_price, is_quantity_in_schema, is_well_formed_kept_row, is_well_formed_tax_rate_row}
+use Rattle.brk_model.specs.Ways.{is_strictly_ascending}
 use Rattle.brk_model.specs.Keys.{KeyPart, word, charge_key, customer_key, customer_tax_key, kept_key, tax_rate_key}
-use Rattle.brk_audit_theorems.specs.Told.{HasValidTransitions, HasNoStrayTexts, StampsRise, broker_id}
+use Rattle.brk_audit_theorems.specs.Told.{HasValidTransitions, HasNoStrayTexts, HasAscendingStamps, broker_id_key}
 
 -- No two records of the list have the same key by the function `key`.
-abbrev pub DistinctKeys : {Row : Type 0} → (Row → List KeyPart) → List Row → Type 0
-DistinctKeys key [] = ⊤
-DistinctKeys key (x ∷ xs) = AllByRecursion (λ y. key y ≡ key x → ⊥) xs × DistinctKeys key xs
+abbrev pub HasDistinctKeys : {Row : Type 0} → (Row → List KeyPart) → List Row → Type 0
+HasDistinctKeys key [] = ⊤
+HasDistinctKeys key (x ∷ xs) = AllByRecursion (λ y. key y ≡ key x → ⊥) xs × HasDistinctKeys key xs
 
 -- The tax id of a customer, as a key.
-abbrev pub tax_id_key : Customer → List KeyPart
-tax_id_key c = word c.tax_id ∷ []
+abbrev pub customer_tax_id_key : Customer → List KeyPart
+customer_tax_id_key c = word c.tax_id ∷ []
 
 -- True if the stamp is at most the last stamp `last`; false if `last` is `None`.
-abbrev pub is_past : Option ℕ → ℕ → Bool
-is_past last stamp = option_map_or (λ l. nat_le stamp l) last false
+abbrev pub is_up_to_last_stamp : Option ℕ → ℕ → Bool
+is_up_to_last_stamp last stamp = option_map_or (λ l. nat_le stamp l) last false
 
 -- ---- fields are well-formed
 
 -- True if the id and the name of the broker are well-formed.
-abbrev pub broker_fields : Broker → Bool
-broker_fields b = is_id b.id && is_name b.name
+abbrev pub is_well_formed_broker : Broker → Bool
+is_well_formed_broker b = is_id b.id && is_name b.name
 
 -- True if the id, the name and the opening balance of the account are well-formed.
-abbrev pub account_fields : Account → Bool
-account_fields a = is_id a.id && is_name a.name && is_amount a.opening
+abbrev pub is_well_formed_account : Account → Bool
+is_well_formed_account a = is_id a.id && is_name a.name && is_amount a.opening
 
 -- True if the access control list, the tax id and both names of the permission are well-formed.
-abbrev pub permission_fields : Permission → Bool
-permission_fields p = is_acl p.acl && is_tax_id p.tax_id && is_name p.last_name && is_name p.first_name
+abbrev pub is_well_formed_permission : Permission → Bool
+is_well_formed_permission p = is_acl p.acl && is_tax_id p.tax_id && is_name p.last_name && is_name p.first_name
 
 -- True if the symbol, name, exchange, sector and last price of the security are well-formed.
-abbrev pub security_fields : Security → Bool
-security_fields s = is_symbol s.symbol && is_name s.name && is_exchange s.exchange && is_name s.sector && is_price s.last_price
+abbrev pub is_well_formed_security : Security → Bool
+is_well_formed_security s = is_symbol s.symbol && is_name s.name && is_exchange s.exchange && is_name s.sector && is_price s.last_price
 
 -- True if the trade's number, quantity, bid, charge, commission and tax are within their limits.
-abbrev pub trade_fields : Trade → Bool
-trade_fields t = is_id t.id && is_qty third_schema t.qty && is_price t.bid && nat_le t.charge greatest_charge && nat_le t.commission greatest_amount && nat_le t.tax greatest_amount
+abbrev pub has_trade_numbers_in_range : Trade → Bool
+has_trade_numbers_in_range t = is_id t.id && is_quantity_in_schema third_schema t.qty && is_price t.bid && nat_le t.charge greatest_charge && nat_le t.commission greatest_amount && nat_le t.tax greatest_amount
 
 -- ---- trades
 
 -- The stamp of the status change is at most the last stamp `last`. False if `last` is `None`.
-abbrev pub IsPastMark : Option ℕ → StatusChange → Type 0
-IsPastMark last m = is_past last m.stamp ≡ true
+abbrev pub StatusChangeIsUpToLastStamp : Option ℕ → StatusChange → Type 0
+StatusChangeIsUpToLastStamp last m = is_up_to_last_stamp last m.stamp ≡ true
 
 -- If the status change is a completion, its due day by the settlement day `rule` is within the
 -- calendar. Vacuous for other statuses.
-abbrev pub IsDueInTime : SettleRule → StatusChange → Type 0
-IsDueInTime rule m = (not (same_status m.status Completed) || nat_le (due_after rule m.stamp) last_day) ≡ true
+abbrev pub HasDueDayInCalendar : SettleRule → StatusChange → Type 0
+HasDueDayInCalendar rule m = (not (is_same_trade_status m.status Completed) || nat_le (due_day_of_completion_stamp rule m.stamp) greatest_day) ≡ true
 
 -- True if the trade is completed and has a well-formed price, or is not completed and has no price.
-abbrev pub is_priced : Trade → Bool
-is_priced t = if is_completed t then option_map_or is_price t.price false else is_none t.price
+abbrev pub has_price_exactly_if_completed : Trade → Bool
+has_price_exactly_if_completed t = if is_completed t then option_map_or is_price t.price false else is_none t.price
 
 -- True if the trade's cash text is one of the two texts for its type, its quantity and the security
 -- name `name`.
-abbrev pub is_named_by : Trade → Text → Bool
-is_named_by t name =
-    bytes_eq t.cash_name (type_name t.kind ++ 32 ∷ decimal t.qty ++ codes " shares of " ++ name)
-    || bytes_eq t.cash_name (type_name t.kind ++ 32 ∷ decimal t.qty ++ codes " Shares of " ++ name)
+abbrev pub has_cash_text_for_name : Trade → Text → Bool
+has_cash_text_for_name t name =
+    bytes_eq t.cash_name (trade_type_name t.kind ++ 32 ∷ decimal t.qty ++ codes " shares of " ++ name)
+    || bytes_eq t.cash_name (trade_type_name t.kind ++ 32 ∷ decimal t.qty ++ codes " Shares of " ++ name)
 
 -- True if the trade's cash text is one of the two texts for its type, its quantity and the name of
 -- its security.
-abbrev pub has_its_name : List Security → Trade → Bool
-has_its_name securities t = is_named_by t (option_map_or (λ s. s.name) (find (λ s. bytes_eq s.symbol t.symbol) securities) [])
+abbrev pub has_cash_text_of_security : List Security → Trade → Bool
+has_cash_text_of_security securities t = has_cash_text_for_name t (option_map_or (λ s. s.name) (find (λ s. bytes_eq s.symbol t.symbol) securities) [])
 
 -- The trade satisfies the conditions of the audit invariant that depend on the trade alone.
-pub record HasSoundRows (t : Trade) : Type 0 where
-  pub fields : trade_fields t ≡ true
+pub record TradeOnlyAuditInvariant (t : Trade) : Type 0 where
+  pub fields : has_trade_numbers_in_range t ≡ true
   -- Its statuses are a valid status sequence, with stamps in ascending order.
-  pub stamps : StampsRise t
+  pub stamps : HasAscendingStamps t
   pub way : HasValidTransitions t
   -- It has a price if and only if it is completed, no stray text, and one of the two settlement
   -- texts if it is completed.
-  pub priced : is_priced t ≡ true
+  pub priced : has_price_exactly_if_completed t ≡ true
   pub words : HasNoStrayTexts t
-  pub cash_type : is_completed t ≡ true → is_cash_type t.is_cash t.cash_type ≡ true
+  pub cash_type : is_completed t ≡ true → is_cash_type_of_trade t.is_cash t.cash_type ≡ true
 
 -- The trade satisfies the conditions of the audit invariant on a trade, given the last stamp, the
 -- settlement day, the accounts and the securities.
-pub record IsSoundBy (last : Option ℕ) (rule : SettleRule) (accounts : List Account) (securities : List Security) (t : Trade) : Type 0 where
-  pub alone : HasSoundRows t
+pub record TradeAuditInvariant (last : Option ℕ) (rule : SettleRule) (accounts : List Account) (securities : List Security) (t : Trade) : Type 0 where
+  pub alone : TradeOnlyAuditInvariant t
   pub open alone use *
   -- Its stamps are at most the last stamp.
-  pub past : AllByRecursion (IsPastMark last) t.marks
+  pub past : AllByRecursion (StatusChangeIsUpToLastStamp last) t.marks
   -- The due day of its completion is within the calendar.
-  pub due : AllByRecursion (IsDueInTime rule) t.marks
+  pub due : AllByRecursion (HasDueDayInCalendar rule) t.marks
   -- A completed cash trade has one of the two cash texts for its security.
-  pub cash_name : is_completed t && t.is_cash ≡ true → has_its_name securities t ≡ true
+  pub cash_name : is_completed t && t.is_cash ≡ true → has_cash_text_of_security securities t ≡ true
   -- Its settlement amount is within the limit.
-  pub amount : is_completed t ≡ true → is_amount (amount_of accounts t) ≡ true
+  pub amount : is_completed t ≡ true → is_amount (settlement_amount accounts t) ≡ true
 
 -- The trade satisfies the conditions of the audit invariant on a trade, given the last stamp, the
 -- settlement day, the accounts and the securities of the base.
-abbrev pub IsSoundTrade : Base → Trade → Type 0
-IsSoundTrade base t = IsSoundBy base.last base.rule base.accounts base.securities t
+abbrev pub BaseTradeAuditInvariant : Base → Trade → Type 0
+BaseTradeAuditInvariant base t = TradeAuditInvariant base.last base.rule base.accounts base.securities t
 
 -- ---- movements, and the settlement day
 
 -- True if the text of the movement fits the sign of its amount, and the amount is within the limit.
-abbrev pub movement_fields : Movement → Bool
-movement_fields m = is_movement m.name m.amount && is_amount m.amount
+abbrev pub is_well_formed_movement : Movement → Bool
+is_well_formed_movement m = is_movement_name_and_amount m.name m.amount && is_amount m.amount
 
 -- The part of the audit invariant that concerns the movements and the settlement day `rule`.
-pub record IsCashSound (movements : List Movement) (rule : SettleRule) : Type 0 where
-  pub fields : AllByRecursion (λ m. movement_fields m ≡ true) movements
+pub record MovementAuditInvariant (movements : List Movement) (rule : SettleRule) : Type 0 where
+  pub fields : AllByRecursion (λ m. is_well_formed_movement m ≡ true) movements
   -- The movements are in ascending order of their stamps, and their number is within the limit of
   -- ids.
-  pub risen : is_rising (map (λ m. m.stamp) movements) ≡ true
+  pub risen : is_strictly_ascending (map (λ m. m.stamp) movements) ≡ true
   pub few : length movements ≤ greatest_id
   -- The settlement day is within the calendar.
-  pub day : option_map_or (λ day. nat_le day last_day) rule true ≡ true
+  pub day : option_map_or (λ day. nat_le day greatest_day) rule true ≡ true
 
 -- ---- references
 
 -- The account of the permission is one of `accounts`.
-abbrev pub NamesAccount : List Account → Permission → Type 0
-NamesAccount accounts p = is_some (find_account accounts p.account) ≡ true
+abbrev pub PermissionAccountIsListed : List Account → Permission → Type 0
+PermissionAccountIsListed accounts p = is_some (account_with_id_in_list accounts p.account) ≡ true
 
 -- The customer of the customer's tax is one of `customers`.
-abbrev pub NamesCustomer : List Customer → CustomerTax → Type 0
-NamesCustomer customers x = is_some (find (λ c. c.id == x.customer) customers) ≡ true
+abbrev pub TaxCustomerIsListed : List Customer → CustomerTax → Type 0
+TaxCustomerIsListed customers x = is_some (find (λ c. c.id == x.customer) customers) ≡ true
 
 -- The tax rate of the customer's tax is one of `tax_rates`.
-abbrev pub NamesTax : List TaxRate → CustomerTax → Type 0
-NamesTax tax_rates x = is_some (find (λ r. r.id == x.tax) tax_rates) ≡ true
+abbrev pub TaxRateIsListed : List TaxRate → CustomerTax → Type 0
+TaxRateIsListed tax_rates x = is_some (find (λ r. r.id == x.tax) tax_rates) ≡ true
 
 -- The sum of the rates of the taxes that the customer pays. A tax rate that does not exist counts
 -- 0.
-abbrev pub rates_paid : List TaxRate → List CustomerTax → ℕ → ℕ
-rates_paid tax_rates customer_taxes customer =
+abbrev pub rate_sum_of_payer : List TaxRate → List CustomerTax → ℕ → ℕ
+rate_sum_of_payer tax_rates customer_taxes customer =
     sum_by (λ x. option_map_or (λ r. r.rate) (find (λ r. r.id == x.tax) tax_rates) 0) (filter (λ x. x.customer == customer) customer_taxes)
 
 -- ---- the parts of the invariant: well-formed fields, and unique keys
 
 -- The part of the audit invariant that concerns stored replies: they are well-formed, and no two
 -- have the same key.
-pub record IsKeptSound (all_kept : List Kept) : Type 0 where
-  pub kept : AllByRecursion (λ k. kept_form k ≡ true) all_kept
-  pub kept_keys : DistinctKeys kept_key all_kept
+pub record StoredReplyAuditInvariant (all_kept : List Kept) : Type 0 where
+  pub kept : AllByRecursion (λ k. is_well_formed_kept_row k ≡ true) all_kept
+  pub kept_keys : HasDistinctKeys kept_key all_kept
 
 -- The part of the audit invariant that concerns brokers, customers, accounts and permissions:
 -- well-formed fields, unique keys, existing accounts, and the limit of accounts for each customer.
-pub record ArePartiesSound (all_brokers : List Broker) (all_customers : List Customer) (all_accounts : List Account) (all_permissions : List Permission) : Type 0 where
-  pub brokers : AllByRecursion (λ b. broker_fields b ≡ true) all_brokers
-  pub customers : AllByRecursion (λ c. customer_form c ≡ true) all_customers
-  pub accounts : AllByRecursion (λ a. account_fields a ≡ true) all_accounts
-  pub permissions : AllByRecursion (λ p. permission_fields p ≡ true) all_permissions
-  pub broker_keys : DistinctKeys broker_id all_brokers
-  pub customer_keys : DistinctKeys customer_key all_customers
-  pub tax_ids : DistinctKeys tax_id_key all_customers
+pub record PartyAuditInvariant (all_brokers : List Broker) (all_customers : List Customer) (all_accounts : List Account) (all_permissions : List Permission) : Type 0 where
+  pub brokers : AllByRecursion (λ b. is_well_formed_broker b ≡ true) all_brokers
+  pub customers : AllByRecursion (λ c. is_well_formed_customer_row c ≡ true) all_customers
+  pub accounts : AllByRecursion (λ a. is_well_formed_account a ≡ true) all_accounts
+  pub permissions : AllByRecursion (λ p. is_well_formed_permission p ≡ true) all_permissions
+  pub broker_keys : HasDistinctKeys broker_id_key all_brokers
+  pub customer_keys : HasDistinctKeys customer_key all_customers
+  pub tax_ids : HasDistinctKeys customer_tax_id_key all_customers
   -- The account of each permission exists.
-  pub permitted : AllByRecursion (NamesAccount all_accounts) all_permissions
-  -- A customer has at most `most_accounts` accounts.
-  pub owned : (customer : ℕ) → length (filter (λ a. a.customer == customer) all_accounts) ≤ most_accounts
+  pub permitted : AllByRecursion (PermissionAccountIsListed all_accounts) all_permissions
+  -- A customer has at most `most_accounts_per_customer` accounts.
+  pub owned : (customer : ℕ) → length (filter (λ a. a.customer == customer) all_accounts) ≤ most_accounts_per_customer
 
 -- The part of the audit invariant that concerns charges, bands, tax rates and customers' taxes:
 -- well-formed fields, unique keys, existing customers and tax rates, and the limit of rates for
 -- each customer.
-pub record AreTermsSound (all_customers : List Customer) (all_charges : List Charge) (all_bands : List Band) (all_tax_rates : List TaxRate) (all_taxes : List CustomerTax) : Type 0 where
-  pub charges : AllByRecursion (λ c. charge_form c ≡ true) all_charges
-  pub bands : AllByRecursion (λ b. band_form third_schema b ≡ true) all_bands
-  pub tax_rates : AllByRecursion (λ r. tax_rate_form r ≡ true) all_tax_rates
-  pub charge_keys : DistinctKeys charge_key all_charges
-  pub tax_rate_keys : DistinctKeys tax_rate_key all_tax_rates
-  pub customer_tax_keys : DistinctKeys customer_tax_key all_taxes
+pub record RateAuditInvariant (all_customers : List Customer) (all_charges : List Charge) (all_bands : List Band) (all_tax_rates : List TaxRate) (all_taxes : List CustomerTax) : Type 0 where
+  pub charges : AllByRecursion (λ c. is_well_formed_charge_row c ≡ true) all_charges
+  pub bands : AllByRecursion (λ b. is_well_formed_band_row third_schema b ≡ true) all_bands
+  pub tax_rates : AllByRecursion (λ r. is_well_formed_tax_rate_row r ≡ true) all_tax_rates
+  pub charge_keys : HasDistinctKeys charge_key all_charges
+  pub tax_rate_keys : HasDistinctKeys tax_rate_key all_tax_rates
+  pub customer_tax_keys : HasDistinctKeys customer_tax_key all_taxes
   -- The customer and the tax rate of each customer's tax exist.
-  pub payers : AllByRecursion (NamesCustomer all_customers) all_taxes
-  pub taxes : AllByRecursion (NamesTax all_tax_rates) all_taxes
+  pub payers : AllByRecursion (TaxCustomerIsListed all_customers) all_taxes
+  pub taxes : AllByRecursion (TaxRateIsListed all_tax_rates) all_taxes
   -- The rates of a customer sum to at most the greatest tax rate.
-  pub rates : (customer : ℕ) → rates_paid all_tax_rates all_taxes customer ≤ greatest_tax_rate
+  pub rates : (customer : ℕ) → rate_sum_of_payer all_tax_rates all_taxes customer ≤ greatest_tax_rate
 
 -- The part of the audit invariant that concerns securities: well-formed fields, and no last trade
 -- after the last stamp.
-pub record AreListedSound (last : Option ℕ) (all_securities : List Security) : Type 0 where
-  pub securities : AllByRecursion (λ s. security_fields s ≡ true) all_securities
-  pub moments : AllByRecursion (λ s. is_past last s.moment ≡ true) all_securities
+pub record SecurityAuditInvariant (last : Option ℕ) (all_securities : List Security) : Type 0 where
+  pub securities : AllByRecursion (λ s. is_well_formed_security s ≡ true) all_securities
+  pub moments : AllByRecursion (λ s. is_up_to_last_stamp last s.moment ≡ true) all_securities
 
 -- The part of the audit invariant that concerns sums: summaries, balances and commission totals of
 -- the completed trades and the movements are within their limits.
-pub record AreSumsSound (accounts : List Account) (done : List Trade) (movements : List Movement) : Type 0 where
-  pub summaries : (account : ℕ) → (symbol : Text) → nat_abs (summary_of done account symbol) ≤ greatest_summary
-  pub balances : (account : ℕ) → nat_abs (balance_of accounts (postings accounts done movements) account) ≤ greatest_amount
-  pub commissions : (broker : ℕ) → commissions_of accounts done broker ≤ greatest_amount
+pub record SumAuditInvariant (accounts : List Account) (done : List Trade) (movements : List Movement) : Type 0 where
+  pub summaries : (account : ℕ) → (symbol : Text) → nat_abs (holding_summary_quantity done account symbol) ≤ greatest_summary
+  pub balances : (account : ℕ) → nat_abs (balance_of_account accounts (postings accounts done movements) account) ≤ greatest_amount
+  pub commissions : (broker : ℕ) → commission_total_of_broker accounts done broker ≤ greatest_amount
 
 -- The audit invariant of the base. If the base also satisfies the books invariant, its tables pass
 -- an audit. Each part concerns only the lists of the base that it names, so a command that does not
 -- change these lists preserves the part.
 pub record AuditInvariant (base : Base) : Type 0 where
-  pub keyed : IsKeptSound base.kept
+  pub keyed : StoredReplyAuditInvariant base.kept
   pub open keyed use *
-  pub parties : ArePartiesSound base.brokers base.customers base.accounts base.permissions
+  pub parties : PartyAuditInvariant base.brokers base.customers base.accounts base.permissions
   pub open parties use *
-  pub terms : AreTermsSound base.customers base.charges base.bands base.tax_rates base.customer_taxes
+  pub terms : RateAuditInvariant base.customers base.charges base.bands base.tax_rates base.customer_taxes
   pub open terms use *
-  pub listed : AreListedSound base.last base.securities
+  pub listed : SecurityAuditInvariant base.last base.securities
   pub open listed use *
   -- Each trade satisfies the conditions on it.
-  pub trades : AllByRecursion (IsSoundTrade base) base.trades
+  pub trades : AllByRecursion (BaseTradeAuditInvariant base) base.trades
   -- Each movement and the settlement day satisfy the conditions on them.
-  pub cash : IsCashSound base.movements base.rule
-  pub sums : AreSumsSound base.accounts (completed base) base.movements
+  pub cash : MovementAuditInvariant base.movements base.rule
+  pub sums : SumAuditInvariant base.accounts (completed_trades base) base.movements
   pub open sums use *

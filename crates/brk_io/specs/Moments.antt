@@ -3,11 +3,11 @@ use Rattle.std.specs.Prelude.{◌≡◌, ◌⊎◌, ℕ, List, [], ◌∷◌}
 
 -- The clock changed from `old` to `new` by exactly one reading for each of these timestamps, in
 -- this order: each reading satisfies `gives`.
-abbrev pub Moments : {C : Type 0} → (C → ℕ → C → Type 0) → C → List ℕ → C → Type 0
-Moments gives old [] new = new ≡ old
-Moments {C} gives old (moment ∷ moments) new = (mid : C) × gives old moment mid × Moments gives mid moments new
+abbrev pub ClockReturnsInOrder : {C : Type 0} → (C → ℕ → C → Type 0) → C → List ℕ → C → Type 0
+ClockReturnsInOrder gives old [] new = new ≡ old
+ClockReturnsInOrder {C} gives old (moment ∷ moments) new = (mid : C) × gives old moment mid × ClockReturnsInOrder gives mid moments new
 
 -- The clock was read at most once from `old` to `new`: it is unchanged, or one reading satisfies
 -- `gives`.
-abbrev pub AskedOnce : {C : Type 0} → (C → ℕ → C → Type 0) → C → C → Type 0
-AskedOnce gives old new = (new ≡ old) ⊎ ((moment : ℕ) × gives old moment new)
+abbrev pub ReadsClockAtMostOnce : {C : Type 0} → (C → ℕ → C → Type 0) → C → C → Type 0
+ReadsClockAtMostOnce gives old new = (new ≡ old) ⊎ ((moment : ℕ) × gives old moment new)

@@ -8,4 +8,4 @@ pub mod writing;
 
 pub use batch_fault::{BatchFault, FaultKind};
 pub use clock::Clock;
-pub use writing::{NotWritten, write_out};
+pub use writing::{NotWritten, write_all_bytes};

@@ -3,7 +3,7 @@ ghost use Rattle.std.specs.Io.KnownBytes.{Appends};
 
 use std::io::Write;
 
-/// The error of `write_out`: a call of the writer returned an error or took no byte.
+/// The error of `write_all_bytes`: a call of the writer returned an error or took no byte.
 #[derive(Clone, Copy, Debug, PartialEq, Eq)]
 pub struct NotWritten;
 
@@ -11,7 +11,7 @@ pub struct NotWritten;
 ///
 /// Fails at the first call that returns an error or a count of 0; an interrupted write is an error
 /// too. A prefix of the bytes, perhaps all of them, is then written.
-pub fn write_out<W: Write>(writer: &mut W, bytes: &[u8]) -> Result<(), NotWritten>
+pub fn write_all_bytes<W: Write>(writer: &mut W, bytes: &[u8]) -> Result<(), NotWritten>
     ensures ok { OnOk result (Appends (W.contents writer.old) (W.contents writer.new) bytes.now) }
     ensures err { OnErr result ((k : ℕ) × Appends (W.contents writer.old) (W.contents writer.new) (take k bytes.now)) }
 {

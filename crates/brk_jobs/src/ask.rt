@@ -1,4 +1,4 @@
-use crate::borrowed::borrowed;
+use crate::borrowed::bytes_of_arguments;
 use brk_ask::{Form, ask};
 use brk_desk::Desk;
 use brk_exit::Ending;
@@ -9,7 +9,7 @@ use std::io::Write;
 
 /// Executes the query of a view's name and its arguments on a desk, and writes its view to `output`
 /// in this form. Returns the outcome.
-pub(crate) fn print<S: Alter, W: Write>(
+pub(crate) fn execute_ask_job<S: Alter, W: Write>(
     alloc: Global,
     desk: &mut Desk<S>,
     view: &str,
@@ -17,7 +17,7 @@ pub(crate) fn print<S: Alter, W: Write>(
     form: Form,
     output: &mut W,
 ) -> Ending {
-    let Ok(arguments) = borrowed(alloc, arguments) else {
+    let Ok(arguments) = bytes_of_arguments(alloc, arguments) else {
         return Ending::Open(Fault::Memory);
     };
     match ask(alloc, desk, view, &arguments, form, output) {

@@ -1,11 +1,11 @@
 use brk_exit::Ending;
-use brk_io::write_out;
+use brk_io::write_all_bytes;
 use std::io::Write;
 
 /// Writes `ok` and a line feed to `output`, for an audit that passed when the desk was opened.
 /// Returns the outcome.
-pub(crate) fn confirm<W: Write>(output: &mut W) -> Ending {
-    match write_out(output, b"ok\n") {
+pub(crate) fn write_audit_ok<W: Write>(output: &mut W) -> Ending {
+    match write_all_bytes(output, b"ok\n") {
         Ok(()) => Ending::Done,
         Err(_) => Ending::Output,
     }

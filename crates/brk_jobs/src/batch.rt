@@ -8,7 +8,7 @@ use std::io::{Read, Write};
 
 /// Executes a batch from `input` on a desk, and writes its lines to `output`. Returns the outcome.
 /// The timestamps are `at`, or readings of the machine's clock.
-pub(crate) fn book<R: Read + Drop, W: Write, S: Alter>(
+pub(crate) fn execute_batch_job<R: Read + Drop, W: Write, S: Alter>(
     rt: &HostRuntime,
     at: Option<Stamp>,
     input: R,

@@ -1,7 +1,10 @@
 use std::alloc::{AllocError, Global};
 
 /// Returns the bytes of the texts as borrowed slices, in order.
-pub fn borrowed<'a>(alloc: Global, texts: &'a [String]) -> Result<Vec<&'a [u8]>, AllocError> {
+pub fn bytes_of_arguments<'a>(
+    alloc: Global,
+    texts: &'a [String],
+) -> Result<Vec<&'a [u8]>, AllocError> {
     let mut all = Vec::new(alloc);
     for text in texts {
         all.push(text.as_str().as_bytes())?;

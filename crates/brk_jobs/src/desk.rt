@@ -4,7 +4,7 @@ use crate::{ask, batch, explain, serve, statement};
 use brk_args::Job;
 use brk_ask::Form;
 use brk_desk::Desk;
-use brk_exit::{Ending, after_close};
+use brk_exit::{Ending, merge_close_result};
 use brk_files as file;
 use brk_files::FileDesk;
 use brk_money::Fault;
@@ -14,7 +14,7 @@ use std::io::{Read, Write};
 
 // Executes a job on an open desk, and returns the outcome. Nothing remains to be done for an audit,
 // which passed when the desk was opened.
-fn execute<R: Read + Drop, W: Write, S: Alter>(
+fn execute_at_desk<R: Read + Drop, W: Write, S: Alter>(
     rt: &HostRuntime,
     desk: &mut Desk<S>,
     job: &Job,
@@ -22,13 +22,13 @@ fn execute<R: Read + Drop, W: Write, S: Alter>(
     output: &mut W,
 ) -> Ending {
     match job {
-        Job::Batch { db: _, at } => batch::book(rt, *at, input, output, desk),
+        Job::Batch { db: _, at } => batch::execute_batch_job(rt, *at, input, output, desk),
         Job::Statement {
             db: _,
             account,
             from,
             to,
-        } => statement::print(rt.alloc(), desk, *account, *from, *to, output),
+        } => statement::execute_statement_job(rt.alloc(), desk, *account, *from, *to, output),
         Job::Ask {
             db: _,
             json,
@@ -40,23 +40,28 @@ fn execute<R: Read + Drop, W: Write, S: Alter>(
                 json: *json,
                 heads: *heads,
             };
-            ask::print(rt.alloc(), desk, view.as_str(), arguments, form, output)
+            ask::execute_ask_job(rt.alloc(), desk, view.as_str(), arguments, form, output)
         }
-        Job::Explain { db: _, words } => explain::print(rt.alloc(), desk, words, output),
+        Job::Explain { db: _, words } => explain::execute_explain_job(
+            rt.alloc(),
+            desk,
+            words,
+            output,
+        ),
         Job::Audit { db: _ } => Ending::Done,
         Job::Serve {
             port,
             db: _,
             at,
             streams,
-        } => serve::listen(rt, *port, *at, *streams, desk),
+        } => serve::execute_serve_job(rt, *port, *at, *streams, desk),
     }
 }
 
 // Executes a job on the desk of a store, and returns the outcome and the store. Each call of a
 // function over any store, at a store of files, takes the prover some twenty seconds, so this crate
 // has one such call, of this function.
-fn at_store<R: Read + Drop, W: Write, S: Alter>(
+fn execute_at_store<R: Read + Drop, W: Write, S: Alter>(
     rt: &HostRuntime,
     store: Store<S>,
     job: &Job,
@@ -64,13 +69,13 @@ fn at_store<R: Read + Drop, W: Write, S: Alter>(
     output: &mut W,
 ) -> (Ending, Store<S>) {
     let mut desk = Desk::new(store);
-    let ending = execute(rt, &mut desk, job, input, output);
+    let ending = execute_at_desk(rt, &mut desk, job, input, output);
     (ending, desk.into_store())
 }
 
 /// Executes a job on the desk in a file that was opened, closes the file and returns the outcome.
 /// If the file could not be opened, returns its fault.
-pub(crate) fn in_file<R: Read + Drop, W: Write>(
+pub(crate) fn execute_in_file<R: Read + Drop, W: Write>(
     rt: &HostRuntime,
     opened: Result<FileDesk, Fault>,
     job: &Job,
@@ -79,15 +84,15 @@ pub(crate) fn in_file<R: Read + Drop, W: Write>(
 ) -> Ending {
     match opened {
         Ok(store) => {
-            let (ending, store) = at_store(rt, store, job, input, output);
-            after_close(ending, file::close(store))
+            let (ending, store) = execute_at_store(rt, store, job, input, output);
+            merge_close_result(ending, file::close(store))
         }
         Err(fault) => Ending::Open(fault),
     }
 }
 
 /// Executes a job on a new desk in memory, and returns the outcome.
-pub(crate) fn in_memory<R: Read + Drop, W: Write>(
+pub(crate) fn execute_in_memory<R: Read + Drop, W: Write>(
     rt: &HostRuntime,
     job: &Job,
     input: R,
@@ -98,7 +103,7 @@ pub(crate) fn in_memory<R: Read + Drop, W: Write>(
     };
     match Store::create(conn) {
         Ok(store) => {
-            let (ending, _store) = at_store(rt, store, job, input, output);
+            let (ending, _store) = execute_at_store(rt, store, job, input, output);
             ending
         }
         Err((_, fault)) => Ending::Open(fault),

@@ -1,7 +1,7 @@
-use crate::borrowed::borrowed;
+use crate::borrowed::bytes_of_arguments;
 use brk_desk::Desk;
 use brk_exit::Ending;
-use brk_explain::{ReportFault, explain, parse_explain};
+use brk_explain::{ReportFault, explain, parse_explain_request};
 use brk_money::Fault;
 use sqlite::Alter;
 use std::alloc::Global;
@@ -9,16 +9,16 @@ use std::io::Write;
 
 /// Parses the words of an explanation and writes the explanation, of a desk, to `output`. Returns
 /// the outcome.
-pub(crate) fn print<S: Alter, W: Write>(
+pub(crate) fn execute_explain_job<S: Alter, W: Write>(
     alloc: Global,
     desk: &mut Desk<S>,
     words: &[String],
     output: &mut W,
 ) -> Ending {
-    let Ok(words) = borrowed(alloc, words) else {
+    let Ok(words) = bytes_of_arguments(alloc, words) else {
         return Ending::Open(Fault::Memory);
     };
-    let what = match parse_explain(&words) {
+    let what = match parse_explain_request(&words) {
         Ok(what) => what,
         Err(refusal) => return Ending::Report(ReportFault::Refused(refusal)),
     };

@@ -1,14 +1,14 @@
-use crate::audit::confirm;
-use crate::desk::{in_file, in_memory};
+use crate::audit::write_audit_ok;
+use crate::desk::{execute_in_file, execute_in_memory};
 use brk_args::{Job, UsageFault, read_words};
 use brk_exit::Ending;
 use brk_files as file;
-use brk_io::write_out;
+use brk_io::write_all_bytes;
 use std::io::{Read, Write};
 
 // Writes the text of help or of the version to `output`, and returns the outcome.
-fn show<W: Write>(text: String, output: &mut W) -> Ending {
-    match write_out(output, text.as_bytes()) {
+fn write_help_text<W: Write>(text: String, output: &mut W) -> Ending {
+    match write_all_bytes(output, text.as_bytes()) {
         Ok(()) => Ending::Usage(UsageFault::Help(text)),
         Err(_) => Ending::Output,
     }
@@ -26,7 +26,7 @@ enum Place<'a> {
 
 // Returns the place of a desk for an optional path: a file that is created if it is missing or
 // empty, or memory if there is no path.
-fn place_of_db(db: &Option<String>) -> Place<'_> {
+fn place_of_optional_file(db: &Option<String>) -> Place<'_> {
     match db {
         Some(path) => Place::Made(path.as_str()),
         None => Place::Memory,
@@ -34,10 +34,10 @@ fn place_of_db(db: &Option<String>) -> Place<'_> {
 }
 
 // Returns the place of the desk of a job.
-fn place_of(job: &Job) -> Place<'_> {
+fn place_of_job(job: &Job) -> Place<'_> {
     match job {
-        Job::Batch { db, .. } => place_of_db(db),
-        Job::Serve { db, .. } => place_of_db(db),
+        Job::Batch { db, .. } => place_of_optional_file(db),
+        Job::Serve { db, .. } => place_of_optional_file(db),
         Job::Statement { db, .. } => Place::Kept(db.as_str()),
         Job::Ask { db, .. } => Place::Kept(db.as_str()),
         Job::Explain { db, .. } => Place::Kept(db.as_str()),
@@ -47,19 +47,25 @@ fn place_of(job: &Job) -> Place<'_> {
 
 // Opens the desk of a job, executes the job, and returns the outcome. An audit that passed writes
 // `ok`.
-fn execute<R: Read + Drop, W: Write>(
+fn execute_job<R: Read + Drop, W: Write>(
     rt: &HostRuntime,
     job: &Job,
     input: R,
     output: &mut W,
 ) -> Ending {
-    let ending = match place_of(job) {
-        Place::Memory => in_memory(rt, job, input, output),
-        Place::Made(path) => in_file(rt, file::open_or_make(rt, path), job, input, output),
-        Place::Kept(path) => in_file(rt, file::open(rt, path), job, input, output),
+    let ending = match place_of_job(job) {
+        Place::Memory => execute_in_memory(rt, job, input, output),
+        Place::Made(path) => execute_in_file(
+            rt,
+            file::open_or_create(rt, path),
+            job,
+            input,
+            output,
+        ),
+        Place::Kept(path) => execute_in_file(rt, file::open(rt, path), job, input, output),
     };
     match (job, ending) {
-        (Job::Audit { .. }, Ending::Done) => confirm(output),
+        (Job::Audit { .. }, Ending::Done) => write_audit_ok(output),
         (_, ending) => ending,
     }
 }
@@ -67,15 +73,15 @@ fn execute<R: Read + Drop, W: Write>(
 /// Executes the job that the command-line arguments give, the program's own name first, and returns
 /// the outcome. A batch is read from `input`. The output of the job, also help, is written to
 /// `output`.
-pub fn run<R: Read + Drop, W: Write>(
+pub fn execute_arguments<R: Read + Drop, W: Write>(
     rt: &HostRuntime,
     words: Vec<String>,
     input: R,
     output: &mut W,
 ) -> Ending {
     match read_words(words) {
-        Ok(job) => execute(rt, &job, input, output),
-        Err(UsageFault::Help(text)) => show(text, output),
+        Ok(job) => execute_job(rt, &job, input, output),
+        Err(UsageFault::Help(text)) => write_help_text(text, output),
         Err(fault) => Ending::Usage(fault),
     }
 }

@@ -11,4 +11,4 @@ pub mod jobs;
 mod serve;
 mod statement;
 
-pub use jobs::run;
+pub use jobs::execute_arguments;

@@ -10,7 +10,7 @@ use std::net::TcpListener;
 
 /// Serves `streams` streams, in sequence, on `port` of 127.0.0.1. Returns the outcome. The
 /// timestamps are `at`, or readings of the machine's clock.
-pub(crate) fn listen<S: Alter>(
+pub(crate) fn execute_serve_job<S: Alter>(
     rt: &HostRuntime,
     port: u16,
     at: Option<Stamp>,

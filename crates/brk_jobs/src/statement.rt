@@ -8,7 +8,7 @@ use std::io::Write;
 
 /// Writes the statement of an account of a desk, from `from` to `to`, both included, to `output`.
 /// Returns the outcome.
-pub(crate) fn print<S: Alter, W: Write>(
+pub(crate) fn execute_statement_job<S: Alter, W: Write>(
     alloc: Global,
     desk: &mut Desk<S>,
     account: Id,

@@ -1,11 +1,11 @@
 -- Shares along a list of deals.
 use Rattle.std.proofs.Common.{◌≢◌, ℕ, zero, suc, ◌-◌, ◌<◌, Bool, true, false, List, [], ◌∷◌, ◌++◌, length, take, drop, replicate, unsigned_abs, arith}
 use Rattle.std.specs.List.{AllByRecursion}
-use Rattle.brk_model.specs.Shares.{Share, Deal, opened_share, closed_count, shares_after}
+use Rattle.brk_model.specs.Shares.{Share, Deal, opened_share, closed_share_count_of_deal, shares_after_deal}
 use Rattle.brk_lots.specs.declared.lot.Lot.{Lot}
-use Rattle.brk_lots.specs.Lots.{share_of, shares_of}
-use Rattle.brk_lots.specs.Position.{IsPosition, IsNew, AreOlder}
-use Rattle.brk_lots.specs.Deals.{IsLater}
+use Rattle.brk_lots.specs.Lots.{share_of_lot, shares_of_lots}
+use Rattle.brk_lots.specs.Position.{IsPosition, AreOpenedByOtherTrades, AreOpenedBefore}
+use Rattle.brk_lots.specs.Deals.{IsLaterDeal}
 use Rattle.brk_lots.proofs.Runs.{without, size_positive}
 use Rattle.brk_lots.proofs.Changes.{all_from}
 use Rattle.brk_lots.proofs.Ends.{all_join}
@@ -38,20 +38,20 @@ all_without P true k us h = all_take P (length us - k) us h
 all_without P false k us h = all_drop P k us h
 
 -- what holds of each share and of the deal's holds of each share after it
-pub all_after : (P : Share → Type 0) (d : Deal) (us : List Share) → P (opened_share d) → AllByRecursion P us → AllByRecursion P (shares_after us d)
-unfolding shares_after
+pub all_after : (P : Share → Type 0) (d : Deal) (us : List Share) → P (opened_share d) → AllByRecursion P us → AllByRecursion P (shares_after_deal us d)
+unfolding shares_after_deal
 all_after P d us p h =
-    all_join P (without d.is_lifo (closed_count d us) us) (replicate (d.qty - closed_count d us) (opened_share d))
-    (all_without P d.is_lifo (closed_count d us) us h) (all_run P (d.qty - closed_count d us) (opened_share d) p)
+    all_join P (without d.is_lifo (closed_share_count_of_deal d us) us) (replicate (d.qty - closed_share_count_of_deal d us) (opened_share d))
+    (all_without P d.is_lifo (closed_share_count_of_deal d us) us h) (all_run P (d.qty - closed_share_count_of_deal d us) (opened_share d) p)
 
-pub old_lots : (d : Deal) (ls : List Lot) → IsPosition ls → AllByRecursion (IsOlder d) (shares_of ls) → IsNew d.trade ls × AreOlder d.stamp ls
+pub old_lots : (d : Deal) (ls : List Lot) → IsPosition ls → AllByRecursion (IsOlder d) (shares_of_lots ls) → AreOpenedByOtherTrades d.trade ls × AreOpenedBefore d.stamp ls
 old_lots d [] p h = (tt, tt)
 old_lots d (l ∷ ls) p h =
-    let one : IsOlder d (share_of l) = of_run (IsOlder d) (unsigned_abs l.qty) (share_of l) (shares_of ls) (size_positive l.qty p.0) h in
-    let rest = old_lots d ls p.2 (all_past_run (IsOlder d) (unsigned_abs l.qty) (share_of l) (shares_of ls) h) in
+    let one : IsOlder d (share_of_lot l) = of_run (IsOlder d) (unsigned_abs l.qty) (share_of_lot l) (shares_of_lots ls) (size_positive l.qty p.0) h in
+    let rest = old_lots d ls p.2 (all_past_run (IsOlder d) (unsigned_abs l.qty) (share_of_lot l) (shares_of_lots ls) h) in
     ((one.0, rest.0), (one.1, rest.1))
 
 -- the shares after a deal are older than each later deal
-pub older_after : (d : Deal) (ds : List Deal) (us : List Share) → AllByRecursion (IsLater d) ds → AllByRecursion (λ e. AllByRecursion (IsOlder e) us) ds → AllByRecursion (λ e. AllByRecursion (IsOlder e) (shares_after us d)) ds
+pub older_after : (d : Deal) (ds : List Deal) (us : List Share) → AllByRecursion (IsLaterDeal d) ds → AllByRecursion (λ e. AllByRecursion (IsOlder e) us) ds → AllByRecursion (λ e. AllByRecursion (IsOlder e) (shares_after_deal us d)) ds
 older_after d ds us l h =
-    all_from (IsLater d) (λ e. AllByRecursion (IsOlder e) us) (λ e. AllByRecursion (IsOlder e) (shares_after us d)) (λ e b c. all_after (IsOlder e) d us b c) ds l h
+    all_from (IsLaterDeal d) (λ e. AllByRecursion (IsOlder e) us) (λ e. AllByRecursion (IsOlder e) (shares_after_deal us d)) (λ e b c. all_after (IsOlder e) d us b c) ds l h

@@ -4,13 +4,13 @@ use Rattle.std.specs.List.{AllByRecursion}
 use Rattle.std.proofs.lemmas.List.{length-reverse, reverse-append, reverse-reverse, replicate_more}
 use Rattle.std.proofs.lemmas.List.Sums.{sum_by-append, sum_by-cons, sum_by-take-drop}
 use Rattle.std.proofs.lemmas.List.Concat.{flat_map-append}
-use Rattle.brk_money.specs.Kinds.{same_side}
+use Rattle.brk_money.specs.Kinds.{is_same_side}
 use Rattle.brk_money.specs.declared.side.Side.{Side}
 use Rattle.brk_model.specs.Shares.{Share}
 use Rattle.brk_lots.specs.declared.lot.Lot.{Lot}
-use Rattle.brk_lots.specs.Lots.{side_of_qty, share_of, shares_of, from_end}
-use Rattle.brk_lots.specs.Walks.{met}
-use Rattle.brk_lots.specs.Position.{IsBeside, IsWalk, IsAfter, IsPosition}
+use Rattle.brk_lots.specs.Lots.{side_of_qty, share_of_lot, shares_of_lots, list_in_closing_order}
+use Rattle.brk_lots.specs.Walks.{closed_share_count}
+use Rattle.brk_lots.specs.Position.{HasSameSideAndOtherTrade, IsPositionInAnyOrder, IsLaterInPosition, IsPosition}
 use Rattle.brk_lots.proofs.Runs.{count_of, cost, without, length_run}
 use Rattle.brk_lots.proofs.Walks.{met_first}
 use Rattle.brk_lots.proofs.Changes.{all_from}
@@ -28,31 +28,31 @@ pub all_reverse : {X : Type 0} (P : X → Type 0) (xs : List X) → AllByRecursi
 all_reverse P [] p = tt
 all_reverse P (x ∷ xs) p = rw (reverse_first x xs) (all_join P (reverse xs) (x ∷ []) (all_reverse P xs p.1) (p.0, tt))
 
-pub all_end : {X : Type 0} (P : X → Type 0) (lifo : Bool) (xs : List X) → AllByRecursion P xs → AllByRecursion P (from_end lifo xs)
+pub all_end : {X : Type 0} (P : X → Type 0) (lifo : Bool) (xs : List X) → AllByRecursion P xs → AllByRecursion P (list_in_closing_order lifo xs)
 all_end P true xs p = all_reverse P xs p
 all_end P false xs p = p
 
 -- ---- a walk from the other end is a walk
 
-pub walk_of : (ls : List Lot) → IsPosition ls → IsWalk ls
+pub walk_of : (ls : List Lot) → IsPosition ls → IsPositionInAnyOrder ls
 walk_of [] h = tt
-walk_of (l ∷ ls) h = (h.0, all_from (IsAfter l) (IsAfter l) (IsBeside l) (λ m p q. p.0) ls h.1 h.1, walk_of ls h.2)
+walk_of (l ∷ ls) h = (h.0, all_from (IsLaterInPosition l) (IsLaterInPosition l) (HasSameSideAndOtherTrade l) (λ m p q. p.0) ls h.1 h.1, walk_of ls h.2)
 
-walk_push : (ls : List Lot) (l : Lot) → IsWalk ls → l.qty ≢ pos 0 → AllByRecursion (IsBeside l) ls → IsWalk (ls ++ l ∷ [])
+walk_push : (ls : List Lot) (l : Lot) → IsPositionInAnyOrder ls → l.qty ≢ pos 0 → AllByRecursion (HasSameSideAndOtherTrade l) ls → IsPositionInAnyOrder (ls ++ l ∷ [])
 walk_push [] l w n b = (n, tt, tt)
 walk_push (m ∷ ls) l w n b =
-    (w.0, all_join (IsBeside m) ls (l ∷ []) w.1 ((sym b.0.0, λ e. b.0.1 (sym e)), tt), walk_push ls l w.2 n b.1)
+    (w.0, all_join (HasSameSideAndOtherTrade m) ls (l ∷ []) w.1 ((sym b.0.0, λ e. b.0.1 (sym e)), tt), walk_push ls l w.2 n b.1)
 
-pub walk_reverse : (ls : List Lot) → IsWalk ls → IsWalk (reverse ls)
+pub walk_reverse : (ls : List Lot) → IsPositionInAnyOrder ls → IsPositionInAnyOrder (reverse ls)
 walk_reverse [] w = tt
-walk_reverse (l ∷ ls) w = rw (reverse_first l ls) (walk_push (reverse ls) l (walk_reverse ls w.2) w.0 (all_reverse (IsBeside l) ls w.1))
+walk_reverse (l ∷ ls) w = rw (reverse_first l ls) (walk_push (reverse ls) l (walk_reverse ls w.2) w.0 (all_reverse (HasSameSideAndOtherTrade l) ls w.1))
 
-pub walk_end : (lifo : Bool) (ls : List Lot) → IsWalk ls → IsWalk (from_end lifo ls)
+pub walk_end : (lifo : Bool) (ls : List Lot) → IsPositionInAnyOrder ls → IsPositionInAnyOrder (list_in_closing_order lifo ls)
 walk_end true ls w = walk_reverse ls w
 walk_end false ls w = w
 
 -- what holds from an end holds from the front
-pub all_back : {X : Type 0} (P : X → Type 0) (lifo : Bool) (xs : List X) → AllByRecursion P (from_end lifo xs) → AllByRecursion P xs
+pub all_back : {X : Type 0} (P : X → Type 0) (lifo : Bool) (xs : List X) → AllByRecursion P (list_in_closing_order lifo xs) → AllByRecursion P xs
 all_back P true xs p = subst (AllByRecursion P) (reverse-reverse xs) (all_reverse P (reverse xs) p)
 all_back P false xs p = p
 
@@ -65,16 +65,16 @@ reverse_run {X} (suc n) x =
     reverse_first x (replicate n x) ∙ ap (λ (xs : List X). xs ++ x ∷ []) (reverse_run n x)
     ∙ replicate_more n x ∙ ap (λ (k : ℕ). replicate k x) e
 
-pub reverse_shares : (ls : List Lot) → shares_of (reverse ls) ≡ reverse (shares_of ls)
+pub reverse_shares : (ls : List Lot) → shares_of_lots (reverse ls) ≡ reverse (shares_of_lots ls)
 reverse_shares [] = refl
 reverse_shares (l ∷ ls) =
-    ap shares_of (reverse_first l ls)
-    ∙ flat_map-append (λ m. replicate (unsigned_abs m.qty) (share_of m)) (reverse ls) (l ∷ [])
-    ∙ ap (λ (us : List Share). us ++ (replicate (unsigned_abs l.qty) (share_of l) ++ [])) (reverse_shares ls)
-    ∙ ap (λ (us : List Share). reverse (shares_of ls) ++ us) (append-nil (replicate (unsigned_abs l.qty) (share_of l)) ∙ sym (reverse_run (unsigned_abs l.qty) (share_of l)))
-    ∙ sym (reverse-append (replicate (unsigned_abs l.qty) (share_of l)) (shares_of ls))
+    ap shares_of_lots (reverse_first l ls)
+    ∙ flat_map-append (λ m. replicate (unsigned_abs m.qty) (share_of_lot m)) (reverse ls) (l ∷ [])
+    ∙ ap (λ (us : List Share). us ++ (replicate (unsigned_abs l.qty) (share_of_lot l) ++ [])) (reverse_shares ls)
+    ∙ ap (λ (us : List Share). reverse (shares_of_lots ls) ++ us) (append-nil (replicate (unsigned_abs l.qty) (share_of_lot l)) ∙ sym (reverse_run (unsigned_abs l.qty) (share_of_lot l)))
+    ∙ sym (reverse-append (replicate (unsigned_abs l.qty) (share_of_lot l)) (shares_of_lots ls))
 
-pub shares_end : (lifo : Bool) (ls : List Lot) → shares_of (from_end lifo ls) ≡ from_end lifo (shares_of ls)
+pub shares_end : (lifo : Bool) (ls : List Lot) → shares_of_lots (list_in_closing_order lifo ls) ≡ list_in_closing_order lifo (shares_of_lots ls)
 shares_end true ls = reverse_shares ls
 shares_end false ls = refl
 
@@ -93,30 +93,30 @@ drop_reverse {X} (suc k) (x ∷ xs) =
       cut (suc n) [] h = absurd (omega arith)
       cut (suc n) (y ∷ ys) h = ap (λ (zs : List X). y ∷ zs) (cut n ys (omega arith))
 
-pub without_end : (lifo : Bool) (k : ℕ) (us : List Share) → from_end lifo (drop k (from_end lifo us)) ≡ without lifo k us
+pub without_end : (lifo : Bool) (k : ℕ) (us : List Share) → list_in_closing_order lifo (drop k (list_in_closing_order lifo us)) ≡ without lifo k us
 without_end true k us = drop_reverse k (reverse us) ∙ rw (length-reverse us, reverse-reverse us) refl
 without_end false k us = refl
 
 -- ---- as many are met from either end
 
-pub met_all : (side s : Side) (q : ℕ) (ls : List Lot) → AllByRecursion (λ l. side_of_qty l.qty ≡ s) ls → met side q ls ≡ cond (same_side s side) 0 (min q (length (shares_of ls)))
-met_all side s q [] h = elim (same_side s side) as (λ b. 0 ≡ cond b 0 (min q 0)) [ true ↦ refl | false ↦ omega arith ]
+pub met_all : (side s : Side) (q : ℕ) (ls : List Lot) → AllByRecursion (λ l. side_of_qty l.qty ≡ s) ls → closed_share_count side q ls ≡ cond (is_same_side s side) 0 (min q (length (shares_of_lots ls)))
+met_all side s q [] h = elim (is_same_side s side) as (λ b. 0 ≡ cond b 0 (min q 0)) [ true ↦ refl | false ↦ omega arith ]
 met_all side s q (l ∷ ls) h =
     met_first side q l ls
-    ∙ ap (λ t. cond (same_side t side) 0 (min q (unsigned_abs l.qty + length (shares_of ls)))) h.0
-    ∙ ap (λ n. cond (same_side s side) 0 (min q n)) (sym (length_run (unsigned_abs l.qty) (share_of l) (shares_of ls)))
+    ∙ ap (λ t. cond (is_same_side t side) 0 (min q (unsigned_abs l.qty + length (shares_of_lots ls)))) h.0
+    ∙ ap (λ n. cond (is_same_side s side) 0 (min q n)) (sym (length_run (unsigned_abs l.qty) (share_of_lot l) (shares_of_lots ls)))
 
-pub met_reverse : (side : Side) (q : ℕ) (ls : List Lot) → IsWalk ls → met side q (reverse ls) ≡ met side q ls
+pub met_reverse : (side : Side) (q : ℕ) (ls : List Lot) → IsPositionInAnyOrder ls → closed_share_count side q (reverse ls) ≡ closed_share_count side q ls
 met_reverse side q [] w = refl
 met_reverse side q (l ∷ ls) w =
     let s = side_of_qty l.qty in
-    let same : AllByRecursion (λ m. side_of_qty m.qty ≡ s) (l ∷ ls) = (refl, all_from (IsBeside l) (IsBeside l) (λ m. side_of_qty m.qty ≡ s) (λ m p r. p.0) ls w.1 w.1) in
-    let len : length (shares_of (reverse (l ∷ ls))) ≡ length (shares_of (l ∷ ls)) = ap length (reverse_shares (l ∷ ls)) ∙ length-reverse (shares_of (l ∷ ls)) in
+    let same : AllByRecursion (λ m. side_of_qty m.qty ≡ s) (l ∷ ls) = (refl, all_from (HasSameSideAndOtherTrade l) (HasSameSideAndOtherTrade l) (λ m. side_of_qty m.qty ≡ s) (λ m p r. p.0) ls w.1 w.1) in
+    let len : length (shares_of_lots (reverse (l ∷ ls))) ≡ length (shares_of_lots (l ∷ ls)) = ap length (reverse_shares (l ∷ ls)) ∙ length-reverse (shares_of_lots (l ∷ ls)) in
     met_all side s q (reverse (l ∷ ls)) (all_reverse (λ m. side_of_qty m.qty ≡ s) (l ∷ ls) same)
-    ∙ ap (λ n. cond (same_side s side) 0 (min q n)) len
+    ∙ ap (λ n. cond (is_same_side s side) 0 (min q n)) len
     ∙ sym (met_all side s q (l ∷ ls) same)
 
-pub met_end : (lifo : Bool) (side : Side) (q : ℕ) (ls : List Lot) → IsWalk ls → met side q (from_end lifo ls) ≡ met side q ls
+pub met_end : (lifo : Bool) (side : Side) (q : ℕ) (ls : List Lot) → IsPositionInAnyOrder ls → closed_share_count side q (list_in_closing_order lifo ls) ≡ closed_share_count side q ls
 met_end true side q ls w = met_reverse side q ls w
 met_end false side q ls w = refl
 
@@ -135,13 +135,13 @@ cost_reverse (u ∷ us) =
     ∙ omega (arith, cost_reverse us, sum_by-cons (λ (v : Share). v.price) u us, sum_by-cons (λ (v : Share). v.price) u [])
 
 -- the shares that leave and those that stay cost what all did
-pub cost_parts : (lifo : Bool) (k : ℕ) (us : List Share) → cost (without lifo k us) + cost (take k (from_end lifo us)) ≡ cost us
+pub cost_parts : (lifo : Bool) (k : ℕ) (us : List Share) → cost (without lifo k us) + cost (take k (list_in_closing_order lifo us)) ≡ cost us
 cost_parts true k us =
     let e : cost (without true k us) ≡ cost (drop k (reverse us)) = ap cost (sym (without_end true k us)) ∙ cost_reverse (drop k (reverse us)) in
     omega (arith, e, cost_reverse us, sum_by-take-drop (λ (v : Share). v.price) (reverse us) k)
 cost_parts false k us = omega (arith, sum_by-take-drop (λ (v : Share). v.price) us k)
 
 -- the first k shares from an end cost what the shares that are without the others cost
-pub cost_end : (lifo : Bool) (k : ℕ) (us : List Share) → cost (take k (from_end lifo us)) ≡ cost (cond lifo (drop (length us - k) us) (take k us))
+pub cost_end : (lifo : Bool) (k : ℕ) (us : List Share) → cost (take k (list_in_closing_order lifo us)) ≡ cost (cond lifo (drop (length us - k) us) (take k us))
 cost_end true k us = omega (arith, cost_parts true k us, sum_by-take-drop (λ (v : Share). v.price) us (length us - k))
 cost_end false k us = refl

@@ -8,14 +8,14 @@ use Rattle.std.proofs.lemmas.Bool.Decides.{Decides-int_eq}
 use Rattle.std.proofs.lemmas.List.Sums.{sum_by-cons}
 use Rattle.std.proofs.lemmas.List.Sorted.{sum_by-IsPermutation}
 use Rattle.brk_lots.specs.declared.lot.Lot.{Lot}
-use Rattle.brk_lots.specs.Order.{First, IsHigher, IsByOpening, Differ}
-use Rattle.brk_lots.specs.Position.{IsAfter, IsPosition, IsNew}
+use Rattle.brk_lots.specs.Order.{FirstLotSatisfies, IsLaterOnSameSide, IsOneSidedByStamp, NeighboursDifferInTrade}
+use Rattle.brk_lots.specs.Position.{IsLaterInPosition, IsPosition, AreOpenedByOtherTrades}
 use Rattle.brk_lots.proofs.Changes.{all_from}
 
 -- no two lots are of one trade
 abbrev pub Distinct : List Lot → Type 0
 Distinct [] = Unit {0}
-Distinct (l ∷ ls) = IsNew l.trade ls × Distinct ls
+Distinct (l ∷ ls) = AreOpenedByOtherTrades l.trade ls × Distinct ls
 
 -- a number falls nowhere
 abbrev pub Ascends : (Lot → ℕ) → List Lot → Type 0
@@ -24,26 +24,26 @@ Ascends n (l ∷ ls) = AllByRecursion (λ m. n l ≤ n m) ls × Ascends n ls
 
 -- ---- a position climbs and its trades are distinct
 
-first_of_all : (P : Lot → Type 0) (ls : List Lot) → AllByRecursion P ls → First P ls
+first_of_all : (P : Lot → Type 0) (ls : List Lot) → AllByRecursion P ls → FirstLotSatisfies P ls
 first_of_all P [] h = tt
 first_of_all P (l ∷ ls) h = h.0
 
-higher_all : (l : Lot) (ls : List Lot) → First (IsHigher l) ls → IsByOpening ls → AllByRecursion (IsHigher l) ls
+higher_all : (l : Lot) (ls : List Lot) → FirstLotSatisfies (IsLaterOnSameSide l) ls → IsOneSidedByStamp ls → AllByRecursion (IsLaterOnSameSide l) ls
 higher_all l [] h c = tt
 higher_all l (m ∷ ls) h c =
-    (h, all_from (IsHigher m) (IsHigher m) (IsHigher l) (λ k p q. (p.0 ∙ h.0, let a = h.1 in let b = p.1 in omega (arith, a, b))) ls (higher_all m ls c.1 c.2) (higher_all m ls c.1 c.2))
+    (h, all_from (IsLaterOnSameSide m) (IsLaterOnSameSide m) (IsLaterOnSameSide l) (λ k p q. (p.0 ∙ h.0, let a = h.1 in let b = p.1 in omega (arith, a, b))) ls (higher_all m ls c.1 c.2) (higher_all m ls c.1 c.2))
 
-pub climbs_of : (ls : List Lot) → IsPosition ls → IsByOpening ls
+pub climbs_of : (ls : List Lot) → IsPosition ls → IsOneSidedByStamp ls
 climbs_of [] p = tt
-climbs_of (l ∷ ls) p = (p.0, first_of_all (IsHigher l) ls (all_from (IsAfter l) (IsAfter l) (IsHigher l) (λ m a b. (a.0.0, a.1)) ls p.1 p.1), climbs_of ls p.2)
+climbs_of (l ∷ ls) p = (p.0, first_of_all (IsLaterOnSameSide l) ls (all_from (IsLaterInPosition l) (IsLaterInPosition l) (IsLaterOnSameSide l) (λ m a b. (a.0.0, a.1)) ls p.1 p.1), climbs_of ls p.2)
 
 pub distinct_of : (ls : List Lot) → IsPosition ls → Distinct ls
 distinct_of [] p = tt
-distinct_of (l ∷ ls) p = (all_from (IsAfter l) (IsAfter l) (λ m. m.trade ≢ l.trade) (λ m a b. a.0.1) ls p.1 p.1, distinct_of ls p.2)
+distinct_of (l ∷ ls) p = (all_from (IsLaterInPosition l) (IsLaterInPosition l) (λ m. m.trade ≢ l.trade) (λ m a b. a.0.1) ls p.1 p.1, distinct_of ls p.2)
 
-pub position_of : (ls : List Lot) → IsByOpening ls → Distinct ls → IsPosition ls
+pub position_of : (ls : List Lot) → IsOneSidedByStamp ls → Distinct ls → IsPosition ls
 position_of [] c d = tt
-position_of (l ∷ ls) c d = (c.0, all_from (IsHigher l) (λ m. m.trade ≢ l.trade) (IsAfter l) (λ m a b. ((a.0, b), a.1)) ls (higher_all l ls c.1 c.2) d.0, position_of ls c.2 d.1)
+position_of (l ∷ ls) c d = (c.0, all_from (IsLaterOnSameSide l) (λ m. m.trade ≢ l.trade) (IsLaterInPosition l) (λ m a b. ((a.0, b), a.1)) ls (higher_all l ls c.1 c.2) d.0, position_of ls c.2 d.1)
 
 -- ---- neighbours of sorted lots
 
@@ -58,11 +58,11 @@ ascends_of n (l ∷ ls) h = (
   ascends_of n ls (λ i j d p q. h (suc i) (suc j) d (omega (arith, p)) (omega (arith, q))),
 )
 
-pub differ_of : (ls : List Lot) → Distinct ls → Differ ls
+pub differ_of : (ls : List Lot) → Distinct ls → NeighboursDifferInTrade ls
 differ_of [] d = tt
 differ_of (l ∷ ls) d = (first_of_all (λ m. m.trade ≢ l.trade) ls d.0, differ_of ls d.1)
 
-pub distinct_by : (ls : List Lot) → Ascends (λ l. l.trade) ls → Differ ls → Distinct ls
+pub distinct_by : (ls : List Lot) → Ascends (λ l. l.trade) ls → NeighboursDifferInTrade ls → Distinct ls
 distinct_by [] a d = tt
 distinct_by (l ∷ []) a d = (tt, tt)
 distinct_by (l ∷ m ∷ ls) a d =
@@ -78,11 +78,11 @@ distinct_by (l ∷ m ∷ ls) a d =
 abbrev of_trade : ℕ → Lot → ℕ
 of_trade n l = cond (eqb l.trade n) 1 0
 
-new_none : (n : ℕ) (ls : List Lot) → IsNew n ls → sum_by (of_trade n) ls ≡ 0
+new_none : (n : ℕ) (ls : List Lot) → AreOpenedByOtherTrades n ls → sum_by (of_trade n) ls ≡ 0
 new_none n [] h = refl
 new_none n (l ∷ ls) h = sum_by-cons (of_trade n) l ls ∙ rw (ne_eqb l.trade n h.0) (omega (arith, new_none n ls h.1))
 
-none_new : (n : ℕ) (ls : List Lot) → sum_by (of_trade n) ls ≡ 0 → IsNew n ls
+none_new : (n : ℕ) (ls : List Lot) → sum_by (of_trade n) ls ≡ 0 → AreOpenedByOtherTrades n ls
 none_new n [] e = tt
 none_new n (l ∷ ls) e =
     let s = sum_by-cons (of_trade n) l ls in
@@ -94,7 +94,7 @@ counts [] d n = omega arith
 counts (l ∷ ls) d n = rw (sum_by-cons (of_trade n) l ls) (at (cases_eq l.trade n) (counts ls d.1 n)) where
   at : (l.trade ≡ n) ⊎ (l.trade ≡ n → ⊥) → sum_by (of_trade n) ls ≤ 1 → of_trade n l + sum_by (of_trade n) ls ≤ 1
   at (inl e) h =
-      let none : sum_by (of_trade n) ls ≡ 0 = new_none n ls (subst (λ m. IsNew m ls) e d.0) in
+      let none : sum_by (of_trade n) ls ≡ 0 = new_none n ls (subst (λ m. AreOpenedByOtherTrades m ls) e d.0) in
       let one : of_trade n l ≡ 1 = ap (λ b. cond b 1 0) (eq-eqb l.trade n e) in
       omega (arith, none, one)
   at (inr e) h =
@@ -154,16 +154,16 @@ no_later n l = cond (ltb n l.stamp) 0 1
 abbrev beside : Lot → Lot → ℕ
 beside m l = cond (eqb l.stamp m.stamp) (cond (same_lot l m) 0 1) 0
 
-pub one_order : (xs ys : List Lot) → IsByOpening xs → Ascends (λ l. l.stamp) ys → ((f : Lot → ℕ) → sum_by f ys ≡ sum_by f xs) → ys ≡ xs
+pub one_order : (xs ys : List Lot) → IsOneSidedByStamp xs → Ascends (λ l. l.stamp) ys → ((f : Lot → ℕ) → sum_by f ys ≡ sum_by f xs) → ys ≡ xs
 one_order [] [] c a h = refl
 one_order [] (y ∷ ys) c a h = let e = h (λ l. 1) in absurd (omega (arith, e, sum_by-cons (λ (l : Lot). 1) y ys))
 one_order (x ∷ xs) [] c a h = let e = h (λ l. 1) in absurd (omega (arith, e, sum_by-cons (λ (l : Lot). 1) x xs))
 one_order (x ∷ xs) (y ∷ ys) c a h =
-    let up : AllByRecursion (IsHigher x) xs = higher_all x xs c.1 c.2 in
+    let up : AllByRecursion (IsLaterOnSameSide x) xs = higher_all x xs c.1 c.2 in
     let none_older : sum_by (older x.stamp) (x ∷ xs) ≡ 0 =
-    sum_none (older x.stamp) (x ∷ xs) (ap (λ b. cond b 1 0) (le-ltb x.stamp x.stamp (omega arith)), all_from (IsHigher x) (IsHigher x) (λ l. older x.stamp l ≡ 0) (λ l p q. ap (λ b. cond b 1 0) (le-ltb l.stamp x.stamp (let r = p.1 in omega (arith, r)))) xs up up) in
+    sum_none (older x.stamp) (x ∷ xs) (ap (λ b. cond b 1 0) (le-ltb x.stamp x.stamp (omega arith)), all_from (IsLaterOnSameSide x) (IsLaterOnSameSide x) (λ l. older x.stamp l ≡ 0) (λ l p q. ap (λ b. cond b 1 0) (le-ltb l.stamp x.stamp (let r = p.1 in omega (arith, r)))) xs up up) in
     let none_beside : sum_by (beside x) (x ∷ xs) ≡ 0 =
-    sum_none (beside x) (x ∷ xs) (rw (eq-eqb x.stamp x.stamp refl, same_self x) refl, all_from (IsHigher x) (IsHigher x) (λ l. beside x l ≡ 0) (λ l p q. ap (λ b. cond b (cond (same_lot l x) 0 1) 0) (ne_eqb l.stamp x.stamp (λ e. let r = p.1 in absurd (omega (arith, r, e))))) xs up up) in
+    sum_none (beside x) (x ∷ xs) (rw (eq-eqb x.stamp x.stamp refl, same_self x) refl, all_from (IsLaterOnSameSide x) (IsLaterOnSameSide x) (λ l. beside x l ≡ 0) (λ l p q. ap (λ b. cond b (cond (same_lot l x) 0 1) 0) (ne_eqb l.stamp x.stamp (λ e. let r = p.1 in absurd (omega (arith, r, e))))) xs up up) in
     let low : x.stamp ≤ y.stamp = elim (cases_Bool (ltb y.stamp x.stamp)) [
       | inl e ↦
           let one : older x.stamp y ≡ 1 = ap (λ b. cond b 1 0) e in

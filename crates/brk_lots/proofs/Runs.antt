@@ -5,7 +5,7 @@ use Rattle.std.proofs.lemmas.List.{length-replicate}
 use Rattle.std.proofs.lemmas.List.Sums.{sum_by-append}
 use Rattle.std.proofs.lemmas.List.Folds.{sum_by-replicate}
 use Rattle.std.proofs.lemmas.Bool.{eq-eqb, ne_eqb}
-use Rattle.brk_model.specs.Shares.{Share, signed}
+use Rattle.brk_model.specs.Shares.{Share, signed_by_side}
 use Rattle.brk_lots.specs.declared.lot.Lot.{Lot}
 use Rattle.brk_lots.specs.Lots.{side_of_qty}
 
@@ -24,14 +24,14 @@ without lifo k us = cond lifo (take (length us - k) us) (drop k us)
 -- the lot of n shares such as u, or none
 abbrev pub run_lots : ℕ → Share → List Lot
 run_lots zero u = []
-run_lots (suc n) u = record { trade = u.trade; price = u.price; qty = signed u.side (suc n); stamp = u.stamp } ∷ []
+run_lots (suc n) u = record { trade = u.trade; price = u.price; qty = signed_by_side u.side (suc n); stamp = u.stamp } ∷ []
 
 pub size_positive : (z : ℤ) → z ≢ pos 0 → 0 < unsigned_abs z
 size_positive (pos zero) h = absurd (h refl)
 size_positive (pos (suc n)) h = omega arith
 size_positive (negsuc n) h = omega arith
 
-pub signed_back : (z : ℤ) → signed (side_of_qty z) (unsigned_abs z) ≡ z
+pub signed_back : (z : ℤ) → signed_by_side (side_of_qty z) (unsigned_abs z) ≡ z
 signed_back (pos n) = refl
 signed_back (negsuc n) = refl
 

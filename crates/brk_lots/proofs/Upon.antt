@@ -6,14 +6,14 @@ use Rattle.std.proofs.lemmas.List.{map-append}
 use Rattle.std.proofs.lemmas.List.Elements.{filter-append}
 use Rattle.std.proofs.lemmas.List.Sums.{sum_by-append}
 use Rattle.brk_model.specs.Shares as model
-use Rattle.brk_model.specs.Shares.{Share, Deal, firsts, lots, touches, opened_share, closed_count, shares_after}
+use Rattle.brk_model.specs.Shares.{Share, Deal, first_shares_of_lots, lots_of_shares, touches_of_existing_lots, opened_share, closed_share_count_of_deal, shares_after_deal}
 use Rattle.brk_lots.specs.declared.closing.Closing.{Closing}
 use Rattle.brk_lots.specs.declared.lot.Lot.{Lot}
 use Rattle.brk_lots.specs.declared.lot.Touch.{Touch}
-use Rattle.brk_lots.specs.Closing.{IsClosing}
-use Rattle.brk_lots.specs.Lots.{share_of, shares_of, from_end, plain_lot, plain_touch}
-use Rattle.brk_lots.specs.Position.{IsWalk, IsNew}
-use Rattle.brk_lots.specs.Walks.{met, rows_taken, paid, bought, sold}
+use Rattle.brk_lots.specs.Closing.{IsClosingOfDeal}
+use Rattle.brk_lots.specs.Lots.{share_of_lot, shares_of_lots, list_in_closing_order, abstract_lot, abstract_touch}
+use Rattle.brk_lots.specs.Position.{IsPositionInAnyOrder, AreOpenedByOtherTrades}
+use Rattle.brk_lots.specs.Walks.{closed_share_count, touches_of_first_shares, cost_of_first_shares, buy_value_by_side, sell_value_by_side}
 use Rattle.brk_lots.proofs.Runs.{count_of, cost, without, run_lots}
 use Rattle.brk_lots.proofs.Changes.{row, changes, firsts_walk, changes_walk, cost_taken}
 use Rattle.brk_lots.proofs.Ends.{reverse_first, all_end, walk_end, shares_end, without_end, shares_reverse, met_end}
@@ -47,11 +47,11 @@ map_reverse {X} {Y} f (u ∷ us) =
     ∙ ap (λ (vs : List Y). vs ++ f u ∷ []) (map_reverse f us) ∙ sym (reverse_first (f u) (map f us))
 
 -- a walk from an end has the rows of the position, from that end
-pub changes_end : (lifo : Bool) (k r : ℕ) (u : Share) (ls : List Lot) → IsWalk ls → changes (shares_of (from_end lifo ls)) (drop k (shares_of (from_end lifo ls)) ++ replicate r u) ≡ from_end lifo (changes (shares_of ls) (without lifo k (shares_of ls) ++ replicate r u))
+pub changes_end : (lifo : Bool) (k r : ℕ) (u : Share) (ls : List Lot) → IsPositionInAnyOrder ls → changes (shares_of_lots (list_in_closing_order lifo ls)) (drop k (shares_of_lots (list_in_closing_order lifo ls)) ++ replicate r u) ≡ list_in_closing_order lifo (changes (shares_of_lots ls) (without lifo k (shares_of_lots ls) ++ replicate r u))
 changes_end false k r u ls w = refl
 changes_end true k r u ls w =
-    let us = shares_of ls in
-    let vs = shares_of (reverse ls) in
+    let us = shares_of_lots ls in
+    let vs = shares_of_lots (reverse ls) in
     let b = λ (t : ℕ). count_of t vs in
     let a = λ (t : ℕ). count_of t (drop k vs ++ replicate r u) in
     let b' = λ (t : ℕ). count_of t us in
@@ -62,86 +62,86 @@ changes_end true k r u ls w =
     sum_by-append (λ (v : Share). cond (eqb v.trade t) 1 0) (drop k vs) (replicate r u)
     ∙ ap (λ n. n + count_of t (replicate r u)) (d t)
     ∙ sym (sum_by-append (λ (v : Share). cond (eqb v.trade t) 1 0) (without true k us) (replicate r u)) in
-    ap (λ (ws : List Share). map (row b a) (filter (changed b a) ws)) (firsts_walk (reverse ls) (walk_end true ls w) ∙ map_reverse share_of ls ∙ ap reverse (sym (firsts_walk ls w)))
-    ∙ rows_same b b' a a' e f (reverse (firsts us))
-    ∙ ap (map (row b' a')) (filter_reverse (changed b' a') (firsts us))
-    ∙ map_reverse (row b' a') (filter (changed b' a') (firsts us))
+    ap (λ (ws : List Share). map (row b a) (filter (changed b a) ws)) (firsts_walk (reverse ls) (walk_end true ls w) ∙ map_reverse share_of_lot ls ∙ ap reverse (sym (firsts_walk ls w)))
+    ∙ rows_same b b' a a' e f (reverse (first_shares_of_lots us))
+    ∙ ap (map (row b' a')) (filter_reverse (changed b' a') (first_shares_of_lots us))
+    ∙ map_reverse (row b' a') (filter (changed b' a') (first_shares_of_lots us))
 
 -- ---- what the definitions say of the rows, and back
 
-map_end : {X Y : Type 0} (f : X → Y) (lifo : Bool) (xs : List X) → map f (from_end lifo xs) ≡ from_end lifo (map f xs)
+map_end : {X Y : Type 0} (f : X → Y) (lifo : Bool) (xs : List X) → map f (list_in_closing_order lifo xs) ≡ list_in_closing_order lifo (map f xs)
 map_end f true xs = map_reverse f xs
 map_end f false xs = refl
 
-touches_same : (xs ys : List Touch) → map plain_touch xs ≡ map plain_touch ys → xs ≡ ys
+touches_same : (xs ys : List Touch) → map abstract_touch xs ≡ map abstract_touch ys → xs ≡ ys
 touches_same [] [] e = refl
 touches_same [] (y ∷ ys) e = cc
 touches_same (x ∷ xs) [] e = cc
 touches_same (x ∷ xs) (y ∷ ys) e =
-    let here : plain_touch x ≡ plain_touch y = cc in
-    let rest : map plain_touch xs ≡ map plain_touch ys = cc in
+    let here : abstract_touch x ≡ abstract_touch y = cc in
+    let rest : map abstract_touch xs ≡ map abstract_touch ys = cc in
     let same : x ≡ y = ap (λ (t : model.Touch). record { lot = t.lot; before = t.before; after = t.after }) here in
     ap (λ (t : Touch). t ∷ xs) same ∙ ap (λ (ts : List Touch). y ∷ ts) (touches_same xs ys rest)
 
-lots_same : (xs ys : List Lot) → map plain_lot xs ≡ map plain_lot ys → xs ≡ ys
+lots_same : (xs ys : List Lot) → map abstract_lot xs ≡ map abstract_lot ys → xs ≡ ys
 lots_same [] [] e = refl
 lots_same [] (y ∷ ys) e = cc
 lots_same (x ∷ xs) [] e = cc
 lots_same (x ∷ xs) (y ∷ ys) e =
-    let here : plain_lot x ≡ plain_lot y = cc in
-    let rest : map plain_lot xs ≡ map plain_lot ys = cc in
+    let here : abstract_lot x ≡ abstract_lot y = cc in
+    let rest : map abstract_lot xs ≡ map abstract_lot ys = cc in
     let same : x ≡ y = ap (λ (l : model.Lot). record { trade = l.trade; price = l.price; qty = l.qty; stamp = l.stamp }) here in
     ap (λ (l : Lot). l ∷ xs) same ∙ ap (λ (ls : List Lot). y ∷ ls) (lots_same xs ys rest)
 
 -- as many shares are met from either end as the deal closes
-pub met_closes : (d : Deal) (ls : List Lot) → IsWalk ls → met d.side d.qty (from_end d.is_lifo ls) ≡ closed_count d (shares_of ls)
+pub met_closes : (d : Deal) (ls : List Lot) → IsPositionInAnyOrder ls → closed_share_count d.side d.qty (list_in_closing_order d.is_lifo ls) ≡ closed_share_count_of_deal d (shares_of_lots ls)
 met_closes d ls w = met_end d.is_lifo d.side d.qty ls w ∙ met_is d ls w
 
 -- the rows that the walk writes are the touches of the deal
-pub rows_are : (d : Deal) (ls : List Lot) → IsWalk ls → IsNew d.trade ls
-    → map plain_touch (rows_taken (met d.side d.qty (from_end d.is_lifo ls)) (from_end d.is_lifo ls)) ≡ from_end d.is_lifo (touches d (shares_of ls))
+pub rows_are : (d : Deal) (ls : List Lot) → IsPositionInAnyOrder ls → AreOpenedByOtherTrades d.trade ls
+    → map abstract_touch (touches_of_first_shares (closed_share_count d.side d.qty (list_in_closing_order d.is_lifo ls)) (list_in_closing_order d.is_lifo ls)) ≡ list_in_closing_order d.is_lifo (touches_of_existing_lots d (shares_of_lots ls))
 rows_are d ls w fresh =
-    let us = shares_of ls in
-    let k = met d.side d.qty (from_end d.is_lifo ls) in
+    let us = shares_of_lots ls in
+    let k = closed_share_count d.side d.qty (list_in_closing_order d.is_lifo ls) in
     let u = opened_share d in
-    let same : k ≡ closed_count d us = met_closes d ls w in
+    let same : k ≡ closed_share_count_of_deal d us = met_closes d ls w in
     let side = walk_side ls w in
     let one : OneSide side.0 us = all_shares (λ v. v.side ≡ side.0) ls side.1 in
-    let left : OneSide side.0 (without d.is_lifo (closed_count d us) us) = all_without (λ v. v.side ≡ side.0) d.is_lifo (closed_count d us) us one in
-    let after : without d.is_lifo k us ++ replicate (d.qty - k) u ≡ shares_after us d =
+    let left : OneSide side.0 (without d.is_lifo (closed_share_count_of_deal d us) us) = all_without (λ v. v.side ≡ side.0) d.is_lifo (closed_share_count_of_deal d us) us one in
+    let after : without d.is_lifo k us ++ replicate (d.qty - k) u ≡ shares_after_deal us d =
     ap (λ n. without d.is_lifo n us ++ replicate (d.qty - n) u) same ∙ sym (after_is d us) in
-    ap (map plain_touch) (sym (changes_walk k (d.qty - k) u (from_end d.is_lifo ls) (walk_end d.is_lifo ls w) (all_end (λ l. l.trade ≢ d.trade) d.is_lifo ls fresh))
+    ap (map abstract_touch) (sym (changes_walk k (d.qty - k) u (list_in_closing_order d.is_lifo ls) (walk_end d.is_lifo ls w) (all_end (λ l. l.trade ≢ d.trade) d.is_lifo ls fresh))
     ∙ changes_end d.is_lifo k (d.qty - k) u ls w
-    ∙ ap (λ (vs : List Share). from_end d.is_lifo (changes us vs)) after)
-    ∙ map_end plain_touch d.is_lifo (changes us (shares_after us d))
-    ∙ ap (from_end d.is_lifo) (sym (touches_are d side.0 us one left (all_shares (λ v. v.trade ≢ d.trade) ls fresh)))
+    ∙ ap (λ (vs : List Share). list_in_closing_order d.is_lifo (changes us vs)) after)
+    ∙ map_end abstract_touch d.is_lifo (changes us (shares_after_deal us d))
+    ∙ ap (list_in_closing_order d.is_lifo) (sym (touches_are d side.0 us one left (all_shares (λ v. v.trade ≢ d.trade) ls fresh)))
 
 -- what the loop takes is the closing of the deal
-pub closes : (d : Deal) (ls : List Lot) (closing : Closing) → IsWalk ls → IsNew d.trade ls
-    → let walk = from_end d.is_lifo ls in let k = met d.side d.qty walk in
-    closing.touched.items ≡ rows_taken k walk
-    → map plain_lot (option_to_list closing.opened) ≡ lots (replicate (d.qty - k) (opened_share d))
-    → closing.buy_value ≡ pos (bought d.side (k * d.price) (paid k walk))
-    → closing.sell_value ≡ pos (sold d.side (k * d.price) (paid k walk))
-    → IsClosing d ls closing
+pub closes : (d : Deal) (ls : List Lot) (closing : Closing) → IsPositionInAnyOrder ls → AreOpenedByOtherTrades d.trade ls
+    → let walk = list_in_closing_order d.is_lifo ls in let k = closed_share_count d.side d.qty walk in
+    closing.touched.items ≡ touches_of_first_shares k walk
+    → map abstract_lot (option_to_list closing.opened) ≡ lots_of_shares (replicate (d.qty - k) (opened_share d))
+    → closing.buy_value ≡ pos (buy_value_by_side d.side (k * d.price) (cost_of_first_shares k walk))
+    → closing.sell_value ≡ pos (sell_value_by_side d.side (k * d.price) (cost_of_first_shares k walk))
+    → IsClosingOfDeal d ls closing
 closes d ls closing w fresh rows lot buy sell =
-    let us = shares_of ls in
-    let walk = from_end d.is_lifo ls in
-    let k = met d.side d.qty walk in
-    let same : k ≡ closed_count d us = met_closes d ls w in
-    let taken : paid k walk ≡ cost (take (closed_count d us) (from_end d.is_lifo us)) =
-    sym (cost_taken k walk) ∙ ap (λ (vs : List Share). cost (take k vs)) (shares_end d.is_lifo ls) ∙ ap (λ n. cost (take n (from_end d.is_lifo us))) same in
+    let us = shares_of_lots ls in
+    let walk = list_in_closing_order d.is_lifo ls in
+    let k = closed_share_count d.side d.qty walk in
+    let same : k ≡ closed_share_count_of_deal d us = met_closes d ls w in
+    let taken : cost_of_first_shares k walk ≡ cost (take (closed_share_count_of_deal d us) (list_in_closing_order d.is_lifo us)) =
+    sym (cost_taken k walk) ∙ ap (λ (vs : List Share). cost (take k vs)) (shares_end d.is_lifo ls) ∙ ap (λ n. cost (take n (list_in_closing_order d.is_lifo us))) same in
     record {
-      touched = ap (map plain_touch) rows ∙ rows_are d ls w fresh;
-      opened = lot ∙ ap (λ n. lots (replicate (d.qty - n) (opened_share d))) same;
-      bought = buy ∙ ap (λ n. pos (bought d.side (n * d.price) (paid k walk))) same ∙ ap (λ n. pos (bought d.side (closed_count d us * d.price) n)) taken ∙ ap (λ n. pos n) (sym (bought_is d us));
-      sold = sell ∙ ap (λ n. pos (sold d.side (n * d.price) (paid k walk))) same ∙ ap (λ n. pos (sold d.side (closed_count d us * d.price) n)) taken ∙ ap (λ n. pos n) (sym (sold_is d us));
+      touched = ap (map abstract_touch) rows ∙ rows_are d ls w fresh;
+      opened = lot ∙ ap (λ n. lots_of_shares (replicate (d.qty - n) (opened_share d))) same;
+      bought = buy ∙ ap (λ n. pos (buy_value_by_side d.side (n * d.price) (cost_of_first_shares k walk))) same ∙ ap (λ n. pos (buy_value_by_side d.side (closed_share_count_of_deal d us * d.price) n)) taken ∙ ap (λ n. pos n) (sym (bought_is d us));
+      sold = sell ∙ ap (λ n. pos (sell_value_by_side d.side (n * d.price) (cost_of_first_shares k walk))) same ∙ ap (λ n. pos (sell_value_by_side d.side (closed_share_count_of_deal d us * d.price) n)) taken ∙ ap (λ n. pos n) (sym (sold_is d us));
     }
 
 -- and back: the rows and the opened lot of a closing are those that the loop takes
-pub rows_back : (d : Deal) (ls : List Lot) (closing : Closing) → IsWalk ls → IsNew d.trade ls → IsClosing d ls closing
-    → closing.touched.items ≡ rows_taken (met d.side d.qty (from_end d.is_lifo ls)) (from_end d.is_lifo ls)
+pub rows_back : (d : Deal) (ls : List Lot) (closing : Closing) → IsPositionInAnyOrder ls → AreOpenedByOtherTrades d.trade ls → IsClosingOfDeal d ls closing
+    → closing.touched.items ≡ touches_of_first_shares (closed_share_count d.side d.qty (list_in_closing_order d.is_lifo ls)) (list_in_closing_order d.is_lifo ls)
 rows_back d ls closing w fresh h = touches_same _ _ (h.touched ∙ sym (rows_are d ls w fresh))
 
-pub opened_back : (d : Deal) (ls : List Lot) (closing : Closing) → IsClosing d ls closing → option_to_list closing.opened ≡ run_lots (d.qty - closed_count d (shares_of ls)) (opened_share d)
-opened_back d ls closing h = lots_same _ _ (h.opened ∙ lots_alike (d.qty - closed_count d (shares_of ls)) (opened_share d))
+pub opened_back : (d : Deal) (ls : List Lot) (closing : Closing) → IsClosingOfDeal d ls closing → option_to_list closing.opened ≡ run_lots (d.qty - closed_share_count_of_deal d (shares_of_lots ls)) (opened_share d)
+opened_back d ls closing h = lots_same _ _ (h.opened ∙ lots_alike (d.qty - closed_share_count_of_deal d (shares_of_lots ls)) (opened_share d))

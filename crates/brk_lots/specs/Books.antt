@@ -1,31 +1,31 @@
 -- Sums over lots, shares and lists of deals.
 use Rattle.std.specs.Prelude.{ℤ, pos, ◌+ℤ◌, ◌*ℤ◌, ◌*◌, List, [], ◌∷◌}
 use Rattle.brk_model.specs.Lists.{total_by}
-use Rattle.brk_model.specs.Shares.{Share, Deal, signed, shares_after, gain}
+use Rattle.brk_model.specs.Shares.{Share, Deal, signed_by_side, shares_after_deal, realised_gain}
 use Rattle.brk_lots.specs.declared.lot.Lot.{Lot}
 
 -- The sum of the signed quantities of the lots.
-abbrev pub lots_total : List Lot → ℤ
-lots_total ls = total_by (λ l. l.qty) ls
+abbrev pub lot_quantity_sum : List Lot → ℤ
+lot_quantity_sum ls = total_by (λ l. l.qty) ls
 
 -- The cost basis of the lots: the sum of signed quantity times price. It is negative for shares
 -- sold short.
-abbrev pub lots_cost : List Lot → ℤ
-lots_cost ls = total_by (λ l. l.qty *ℤ pos l.price) ls
+abbrev pub lot_cost_basis : List Lot → ℤ
+lot_cost_basis ls = total_by (λ l. l.qty *ℤ pos l.price) ls
 
 -- The cost basis of open shares: the sum of their prices, negative for shares sold short.
-abbrev pub open_cost : List Share → ℤ
-open_cost us = total_by (λ u. signed u.side u.price) us
+abbrev pub share_cost_basis : List Share → ℤ
+share_cost_basis us = total_by (λ u. signed_by_side u.side u.price) us
 
 -- The sum of the quantities of the deals, negative for sales.
-abbrev pub deals_total : List Deal → ℤ
-deals_total ds = total_by (λ d. signed d.side d.qty) ds
+abbrev pub deal_quantity_sum : List Deal → ℤ
+deal_quantity_sum ds = total_by (λ d. signed_by_side d.side d.qty) ds
 
 -- The value of all purchases minus the value of all sales.
-abbrev pub spent : List Deal → ℤ
-spent ds = total_by (λ d. signed d.side (d.qty * d.price)) ds
+abbrev pub purchases_minus_sales : List Deal → ℤ
+purchases_minus_sales ds = total_by (λ d. signed_by_side d.side (d.qty * d.price)) ds
 
 -- The sum of the realised gains of the deals, executed in order from the shares `us`.
-abbrev pub gains : List Deal → List Share → ℤ
-gains [] us = pos 0
-gains (d ∷ ds) us = gain d us +ℤ gains ds (shares_after us d)
+abbrev pub realised_gain_sum : List Deal → List Share → ℤ
+realised_gain_sum [] us = pos 0
+realised_gain_sum (d ∷ ds) us = realised_gain d us +ℤ realised_gain_sum ds (shares_after_deal us d)

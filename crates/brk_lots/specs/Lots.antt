@@ -16,28 +16,28 @@ side_of_qty (pos n) = Buy
 side_of_qty (negsuc n) = Sell
 
 -- One share of the lot, with the side, trade, price and stamp of the lot.
-abbrev pub share_of : Lot → Share
-share_of l = record { side = side_of_qty l.qty; trade = l.trade; price = l.price; stamp = l.stamp }
+abbrev pub share_of_lot : Lot → Share
+share_of_lot l = record { side = side_of_qty l.qty; trade = l.trade; price = l.price; stamp = l.stamp }
 
 -- The shares of the lots, lot by lot: as many equal shares as the quantity of the lot without its
 -- sign.
-abbrev pub shares_of : List Lot → List Share
-shares_of ls = flat_map (λ l. replicate (unsigned_abs l.qty) (share_of l)) ls
+abbrev pub shares_of_lots : List Lot → List Share
+shares_of_lots ls = flat_map (λ l. replicate (unsigned_abs l.qty) (share_of_lot l)) ls
 
 -- The list reversed if the first argument is true (last in, first out), otherwise the list
 -- unchanged.
-abbrev pub from_end : {X : Type 0} → Bool → List X → List X
-from_end true xs = reverse xs
-from_end false xs = xs
+abbrev pub list_in_closing_order : {X : Type 0} → Bool → List X → List X
+list_in_closing_order true xs = reverse xs
+list_in_closing_order false xs = xs
 
 -- The model's lot that corresponds to the lot `l` of the program.
-abbrev pub plain_lot : Lot → model.Lot
-plain_lot l = record { trade = l.trade; price = l.price; stamp = l.stamp; qty = l.qty }
+abbrev pub abstract_lot : Lot → model.Lot
+abstract_lot l = record { trade = l.trade; price = l.price; stamp = l.stamp; qty = l.qty }
 
 -- The model's touched lot that corresponds to `t` of the program.
-abbrev pub plain_touch : Touch → model.Touch
-plain_touch t = record { lot = t.lot; before = t.before; after = t.after }
+abbrev pub abstract_touch : Touch → model.Touch
+abstract_touch t = record { lot = t.lot; before = t.before; after = t.after }
 
 -- The model's deal that corresponds to the deal `d` of the program.
-abbrev pub plain_deal : Deal → model.Deal
-plain_deal d = record { trade = d.trade; side = d.side; qty = d.qty; price = d.price; stamp = d.stamp; is_lifo = d.lifo }
+abbrev pub abstract_deal : Deal → model.Deal
+abstract_deal d = record { trade = d.trade; side = d.side; qty = d.qty; price = d.price; stamp = d.stamp; is_lifo = d.lifo }

@@ -5,21 +5,21 @@ use Rattle.brk_lots.specs.declared.lot.Lot.{Lot}
 use Rattle.brk_lots.specs.Lots.{side_of_qty}
 
 -- The first lot of the list satisfies `P`. Vacuous if the list is empty.
-abbrev pub First : (Lot → Type 0) → List Lot → Type 0
-First P [] = ⊤
-First P (l ∷ ls) = P l
+abbrev pub FirstLotSatisfies : (Lot → Type 0) → List Lot → Type 0
+FirstLotSatisfies P [] = ⊤
+FirstLotSatisfies P (l ∷ ls) = P l
 
 -- The lot `m` has the side of the lot `l` and a later stamp.
-abbrev pub IsHigher : Lot → Lot → Type 0
-IsHigher l m = (side_of_qty m.qty ≡ side_of_qty l.qty) × (l.stamp < m.stamp)
+abbrev pub IsLaterOnSameSide : Lot → Lot → Type 0
+IsLaterOnSameSide l m = (side_of_qty m.qty ≡ side_of_qty l.qty) × (l.stamp < m.stamp)
 
 -- No lot of the list has 0 shares, and each lot after the first has the side of the lot before it
 -- and a later stamp.
-abbrev pub IsByOpening : List Lot → Type 0
-IsByOpening [] = ⊤
-IsByOpening (l ∷ ls) = (l.qty ≢ pos 0) × First (IsHigher l) ls × IsByOpening ls
+abbrev pub IsOneSidedByStamp : List Lot → Type 0
+IsOneSidedByStamp [] = ⊤
+IsOneSidedByStamp (l ∷ ls) = (l.qty ≢ pos 0) × FirstLotSatisfies (IsLaterOnSameSide l) ls × IsOneSidedByStamp ls
 
 -- No two neighbours of the list were opened by the same trade.
-abbrev pub Differ : List Lot → Type 0
-Differ [] = ⊤
-Differ (l ∷ ls) = First (λ m. m.trade ≢ l.trade) ls × Differ ls
+abbrev pub NeighboursDifferInTrade : List Lot → Type 0
+NeighboursDifferInTrade [] = ⊤
+NeighboursDifferInTrade (l ∷ ls) = FirstLotSatisfies (λ m. m.trade ≢ l.trade) ls × NeighboursDifferInTrade ls

@@ -3,66 +3,66 @@ use Rattle.std.specs.Prelude.{◌≡◌, ℕ, ◌+◌, ◌*◌, ◌-◌, min, na
 use Rattle.std.specs.List.{flat_map}
 use Rattle.std.specs.Ordering.{int_eq}
 use Rattle.std.specs.Int.RustNames.{unsigned_abs}
-use Rattle.brk_money.specs.Kinds.{same_side}
+use Rattle.brk_money.specs.Kinds.{is_same_side}
 use Rattle.brk_money.specs.declared.side.Side.{Side}
 use Rattle.brk_money.specs.declared.side.Side.TheVariants.{Buy, Sell}
-use Rattle.brk_model.specs.Shares.{signed}
+use Rattle.brk_model.specs.Shares.{signed_by_side}
 use Rattle.brk_lots.specs.declared.lot.Lot.{Lot}
 use Rattle.brk_lots.specs.declared.lot.Touch.{Touch}
-use Rattle.brk_lots.specs.Lots.{side_of_qty, shares_of}
+use Rattle.brk_lots.specs.Lots.{side_of_qty, shares_of_lots}
 
 -- The number of shares that a trade of `q` shares closes of the lots: 0 if the first lot has the
 -- side of the trade or there is none, otherwise the smaller of `q` and the number of all shares.
-abbrev pub met : Side → ℕ → List Lot → ℕ
-met side q [] = 0
-met side q (l ∷ ls) = if same_side (side_of_qty l.qty) side then 0 else min q (length (shares_of (l ∷ ls)))
+abbrev pub closed_share_count : Side → ℕ → List Lot → ℕ
+closed_share_count side q [] = 0
+closed_share_count side q (l ∷ ls) = if is_same_side (side_of_qty l.qty) side then 0 else min q (length (shares_of_lots (l ∷ ls)))
 
 -- The touched lots if the first `k` shares of the lots are closed.
-abbrev pub rows_taken : ℕ → List Lot → List Touch
-rows_taken k [] = []
-rows_taken k (l ∷ ls) =
+abbrev pub touches_of_first_shares : ℕ → List Lot → List Touch
+touches_of_first_shares k [] = []
+touches_of_first_shares k (l ∷ ls) =
     if nat_eq k 0 then []
-    else record { lot = l.trade; before = l.qty; after = signed (side_of_qty l.qty) (unsigned_abs l.qty - k) } ∷ rows_taken (k - unsigned_abs l.qty) ls
+    else record { lot = l.trade; before = l.qty; after = signed_by_side (side_of_qty l.qty) (unsigned_abs l.qty - k) } ∷ touches_of_first_shares (k - unsigned_abs l.qty) ls
 
 -- The value at which the first `k` shares of the lots were opened.
-abbrev pub paid : ℕ → List Lot → ℕ
-paid k [] = 0
-paid k (l ∷ ls) = min k (unsigned_abs l.qty) * l.price + paid (k - unsigned_abs l.qty) ls
+abbrev pub cost_of_first_shares : ℕ → List Lot → ℕ
+cost_of_first_shares k [] = 0
+cost_of_first_shares k (l ∷ ls) = min k (unsigned_abs l.qty) * l.price + cost_of_first_shares (k - unsigned_abs l.qty) ls
 
 -- The result of closing the lots `ls`: `over` is the quantity that closed no share, `taken` are the
 -- touched lots, and `cost` is the value at which the closed shares were opened.
-pub record IsTaken (side : Side) (qty : ℕ) (ls : List Lot) (taken : List Touch) (over cost : ℕ) : Type 0 where
-  pub left : over + met side qty ls ≡ qty
-  pub rows : taken ≡ rows_taken (met side qty ls) ls
-  pub shares : cost ≡ paid (met side qty ls) ls
+pub record IsCloseAgainstLots (side : Side) (qty : ℕ) (ls : List Lot) (taken : List Touch) (over cost : ℕ) : Type 0 where
+  pub left : over + closed_share_count side qty ls ≡ qty
+  pub rows : taken ≡ touches_of_first_shares (closed_share_count side qty ls) ls
+  pub shares : cost ≡ cost_of_first_shares (closed_share_count side qty ls) ls
 
 -- The buy value of closed shares: the traded value if the trade is a purchase, the opening value if
 -- it is a sale.
-abbrev pub bought : Side → ℕ → ℕ → ℕ
-bought Buy traded opened = traded
-bought Sell traded opened = opened
+abbrev pub buy_value_by_side : Side → ℕ → ℕ → ℕ
+buy_value_by_side Buy traded opened = traded
+buy_value_by_side Sell traded opened = opened
 
 -- The sell value of closed shares: the opening value if the trade is a purchase, the traded value
 -- if it is a sale.
-abbrev pub sold : Side → ℕ → ℕ → ℕ
-sold Buy traded opened = opened
-sold Sell traded opened = traded
+abbrev pub sell_value_by_side : Side → ℕ → ℕ → ℕ
+sell_value_by_side Buy traded opened = opened
+sell_value_by_side Sell traded opened = traded
 
 -- The quantity of the lot `l` after the touches: that of the first touch of this lot, or its own if
 -- there is none.
-abbrev pub qty_after : List Touch → Lot → ℤ
-qty_after [] l = l.qty
-qty_after (t ∷ ts) l = if nat_eq t.lot l.trade then t.after else qty_after ts l
+abbrev pub quantity_after_touches : List Touch → Lot → ℤ
+quantity_after_touches [] l = l.qty
+quantity_after_touches (t ∷ ts) l = if nat_eq t.lot l.trade then t.after else quantity_after_touches ts l
 
 -- The lot `l` with the quantity `qty`, as a list of one element, or the empty list if `qty` is 0.
-abbrev pub smaller : ℤ → Lot → List Lot
-smaller qty l = if int_eq qty (pos 0) then [] else record { trade = l.trade; price = l.price; qty = qty; stamp = l.stamp } ∷ []
+abbrev pub lot_with_quantity : ℤ → Lot → List Lot
+lot_with_quantity qty l = if int_eq qty (pos 0) then [] else record { trade = l.trade; price = l.price; qty = qty; stamp = l.stamp } ∷ []
 
 -- The rest of the lot `l` after the touches, as a list of one element, or the empty list if they
 -- close it.
-abbrev pub rest_of_lot : List Touch → Lot → List Lot
-rest_of_lot ts l = smaller (qty_after ts l) l
+abbrev pub rest_after_touches : List Touch → Lot → List Lot
+rest_after_touches ts l = lot_with_quantity (quantity_after_touches ts l) l
 
 -- The rests of the lots `ls` after the touches, without the lots that these close.
-abbrev pub lots_left : List Touch → List Lot → List Lot
-lots_left ts ls = flat_map (rest_of_lot ts) ls
+abbrev pub lots_after_touches : List Touch → List Lot → List Lot
+lots_after_touches ts ls = flat_map (rest_after_touches ts) ls

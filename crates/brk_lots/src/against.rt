@@ -4,11 +4,11 @@ ghost use Rattle.std.specs.Prelude.{◌≡◌, List, Bool, false, pos};
 ghost use Rattle.brk_model.specs.Shares as model;
 ghost use Rattle.brk_lots.specs.declared.lot.Lot.{Lot};
 ghost use Rattle.brk_lots.specs.Against.{closes_lots};
-ghost use Rattle.brk_lots.specs.Books.{lots_total};
-ghost use Rattle.brk_lots.specs.Closing.{IsClosing};
-ghost use Rattle.brk_lots.specs.Lots.{shares_of};
-ghost use Rattle.brk_lots.specs.Position.{IsNew, IsWalk};
-ghost use Rattle.brk_lots.specs.Values.{values_of};
+ghost use Rattle.brk_lots.specs.Books.{lot_quantity_sum};
+ghost use Rattle.brk_lots.specs.Closing.{IsClosingOfDeal};
+ghost use Rattle.brk_lots.specs.Lots.{shares_of_lots};
+ghost use Rattle.brk_lots.specs.Position.{AreOpenedByOtherTrades, IsPositionInAnyOrder};
+ghost use Rattle.brk_lots.specs.Values.{closing_values_of_deal};
 
 use crate::closing::{Closing, opened_lot};
 use crate::values::Values;
@@ -36,8 +36,8 @@ pub fn open_without_closing(
     price: Price,
     stamp: Stamp,
 ) -> Closing
-    ensures closing { (ls : List Lot) (lifo : Bool) → IsWalk ls → IsNew trade ls → closes_lots side (lots_total ls) ≡ false →
-        IsClosing (record { trade = trade; side = side; qty = qty; price = price; stamp = stamp; is_lifo = lifo }) ls result }
+    ensures closing { (ls : List Lot) (lifo : Bool) → IsPositionInAnyOrder ls → AreOpenedByOtherTrades trade ls → closes_lots side (lot_quantity_sum ls) ≡ false →
+        IsClosingOfDeal (record { trade = trade; side = side; qty = qty; price = price; stamp = stamp; is_lifo = lifo }) ls result }
     ensures bought { result.buy_value ≡ pos 0 }
     ensures sold { result.sell_value ≡ pos 0 }
 {
@@ -50,8 +50,8 @@ pub fn open_without_closing(
 }
 
 /// Returns the buy value and the sell value of an order that would close no share: both are 0.
-pub fn no_values() -> Values
-    ensures { (d : model.Deal) (ls : List Lot) → IsWalk ls → closes_lots d.side (lots_total ls) ≡ false → result ≡ values_of d (shares_of ls) }
+pub fn zero_values() -> Values
+    ensures { (d : model.Deal) (ls : List Lot) → IsPositionInAnyOrder ls → closes_lots d.side (lot_quantity_sum ls) ≡ false → result ≡ closing_values_of_deal d (shares_of_lots ls) }
 {
     Values {
         buy_value: Amount::new(0).unwrap(),

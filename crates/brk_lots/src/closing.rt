@@ -1,16 +1,16 @@
 ghost use Rattle.std.specs.Prelude.{◌≡◌, ◌+◌, ◌*◌, ◌≤◌, ◌≤ℤ◌, ℕ, List, Bool, drop, length, map, IfOk, IfErr, vec_len, ◌⊎◌, replicate, pos};
 ghost use Rattle.std.specs.Option.{option_to_list};
 ghost use Rattle.brk_model.specs.Limits.{greatest_price};
-ghost use Rattle.brk_model.specs.Shares.{lots, touches};
+ghost use Rattle.brk_model.specs.Shares.{lots_of_shares, touches_of_existing_lots};
 ghost use Rattle.brk_lots.specs.declared.lot.Lot.{Lot};
-ghost use Rattle.brk_lots.specs.Lots.{plain_lot, shares_of};
-ghost use Rattle.brk_lots.specs.Position.{IsNew};
-ghost use Rattle.brk_lots.specs.Closing.{IsClosing};
-ghost use Rattle.brk_lots.specs.Sources.{AreGiven, AsTold};
+ghost use Rattle.brk_lots.specs.Lots.{abstract_lot, shares_of_lots};
+ghost use Rattle.brk_lots.specs.Position.{AreOpenedByOtherTrades};
+ghost use Rattle.brk_lots.specs.Closing.{IsClosingOfDeal};
+ghost use Rattle.brk_lots.specs.Sources.{YieldsPosition, IsFaithfulRemainder};
 
 use crate::lot::{Lot, Touch, signed_qty};
 use crate::source::LotSource;
-use crate::walk::take_lots;
+use crate::walk::close_source_lots;
 use brk_money::{Fault, Id, Price, Qty, Side, Stamp, Wide};
 use std::alloc::Global;
 
@@ -36,7 +36,7 @@ pub(crate) fn opened_lot(
     price: Price,
     stamp: Stamp,
 ) -> Option<Lot>
-    ensures { map plain_lot (option_to_list result) ≡ lots (replicate shares (record { side = side; trade = trade; price = price; stamp = stamp })) }
+    ensures { map abstract_lot (option_to_list result) ≡ lots_of_shares (replicate shares (record { side = side; trade = trade; price = price; stamp = stamp })) }
 {
     if shares == 0 {
         return None;
@@ -67,8 +67,8 @@ pub fn close<L: LotSource>(
     ensures leads { L.leads source.old source.new }
     // Over the lots of a position from the trade's end, it is the effect of the trade on the shares
     // of that position.
-    ensures closing { IfOk result (λ closing. (ls : List Lot) (lifo : Bool) → AreGiven (AsTold (L.reads_faithfully source.new) (L.remaining source.old)) lifo ls → IsNew trade ls →
-        IsClosing (record { trade = trade; side = side; qty = qty; price = price; stamp = stamp; is_lifo = lifo }) ls closing) }
+    ensures closing { IfOk result (λ closing. (ls : List Lot) (lifo : Bool) → YieldsPosition (IsFaithfulRemainder (L.reads_faithfully source.new) (L.remaining source.old)) lifo ls → AreOpenedByOtherTrades trade ls →
+        IsClosingOfDeal (record { trade = trade; side = side; qty = qty; price = price; stamp = stamp; is_lifo = lifo }) ls closing) }
     // Both values are at least 0, and at most that of the quantity at the greatest price.
     ensures bought { IfOk result (λ closing. (pos 0 ≤ℤ closing.buy_value) × (closing.buy_value ≤ℤ pos (qty * greatest_price))) }
     ensures sold { IfOk result (λ closing. (pos 0 ≤ℤ closing.sell_value) × (closing.sell_value ≤ℤ pos (qty * greatest_price))) }
@@ -76,15 +76,15 @@ pub fn close<L: LotSource>(
     // Also if it fails, it has requested at most one lot a share, and at most one lot more than the
     // trade touches.
     ensures few { L.asked source.new ≤ L.asked source.old + qty }
-    ensures most { (ls : List Lot) (lifo : Bool) → AreGiven (AsTold (L.reads_faithfully source.new) (L.remaining source.old)) lifo ls → IsNew trade ls →
-        L.asked source.new ≤ L.asked source.old + length (touches (record { trade = trade; side = side; qty = qty; price = price; stamp = stamp; is_lifo = lifo }) (shares_of ls)) + 1 }
+    ensures most { (ls : List Lot) (lifo : Bool) → YieldsPosition (IsFaithfulRemainder (L.reads_faithfully source.new) (L.remaining source.old)) lifo ls → AreOpenedByOtherTrades trade ls →
+        L.asked source.new ≤ L.asked source.old + length (touches_of_existing_lots (record { trade = trade; side = side; qty = qty; price = price; stamp = stamp; is_lifo = lifo }) (shares_of_lots ls)) + 1 }
     // Every fault of the source is returned, unchanged.
     ensures faulted { IfOk result (λ closing. L.faulted source.new ≡ L.faulted source.old) }
     ensures fault { IfErr result (λ fault. (fault ≡ Fault.Memory) ⊎ ((before : L) × L.fails before fault source.new)) }
-    ensures rest { (ls : List Lot) → AsTold (L.reads_faithfully source.new) (L.remaining source.old) ls → (n : ℕ) × L.remaining source.new (drop n ls) }
+    ensures rest { (ls : List Lot) → IsFaithfulRemainder (L.reads_faithfully source.new) (L.remaining source.old) ls → (n : ℕ) × L.remaining source.new (drop n ls) }
 {
     let mut touched = Vec::new(alloc);
-    let taken = take_lots(source, side, qty, price, &mut touched)?;
+    let taken = close_source_lots(source, side, qty, price, &mut touched)?;
     Ok(Closing {
         touched,
         opened: opened_lot(side, taken.left, trade, price, stamp),

@@ -1,16 +1,16 @@
 ghost use Rattle.std.specs.Prelude.{◌≡◌, ◌++◌, ◌+◌, ◌<◌, ◌≤◌, Bool, ℕ, drop, slice_index_or, take, vec_capacity, vec_len};
 ghost use Rattle.brk_lots.specs.declared.lot.Lot.{Lot};
-ghost use Rattle.brk_lots.specs.Lots.{from_end};
-ghost use Rattle.brk_lots.specs.Position.{IsWalk};
-ghost use Rattle.brk_lots.specs.Walks.{rows_taken, lots_left, smaller};
+ghost use Rattle.brk_lots.specs.Lots.{list_in_closing_order};
+ghost use Rattle.brk_lots.specs.Position.{IsPositionInAnyOrder};
+ghost use Rattle.brk_lots.specs.Walks.{touches_of_first_shares, lots_after_touches, lot_with_quantity};
 
 use crate::lot::{Lot, Touch};
 
 // Closes the lots before the index `last`, and sets the quantity of the lot at it to `qty`, or
 // closes that lot too if `qty` is 0. Returns the index of the first remaining lot.
-fn cut_front(lots: &mut Vec<Lot>, last: usize, qty: i64) -> usize
+fn remove_front_lots(lots: &mut Vec<Lot>, last: usize, qty: i64) -> usize
     requires { last < vec_len lots.old }
-    ensures left { (lot : Lot) → lot ≡ slice_index_or lots.old.items last lot → drop result lots.new.items ≡ smaller qty lot ++ drop (last + 1) lots.old.items }
+    ensures left { (lot : Lot) → lot ≡ slice_index_or lots.old.items last lot → drop result lots.new.items ≡ lot_with_quantity qty lot ++ drop (last + 1) lots.old.items }
     ensures within { result ≤ vec_len lots.new }
     ensures capacity { vec_capacity lots.new ≡ vec_capacity lots.old }
     ensures len { vec_len lots.new ≡ vec_len lots.old }
@@ -24,9 +24,9 @@ fn cut_front(lots: &mut Vec<Lot>, last: usize, qty: i64) -> usize
 
 // Removes the lots after the index `last`, and sets the quantity of the lot at it to `qty`, or
 // removes that lot too if `qty` is 0.
-fn cut_back(lots: &mut Vec<Lot>, last: usize, qty: i64)
+fn remove_back_lots(lots: &mut Vec<Lot>, last: usize, qty: i64)
     requires { last < vec_len lots.old }
-    ensures left { (lot : Lot) → lot ≡ slice_index_or lots.old.items last lot → lots.new.items ≡ take last lots.old.items ++ smaller qty lot }
+    ensures left { (lot : Lot) → lot ≡ slice_index_or lots.old.items last lot → lots.new.items ≡ take last lots.old.items ++ lot_with_quantity qty lot }
     ensures capacity { vec_capacity lots.new ≡ vec_capacity lots.old }
     ensures len { vec_len lots.new ≤ vec_len lots.old }
     ensures within { last ≤ vec_len lots.new }
@@ -42,11 +42,11 @@ fn cut_back(lots: &mut Vec<Lot>, last: usize, qty: i64)
 // Applies the touched lots of a closing to the lots from the index `first` on. The touched lots are
 // at one end of these lots, and the last of them may remain with a smaller quantity. Returns the
 // index of the first remaining lot.
-pub(crate) fn cut_lots(lots: &mut Vec<Lot>, first: usize, touched: &[Touch]) -> usize
+pub(crate) fn apply_touches_to_lots(lots: &mut Vec<Lot>, first: usize, touched: &[Touch]) -> usize
     requires within { first ≤ vec_len lots.old }
-    requires walk { IsWalk (drop first lots.old.items) }
-    requires rows { (lifo : Bool) × (k : ℕ) × (touched.now ≡ rows_taken k (from_end lifo (drop first lots.old.items))) }
-    ensures left { drop result lots.new.items ≡ lots_left touched.now (drop first lots.old.items) }
+    requires walk { IsPositionInAnyOrder (drop first lots.old.items) }
+    requires rows { (lifo : Bool) × (k : ℕ) × (touched.now ≡ touches_of_first_shares k (list_in_closing_order lifo (drop first lots.old.items))) }
+    ensures left { drop result lots.new.items ≡ lots_after_touches touched.now (drop first lots.old.items) }
     ensures begins { result ≤ vec_len lots.new }
     ensures capacity { vec_capacity lots.new ≡ vec_capacity lots.old }
     ensures len { vec_len lots.new ≤ vec_len lots.old }
@@ -57,9 +57,9 @@ pub(crate) fn cut_lots(lots: &mut Vec<Lot>, first: usize, touched: &[Touch]) -> 
     }
     let qty = touched[count - 1].after;
     if touched[0].lot == lots[first].trade {
-        return cut_front(lots, first + count - 1, qty);
+        return remove_front_lots(lots, first + count - 1, qty);
     }
     let last = lots.len() - count;
-    cut_back(lots, last, qty);
+    remove_back_lots(lots, last, qty);
     first
 }

@@ -1,29 +1,29 @@
 ghost use Rattle.std.specs.Prelude.{◌≡◌, ◌≢◌, ◌<◌, IsTrue, IsPermutation, ◌↔◌};
 ghost use Rattle.std.specs.List.{All};
 ghost use Rattle.std.specs.List.Sorted.{IsNonDecreasingBy};
-ghost use Rattle.brk_lots.specs.Order.{IsByOpening, Differ, First, IsHigher};
+ghost use Rattle.brk_lots.specs.Order.{IsOneSidedByStamp, NeighboursDifferInTrade, FirstLotSatisfies, IsLaterOnSameSide};
 ghost use Rattle.brk_lots.specs.Position.{IsPosition};
 
-use crate::lot::{Lot, is_same};
+use crate::lot::{Lot, are_same_side};
 use brk_money::{Id, Stamp};
 
 // Returns true if `rest` is empty, or if its first lot has the side of `lot` and a later stamp.
-fn next_rises(lot: &Lot, rest: &[Lot]) -> bool
-    ensures { IsTrue result ↔ First (IsHigher lot.now) rest.now }
+fn next_lot_is_later_on_same_side(lot: &Lot, rest: &[Lot]) -> bool
+    ensures { IsTrue result ↔ FirstLotSatisfies (IsLaterOnSameSide lot.now) rest.now }
 {
     match rest {
         [] => true,
-        [next, ..] => is_same(next.side(), lot.side()) && lot.stamp.get() < next.stamp.get(),
+        [next, ..] => are_same_side(next.side(), lot.side()) && lot.stamp.get() < next.stamp.get(),
     }
 }
 
 // Returns true if no lot has 0 shares, all lots have one side, and their stamps are strictly
 // ascending.
-fn climbs(lots: &[Lot]) -> bool
-    ensures { IsTrue result ↔ IsByOpening lots.now }
+fn is_one_sided_by_stamp(lots: &[Lot]) -> bool
+    ensures { IsTrue result ↔ IsOneSidedByStamp lots.now }
 {
     for (i, lot) in lots.iter().enumerate() {
-        if lot.qty == 0 || !next_rises(lot, &lots[i + 1..]) {
+        if lot.qty == 0 || !next_lot_is_later_on_same_side(lot, &lots[i + 1..]) {
             return false;
         }
     }
@@ -31,8 +31,8 @@ fn climbs(lots: &[Lot]) -> bool
 }
 
 // Returns true if `rest` is empty, or if its first lot was opened by another trade.
-fn next_differs(trade: Id, rest: &[Lot]) -> bool
-    ensures { IsTrue result ↔ First (λ l. l.trade ≢ trade) rest.now }
+fn next_lot_is_of_other_trade(trade: Id, rest: &[Lot]) -> bool
+    ensures { IsTrue result ↔ FirstLotSatisfies (λ l. l.trade ≢ trade) rest.now }
 {
     match rest {
         [] => true,
@@ -41,11 +41,11 @@ fn next_differs(trade: Id, rest: &[Lot]) -> bool
 }
 
 // Returns true if no two neighbours were opened by the same trade.
-fn differ(lots: &[Lot]) -> bool
-    ensures { IsTrue result ↔ Differ lots.now }
+fn neighbours_differ_in_trade(lots: &[Lot]) -> bool
+    ensures { IsTrue result ↔ NeighboursDifferInTrade lots.now }
 {
     for (i, lot) in lots.iter().enumerate() {
-        if !next_differs(lot.trade, &lots[i + 1..]) {
+        if !next_lot_is_of_other_trade(lot.trade, &lots[i + 1..]) {
             return false;
         }
     }
@@ -75,17 +75,17 @@ pub(crate) fn is_position(lots: &mut [Lot]) -> bool
     ensures lots { lots.new ≡ lots.old }
     ensures lawful { IsTrue result ↔ IsPosition lots.old }
 {
-    if !climbs(lots) {
+    if !is_one_sided_by_stamp(lots) {
         return false;
     }
     sort_by_trade(lots);
-    let distinct = differ(lots);
+    let distinct = neighbours_differ_in_trade(lots);
     sort_by_stamp(lots);
     distinct
 }
 
 // Returns true if all lots were opened before the stamp and by other trades.
-pub(crate) fn all_older(lots: &[Lot], trade: Id, stamp: Stamp) -> bool
+pub(crate) fn all_precede_trade(lots: &[Lot], trade: Id, stamp: Stamp) -> bool
     ensures { IsTrue result ↔ All (λ l. (l.trade ≢ trade) × (l.stamp < stamp)) lots.now }
 {
     lots.iter()

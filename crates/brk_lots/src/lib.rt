@@ -17,11 +17,11 @@ pub mod source;
 pub mod values;
 mod walk;
 
-pub use against::{closes_lots, no_values, open_without_closing};
+pub use against::{closes_lots, open_without_closing, zero_values};
 pub use closing::{Closing, close};
 pub use deal::Deal;
 pub use end::PositionEnd;
-pub use lot::{Lot, Touch, is_same};
+pub use lot::{Lot, Touch, are_same_side};
 pub use position::Position;
 pub use replay::DealTouch;
 pub use source::LotSource;

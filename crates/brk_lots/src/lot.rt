@@ -1,7 +1,7 @@
 ghost use Rattle.std.specs.Prelude.{◌≡◌, ◌≤◌, ◌-◌};
 ghost use Rattle.std.specs.Int.RustNames.{unsigned_abs};
-ghost use Rattle.brk_money.specs.Kinds.{same_side};
-ghost use Rattle.brk_model.specs.Shares.{signed};
+ghost use Rattle.brk_money.specs.Kinds.{is_same_side};
+ghost use Rattle.brk_model.specs.Shares.{signed_by_side};
 ghost use Rattle.brk_lots.specs.Lots.{side_of_qty};
 
 use brk_money::{Id, Price, Side, Stamp};
@@ -37,16 +37,16 @@ impl Lot {
     }
 
     /// Returns the number of shares: the quantity without its sign.
-    pub fn size(&self) -> u64
+    pub fn share_count(&self) -> u64
         ensures { result ≡ unsigned_abs self.now.qty }
     {
         self.qty.unsigned_abs()
     }
 
     // Returns the quantity with `shares` shares less, with the sign of the lot.
-    fn less(&self, shares: u32) -> i64
+    fn quantity_without(&self, shares: u32) -> i64
         requires { shares ≤ unsigned_abs self.now.qty }
-        ensures { result ≡ signed (side_of_qty self.now.qty) (unsigned_abs self.now.qty - shares) }
+        ensures { result ≡ signed_by_side (side_of_qty self.now.qty) (unsigned_abs self.now.qty - shares) }
     {
         if self.qty < 0 {
             self.qty + i64::from(shares)
@@ -58,19 +58,19 @@ impl Lot {
     // Returns the change of the lot that closes `shares` of its shares.
     pub(crate) fn touch(&self, shares: u32) -> Touch
         requires { shares ≤ unsigned_abs self.now.qty }
-        ensures { result ≡ record { lot = self.now.trade; before = self.now.qty; after = signed (side_of_qty self.now.qty) (unsigned_abs self.now.qty - shares) } }
+        ensures { result ≡ record { lot = self.now.trade; before = self.now.qty; after = signed_by_side (side_of_qty self.now.qty) (unsigned_abs self.now.qty - shares) } }
     {
         Touch {
             lot: self.trade,
             before: self.qty,
-            after: self.less(shares),
+            after: self.quantity_without(shares),
         }
     }
 }
 
 /// Returns true if the two sides are equal.
-pub fn is_same(a: Side, b: Side) -> bool
-    ensures { result ≡ same_side a b }
+pub fn are_same_side(a: Side, b: Side) -> bool
+    ensures { result ≡ is_same_side a b }
 {
     match (a, b) {
         (Side::Buy, Side::Buy) | (Side::Sell, Side::Sell) => true,
@@ -80,7 +80,7 @@ pub fn is_same(a: Side, b: Side) -> bool
 
 // Returns the number of shares as a signed quantity: below 0 for a sale.
 pub(crate) fn signed_qty(side: Side, shares: u32) -> i64
-    ensures { result ≡ signed side shares }
+    ensures { result ≡ signed_by_side side shares }
 {
     match side {
         Side::Buy => i64::from(shares),

@@ -1,13 +1,13 @@
 ghost use Rattle.std.specs.Prelude.{◌≡◌, ℕ, List, [], map, IsTrue, ◌↔◌, OnOk, IfErr, MatchOption};
 ghost use Rattle.brk_model.specs.Shares as model;
-ghost use Rattle.brk_lots.specs.Lots.{shares_of, from_end, plain_lot};
-ghost use Rattle.brk_lots.specs.Position.{IsPosition, IsWalk, IsNew, AreOlder};
-ghost use Rattle.brk_lots.specs.Closing.{Applies};
+ghost use Rattle.brk_lots.specs.Lots.{shares_of_lots, list_in_closing_order, abstract_lot};
+ghost use Rattle.brk_lots.specs.Position.{IsPosition, IsPositionInAnyOrder, AreOpenedByOtherTrades, AreOpenedBefore};
+ghost use Rattle.brk_lots.specs.Closing.{IsApplicableClosing};
 
 use crate::closing::Closing;
-use crate::cutting::cut_lots;
+use crate::cutting::apply_touches_to_lots;
 use crate::end::PositionEnd;
-use crate::lawful::{all_older, is_position};
+use crate::lawful::{all_precede_trade, is_position};
 use crate::lot::Lot;
 use crate::source::LotSource;
 use brk_money::{Fault, Id, Stamp};
@@ -63,17 +63,17 @@ impl Position {
     pub fn lots(&self) -> &[Lot]
         ensures lots { result.now ≡ self.now }
         ensures lawful { IsPosition self.now }
-        ensures walk { IsWalk self.now }
+        ensures walk { IsPositionInAnyOrder self.now }
     {
         &self.lots[self.first..]
     }
 
     /// Returns true if a trade with this id and stamp can be applied to the position: it opened
     /// none of the lots, and its stamp is later than all of theirs.
-    pub fn takes(&self, trade: Id, stamp: Stamp) -> bool
-        ensures { IsTrue result ↔ (IsNew trade self.now × AreOlder stamp self.now) }
+    pub fn accepts_trade(&self, trade: Id, stamp: Stamp) -> bool
+        ensures { IsTrue result ↔ (AreOpenedByOtherTrades trade self.now × AreOpenedBefore stamp self.now) }
     {
-        all_older(self.lots(), trade, stamp)
+        all_precede_trade(self.lots(), trade, stamp)
     }
 
     /// Applies the closing of this position by a trade, from either end. The position then has the
@@ -81,13 +81,13 @@ impl Position {
     ///
     /// Fails with `Memory` only. The position is then unchanged.
     pub fn apply(&mut self, closing: &Closing) -> Result<(), Fault>
-        requires { (d : model.Deal) × Applies d self.old closing.now }
-        ensures shares { OnOk result ((d : model.Deal) → Applies d self.old closing.now → shares_of self.new ≡ model.shares_after (shares_of self.old) d) }
-        ensures lots { OnOk result ((d : model.Deal) → Applies d self.old closing.now → map plain_lot self.new ≡ model.lots (model.shares_after (shares_of self.old) d)) }
+        requires { (d : model.Deal) × IsApplicableClosing d self.old closing.now }
+        ensures shares { OnOk result ((d : model.Deal) → IsApplicableClosing d self.old closing.now → shares_of_lots self.new ≡ model.shares_after_deal (shares_of_lots self.old) d) }
+        ensures lots { OnOk result ((d : model.Deal) → IsApplicableClosing d self.old closing.now → map abstract_lot self.new ≡ model.lots_of_shares (model.shares_after_deal (shares_of_lots self.old) d)) }
         ensures err { IfErr result (λ fault. (fault ≡ Fault.Memory) × (self.new ≡ self.old)) }
     {
         self.lots.reserve(1)?;
-        self.first = cut_lots(&mut self.lots, self.first, &closing.touched);
+        self.first = apply_touches_to_lots(&mut self.lots, self.first, &closing.touched);
         if let Some(lot) = closing.opened {
             self.lots.push(lot)?;
         }
@@ -97,9 +97,9 @@ impl Position {
     /// Returns the lots as a source: from the back if `lifo`, otherwise from the front. Never
     /// allocates.
     pub fn from_end(&self, lifo: bool) -> PositionEnd<'_>
-        ensures remaining { ⟦<PositionEnd<'static> as LotSource>⟧.remaining result (from_end lifo self.now) }
+        ensures remaining { ⟦<PositionEnd<'static> as LotSource>⟧.remaining result (list_in_closing_order lifo self.now) }
         ensures asked { ⟦<PositionEnd<'static> as LotSource>⟧.asked result ≡ 0 }
-        ensures walk { IsWalk self.now }
+        ensures walk { IsPositionInAnyOrder self.now }
     {
         PositionEnd::new(self.lots(), lifo)
     }

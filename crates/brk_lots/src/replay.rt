@@ -1,10 +1,10 @@
 ghost use Rattle.std.specs.Prelude.{◌≡◌, ◌++◌, [], map, IfOk, IfErr, OnOk};
 ghost use Rattle.std.specs.Option.{option_to_list};
 ghost use Rattle.brk_model.specs.Shares.{replay};
-ghost use Rattle.brk_model.specs.Tables.{touch_row};
-ghost use Rattle.brk_lots.specs.Chains.{opening_touch, plain_row, replay_rows};
-ghost use Rattle.brk_lots.specs.Deals.{AreDeals};
-ghost use Rattle.brk_lots.specs.Lots.{shares_of, plain_deal, plain_lot, plain_touch};
+ghost use Rattle.brk_model.specs.Tables.{holding_history_row};
+ghost use Rattle.brk_lots.specs.Chains.{opening_touch, abstract_deal_touch, lot_changes_of_deals};
+ghost use Rattle.brk_lots.specs.Deals.{AreAscendingDeals};
+ghost use Rattle.brk_lots.specs.Lots.{shares_of_lots, abstract_deal, abstract_lot, abstract_touch};
 
 use crate::closing::{Closing, close};
 use crate::deal::Deal;
@@ -21,8 +21,8 @@ pub struct DealTouch {
 }
 
 // Appends the lots that a trade touched, in order. Fails with `Memory` only.
-fn add_touched(rows: &mut Vec<DealTouch>, trade: Id, touched: &[Touch]) -> Result<(), Fault>
-    ensures added { OnOk result (map plain_row rows.new.items ≡ map plain_row rows.old.items ++ map (touch_row trade) (map plain_touch touched.now)) }
+fn append_touched_lots(rows: &mut Vec<DealTouch>, trade: Id, touched: &[Touch]) -> Result<(), Fault>
+    ensures added { OnOk result (map abstract_deal_touch rows.new.items ≡ map abstract_deal_touch rows.old.items ++ map (holding_history_row trade) (map abstract_touch touched.now)) }
     ensures fault { IfErr result (λ fault. fault ≡ Fault.Memory) }
 {
     for touch in touched {
@@ -35,8 +35,8 @@ fn add_touched(rows: &mut Vec<DealTouch>, trade: Id, touched: &[Touch]) -> Resul
 }
 
 // Appends the lot that a trade opened, if it opened one. Fails with `Memory` only.
-fn add_opened(rows: &mut Vec<DealTouch>, trade: Id, opened: Option<Lot>) -> Result<(), Fault>
-    ensures added { OnOk result (map plain_row rows.new.items ≡ map plain_row rows.old.items ++ map (touch_row trade) (map opening_touch (map plain_lot (option_to_list opened)))) }
+fn append_opened_lot(rows: &mut Vec<DealTouch>, trade: Id, opened: Option<Lot>) -> Result<(), Fault>
+    ensures added { OnOk result (map abstract_deal_touch rows.new.items ≡ map abstract_deal_touch rows.old.items ++ map (holding_history_row trade) (map opening_touch (map abstract_lot (option_to_list opened)))) }
     ensures fault { IfErr result (λ fault. fault ≡ Fault.Memory) }
 {
     if let Some(lot) = opened {
@@ -52,21 +52,21 @@ fn add_opened(rows: &mut Vec<DealTouch>, trade: Id, opened: Option<Lot>) -> Resu
 
 // Appends the lots that a trade touched, in order, and then the lot that it opened. Fails with
 // `Memory` only.
-fn add_rows(rows: &mut Vec<DealTouch>, trade: Id, closing: &Closing) -> Result<(), Fault>
-    ensures added { OnOk result (map plain_row rows.new.items ≡ map plain_row rows.old.items
-        ++ map (touch_row trade) (map plain_touch closing.now.touched.items ++ map opening_touch (map plain_lot (option_to_list closing.now.opened)))) }
+fn append_lot_changes(rows: &mut Vec<DealTouch>, trade: Id, closing: &Closing) -> Result<(), Fault>
+    ensures added { OnOk result (map abstract_deal_touch rows.new.items ≡ map abstract_deal_touch rows.old.items
+        ++ map (holding_history_row trade) (map abstract_touch closing.now.touched.items ++ map opening_touch (map abstract_lot (option_to_list closing.now.opened)))) }
     ensures fault { IfErr result (λ fault. fault ≡ Fault.Memory) }
 {
-    add_touched(rows, trade, &closing.touched)?;
-    add_opened(rows, trade, closing.opened)
+    append_touched_lots(rows, trade, &closing.touched)?;
+    append_opened_lot(rows, trade, closing.opened)
 }
 
 impl Position {
     /// Returns the position after deals of distinct trades with ascending stamps. Fails with
     /// `Memory` only.
     pub fn replay(alloc: Global, deals: &[Deal]) -> Result<Position, Fault>
-        requires { AreDeals (map plain_deal deals.now) }
-        ensures shares { IfOk result (λ position. shares_of position ≡ replay (map plain_deal deals.now)) }
+        requires { AreAscendingDeals (map abstract_deal deals.now) }
+        ensures shares { IfOk result (λ position. shares_of_lots position ≡ replay (map abstract_deal deals.now)) }
         ensures fault { IfErr result (λ fault. fault ≡ Fault.Memory) }
     {
         let mut rows = Vec::new(alloc);
@@ -81,9 +81,9 @@ impl Position {
         deals: &[Deal],
         rows: &mut Vec<DealTouch>,
     ) -> Result<Position, Fault>
-        requires { AreDeals (map plain_deal deals.now) }
-        ensures shares { IfOk result (λ position. shares_of position ≡ replay (map plain_deal deals.now)) }
-        ensures rows { OnOk result (map plain_row rows.new.items ≡ map plain_row rows.old.items ++ replay_rows (map plain_deal deals.now) []) }
+        requires { AreAscendingDeals (map abstract_deal deals.now) }
+        ensures shares { IfOk result (λ position. shares_of_lots position ≡ replay (map abstract_deal deals.now)) }
+        ensures rows { OnOk result (map abstract_deal_touch rows.new.items ≡ map abstract_deal_touch rows.old.items ++ lot_changes_of_deals (map abstract_deal deals.now) []) }
         ensures fault { IfErr result (λ fault. fault ≡ Fault.Memory) }
     {
         let mut position = Position::new(alloc);
@@ -93,7 +93,7 @@ impl Position {
                 alloc, &mut end, deal.side, deal.qty, deal.trade, deal.price, deal.stamp,
             )?;
             position.apply(&closing)?;
-            add_rows(rows, deal.trade, &closing)?;
+            append_lot_changes(rows, deal.trade, &closing)?;
         }
         Ok(position)
     }

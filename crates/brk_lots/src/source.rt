@@ -5,8 +5,8 @@ ghost use Rattle.brk_money.specs.declared.fault.Fault.{Fault};
 use crate::lot::Lot;
 use brk_money::Fault;
 
-/// A source of the lots of a position from one of its ends. As long as it reads faithfully, it skips
-/// no lot and repeats none.
+/// A source of the lots of a position from one of its ends. As long as it reads faithfully, it
+/// skips no lot and repeats none.
 pub trait LotSource {
     /// Relates the source to the lots that remain, in the order in which it yields them.
     ghost remaining: { Self → List Lot → Type 0 };
@@ -19,7 +19,8 @@ pub trait LotSource {
     /// lead.
     ghost leads: { Self → Self → Type 0 };
 
-    /// The number of lots that were requested so far. A request that returned no lot need not count.
+    /// The number of lots that were requested so far. A request that returned no lot need not
+    /// count.
     ghost asked: { Self → ℕ };
 
     /// The number of faults so far.

@@ -1,15 +1,15 @@
 ghost use Rattle.std.specs.Prelude.{◌≡◌, ◌+◌, ◌≤◌, ℕ, List, Bool, drop, length, IfOk, IfErr};
 ghost use Rattle.brk_model.specs.Limits.{greatest_amount};
-ghost use Rattle.brk_model.specs.Shares.{touches};
+ghost use Rattle.brk_model.specs.Shares.{touches_of_existing_lots};
 ghost use Rattle.brk_lots.specs.declared.lot.Lot.{Lot};
-ghost use Rattle.brk_lots.specs.Lots.{shares_of};
-ghost use Rattle.brk_lots.specs.Position.{IsNew};
-ghost use Rattle.brk_lots.specs.Sources.{AreGiven, AsTold};
-ghost use Rattle.brk_lots.specs.Values.{values_by, values_of};
+ghost use Rattle.brk_lots.specs.Lots.{shares_of_lots};
+ghost use Rattle.brk_lots.specs.Position.{AreOpenedByOtherTrades};
+ghost use Rattle.brk_lots.specs.Sources.{YieldsPosition, IsFaithfulRemainder};
+ghost use Rattle.brk_lots.specs.Values.{closing_values_by_side, closing_values_of_deal};
 
 use crate::rows::NoRows;
 use crate::source::LotSource;
-use crate::walk::take_lots;
+use crate::walk::close_source_lots;
 use brk_money::{Amount, Fault, Price, Qty, Side};
 
 /// Buy value and sell value of the shares that an order would close, in cents.
@@ -21,10 +21,10 @@ pub struct Values {
 
 // Returns the buy value and the sell value of shares that a trade of the side closes at the value
 // `traded` and that were opened at the value `opened`.
-pub(crate) fn values_at(side: Side, traded: u64, opened: u64) -> Values
+pub(crate) fn closing_values(side: Side, traded: u64, opened: u64) -> Values
     requires traded { traded ≤ greatest_amount }
     requires opened { opened ≤ greatest_amount }
-    ensures { result ≡ values_by side traded opened }
+    ensures { result ≡ closing_values_by_side side traded opened }
 {
     let traded = Amount::new(traded).unwrap();
     let opened = Amount::new(opened).unwrap();
@@ -43,8 +43,8 @@ pub(crate) fn values_at(side: Side, traded: u64, opened: u64) -> Values
 /// Returns the buy value and the sell value of the shares that an order at `price` would close
 /// (Trade-Order). Changes no lot and never allocates.
 ///
-/// It requests at most one lot more than it would touch, also if it fails. Fails with a fault of the
-/// source only.
+/// It requests at most one lot more than it would touch, also if it fails. Fails with a fault of
+/// the source only.
 pub fn estimate_values<L: LotSource>(
     source: &mut L,
     side: Side,
@@ -55,19 +55,19 @@ pub fn estimate_values<L: LotSource>(
     // Over the lots of a position from the order's end, these are the values of exactly the shares
     // that a trade at that price would close.
     ensures values { IfOk result (λ values. (ls : List Lot) (trade stamp : ℕ) (lifo : Bool) →
-        AreGiven (AsTold (L.reads_faithfully source.new) (L.remaining source.old)) lifo ls →
-        values ≡ values_of (record { trade = trade; side = side; qty = qty; price = price; stamp = stamp; is_lifo = lifo }) (shares_of ls)) }
-    // It requests at most one lot a share, and at most one lot more than a trade that opened none of
-    // them would touch, also if it fails.
+        YieldsPosition (IsFaithfulRemainder (L.reads_faithfully source.new) (L.remaining source.old)) lifo ls →
+        values ≡ closing_values_of_deal (record { trade = trade; side = side; qty = qty; price = price; stamp = stamp; is_lifo = lifo }) (shares_of_lots ls)) }
+    // It requests at most one lot a share, and at most one lot more than a trade that opened none
+    // of them would touch, also if it fails.
     ensures few { L.asked source.new ≤ L.asked source.old + qty }
     ensures asked { (ls : List Lot) (trade stamp : ℕ) (lifo : Bool) →
-        AreGiven (AsTold (L.reads_faithfully source.new) (L.remaining source.old)) lifo ls → IsNew trade ls →
-        L.asked source.new ≤ L.asked source.old + length (touches (record { trade = trade; side = side; qty = qty; price = price; stamp = stamp; is_lifo = lifo }) (shares_of ls)) + 1 }
+        YieldsPosition (IsFaithfulRemainder (L.reads_faithfully source.new) (L.remaining source.old)) lifo ls → AreOpenedByOtherTrades trade ls →
+        L.asked source.new ≤ L.asked source.old + length (touches_of_existing_lots (record { trade = trade; side = side; qty = qty; price = price; stamp = stamp; is_lifo = lifo }) (shares_of_lots ls)) + 1 }
     // Every fault of the source is returned, unchanged.
     ensures faulted { IfOk result (λ values. L.faulted source.new ≡ L.faulted source.old) }
     ensures fault { IfErr result (λ fault. (before : L) × L.fails before fault source.new) }
-    ensures rest { (ls : List Lot) → AsTold (L.reads_faithfully source.new) (L.remaining source.old) ls → (n : ℕ) × L.remaining source.new (drop n ls) }
+    ensures rest { (ls : List Lot) → IsFaithfulRemainder (L.reads_faithfully source.new) (L.remaining source.old) ls → (n : ℕ) × L.remaining source.new (drop n ls) }
 {
-    let taken = take_lots(source, side, qty, price, &mut NoRows)?;
+    let taken = close_source_lots(source, side, qty, price, &mut NoRows)?;
     Ok(taken.values)
 }

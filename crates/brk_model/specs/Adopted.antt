@@ -7,21 +7,21 @@ use Rattle.brk_model.specs.Records.{Account, Security, StatusChange, Trade, Move
 use Rattle.brk_model.specs.Base.{Base}
 use Rattle.brk_model.specs.Derived.{Posting}
 use Rattle.brk_model.specs.Tables.{Tables, AccountRow, SecurityRow, LastTradeRow, TradeRow, CashRow, MoveRow}
-use Rattle.brk_model.specs.Joins.{history_in, trade_in}
+use Rattle.brk_model.specs.Joins.{history_rows_with_trade_id, trade_row_with_id}
 
 -- The account that a CUSTOMER_ACCOUNT row describes; the balance of the row is not used.
 abbrev pub account_of_row : AccountRow → Account
 account_of_row a = record { id = a.id; customer = a.customer; broker = a.broker; name = a.name; tax_status = a.tax_status; opening = a.opening }
 
 -- The status changes of the trade with the id `trade` in TRADE_HISTORY, sorted by stamp, ascending.
-abbrev pub marks_in : Tables → ℕ → List StatusChange
-marks_in tables trade = sort_by_key (λ m. m.stamp) (map (λ h. record { stamp = h.stamp; status = h.status }) (history_in tables trade))
+abbrev pub status_changes_of_trade : Tables → ℕ → List StatusChange
+status_changes_of_trade tables trade = sort_by_key (λ m. m.stamp) (map (λ h. record { stamp = h.stamp; status = h.status }) (history_rows_with_trade_id tables trade))
 
 -- The posting of a CASH_TRANSACTION row to the account of its trade; the account is 0 if the trade
 -- does not exist.
-abbrev pub posting_of_cash : Tables → CashRow → Posting
-posting_of_cash tables c = record {
-  account = option_map_or (λ t. t.account) (trade_in tables c.trade) 0;
+abbrev pub posting_of_cash_row : Tables → CashRow → Posting
+posting_of_cash_row tables c = record {
+  account = option_map_or (λ t. t.account) (trade_row_with_id tables c.trade) 0;
   trade = Some c.trade;
   stamp = c.stamp;
   amount = c.amount;
@@ -29,16 +29,16 @@ posting_of_cash tables c = record {
 }
 
 -- The posting of a CASH_MOVE row.
-abbrev pub posting_of_move : MoveRow → Posting
-posting_of_move r = record { account = r.account; trade = r.trade; stamp = r.stamp; amount = r.amount; name = r.name }
+abbrev pub posting_of_move_row : MoveRow → Posting
+posting_of_move_row r = record { account = r.account; trade = r.trade; stamp = r.stamp; amount = r.amount; name = r.name }
 
 -- The postings of all cash rows of the tables: of CASH_TRANSACTION, followed by those of CASH_MOVE.
-abbrev pub postings_in : Tables → List Posting
-postings_in tables = map (posting_of_cash tables) tables.cash ++ map posting_of_move tables.moves
+abbrev pub postings_of_tables : Tables → List Posting
+postings_of_tables tables = map (posting_of_cash_row tables) tables.cash ++ map posting_of_move_row tables.moves
 
 -- True if the posting `p` belongs to the trade with the id `trade`; false if it belongs to none.
-abbrev pub is_posted_by : ℕ → Posting → Bool
-is_posted_by trade p = option_map_or (λ id. id == trade) p.trade false
+abbrev pub is_posting_of_trade : ℕ → Posting → Bool
+is_posting_of_trade trade p = option_map_or (λ id. id == trade) p.trade false
 
 -- The movement that a CASH_MOVE row without a trade describes.
 abbrev pub movement_of_row : MoveRow → Movement
@@ -61,9 +61,9 @@ trade_of_row tables t = record {
   commission = t.commission;
   tax = t.tax;
   price = t.price;
-  marks = marks_in tables t.id;
+  marks = status_changes_of_trade tables t.id;
   cash_type = option_map_or (λ s. s.cash_type) (find (λ s. s.trade == t.id) tables.settlements) [];
-  cash_name = option_map_or (λ p. p.name) (find (is_posted_by t.id) (postings_in tables)) [];
+  cash_name = option_map_or (λ p. p.name) (find (is_posting_of_trade t.id) (postings_of_tables tables)) [];
 }
 
 -- The security that a SECURITY row and a LAST_TRADE row describe.
@@ -73,19 +73,19 @@ security_of_rows s l =
 
 -- The row that stands in for a missing LAST_TRADE row of the symbol: its price, volume and stamp
 -- are 0.
-abbrev pub no_last_trade : Text → LastTradeRow
-no_last_trade symbol = record { symbol = symbol; stamp = 0; price = 0; volume = 0 }
+abbrev pub zero_last_trade_row : Text → LastTradeRow
+zero_last_trade_row symbol = record { symbol = symbol; stamp = 0; price = 0; volume = 0 }
 
 -- The security that a SECURITY row and the LAST_TRADE row of its symbol describe; without such a
 -- row its price, volume and stamp are 0.
 abbrev pub security_of_row : Tables → SecurityRow → Security
 security_of_row tables s =
-    option_map_or (security_of_rows s) (find (λ l. bytes_eq l.symbol s.symbol) tables.last_trades) (security_of_rows s (no_last_trade s.symbol))
+    option_map_or (security_of_rows s) (find (λ l. bytes_eq l.symbol s.symbol) tables.last_trades) (security_of_rows s (zero_last_trade_row s.symbol))
 
 -- The base that the tables `t` of any schema describe. Values that follow from a base, such as
 -- lots, sums and balances, are not read.
-unfoldable pub base_of : Tables → Base
-base_of t = record {
+unfoldable pub base_of_tables : Tables → Base
+base_of_tables t = record {
   brokers = map (λ b. record { id = b.id; name = b.name }) t.brokers;
   customers = t.customers;
   accounts = map account_of_row t.accounts;

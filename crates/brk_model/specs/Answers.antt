@@ -3,7 +3,7 @@
 use Rattle.std.specs.Prelude.{◌≡◌, ℕ, ◌+◌, List, [], ◌∷◌, length, Ok, Err}
 use Rattle.brk_money.specs.Spelling.{Text}
 use Rattle.brk_model.specs.Records.{Key}
-use Rattle.brk_model.specs.Forms.{Read}
+use Rattle.brk_model.specs.Forms.{ReadResult}
 use Rattle.brk_model.specs.Commands.{Answer, Refused}
 
 -- The type of the fields of a row, a list of texts.
@@ -22,55 +22,55 @@ pub record RowCall (C : Type 0) : Type 0 where
   pub command : C
 
 -- The answer of `step` to the call on `base`, and the base after it.
-abbrev pub call_step : {B C : Type 0} → RowStep B C → B → RowCall C → Answer × B
-call_step step base call = step base call.now call.command call.key
+abbrev pub answer_to_row_call : {B C : Type 0} → RowStep B C → B → RowCall C → Answer × B
+answer_to_row_call step base call = step base call.now call.command call.key
 
 -- The calls, executed in sequence by `step` from `base` on, have exactly these answers, and `after`
 -- is the base after the last. It is false if the lists have different lengths.
-abbrev pub InTurn : {B C : Type 0} → RowStep B C → B → List (RowCall C) → List Answer → B → Type 0
-InTurn step base [] [] after = after ≡ base
-InTurn step base (call ∷ calls) (answer ∷ answers) after =
-    (answer ≡ (call_step step base call).0) × InTurn step (call_step step base call).1 calls answers after
-InTurn step base [] (answer ∷ answers) after = ⊥
-InTurn step base (call ∷ calls) [] after = ⊥
+abbrev pub CallsHaveAnswers : {B C : Type 0} → RowStep B C → B → List (RowCall C) → List Answer → B → Type 0
+CallsHaveAnswers step base [] [] after = after ≡ base
+CallsHaveAnswers step base (call ∷ calls) (answer ∷ answers) after =
+    (answer ≡ (answer_to_row_call step base call).0) × CallsHaveAnswers step (answer_to_row_call step base call).1 calls answers after
+CallsHaveAnswers step base [] (answer ∷ answers) after = ⊥
+CallsHaveAnswers step base (call ∷ calls) [] after = ⊥
 
 -- The list `rest` with the row number `n` and the command in front; `rest` alone if the row was
 -- refused.
-abbrev pub with_formed : {C : Type 0} → Read C → ℕ → List (ℕ × C) → List (ℕ × C)
-with_formed (Ok command) n rest = (n, command) ∷ rest
-with_formed (Err refusal) n rest = rest
+abbrev pub with_well_formed_row : {C : Type 0} → ReadResult C → ℕ → List (ℕ × C) → List (ℕ × C)
+with_well_formed_row (Ok command) n rest = (n, command) ∷ rest
+with_well_formed_row (Err refusal) n rest = rest
 
 -- The commands of the well-formed rows, each with its row number; the first row has the number `n`.
-abbrev pub formed_from : {C : Type 0} → (Fields → Read C) → ℕ → List Fields → List (ℕ × C)
-formed_from form n [] = []
-formed_from form n (row ∷ rows) = with_formed (form row) n (formed_from form (n + 1) rows)
+abbrev pub well_formed_rows_from : {C : Type 0} → (Fields → ReadResult C) → ℕ → List Fields → List (ℕ × C)
+well_formed_rows_from form n [] = []
+well_formed_rows_from form n (row ∷ rows) = with_well_formed_row (form row) n (well_formed_rows_from form (n + 1) rows)
 
 -- The calls of the well-formed rows of a batch, one clock reading each; surplus readings or rows
 -- are dropped.
-abbrev pub calls_of : {C : Type 0} → Text → List ℕ → List (ℕ × C) → List (RowCall C)
-calls_of batch (moment ∷ moments) (row ∷ rows) =
-    record { key = record { batch = batch; row = row.0 }; now = moment; command = row.1 } ∷ calls_of batch moments rows
-calls_of batch [] rows = []
-calls_of batch (moment ∷ moments) [] = []
+abbrev pub calls_of_rows : {C : Type 0} → Text → List ℕ → List (ℕ × C) → List (RowCall C)
+calls_of_rows batch (moment ∷ moments) (row ∷ rows) =
+    record { key = record { batch = batch; row = row.0 }; now = moment; command = row.1 } ∷ calls_of_rows batch moments rows
+calls_of_rows batch [] rows = []
+calls_of_rows batch (moment ∷ moments) [] = []
 
 -- The answers to a row and those after it: its refusal if the row is malformed, otherwise the next
 -- of `answers` if there is one, followed by what `more` returns for the remaining answers.
-abbrev pub woven_one : {C : Type 0} → Read C → (List Answer → List Answer) → List Answer → List Answer
-woven_one (Err refusal) more answers = Refused refusal ∷ more answers
-woven_one (Ok command) more (answer ∷ answers) = answer ∷ more answers
-woven_one (Ok command) more [] = more []
+abbrev pub answers_from_row_on : {C : Type 0} → ReadResult C → (List Answer → List Answer) → List Answer → List Answer
+answers_from_row_on (Err refusal) more answers = Refused refusal ∷ more answers
+answers_from_row_on (Ok command) more (answer ∷ answers) = answer ∷ more answers
+answers_from_row_on (Ok command) more [] = more []
 
 -- The answers to the rows in sequence: the refusal of a malformed row, otherwise the next of
 -- `answers`.
-abbrev pub woven : {C : Type 0} → (Fields → Read C) → List Fields → List Answer → List Answer
-woven form [] answers = []
-woven form (row ∷ rows) answers = woven_one (form row) (woven form rows) answers
+abbrev pub answers_interleaved_with_refusals : {C : Type 0} → (Fields → ReadResult C) → List Fields → List Answer → List Answer
+answers_interleaved_with_refusals form [] answers = []
+answers_interleaved_with_refusals form (row ∷ rows) answers = answers_from_row_on (form row) (answers_interleaved_with_refusals form rows) answers
 
 -- The rows of the batch have exactly these answers and lead from `base` to `after`. Malformed rows
 -- are refused; the others are executed in sequence by `step`, with one clock reading each.
-pub record AreAnswered {B C : Type 0} (form : Fields → Read C) (step : RowStep B C) (batch : Text) (base : B) (moments : List ℕ)
+pub record AreAnswered {B C : Type 0} (form : Fields → ReadResult C) (step : RowStep B C) (batch : Text) (base : B) (moments : List ℕ)
     (rows : List Fields) (answers : List Answer) (after : B) : Type 0 where
   pub replies : List Answer
-  pub one_each : length moments ≡ length (formed_from form 1 rows)
-  pub run : InTurn step base (calls_of batch moments (formed_from form 1 rows)) replies after
-  pub all : answers ≡ woven form rows replies
+  pub one_each : length moments ≡ length (well_formed_rows_from form 1 rows)
+  pub run : CallsHaveAnswers step base (calls_of_rows batch moments (well_formed_rows_from form 1 rows)) replies after
+  pub all : answers ≡ answers_interleaved_with_refusals form rows replies

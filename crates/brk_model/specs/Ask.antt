@@ -5,106 +5,106 @@ use Rattle.brk_money.specs.Spelling.{Text}
 use Rattle.brk_money.specs.declared.refusal.Refusal.{Refusal}
 use Rattle.brk_money.specs.declared.refusal.Refusal.TheVariants.{BadText, NoCustomer, NoTrade}
 use Rattle.brk_model.specs.Lists.{distinct_texts}
-use Rattle.brk_model.specs.Base.{Base, trade_with}
-use Rattle.brk_model.specs.Tables.{tables_of}
+use Rattle.brk_model.specs.Base.{Base, trade_with_id}
+use Rattle.brk_model.specs.Tables.{tables_of_base}
 use Rattle.brk_model.specs.Orders.{estimate}
-use Rattle.brk_model.specs.Tests.{Test, first_refusal, lacks_account, lacks_customer, lacks_security, order_tests}
-use Rattle.brk_model.specs.Forms.{Read, ◌⊛◌, read_id, read_stamp, read_ids, read_name, read_symbol, read_tax_id, read_each, some_of, then_read}
-use Rattle.brk_model.specs.Parse.{Reader, read_as, parse_by, read_order}
+use Rattle.brk_model.specs.Tests.{RefusalCheck, first_refusal, account_exists_check, customer_exists_check, security_exists_check, checks_of_order}
+use Rattle.brk_model.specs.Forms.{ReadResult, ◌⊛◌, read_id, read_stamp, read_distinct_ids, read_name, read_symbol, read_tax_id, read_each_text, one_to_twenty_elements, check_read_value}
+use Rattle.brk_model.specs.Parse.{NamedParser, read_and_wrap, parse_by_first_field, read_order}
 use Rattle.brk_model.specs.Queries.{View, Query, PositionOf, PositionOfTaxId, RecentOf, StatusOf, SubmittedTrades, EstimateOf, TradesWith, TradesOfAccount, TradesOfSymbol, LotsTouched, VolumeOf}
-use Rattle.brk_model.specs.Views.{view_of}
+use Rattle.brk_model.specs.Views.{view_of_tables}
 use Rattle.brk_model.specs.Rows.{estimate_fields}
-use Rattle.brk_model.specs.Step.{unless}
+use Rattle.brk_model.specs.Step.{value_unless_refused}
 
 -- The checks of a query on `base`, in the sequence in which they are made.
-unfoldable pub query_tests : Base → Query → List Test
-query_tests base (PositionOf customer) = lacks_customer base customer ∷ []
-query_tests base (PositionOfTaxId tax_id) = (is_none (find (λ c. bytes_eq c.tax_id tax_id) base.customers), NoCustomer) ∷ []
-query_tests base (RecentOf account) = lacks_account base account ∷ []
-query_tests base (StatusOf account) = lacks_account base account ∷ []
-query_tests base SubmittedTrades = []
-query_tests base (EstimateOf order) = order_tests base order
-query_tests base (TradesWith ids) = (list_any (λ id. is_none (trade_with base id)) ids, NoTrade) ∷ []
-query_tests base (TradesOfAccount account first last) = lacks_account base account ∷ []
-query_tests base (TradesOfSymbol symbol first last) = lacks_security base symbol ∷ []
-query_tests base (LotsTouched account first) = lacks_account base account ∷ []
-query_tests base (VolumeOf sector names) = []
+unfoldable pub checks_of_query : Base → Query → List RefusalCheck
+checks_of_query base (PositionOf customer) = customer_exists_check base customer ∷ []
+checks_of_query base (PositionOfTaxId tax_id) = (is_none (find (λ c. bytes_eq c.tax_id tax_id) base.customers), NoCustomer) ∷ []
+checks_of_query base (RecentOf account) = account_exists_check base account ∷ []
+checks_of_query base (StatusOf account) = account_exists_check base account ∷ []
+checks_of_query base SubmittedTrades = []
+checks_of_query base (EstimateOf order) = checks_of_order base order
+checks_of_query base (TradesWith ids) = (list_any (λ id. is_none (trade_with_id base id)) ids, NoTrade) ∷ []
+checks_of_query base (TradesOfAccount account first last) = account_exists_check base account ∷ []
+checks_of_query base (TradesOfSymbol symbol first last) = security_exists_check base symbol ∷ []
+checks_of_query base (LotsTouched account first) = account_exists_check base account ∷ []
+checks_of_query base (VolumeOf sector names) = []
 
 -- The view of the query on `base`: the rows that it selects from the tables, or the figures of its
 -- estimate.
-unfoldable pub view_for : Base → Query → View
-view_for base (EstimateOf order) = estimate_fields (estimate base order) ∷ []
-view_for base query = unwrap_or (view_of (tables_of base) query) []
+unfoldable pub view_of_base : Base → Query → View
+view_of_base base (EstimateOf order) = estimate_fields (estimate base order) ∷ []
+view_of_base base query = unwrap_or (view_of_tables (tables_of_base base) query) []
 
 -- The result of the query on `base`: the refusal of its first check that applies, otherwise its
 -- view.
 unfoldable pub ask : Base → Query → Result View Refusal
-ask base query = unless (first_refusal (query_tests base query)) (view_for base query)
+ask base query = value_unless_refused (first_refusal (checks_of_query base query)) (view_of_base base query)
 
 -- ---- from arguments to a query
 
 -- The query that `read` reads from the only argument, or its refusal; the refusal `BadText` if
 -- there is none or more than one.
-abbrev pub read_one : (Text → Read Query) → List Text → Read Query
-read_one read (argument ∷ []) = read argument
-read_one read _ = Err BadText
+abbrev pub read_single_argument : (Text → ReadResult Query) → List Text → ReadResult Query
+read_single_argument read (argument ∷ []) = read argument
+read_single_argument read _ = Err BadText
 
 -- The query `query` if there are no arguments, otherwise the refusal `BadText`.
-abbrev pub read_none : Query → List Text → Read Query
-read_none query [] = Ok query
-read_none query (argument ∷ arguments) = Err BadText
+abbrev pub read_no_arguments : Query → List Text → ReadResult Query
+read_no_arguments query [] = Ok query
+read_no_arguments query (argument ∷ arguments) = Err BadText
 
 -- The query that three arguments parse as, a value (by `read`) and two stamps, or the refusal of a
 -- malformed one; the refusal `BadText` if there are fewer or more.
-abbrev pub read_span : {A : Type 0} → (Text → Read A) → (A → ℕ → ℕ → Query) → List Text → Read Query
-read_span read query (what ∷ first ∷ last ∷ []) = Ok query ⊛ read what ⊛ read_stamp first ⊛ read_stamp last
-read_span read query _ = Err BadText
+abbrev pub read_value_and_stamps : {A : Type 0} → (Text → ReadResult A) → (A → ℕ → ℕ → Query) → List Text → ReadResult Query
+read_value_and_stamps read query (what ∷ first ∷ last ∷ []) = Ok query ⊛ read what ⊛ read_stamp first ⊛ read_stamp last
+read_value_and_stamps read query _ = Err BadText
 
 -- The query for touched lots that two arguments parse as, an account and a stamp, or the refusal of
 -- a malformed one; the refusal `BadText` if there are fewer or more.
-abbrev pub read_lots : List Text → Read Query
-read_lots (account ∷ first ∷ []) = Ok (λ a f. LotsTouched a f) ⊛ read_id account ⊛ read_stamp first
-read_lots _ = Err BadText
+abbrev pub read_lots_query : List Text → ReadResult Query
+read_lots_query (account ∷ first ∷ []) = Ok (λ a f. LotsTouched a f) ⊛ read_id account ⊛ read_stamp first
+read_lots_query _ = Err BadText
 
 -- The distinct broker names that the arguments parse as, 1 to 20 of them after duplicates are
 -- removed, or a refusal.
-abbrev pub read_names : List Text → Read (List Text)
-read_names names = then_read (λ ns. some_of (distinct_texts ns)) (read_each read_name names)
+abbrev pub read_broker_names : List Text → ReadResult (List Text)
+read_broker_names names = check_read_value (λ ns. one_to_twenty_elements (distinct_texts ns)) (read_each_text read_name names)
 
 -- The query for broker volumes that the arguments parse as, a sector and 1 to 20 broker names, or a
 -- refusal.
-abbrev pub read_volume : List Text → Read Query
-read_volume [] = Err BadText
-read_volume (sector ∷ names) = Ok (λ s ns. VolumeOf s ns) ⊛ read_name sector ⊛ read_names names
+abbrev pub read_volume_query : List Text → ReadResult Query
+read_volume_query [] = Err BadText
+read_volume_query (sector ∷ names) = Ok (λ s ns. VolumeOf s ns) ⊛ read_name sector ⊛ read_broker_names names
 
 -- ---- the views
 
 -- The parsers of the views `submitted` and `estimate`, each with its name.
-abbrev pub order_views : List (Reader Query)
-order_views = (codes "submitted", read_none SubmittedTrades) ∷ (codes "estimate", read_as EstimateOf read_order) ∷ []
+abbrev pub order_view_parsers : List (NamedParser Query)
+order_view_parsers = (codes "submitted", read_no_arguments SubmittedTrades) ∷ (codes "estimate", read_and_wrap EstimateOf read_order) ∷ []
 
 -- The parsers of the views `customer`, `taxid`, `recent` and `status`, each with its name.
-abbrev pub account_views : List (Reader Query)
-account_views =
-    (codes "customer", read_one (read_as PositionOf read_id)) ∷ (codes "taxid", read_one (read_as PositionOfTaxId read_tax_id))
-    ∷ (codes "recent", read_one (read_as RecentOf read_id)) ∷ (codes "status", read_one (read_as StatusOf read_id)) ∷ []
+abbrev pub account_view_parsers : List (NamedParser Query)
+account_view_parsers =
+    (codes "customer", read_single_argument (read_and_wrap PositionOf read_id)) ∷ (codes "taxid", read_single_argument (read_and_wrap PositionOfTaxId read_tax_id))
+    ∷ (codes "recent", read_single_argument (read_and_wrap RecentOf read_id)) ∷ (codes "status", read_single_argument (read_and_wrap StatusOf read_id)) ∷ []
 
 -- The parsers of the views `trades`, `accounttrades`, `symboltrades` and `lots`, each with its
 -- name.
-abbrev pub lookup_views : List (Reader Query)
-lookup_views =
-    (codes "trades", read_as TradesWith read_ids) ∷ (codes "accounttrades", read_span read_id (λ a f l. TradesOfAccount a f l))
-    ∷ (codes "symboltrades", read_span read_symbol (λ s f l. TradesOfSymbol s f l)) ∷ (codes "lots", read_lots) ∷ []
+abbrev pub lookup_view_parsers : List (NamedParser Query)
+lookup_view_parsers =
+    (codes "trades", read_and_wrap TradesWith read_distinct_ids) ∷ (codes "accounttrades", read_value_and_stamps read_id (λ a f l. TradesOfAccount a f l))
+    ∷ (codes "symboltrades", read_value_and_stamps read_symbol (λ s f l. TradesOfSymbol s f l)) ∷ (codes "lots", read_lots_query) ∷ []
 
 -- The parser of the view `volume`, with its name, as a list of one.
-abbrev pub volume_views : List (Reader Query)
-volume_views = (codes "volume", read_volume) ∷ []
+abbrev pub volume_view_parsers : List (NamedParser Query)
+volume_view_parsers = (codes "volume", read_volume_query) ∷ []
 
 -- The parsers of all views, each with its name.
-abbrev pub views : List (Reader Query)
-views = order_views ++ account_views ++ lookup_views ++ volume_views
+abbrev pub view_parsers : List (NamedParser Query)
+view_parsers = order_view_parsers ++ account_view_parsers ++ lookup_view_parsers ++ volume_view_parsers
 
 -- The query that the name of a view and its arguments parse as, or a refusal: `BadText` if there is
 -- no such view.
-unfoldable pub parse_query : Text → List Text → Read Query
-parse_query view arguments = parse_by views (view ∷ arguments)
+unfoldable pub parse_query : Text → List Text → ReadResult Query
+parse_query view arguments = parse_by_first_field view_parsers (view ∷ arguments)

@@ -5,31 +5,31 @@ use Rattle.brk_money.specs.declared.fault.Condition.{Condition}
 use Rattle.brk_money.specs.declared.fault.Condition.TheVariants as condition
 use Rattle.brk_model.specs.Schemas.{Schema}
 use Rattle.brk_model.specs.Tables.{Tables}
-use Rattle.brk_model.specs.Sheets.{sheets_at}
-use Rattle.brk_model.specs.Adopted.{base_of}
-use Rattle.brk_model.specs.Form.{has_form}
-use Rattle.brk_model.specs.Ways.{has_status_rows}
+use Rattle.brk_model.specs.Sheets.{sheets_in_schema}
+use Rattle.brk_model.specs.Adopted.{base_of_tables}
+use Rattle.brk_model.specs.Form.{satisfies_form_condition}
+use Rattle.brk_model.specs.Ways.{satisfies_status_condition}
 
 -- The tables, each sorted by key, of the base that the tables `t` describe, in the schema `schema`.
-abbrev pub expected : Schema → Tables → Tables
-expected schema t = sheets_at schema (base_of t)
+abbrev pub expected_tables : Schema → Tables → Tables
+expected_tables schema t = sheets_in_schema schema (base_of_tables t)
 
 -- The tables `t` of the schema `schema`, sorted by key, satisfy the condition. `NotEmpty` and
 -- `Schema` are conditions of a database, not of rows, so no tables satisfy them.
 unfoldable pub ConditionHolds : Schema → Condition → Tables → Type 0
 ConditionHolds schema condition.NotEmpty t = ⊥
 ConditionHolds schema condition.Schema t = ⊥
-ConditionHolds schema condition.Form t = IsTrue (has_form schema t)
-ConditionHolds schema condition.Status t = IsTrue (has_status_rows t)
-ConditionHolds schema condition.Requests t = t.requests ≡ (expected schema t).requests
-ConditionHolds schema condition.Lots t = t.holdings ≡ (expected schema t).holdings
-ConditionHolds schema condition.History t = t.holding_history ≡ (expected schema t).holding_history
-ConditionHolds schema condition.Summary t = t.summaries ≡ (expected schema t).summaries
-ConditionHolds schema condition.Count t = map (λ b. b.trades) t.brokers ≡ map (λ b. b.trades) (expected schema t).brokers
-ConditionHolds schema condition.Commission t = map (λ b. b.commissions) t.brokers ≡ map (λ b. b.commissions) (expected schema t).brokers
-ConditionHolds schema condition.Settlement t = t.settlements ≡ (expected schema t).settlements
-ConditionHolds schema condition.Cash t = (t.cash ≡ (expected schema t).cash) × (t.moves ≡ (expected schema t).moves)
-ConditionHolds schema condition.Balance t = map (λ a. a.balance) t.accounts ≡ map (λ a. a.balance) (expected schema t).accounts
+ConditionHolds schema condition.Form t = IsTrue (satisfies_form_condition schema t)
+ConditionHolds schema condition.Status t = IsTrue (satisfies_status_condition t)
+ConditionHolds schema condition.Requests t = t.requests ≡ (expected_tables schema t).requests
+ConditionHolds schema condition.Lots t = t.holdings ≡ (expected_tables schema t).holdings
+ConditionHolds schema condition.History t = t.holding_history ≡ (expected_tables schema t).holding_history
+ConditionHolds schema condition.Summary t = t.summaries ≡ (expected_tables schema t).summaries
+ConditionHolds schema condition.Count t = map (λ b. b.trades) t.brokers ≡ map (λ b. b.trades) (expected_tables schema t).brokers
+ConditionHolds schema condition.Commission t = map (λ b. b.commissions) t.brokers ≡ map (λ b. b.commissions) (expected_tables schema t).brokers
+ConditionHolds schema condition.Settlement t = t.settlements ≡ (expected_tables schema t).settlements
+ConditionHolds schema condition.Cash t = (t.cash ≡ (expected_tables schema t).cash) × (t.moves ≡ (expected_tables schema t).moves)
+ConditionHolds schema condition.Balance t = map (λ a. a.balance) t.accounts ≡ map (λ a. a.balance) (expected_tables schema t).accounts
 
 -- The conditions on rows, in the sequence in which an audit checks them.
 abbrev pub row_conditions : List Condition
@@ -39,12 +39,12 @@ row_conditions =
 
 -- The answer is the first of the listed conditions that the tables `t` do not satisfy, or none if
 -- they satisfy all.
-abbrev pub IsFirstFailing : Schema → List Condition → Tables → Option Condition → Type 0
-IsFirstFailing schema [] t answer = answer ≡ None
-IsFirstFailing schema (c ∷ cs) t answer =
-    (ConditionHolds schema c t × IsFirstFailing schema cs t answer) ⊎ ((¬ ConditionHolds schema c t) × (answer ≡ Some c))
+abbrev pub IsFirstFailingCondition : Schema → List Condition → Tables → Option Condition → Type 0
+IsFirstFailingCondition schema [] t answer = answer ≡ None
+IsFirstFailingCondition schema (c ∷ cs) t answer =
+    (ConditionHolds schema c t × IsFirstFailingCondition schema cs t answer) ⊎ ((¬ ConditionHolds schema c t) × (answer ≡ Some c))
 
 -- The answer is the result of an audit of the tables `t` of the schema `schema`, sorted by key: the
 -- first condition on rows that they do not satisfy, or none.
-abbrev pub IsAudit : Schema → Tables → Option Condition → Type 0
-IsAudit schema t answer = IsFirstFailing schema row_conditions t answer
+abbrev pub IsAuditResult : Schema → Tables → Option Condition → Type 0
+IsAuditResult schema t answer = IsFirstFailingCondition schema row_conditions t answer

@@ -1,12 +1,12 @@
 -- The base (abstract state) of a brokerage: all that it accepted and recorded, in the order of
--- acceptance. A base that is read from tables (`base_of` of Adopted) has its lists in the order of
--- the rows, which are sorted by key. Lots, sums, balances and requests are not in a base, since
--- they follow from it.
+-- acceptance. A base that is read from tables (`base_of_tables` of Adopted) has its lists in the
+-- order of the rows, which are sorted by key. Lots, sums, balances and requests are not in a base,
+-- since they follow from it.
 use Rattle.std.specs.Prelude.{ℕ, Bool, true, false, ◌&&◌, ◌==◌, nat_le, List, [], ◌∷◌, ◌++◌, filter, find, sum_by, Option, None, unwrap_or, ℤ, pos, bytes_eq}
 use Rattle.std.specs.List.{last_or}
 use Rattle.std.specs.Option.{option_map_or}
 use Rattle.brk_money.specs.Spelling.{Text}
-use Rattle.brk_money.specs.Kinds.{same_status, same_type}
+use Rattle.brk_money.specs.Kinds.{is_same_trade_status, is_same_trade_type}
 use Rattle.brk_money.specs.declared.trade_type.TradeType.{TradeType}
 use Rattle.brk_money.specs.declared.status.Status.{Status}
 use Rattle.brk_money.specs.declared.status.Status.TheVariants.{Completed}
@@ -53,137 +53,137 @@ empty_base = record {
 }
 
 -- The first broker of `base` with the id `id`; none if there is no such broker.
-abbrev pub broker_with : Base → ℕ → Option Broker
-broker_with base id = find (λ b. b.id == id) base.brokers
+abbrev pub broker_with_id : Base → ℕ → Option Broker
+broker_with_id base id = find (λ b. b.id == id) base.brokers
 
 -- The first customer of `base` with the id `id`; none if there is no such customer.
-abbrev pub customer_with : Base → ℕ → Option Customer
-customer_with base id = find (λ c. c.id == id) base.customers
+abbrev pub customer_with_id : Base → ℕ → Option Customer
+customer_with_id base id = find (λ c. c.id == id) base.customers
 
 -- The first account of the list `accounts` with the id `id`; none if there is no such account.
-abbrev pub find_account : List Account → ℕ → Option Account
-find_account accounts id = find (λ a. a.id == id) accounts
+abbrev pub account_with_id_in_list : List Account → ℕ → Option Account
+account_with_id_in_list accounts id = find (λ a. a.id == id) accounts
 
 -- The first account of `base` with the id `id`; none if there is no such account.
-abbrev pub account_with : Base → ℕ → Option Account
-account_with base id = find_account base.accounts id
+abbrev pub account_with_id : Base → ℕ → Option Account
+account_with_id base id = account_with_id_in_list base.accounts id
 
 -- The first security of `base` with the symbol `symbol`; none if there is no such security.
-abbrev pub security_with : Base → Text → Option Security
-security_with base symbol = find (λ s. bytes_eq s.symbol symbol) base.securities
+abbrev pub security_with_symbol : Base → Text → Option Security
+security_with_symbol base symbol = find (λ s. bytes_eq s.symbol symbol) base.securities
 
 -- The first tax rate record of `base` with the id `id`; none if there is no such record.
-abbrev pub tax_rate_with : Base → ℕ → Option TaxRate
-tax_rate_with base id = find (λ r. r.id == id) base.tax_rates
+abbrev pub tax_rate_of_id : Base → ℕ → Option TaxRate
+tax_rate_of_id base id = find (λ r. r.id == id) base.tax_rates
 
 -- The first trade of `base` with the id `id`; none if there is no such trade.
-abbrev pub trade_with : Base → ℕ → Option Trade
-trade_with base id = find (λ t. t.id == id) base.trades
+abbrev pub trade_with_id : Base → ℕ → Option Trade
+trade_with_id base id = find (λ t. t.id == id) base.trades
 
 -- The first charge of `base` for the trade type `kind` and the customer tier `tier`; none if there
 -- is no such charge.
-abbrev pub charge_with : Base → TradeType → ℕ → Option Charge
-charge_with base kind tier = find (λ c. same_type c.kind kind && (c.tier == tier)) base.charges
+abbrev pub charge_for_type_and_tier : Base → TradeType → ℕ → Option Charge
+charge_for_type_and_tier base kind tier = find (λ c. is_same_trade_type c.kind kind && (c.tier == tier)) base.charges
 
 -- The first commission band of `base` for the tier `tier`, the trade type `kind` and the exchange
 -- `exchange` whose bounds contain the quantity `qty`, both bounds included; none if there is no
 -- such band.
-abbrev pub band_with : Base → ℕ → TradeType → Text → ℕ → Option Band
-band_with base tier kind exchange qty =
-    find (λ b. (b.tier == tier) && same_type b.kind kind && bytes_eq b.exchange exchange && nat_le b.from_qty qty && nat_le qty b.to_qty) base.bands
+abbrev pub commission_band_for : Base → ℕ → TradeType → Text → ℕ → Option Band
+commission_band_for base tier kind exchange qty =
+    find (λ b. (b.tier == tier) && is_same_trade_type b.kind kind && bytes_eq b.exchange exchange && nat_le b.from_qty qty && nat_le qty b.to_qty) base.bands
 
 -- The id of the broker of the account `account` in the list `accounts`; 0 if the list has no such
 -- account.
-abbrev pub broker_in : List Account → ℕ → ℕ
-broker_in accounts account = option_map_or (λ a. a.broker) (find_account accounts account) 0
+abbrev pub broker_id_in_accounts : List Account → ℕ → ℕ
+broker_id_in_accounts accounts account = option_map_or (λ a. a.broker) (account_with_id_in_list accounts account) 0
 
 -- The tax status of the account `account` in the list `accounts`; `Untaxed` if the list has no such
 -- account.
-abbrev pub tax_status_in : List Account → ℕ → TaxStatus
-tax_status_in accounts account = option_map_or (λ a. a.tax_status) (find_account accounts account) Untaxed
+abbrev pub tax_status_in_accounts : List Account → ℕ → TaxStatus
+tax_status_in_accounts accounts account = option_map_or (λ a. a.tax_status) (account_with_id_in_list accounts account) Untaxed
 
 -- The opening balance, in cents, of the account `account` in the list `accounts`; 0 if the list has
 -- no such account.
-abbrev pub opening_in : List Account → ℕ → ℤ
-opening_in accounts account = option_map_or (λ a. a.opening) (find_account accounts account) (pos 0)
+abbrev pub opening_balance_in_accounts : List Account → ℕ → ℤ
+opening_balance_in_accounts accounts account = option_map_or (λ a. a.opening) (account_with_id_in_list accounts account) (pos 0)
 
 -- The id of the broker of the account `account` of `base`; 0 if the account does not exist.
-abbrev pub broker_of_account : Base → ℕ → ℕ
-broker_of_account base account = broker_in base.accounts account
+abbrev pub broker_id_of_account : Base → ℕ → ℕ
+broker_id_of_account base account = broker_id_in_accounts base.accounts account
 
 -- The id of the customer of the account `account` of `base`; 0 if the account does not exist.
-abbrev pub customer_of_account : Base → ℕ → ℕ
-customer_of_account base account = option_map_or (λ a. a.customer) (account_with base account) 0
+abbrev pub customer_id_of_account : Base → ℕ → ℕ
+customer_id_of_account base account = option_map_or (λ a. a.customer) (account_with_id base account) 0
 
 -- The tier of the customer of the account `account` of `base`; 0 if the account or its customer
 -- does not exist.
-abbrev pub tier_of : Base → ℕ → ℕ
-tier_of base account = option_map_or (λ c. c.tier) (customer_with base (customer_of_account base account)) 0
+abbrev pub tier_of_account : Base → ℕ → ℕ
+tier_of_account base account = option_map_or (λ c. c.tier) (customer_with_id base (customer_id_of_account base account)) 0
 
 -- The exchange of the security `symbol` of `base`; empty if the security does not exist.
-abbrev pub exchange_of : Base → Text → Text
-exchange_of base symbol = option_map_or (λ s. s.exchange) (security_with base symbol) []
+abbrev pub exchange_of_security : Base → Text → Text
+exchange_of_security base symbol = option_map_or (λ s. s.exchange) (security_with_symbol base symbol) []
 
 -- The name of the security `symbol` of `base`; empty if the security does not exist.
 abbrev pub security_name : Base → Text → Text
-security_name base symbol = option_map_or (λ s. s.name) (security_with base symbol) []
+security_name base symbol = option_map_or (λ s. s.name) (security_with_symbol base symbol) []
 
 -- The last market price of the security `symbol` of `base`, in cents; 0 if the security does not
 -- exist.
 abbrev pub last_price : Base → Text → ℕ
-last_price base symbol = option_map_or (λ s. s.last_price) (security_with base symbol) 0
+last_price base symbol = option_map_or (λ s. s.last_price) (security_with_symbol base symbol) 0
 
 -- The sum of the tax rates that the customer `customer` pays, in hundred-thousandths; a tax whose
 -- rate record does not exist counts as 0.
-abbrev pub rates_of : Base → ℕ → ℕ
-rates_of base customer =
-    sum_by (λ x. option_map_or (λ r. r.rate) (tax_rate_with base x.tax) 0) (filter (λ x. x.customer == customer) base.customer_taxes)
+abbrev pub tax_rate_sum_of_customer : Base → ℕ → ℕ
+tax_rate_sum_of_customer base customer =
+    sum_by (λ x. option_map_or (λ r. r.rate) (tax_rate_of_id base x.tax) 0) (filter (λ x. x.customer == customer) base.customer_taxes)
 
 -- True if gains are taxable at this tax status: `Withheld` or `Reported`.
-abbrev pub bears_tax : TaxStatus → Bool
-bears_tax Untaxed = false
-bears_tax Withheld = true
-bears_tax Reported = true
+abbrev pub is_taxable_status : TaxStatus → Bool
+is_taxable_status Untaxed = false
+is_taxable_status Withheld = true
+is_taxable_status Reported = true
 
 -- True if the tax is withheld from the settlement at this tax status: `Withheld` only.
-abbrev pub takes_tax_off : TaxStatus → Bool
-takes_tax_off Untaxed = false
-takes_tax_off Withheld = true
-takes_tax_off Reported = false
+abbrev pub is_withholding_status : TaxStatus → Bool
+is_withholding_status Untaxed = false
+is_withholding_status Withheld = true
+is_withholding_status Reported = false
 
 -- True if the gains of the account `account` of `base` are taxable; false if the account does not
 -- exist.
-abbrev pub is_taxed : Base → ℕ → Bool
-is_taxed base account = bears_tax (tax_status_in base.accounts account)
+abbrev pub is_taxable_account : Base → ℕ → Bool
+is_taxable_account base account = is_taxable_status (tax_status_in_accounts base.accounts account)
 
 -- The last status change of the trade `t`; none if it has no status change.
-abbrev pub last_mark : Trade → Option StatusChange
-last_mark t = last_or None t.marks
+abbrev pub last_status_change : Trade → Option StatusChange
+last_status_change t = last_or None t.marks
 
 -- True if the last status of the trade `t` is `status`; false if it has no status.
 abbrev pub has_status : Status → Trade → Bool
-has_status status t = option_map_or (λ m. same_status m.status status) (last_mark t) false
+has_status status t = option_map_or (λ m. is_same_trade_status m.status status) (last_status_change t) false
 
 -- The stamp of the last status change of the trade `t` (T_DTS); 0 if it has no status change.
-abbrev pub moment_of : Trade → ℕ
-moment_of t = option_map_or (λ m. m.stamp) (last_mark t) 0
+abbrev pub last_status_stamp_of_trade : Trade → ℕ
+last_status_stamp_of_trade t = option_map_or (λ m. m.stamp) (last_status_change t) 0
 
 -- True if the last status of the trade `t` is `Completed`.
 abbrev pub is_completed : Trade → Bool
 is_completed t = has_status Completed t
 
 -- The trade `t` with one more status change at the end: to `status`, at `stamp`.
-abbrev pub marked : ℕ → Status → Trade → Trade
-marked stamp status t = record t { marks = t.marks ++ record { stamp = stamp; status = status } ∷ [] }
+abbrev pub trade_with_status_change : ℕ → Status → Trade → Trade
+trade_with_status_change stamp status t = record t { marks = t.marks ++ record { stamp = stamp; status = status } ∷ [] }
 
 -- The base `base` with `change` applied to each trade that passes `test`; all else is unchanged.
-abbrev pub with_trades : (Trade → Bool) → (Trade → Trade) → Base → Base
-with_trades test change base = record base { trades = update_where test change base.trades }
+abbrev pub base_with_updated_trades : (Trade → Bool) → (Trade → Trade) → Base → Base
+base_with_updated_trades test change base = record base { trades = update_where test change base.trades }
 
 -- The price at which the trade `t` was completed, in cents; 0 if it has no completion price.
-abbrev pub price_of : Trade → ℕ
-price_of t = unwrap_or t.price 0
+abbrev pub completion_price : Trade → ℕ
+completion_price t = unwrap_or t.price 0
 
 -- The trades of `base` whose last status is `Completed`, in the sequence of the base.
-abbrev pub completed : Base → List Trade
-completed base = filter is_completed base.trades
+abbrev pub completed_trades : Base → List Trade
+completed_trades base = filter is_completed base.trades

@@ -7,12 +7,12 @@ use Rattle.brk_money.specs.Spelling.{Text}
 use Rattle.brk_money.specs.declared.refusal.Refusal.TheVariants.{BadText}
 use Rattle.brk_model.specs.Records.{Key}
 use Rattle.brk_model.specs.Base.{Base}
-use Rattle.brk_model.specs.Forms.{Read}
+use Rattle.brk_model.specs.Forms.{ReadResult}
 use Rattle.brk_model.specs.Commands.{Command, Answer, Refused}
 use Rattle.brk_model.specs.Keyed.{keyed_step}
 use Rattle.brk_model.specs.Answers.{Fields, RowStep, AreAnswered}
-use Rattle.brk_model.specs.Input.{text_of, Begins, AreAll, IsName, IsEnd, header_of, end_of}
-use Rattle.brk_model.specs.Lines.{lines_from, end_line}
+use Rattle.brk_model.specs.Input.{input_text, BeginsWithRecords, HasExactlyRecords, IsBatchName, IsEndRecord, batch_header, end_record_after}
+use Rattle.brk_model.specs.Lines.{answer_lines_from, batch_end_line}
 
 -- The ways in which a batch ends: complete, without a header, without an end record, or with a
 -- wrong end record.
@@ -32,51 +32,51 @@ pub record Batch (B : Type 0) : Type 0 where
 
 -- The batch name is well-formed, none of the rows is an end record, and the rows have exactly these
 -- answers, one each, and lead from `base` to `after`.
-pub record AreDecided {B C : Type 0} (form : Fields → Read C) (step : RowStep B C) (name : Text) (base : B) (moments : List ℕ)
+pub record AreDecided {B C : Type 0} (form : Fields → ReadResult C) (step : RowStep B C) (name : Text) (base : B) (moments : List ℕ)
     (rows : List Fields) (answers : List Answer) (after : B) : Type 0 where
-  pub named : IsName name
-  pub rows_only : AllByRecursion (λ row. ¬ (IsEnd row)) rows
+  pub named : IsBatchName name
+  pub rows_only : AllByRecursion (λ row. ¬ (IsEndRecord row)) rows
   pub answered : AreAnswered form step name base moments rows answers after
   pub each : length answers ≡ length rows
 
 -- The text has no record, or its first record is no header. An unknown text always satisfies this.
 abbrev pub HasNoHeader : Option Text → Type 0
-HasNoHeader text = AreAll text [] ⊎ ((first : Fields) × Begins text (first ∷ []) × ((name : Text) → IsName name → first ≡ header_of name → ⊥))
+HasNoHeader text = HasExactlyRecords text [] ⊎ ((first : Fields) × BeginsWithRecords text (first ∷ []) × ((name : Text) → IsBatchName name → first ≡ batch_header name → ⊥))
 
 -- The text ends after its header, and `rows` and `told` are empty; or it ends after its header,
 -- `rows` and one record more, which is no end record, and `told` is `answers` followed by the
 -- refusal `BadText` of that record, which is not executed. An unknown text always satisfies the
 -- part about its records.
-abbrev pub EndsAfter : Option Text → Text → List Fields → List Answer → List Answer → Type 0
-EndsAfter text name rows answers told =
-    ((rows ≡ []) × AreAll text (header_of name ∷ []) × (told ≡ []))
-    ⊎ ((last : Fields) × ¬ (IsEnd last) × AreAll text (header_of name ∷ (rows ++ (last ∷ []))) × (told ≡ answers ++ (Refused BadText ∷ [])))
+abbrev pub EndsWithoutEndRecord : Option Text → Text → List Fields → List Answer → List Answer → Type 0
+EndsWithoutEndRecord text name rows answers told =
+    ((rows ≡ []) × HasExactlyRecords text (batch_header name ∷ []) × (told ≡ []))
+    ⊎ ((last : Fields) × ¬ (IsEndRecord last) × HasExactlyRecords text (batch_header name ∷ (rows ++ (last ∷ []))) × (told ≡ answers ++ (Refused BadText ∷ [])))
 
 -- The text has, after its header and `rows`, an end record that is not the correct one for the
 -- number of `rows`. An unknown text always satisfies this.
-abbrev pub EndsWrong : Option Text → Text → List Fields → Type 0
-EndsWrong text name rows =
-    (last : Fields) × IsEnd last × (last ≡ end_of (length rows) → ⊥) × Begins text (header_of name ∷ (rows ++ (last ∷ [])))
+abbrev pub EndsWithWrongRecord : Option Text → Text → List Fields → Type 0
+EndsWithWrongRecord text name rows =
+    (last : Fields) × IsEndRecord last × (last ≡ end_record_after (length rows) → ⊥) × BeginsWithRecords text (batch_header name ∷ (rows ++ (last ∷ [])))
 
 -- The records of the text, the answers `told` of the rows and the output `out` are those of a batch
 -- with a header and this ending. It is false for `BadHeader`.
-abbrev pub Ends : Option Text → Ending → Text → List Fields → List Answer → List Answer → Text → Type 0
-Ends text EndedWell name rows answers told out =
-    Begins text (header_of name ∷ (rows ++ (end_of (length rows) ∷ []))) × (told ≡ answers) × (out ≡ lines_from 1 answers ++ end_line answers)
-Ends text NoEnd name rows answers told out = EndsAfter text name rows answers told × (out ≡ lines_from 1 told)
-Ends text BadEnd name rows answers told out = EndsWrong text name rows × (told ≡ answers) × (out ≡ lines_from 1 answers)
-Ends text BadHeader name rows answers told out = ⊥
+abbrev pub MatchesEnding : Option Text → Ending → Text → List Fields → List Answer → List Answer → Text → Type 0
+MatchesEnding text EndedWell name rows answers told out =
+    BeginsWithRecords text (batch_header name ∷ (rows ++ (end_record_after (length rows) ∷ []))) × (told ≡ answers) × (out ≡ answer_lines_from 1 answers ++ batch_end_line answers)
+MatchesEnding text NoEnd name rows answers told out = EndsWithoutEndRecord text name rows answers told × (out ≡ answer_lines_from 1 told)
+MatchesEnding text BadEnd name rows answers told out = EndsWithWrongRecord text name rows × (told ≡ answers) × (out ≡ answer_lines_from 1 answers)
+MatchesEnding text BadHeader name rows answers told out = ⊥
 
 -- The batch is the result of a text with a header: its output, its ending, its base and its number
 -- of decided rows follow from the rows of the text and their answers, executed by `step` from
 -- `base` on with the clock readings `moments`.
-pub record IsAnswered {B C : Type 0} (form : Fields → Read C) (step : RowStep B C) (base : B) (moments : List ℕ) (text : Option Text) (batch : Batch B) : Type 0 where
+pub record IsAnswered {B C : Type 0} (form : Fields → ReadResult C) (step : RowStep B C) (base : B) (moments : List ℕ) (text : Option Text) (batch : Batch B) : Type 0 where
   pub name : Text
   pub rows : List Fields
   pub answers : List Answer
   pub told : List Answer
   pub settled : AreDecided form step name base moments rows answers batch.base
-  pub ends : Ends text batch.ending name rows answers told batch.text
+  pub ends : MatchesEnding text batch.ending name rows answers told batch.text
   pub counted : batch.rows ≡ length told
 
 -- The batch is the result of a text without a header: no clock reading is used, the base is
@@ -91,11 +91,11 @@ pub record IsUnanswered {B : Type 0} (base : B) (moments : List ℕ) (text : Opt
 
 -- The batch is the result of the bytes `input` executed by `step` from `base` on, with `moments` as
 -- the clock readings of the executed rows, one each.
-abbrev pub BatchText : {B C : Type 0} → (Fields → Read C) → RowStep B C → B → List ℕ → Text → Batch B → Type 0
-BatchText form step base moments input batch =
-    IsAnswered form step base moments (Some (text_of input)) batch ⊎ IsUnanswered base moments (Some (text_of input)) batch
+abbrev pub IsResultOfBatch : {B C : Type 0} → (Fields → ReadResult C) → RowStep B C → B → List ℕ → Text → Batch B → Type 0
+IsResultOfBatch form step base moments input batch =
+    IsAnswered form step base moments (Some (input_text input)) batch ⊎ IsUnanswered base moments (Some (input_text input)) batch
 
 -- The answer to the command of a row under its key at the clock reading `now`, and the base after
 -- it.
-abbrev pub row_step : Base → ℕ → Command → Key → Answer × Base
-row_step base now command key = keyed_step base now command (Some key)
+abbrev pub step_of_row : Base → ℕ → Command → Key → Answer × Base
+step_of_row base now command key = keyed_step base now command (Some key)

@@ -6,69 +6,69 @@ use Rattle.std.specs.Prelude.{ℕ, ◌+◌, ◌*◌, false, nat_le, ◌==◌, if
 use Rattle.std.specs.Option.{option_map_or}
 use Rattle.brk_money.specs.Spelling.{Text}
 use Rattle.brk_money.specs.Moments.{day_of}
-use Rattle.brk_money.specs.Kinds.{side_of}
+use Rattle.brk_money.specs.Kinds.{side_of_trade_type}
 use Rattle.brk_money.specs.declared.side.Side.{Side}
 use Rattle.brk_money.specs.declared.side.Side.TheVariants.{Buy, Sell}
 use Rattle.brk_money.specs.declared.status.Status.TheVariants.{Pending}
 use Rattle.brk_model.specs.Lists.{sort_by_key, total_by}
 use Rattle.brk_model.specs.Records.{Account, Security, Trade, Movement, SettleRule}
-use Rattle.brk_model.specs.Base.{Base, completed, tax_status_in, opening_in, broker_in, takes_tax_off, has_status, moment_of, price_of}
-use Rattle.brk_model.specs.Shares.{Share, Deal, replay, signed}
+use Rattle.brk_model.specs.Base.{Base, completed_trades, tax_status_in_accounts, opening_balance_in_accounts, broker_id_in_accounts, is_withholding_status, has_status, last_status_stamp_of_trade, completion_price}
+use Rattle.brk_model.specs.Shares.{Share, Deal, replay, signed_by_side}
 
 -- The deal of the completed trade `t` with its position, at its completion price and stamp.
-abbrev pub deal_of : Trade → Deal
-deal_of t = record { trade = t.id; side = side_of t.kind; qty = t.qty; price = price_of t; stamp = moment_of t; is_lifo = t.is_lifo }
+abbrev pub deal_of_trade : Trade → Deal
+deal_of_trade t = record { trade = t.id; side = side_of_trade_type t.kind; qty = t.qty; price = completion_price t; stamp = last_status_stamp_of_trade t; is_lifo = t.is_lifo }
 
 -- The trades of the list `done` that belong to the account `account`.
-abbrev pub of_account : List Trade → ℕ → List Trade
-of_account done account = filter (λ t. t.account == account) done
+abbrev pub trades_of_account : List Trade → ℕ → List Trade
+trades_of_account done account = filter (λ t. t.account == account) done
 
 -- The trades of the list `done` that belong to the account `account` and the symbol `symbol`.
-abbrev pub of_position : List Trade → ℕ → Text → List Trade
-of_position done account symbol = filter (λ t. bytes_eq t.symbol symbol) (of_account done account)
+abbrev pub trades_of_position : List Trade → ℕ → Text → List Trade
+trades_of_position done account symbol = filter (λ t. bytes_eq t.symbol symbol) (trades_of_account done account)
 
 -- The deals of the trades of `done` in the account `account` and the symbol `symbol`, sorted by
 -- completion stamp, ascending.
-abbrev pub deals_in : List Trade → ℕ → Text → List Deal
-deals_in done account symbol = map deal_of (sort_by_key moment_of (of_position done account symbol))
+abbrev pub deals_of_position : List Trade → ℕ → Text → List Deal
+deals_of_position done account symbol = map deal_of_trade (sort_by_key last_status_stamp_of_trade (trades_of_position done account symbol))
 
 -- The open shares of the account `account` in the symbol `symbol`, bought or sold short, after the
 -- completed trades `done` (HOLDING).
-unfoldable pub shares_in : List Trade → ℕ → Text → List Share
-shares_in done account symbol = replay (deals_in done account symbol)
+unfoldable pub shares_of_position : List Trade → ℕ → Text → List Share
+shares_of_position done account symbol = replay (deals_of_position done account symbol)
 
 -- The holding summary of the account `account` in the symbol `symbol`: shares bought less shares
 -- sold over the completed trades `done`, without regard to lots (HS_QTY, consistency condition).
-unfoldable pub summary_of : List Trade → ℕ → Text → ℤ
-summary_of done account symbol = total_by (λ t. signed (side_of t.kind) t.qty) (of_position done account symbol)
+unfoldable pub holding_summary_quantity : List Trade → ℕ → Text → ℤ
+holding_summary_quantity done account symbol = total_by (λ t. signed_by_side (side_of_trade_type t.kind) t.qty) (trades_of_position done account symbol)
 
 -- The proceeds of shares worth `value` cents: `value` for a sale, and its negation for a purchase.
-abbrev pub proceeds : Side → ℕ → ℤ
-proceeds Sell value = pos value
-proceeds Buy value = neg_ℤ (pos value)
+abbrev pub signed_proceeds : Side → ℕ → ℤ
+signed_proceeds Sell value = pos value
+signed_proceeds Buy value = neg_ℤ (pos value)
 
 -- The tax that is withheld from the settlement of the trade `t`, in cents; 0 unless the tax status
 -- of its account is `Withheld`.
-abbrev pub withheld : List Account → Trade → ℕ
-withheld accounts t = if takes_tax_off (tax_status_in accounts t.account) then t.tax else 0
+abbrev pub withheld_tax : List Account → Trade → ℕ
+withheld_tax accounts t = if is_withholding_status (tax_status_in_accounts accounts t.account) then t.tax else 0
 
 -- The settlement amount of the completed trade `t`, in cents: its proceeds less charge, commission
 -- and withheld tax (SE_AMT, Trade-Result).
-abbrev pub amount_of : List Account → Trade → ℤ
-amount_of accounts t = proceeds (side_of t.kind) (t.qty * price_of t) -ℤ pos (t.charge + t.commission + withheld accounts t)
+abbrev pub settlement_amount : List Account → Trade → ℤ
+settlement_amount accounts t = signed_proceeds (side_of_trade_type t.kind) (t.qty * completion_price t) -ℤ pos (t.charge + t.commission + withheld_tax accounts t)
 
 -- The number of days from a completion on the day `day` to its settlement: 1 if `rule` has a
 -- settlement day and `day` is not before it, otherwise 2.
-abbrev pub settlement_days : SettleRule → ℕ → ℕ
-settlement_days rule day = if option_map_or (λ first. nat_le first day) rule false then 1 else 2
+abbrev pub days_to_settlement : SettleRule → ℕ → ℕ
+days_to_settlement rule day = if option_map_or (λ first. nat_le first day) rule false then 1 else 2
 
 -- The day on which a completion at the stamp `stamp` settles.
-abbrev pub due_after : SettleRule → ℕ → ℕ
-due_after rule stamp = day_of stamp + settlement_days rule (day_of stamp)
+abbrev pub due_day_of_completion_stamp : SettleRule → ℕ → ℕ
+due_day_of_completion_stamp rule stamp = day_of stamp + days_to_settlement rule (day_of stamp)
 
 -- The day on which the completed trade `t` settles (SE_CASH_DUE_DATE, Trade-Result).
 abbrev pub due_day : SettleRule → Trade → ℕ
-due_day rule t = due_after rule (moment_of t)
+due_day rule t = due_day_of_completion_stamp rule (last_status_stamp_of_trade t)
 
 -- The trades of the list `done` that are cash trades, not margin trades.
 abbrev pub cash_trades : List Trade → List Trade
@@ -85,7 +85,7 @@ pub record Posting : Type 0 where
 -- The posting of the completed cash trade `t`: its settlement amount, to its account, at its
 -- completion stamp.
 abbrev pub posting_of_trade : List Account → Trade → Posting
-posting_of_trade accounts t = record { account = t.account; trade = Some t.id; stamp = moment_of t; amount = amount_of accounts t; name = t.cash_name }
+posting_of_trade accounts t = record { account = t.account; trade = Some t.id; stamp = last_status_stamp_of_trade t; amount = settlement_amount accounts t; name = t.cash_name }
 
 -- The posting of the movement `m`, which belongs to no trade.
 abbrev pub posting_of_movement : Movement → Posting
@@ -96,41 +96,41 @@ abbrev pub postings : List Account → List Trade → List Movement → List Pos
 postings accounts done movements = map (posting_of_trade accounts) (cash_trades done) ++ map posting_of_movement movements
 
 -- The postings, sorted by stamp, ascending; two postings with one stamp keep their sequence.
-abbrev pub in_turn : List Posting → List Posting
-in_turn posted = sort_by_key (λ p. p.stamp) posted
+abbrev pub postings_sorted_by_stamp : List Posting → List Posting
+postings_sorted_by_stamp posted = sort_by_key (λ p. p.stamp) posted
 
 -- The postings of all completed cash trades and all movements of `base`.
-abbrev pub postings_of : Base → List Posting
-postings_of base = postings base.accounts (completed base) base.movements
+abbrev pub postings_of_base : Base → List Posting
+postings_of_base base = postings base.accounts (completed_trades base) base.movements
 
 -- The postings of the list `posted` to the account `account`.
-abbrev pub posted_to : List Posting → ℕ → List Posting
-posted_to posted account = filter (λ p. p.account == account) posted
+abbrev pub postings_to_account : List Posting → ℕ → List Posting
+postings_to_account posted account = filter (λ p. p.account == account) posted
 
 -- The balance of the account `account`, in cents: its opening balance plus the amounts of its
 -- postings in `posted` (CA_BAL).
-unfoldable pub balance_of : List Account → List Posting → ℕ → ℤ
-balance_of accounts posted account = opening_in accounts account +ℤ total_by (λ p. p.amount) (posted_to posted account)
+unfoldable pub balance_of_account : List Account → List Posting → ℕ → ℤ
+balance_of_account accounts posted account = opening_balance_in_accounts accounts account +ℤ total_by (λ p. p.amount) (postings_to_account posted account)
 
 -- The market value of the holdings of the account `account`, in cents: the sum over `securities` of
 -- holding summary times last price.
-unfoldable pub holdings_of : List Security → List Trade → ℕ → ℤ
-holdings_of securities done account = total_by (λ s. summary_of done account s.symbol *ℤ pos s.last_price) securities
+unfoldable pub holdings_market_value : List Security → List Trade → ℕ → ℤ
+holdings_market_value securities done account = total_by (λ s. holding_summary_quantity done account s.symbol *ℤ pos s.last_price) securities
 
 -- The trades of the list `done` whose accounts have the broker `broker`.
-abbrev pub of_broker : List Account → List Trade → ℕ → List Trade
-of_broker accounts done broker = filter (λ t. broker_in accounts t.account == broker) done
+abbrev pub trades_of_broker : List Account → List Trade → ℕ → List Trade
+trades_of_broker accounts done broker = filter (λ t. broker_id_in_accounts accounts t.account == broker) done
 
 -- The number of the completed trades `done` whose accounts have the broker `broker` (B_NUM_TRADES,
 -- consistency condition).
-unfoldable pub trade_count_of : List Account → List Trade → ℕ → ℕ
-trade_count_of accounts done broker = length (of_broker accounts done broker)
+unfoldable pub trade_count_of_broker : List Account → List Trade → ℕ → ℕ
+trade_count_of_broker accounts done broker = length (trades_of_broker accounts done broker)
 
 -- The sum of the commissions, in cents, of the completed trades `done` whose accounts have the
 -- broker `broker` (B_COMM_TOTAL, consistency condition).
-unfoldable pub commissions_of : List Account → List Trade → ℕ → ℕ
-commissions_of accounts done broker = sum_by (λ t. t.commission) (of_broker accounts done broker)
+unfoldable pub commission_total_of_broker : List Account → List Trade → ℕ → ℕ
+commission_total_of_broker accounts done broker = sum_by (λ t. t.commission) (trades_of_broker accounts done broker)
 
 -- The trades of the list whose last status is `Pending` (TRADE_REQUEST).
-abbrev pub pending : List Trade → List Trade
-pending trades = filter (has_status Pending) trades
+abbrev pub pending_trades : List Trade → List Trade
+pending_trades trades = filter (has_status Pending) trades

@@ -4,34 +4,34 @@ use Rattle.std.specs.List.{list_any, list_all, range_with_len}
 use Rattle.std.specs.Option.{option_map_or}
 use Rattle.std.specs.Str.{is_utf8}
 use Rattle.brk_money.specs.Spelling.{Text}
-use Rattle.brk_money.specs.Moments.{last_day, last_stamp}
-use Rattle.brk_money.specs.Kinds.{same_status}
+use Rattle.brk_money.specs.Moments.{greatest_day, greatest_stamp}
+use Rattle.brk_money.specs.Kinds.{is_same_trade_status}
 use Rattle.brk_money.specs.declared.status.Status.TheVariants.{Completed}
-use Rattle.brk_model.specs.Limits.{greatest_price, greatest_charge, greatest_rate, greatest_tax_rate, greatest_amount, greatest_id, greatest_move_id, most_accounts}
+use Rattle.brk_model.specs.Limits.{greatest_price, greatest_charge, greatest_commission_rate, greatest_tax_rate, greatest_amount, greatest_id, greatest_cash_row_number, most_accounts_per_customer}
 use Rattle.brk_model.specs.Lists.{all_distinct}
 use Rattle.brk_model.specs.Schemas.{Schema}
 use Rattle.brk_model.specs.Records.{Customer, Permission, Charge, Band, TaxRate, CustomerTax, Kept}
-use Rattle.brk_model.specs.Base.{rates_of}
+use Rattle.brk_model.specs.Base.{tax_rate_sum_of_customer}
 use Rattle.brk_model.specs.Tables.{Tables, BrokerRow, AccountRow, SecurityRow, LastTradeRow, TradeRow, HistoryRow, RequestRow, HoldingRow, SummaryRow, HoldingHistoryRow, SettlementRow, CashRow, MoveRow}
-use Rattle.brk_model.specs.Derived.{due_after}
-use Rattle.brk_model.specs.Results.{cash_text}
-use Rattle.brk_model.specs.Tests.{bands_meet}
+use Rattle.brk_model.specs.Derived.{due_day_of_completion_stamp}
+use Rattle.brk_model.specs.Results.{cash_row_name}
+use Rattle.brk_model.specs.Tests.{bands_overlap}
 use Rattle.brk_model.specs.Forms.{is_name, is_tax_id, is_symbol, is_exchange, is_acl, is_batch_name}
-use Rattle.brk_model.specs.Joins.{history_in, trade_in, security_in, account_in}
-use Rattle.brk_model.specs.Adopted.{base_of, trade_of_row}
-use Rattle.brk_model.specs.Keys.{KeyPart, key_before, kept_key, broker_key, customer_key, account_key, permission_key, security_key, last_trade_key, charge_key, band_key, tax_rate_key, customer_tax_key, trade_key, history_key, request_key, holding_key, summary_key, holding_history_key, settlement_key, cash_key, move_key}
+use Rattle.brk_model.specs.Joins.{history_rows_with_trade_id, trade_row_with_id, security_row_with_symbol, account_row_with_id}
+use Rattle.brk_model.specs.Adopted.{base_of_tables, trade_of_row}
+use Rattle.brk_model.specs.Keys.{KeyPart, is_key_less, kept_key, broker_key, customer_key, account_key, permission_key, security_key, last_trade_key, charge_key, band_key, tax_rate_key, customer_tax_key, trade_key, history_key, request_key, holding_key, summary_key, holding_history_key, settlement_key, cash_key, move_key}
 
 -- True if `n` is an id: from 1 to the greatest id.
 abbrev pub is_id : ℕ → Bool
 is_id n = nat_le 1 n && nat_le n greatest_id
 
 -- True if `n` is the number of a cash row: from 1 to the greatest number of a cash row.
-abbrev pub is_move_id : ℕ → Bool
-is_move_id n = nat_le 1 n && nat_le n greatest_move_id
+abbrev pub is_cash_row_number : ℕ → Bool
+is_cash_row_number n = nat_le 1 n && nat_le n greatest_cash_row_number
 
 -- True if the quantity `n` is from 1 to the greatest quantity of the schema `schema`.
-abbrev pub is_qty : Schema → ℕ → Bool
-is_qty schema n = nat_le 1 n && nat_le n schema.greatest_qty
+abbrev pub is_quantity_in_schema : Schema → ℕ → Bool
+is_quantity_in_schema schema n = nat_le 1 n && nat_le n schema.greatest_qty
 
 -- True if the price `n` is from 1 cent to the greatest price.
 abbrev pub is_price : ℕ → Bool
@@ -47,20 +47,20 @@ is_amount z = nat_le (nat_abs z) greatest_amount
 
 -- True if the stamp is not after the last stamp of the tables; false if the tables have no last
 -- stamp.
-abbrev pub is_stamp : Tables → ℕ → Bool
-is_stamp tables stamp = option_map_or (λ last. nat_le stamp last) tables.last false
+abbrev pub is_at_most_last_stamp : Tables → ℕ → Bool
+is_at_most_last_stamp tables stamp = option_map_or (λ last. nat_le stamp last) tables.last false
 
 -- True if the tables have a TRADE row with the id `id`.
 abbrev pub has_trade : Tables → ℕ → Bool
-has_trade tables id = is_some (trade_in tables id)
+has_trade tables id = is_some (trade_row_with_id tables id)
 
 -- True if the tables have a CUSTOMER_ACCOUNT row with the id `id`.
 abbrev pub has_account : Tables → ℕ → Bool
-has_account tables id = is_some (account_in tables id)
+has_account tables id = is_some (account_row_with_id tables id)
 
 -- True if the tables have a SECURITY row with the symbol `symbol`.
 abbrev pub has_security : Tables → Text → Bool
-has_security tables symbol = is_some (security_in tables symbol)
+has_security tables symbol = is_some (security_row_with_symbol tables symbol)
 
 -- True if the tables have a CUSTOMER row with the id `id`.
 abbrev pub has_customer : Tables → ℕ → Bool
@@ -72,187 +72,187 @@ has_broker tables id = list_any (λ b. b.id == id) tables.brokers
 
 -- True if the key of a row of KEPT is a well-formed batch name and a row number; the texts of the
 -- row are not checked.
-abbrev pub kept_form : Kept → Bool
-kept_form k = is_batch_name k.key.batch && is_id k.key.row
+abbrev pub is_well_formed_kept_row : Kept → Bool
+is_well_formed_kept_row k = is_batch_name k.key.batch && is_id k.key.row
 
 -- True if the id and the name of a row of BROKER are well-formed and its commission total is within
 -- its limit; the trade count is not checked.
-abbrev pub broker_form : BrokerRow → Bool
-broker_form b = is_id b.id && is_name b.name && nat_le b.commissions greatest_amount
+abbrev pub is_well_formed_broker_row : BrokerRow → Bool
+is_well_formed_broker_row b = is_id b.id && is_name b.name && nat_le b.commissions greatest_amount
 
 -- True if the id, the tier, the tax id and both names of a row of CUSTOMER are well-formed.
-abbrev pub customer_form : Customer → Bool
-customer_form c = is_id c.id && is_tier c.tier && is_tax_id c.tax_id && is_name c.last_name && is_name c.first_name
+abbrev pub is_well_formed_customer_row : Customer → Bool
+is_well_formed_customer_row c = is_id c.id && is_tier c.tier && is_tax_id c.tax_id && is_name c.last_name && is_name c.first_name
 
 -- True if the id, the name, the opening balance and the balance of a row of CUSTOMER_ACCOUNT are
 -- well-formed, and its customer and broker exist.
-abbrev pub account_form : Tables → AccountRow → Bool
-account_form t a =
+abbrev pub is_well_formed_account_row : Tables → AccountRow → Bool
+is_well_formed_account_row t a =
     is_id a.id && has_customer t a.customer && has_broker t a.broker && is_name a.name && is_amount a.opening && is_amount a.balance
 
 -- True if the ACL, the tax id and both names of a row of ACCOUNT_PERMISSION are well-formed, and
 -- its account exists.
-abbrev pub permission_form : Tables → Permission → Bool
-permission_form t p = has_account t p.account && is_acl p.acl && is_tax_id p.tax_id && is_name p.last_name && is_name p.first_name
+abbrev pub is_well_formed_permission_row : Tables → Permission → Bool
+is_well_formed_permission_row t p = has_account t p.account && is_acl p.acl && is_tax_id p.tax_id && is_name p.last_name && is_name p.first_name
 
 -- True if the symbol, the name, the exchange and the sector of a row of SECURITY are well-formed,
 -- and a LAST_TRADE row of the symbol exists.
-abbrev pub security_form : Tables → SecurityRow → Bool
-security_form t s =
+abbrev pub is_well_formed_security_row : Tables → SecurityRow → Bool
+is_well_formed_security_row t s =
     is_symbol s.symbol && is_name s.name && is_exchange s.exchange && is_name s.sector && list_any (λ l. bytes_eq l.symbol s.symbol) t.last_trades
 
 -- True if the security of a row of LAST_TRADE exists, its stamp is not after the last stamp, and
 -- its price and volume are within their limits.
-abbrev pub last_trade_form : Tables → LastTradeRow → Bool
-last_trade_form t l = has_security t l.symbol && is_stamp t l.stamp && is_price l.price && nat_le l.volume greatest_amount
+abbrev pub is_well_formed_last_trade_row : Tables → LastTradeRow → Bool
+is_well_formed_last_trade_row t l = has_security t l.symbol && is_at_most_last_stamp t l.stamp && is_price l.price && nat_le l.volume greatest_amount
 
 -- True if the tier and the amount of a row of CHARGE are within their limits.
-abbrev pub charge_form : Charge → Bool
-charge_form c = is_tier c.tier && nat_le c.amount greatest_charge
+abbrev pub is_well_formed_charge_row : Charge → Bool
+is_well_formed_charge_row c = is_tier c.tier && nat_le c.amount greatest_charge
 
 -- True if the tier, the exchange, the bounds and the rate of a row of COMMISSION_RATE are
 -- well-formed in the schema `schema`, and its lower bound is at most its upper bound.
-abbrev pub band_form : Schema → Band → Bool
-band_form schema b =
-    is_tier b.tier && is_exchange b.exchange && is_qty schema b.from_qty && is_qty schema b.to_qty && nat_le b.from_qty b.to_qty
-    && nat_le b.rate greatest_rate
+abbrev pub is_well_formed_band_row : Schema → Band → Bool
+is_well_formed_band_row schema b =
+    is_tier b.tier && is_exchange b.exchange && is_quantity_in_schema schema b.from_qty && is_quantity_in_schema schema b.to_qty && nat_le b.from_qty b.to_qty
+    && nat_le b.rate greatest_commission_rate
 
 -- True if the id and the name of a row of TAXRATE are well-formed and its rate is within its limit.
-abbrev pub tax_rate_form : TaxRate → Bool
-tax_rate_form r = is_id r.id && is_name r.name && nat_le r.rate greatest_tax_rate
+abbrev pub is_well_formed_tax_rate_row : TaxRate → Bool
+is_well_formed_tax_rate_row r = is_id r.id && is_name r.name && nat_le r.rate greatest_tax_rate
 
 -- True if the customer and the tax rate of a row of CUSTOMER_TAXRATE exist.
-abbrev pub customer_tax_form : Tables → CustomerTax → Bool
-customer_tax_form t x = has_customer t x.customer && list_any (λ r. r.id == x.tax) t.tax_rates
+abbrev pub is_well_formed_customer_tax_row : Tables → CustomerTax → Bool
+is_well_formed_customer_tax_row t x = has_customer t x.customer && list_any (λ r. r.id == x.tax) t.tax_rates
 
 -- True if the TRADE row has a valid price and its trade has a TRADE_HISTORY row with the status
 -- `Completed`, or it has no price and its trade has no such row.
-abbrev pub price_form : Tables → TradeRow → Bool
-price_form t row =
-    if list_any (λ h. same_status h.status Completed) (history_in t row.id) then option_map_or is_price row.price false else is_none row.price
+abbrev pub price_matches_completion : Tables → TradeRow → Bool
+price_matches_completion t row =
+    if list_any (λ h. is_same_trade_status h.status Completed) (history_rows_with_trade_id t row.id) then option_map_or is_price row.price false else is_none row.price
 
 -- True if the id, the quantity, the bid, the charge, the commission and the tax of a row of TRADE
 -- are within their limits, its stamp is not after the last stamp, its security and account exist,
 -- and its price agrees with its history. The executor is not checked.
-abbrev pub trade_form : Schema → Tables → TradeRow → Bool
-trade_form schema t row =
-    is_id row.id && is_stamp t row.stamp && has_security t row.symbol && is_qty schema row.qty && is_price row.bid && has_account t row.account && price_form t row
+abbrev pub is_well_formed_trade_row : Schema → Tables → TradeRow → Bool
+is_well_formed_trade_row schema t row =
+    is_id row.id && is_at_most_last_stamp t row.stamp && has_security t row.symbol && is_quantity_in_schema schema row.qty && is_price row.bid && has_account t row.account && price_matches_completion t row
     && nat_le row.charge greatest_charge && nat_le row.commission greatest_amount && nat_le row.tax greatest_amount
 
 -- True if the trade of a row of TRADE_HISTORY exists, its stamp is not after the last stamp, and,
 -- for a completion, the due day is within the calendar.
-abbrev pub history_form : Tables → HistoryRow → Bool
-history_form t h = has_trade t h.trade && is_stamp t h.stamp && (not (same_status h.status Completed) || nat_le (due_after t.rule h.stamp) last_day)
+abbrev pub is_well_formed_history_row : Tables → HistoryRow → Bool
+is_well_formed_history_row t h = has_trade t h.trade && is_at_most_last_stamp t h.stamp && (not (is_same_trade_status h.status Completed) || nat_le (due_day_of_completion_stamp t.rule h.stamp) greatest_day)
 
 -- True if the quantity and the bid of a row of TRADE_REQUEST are within their limits, and its
 -- trade, security and broker exist.
-abbrev pub request_form : Schema → Tables → RequestRow → Bool
-request_form schema t r = has_trade t r.trade && has_security t r.symbol && is_qty schema r.qty && is_price r.bid && has_broker t r.broker
+abbrev pub is_well_formed_request_row : Schema → Tables → RequestRow → Bool
+is_well_formed_request_row schema t r = has_trade t r.trade && has_security t r.symbol && is_quantity_in_schema schema r.qty && is_price r.bid && has_broker t r.broker
 
 -- True if the price of a row of HOLDING is within its limit, its stamp is not after the last stamp,
 -- and its trade, account and security exist. The quantity is not checked.
-abbrev pub holding_form : Tables → HoldingRow → Bool
-holding_form t h = has_trade t h.trade && has_account t h.account && has_security t h.symbol && is_stamp t h.stamp && is_price h.price
+abbrev pub is_well_formed_holding_row : Tables → HoldingRow → Bool
+is_well_formed_holding_row t h = has_trade t h.trade && has_account t h.account && has_security t h.symbol && is_at_most_last_stamp t h.stamp && is_price h.price
 
 -- True if the quantity of a row of HOLDING_SUMMARY is within the limit of the schema `schema`, and
 -- its account and security exist.
-abbrev pub summary_form : Schema → Tables → SummaryRow → Bool
-summary_form schema t s = has_account t s.account && has_security t s.symbol && nat_le (nat_abs s.qty) schema.greatest_summary
+abbrev pub is_well_formed_summary_row : Schema → Tables → SummaryRow → Bool
+is_well_formed_summary_row schema t s = has_account t s.account && has_security t s.symbol && nat_le (nat_abs s.qty) schema.greatest_summary
 
 -- True if both trades of a row of HOLDING_HISTORY exist; the quantities are not checked.
-abbrev pub holding_history_form : Tables → HoldingHistoryRow → Bool
-holding_history_form t h = has_trade t h.lot && has_trade t h.trade
+abbrev pub is_well_formed_holding_history_row : Tables → HoldingHistoryRow → Bool
+is_well_formed_holding_history_row t h = has_trade t h.lot && has_trade t h.trade
 
 -- True if the text is one of the two cash types of a cash trade (`is_cash` is true) or of a margin
 -- trade (`is_cash` is false).
-abbrev pub is_cash_type : Bool → Text → Bool
-is_cash_type is_cash word =
+abbrev pub is_cash_type_of_trade : Bool → Text → Bool
+is_cash_type_of_trade is_cash word =
     if is_cash then bytes_eq word (codes "Cash Account") || bytes_eq word (codes "Cash")
     else bytes_eq word (codes "Margin") || bytes_eq word (codes "Margin Account")
 
 -- True if the trade of a row of SETTLEMENT exists, its cash type is one of the two of that trade,
 -- and its due day and amount are within their limits.
-abbrev pub settlement_form : Tables → SettlementRow → Bool
-settlement_form t s =
-    option_map_or (λ row. is_cash_type row.is_cash s.cash_type) (trade_in t s.trade) false && nat_le s.due_day last_day && is_amount s.amount
+abbrev pub is_well_formed_settlement_row : Tables → SettlementRow → Bool
+is_well_formed_settlement_row t s =
+    option_map_or (λ row. is_cash_type_of_trade row.is_cash s.cash_type) (trade_row_with_id t s.trade) false && nat_le s.due_day greatest_day && is_amount s.amount
 
 -- True if `name` is one of the two names that a cash row of the trade of the TRADE row may have:
 -- with " shares of " or with " Shares of ".
-abbrev pub is_cash_name : Tables → Text → TradeRow → Bool
-is_cash_name t name row =
-    bytes_eq name (cash_text (codes " shares of ") (base_of t) (trade_of_row t row))
-    || bytes_eq name (cash_text (codes " Shares of ") (base_of t) (trade_of_row t row))
+abbrev pub is_cash_row_name_of_trade : Tables → Text → TradeRow → Bool
+is_cash_row_name_of_trade t name row =
+    bytes_eq name (cash_row_name (codes " shares of ") (base_of_tables t) (trade_of_row t row))
+    || bytes_eq name (cash_row_name (codes " Shares of ") (base_of_tables t) (trade_of_row t row))
 
 -- True if the trade of a row of CASH_TRANSACTION exists, its name is one of the two that a cash row
 -- of that trade may have, its stamp is not after the last stamp, and its amount is within its
 -- limit.
-abbrev pub cash_form : Tables → CashRow → Bool
-cash_form t c = option_map_or (is_cash_name t c.name) (trade_in t c.trade) false && is_stamp t c.stamp && is_amount c.amount
+abbrev pub is_well_formed_cash_row : Tables → CashRow → Bool
+is_well_formed_cash_row t c = option_map_or (is_cash_row_name_of_trade t c.name) (trade_row_with_id t c.trade) false && is_at_most_last_stamp t c.stamp && is_amount c.amount
 
 -- True if `name` and `amount` are those of a movement: `Deposit` and above 0, or `Withdrawal` and
 -- below 0.
-abbrev pub is_movement : Text → ℤ → Bool
-is_movement name amount = (bytes_eq name (codes "Deposit") && int_lt (pos 0) amount) || (bytes_eq name (codes "Withdrawal") && int_lt amount (pos 0))
+abbrev pub is_movement_name_and_amount : Text → ℤ → Bool
+is_movement_name_and_amount name amount = (bytes_eq name (codes "Deposit") && int_lt (pos 0) amount) || (bytes_eq name (codes "Withdrawal") && int_lt amount (pos 0))
 
 -- True if the trade with the id `trade` exists, and the name of the CASH_MOVE row is one of the two
 -- that a cash row of that trade may have.
-abbrev pub is_cash_of_trade : Tables → MoveRow → ℕ → Bool
-is_cash_of_trade t r trade = option_map_or (is_cash_name t r.name) (trade_in t trade) false
+abbrev pub has_cash_row_name_of_trade : Tables → MoveRow → ℕ → Bool
+has_cash_row_name_of_trade t r trade = option_map_or (is_cash_row_name_of_trade t r.name) (trade_row_with_id t trade) false
 
 -- True if the number and the amount of a row of CASH_MOVE are within their limits, its account
 -- exists, and its stamp is not after the last stamp. If the row has a trade, that trade exists and
 -- the name is one of its two; otherwise the name and the amount are those of a movement.
-abbrev pub move_form : Tables → MoveRow → Bool
-move_form t r =
-    is_move_id r.id && has_account t r.account && option_map_or (is_cash_of_trade t r) r.trade (is_movement r.name r.amount)
-    && is_stamp t r.stamp && is_amount r.amount
+abbrev pub is_well_formed_move_row : Tables → MoveRow → Bool
+is_well_formed_move_row t r =
+    is_cash_row_number r.id && has_account t r.account && option_map_or (has_cash_row_name_of_trade t r) r.trade (is_movement_name_and_amount r.name r.amount)
+    && is_at_most_last_stamp t r.stamp && is_amount r.amount
 
 -- The ids of the trades of the CASH_MOVE rows, in their sequence; a row without a trade adds none.
-abbrev pub trades_moved : List MoveRow → List ℕ
-trades_moved rows = flat_map (λ r. option_to_list r.trade) rows
+abbrev pub trade_ids_of_cash_rows : List MoveRow → List ℕ
+trade_ids_of_cash_rows rows = flat_map (λ r. option_to_list r.trade) rows
 
 -- True if the tables that the schema `schema` lacks have no rows: CASH_MOVE, and SETTLE_RULE.
-abbrev pub lacks_later_rows : Schema → Tables → Bool
-lacks_later_rows schema t = (schema.has_moves || (length t.moves == 0)) && (schema.has_rule || is_none t.rule)
+abbrev pub lacks_rows_of_later_schemas : Schema → Tables → Bool
+lacks_rows_of_later_schemas schema t = (schema.has_moves || (length t.moves == 0)) && (schema.has_rule || is_none t.rule)
 
 -- True if no two bands of the list share a quantity for one tier, trade type and exchange.
-abbrev pub no_overlap : List Band → Bool
-no_overlap [] = true
-no_overlap (b ∷ bands) = not (list_any (bands_meet b) bands) && no_overlap bands
+abbrev pub bands_are_disjoint : List Band → Bool
+bands_are_disjoint [] = true
+bands_are_disjoint (b ∷ bands) = not (list_any (bands_overlap b) bands) && bands_are_disjoint bands
 
 -- True if the two lists are equal.
-abbrev pub same_numbers : List ℕ → List ℕ → Bool
-same_numbers [] [] = true
-same_numbers (m ∷ ms) (n ∷ ns) = (m == n) && same_numbers ms ns
-same_numbers _ _ = false
+abbrev pub are_equal_number_lists : List ℕ → List ℕ → Bool
+are_equal_number_lists [] [] = true
+are_equal_number_lists (m ∷ ms) (n ∷ ns) = (m == n) && are_equal_number_lists ms ns
+are_equal_number_lists _ _ = false
 
 -- True if the customer `c` has at most ten accounts, and its tax rates total at most the greatest
 -- tax rate.
-abbrev pub customer_limits : Tables → Customer → Bool
-customer_limits t c =
-    nat_le (length (filter (λ a. a.customer == c.id) t.accounts)) most_accounts && nat_le (rates_of (base_of t) c.id) greatest_tax_rate
+abbrev pub is_within_customer_limits : Tables → Customer → Bool
+is_within_customer_limits t c =
+    nat_le (length (filter (λ a. a.customer == c.id) t.accounts)) most_accounts_per_customer && nat_le (tax_rate_sum_of_customer (base_of_tables t) c.id) greatest_tax_rate
 
 -- True if the rows are sorted by `key`, strictly ascending, so that no key occurs twice.
-abbrev pub rises : {Row : Type 0} → (Row → List KeyPart) → List Row → Bool
-rises key [] = true
-rises key (a ∷ []) = true
-rises key (a ∷ b ∷ rows) = key_before (key a) (key b) && rises key (b ∷ rows)
+abbrev pub is_sorted_by_unique_key : {Row : Type 0} → (Row → List KeyPart) → List Row → Bool
+is_sorted_by_unique_key key [] = true
+is_sorted_by_unique_key key (a ∷ []) = true
+is_sorted_by_unique_key key (a ∷ b ∷ rows) = is_key_less (key a) (key b) && is_sorted_by_unique_key key (b ∷ rows)
 
 -- True if the rows of every table with a key are sorted by it, strictly ascending, so that no key
 -- occurs twice in a table.
-unfoldable pub has_keys : Tables → Bool
-has_keys t =
-    rises kept_key t.kept && rises broker_key t.brokers && rises customer_key t.customers && rises account_key t.accounts
-    && rises permission_key t.permissions && rises security_key t.securities && rises last_trade_key t.last_trades && rises charge_key t.charges
-    && rises band_key t.bands && rises tax_rate_key t.tax_rates && rises customer_tax_key t.customer_taxes && rises trade_key t.trades
-    && rises history_key t.history && rises request_key t.requests && rises holding_key t.holdings && rises summary_key t.summaries
-    && rises holding_history_key t.holding_history && rises settlement_key t.settlements && rises cash_key t.cash
-    && rises move_key t.moves
+unfoldable pub tables_are_sorted_by_unique_key : Tables → Bool
+tables_are_sorted_by_unique_key t =
+    is_sorted_by_unique_key kept_key t.kept && is_sorted_by_unique_key broker_key t.brokers && is_sorted_by_unique_key customer_key t.customers && is_sorted_by_unique_key account_key t.accounts
+    && is_sorted_by_unique_key permission_key t.permissions && is_sorted_by_unique_key security_key t.securities && is_sorted_by_unique_key last_trade_key t.last_trades && is_sorted_by_unique_key charge_key t.charges
+    && is_sorted_by_unique_key band_key t.bands && is_sorted_by_unique_key tax_rate_key t.tax_rates && is_sorted_by_unique_key customer_tax_key t.customer_taxes && is_sorted_by_unique_key trade_key t.trades
+    && is_sorted_by_unique_key history_key t.history && is_sorted_by_unique_key request_key t.requests && is_sorted_by_unique_key holding_key t.holdings && is_sorted_by_unique_key summary_key t.summaries
+    && is_sorted_by_unique_key holding_history_key t.holding_history && is_sorted_by_unique_key settlement_key t.settlements && is_sorted_by_unique_key cash_key t.cash
+    && is_sorted_by_unique_key move_key t.moves
 
 -- True if no two customers of the list have one tax id.
-abbrev pub distinct_tax_ids : List Customer → Bool
-distinct_tax_ids [] = true
-distinct_tax_ids (c ∷ customers) = not (list_any (λ d. bytes_eq d.tax_id c.tax_id) customers) && distinct_tax_ids customers
+abbrev pub has_distinct_tax_ids : List Customer → Bool
+has_distinct_tax_ids [] = true
+has_distinct_tax_ids (c ∷ customers) = not (list_any (λ d. bytes_eq d.tax_id c.tax_id) customers) && has_distinct_tax_ids customers
 
 -- True if the tables `t` satisfy the condition `Form` in the schema `schema`. Columns are
 -- well-formed and within its limits, and references resolve. The rows of every table are sorted by
@@ -260,37 +260,37 @@ distinct_tax_ids (c ∷ customers) = not (list_any (λ d. bytes_eq d.tax_id c.ta
 -- of accounts and of tax rates, and trades are numbered from 1 without a gap. No trade has two rows
 -- of CASH_MOVE, and at most `greatest_id` of these rows have no trade. The last stamp and the
 -- settlement day are within the calendar. The tables that the schema lacks have no rows.
-unfoldable pub has_form : Schema → Tables → Bool
-has_form schema t =
-    option_map_or (λ last. nat_le last last_stamp) t.last true
-    && has_keys t
-    && distinct_tax_ids t.customers
-    && list_all kept_form t.kept
-    && list_all broker_form t.brokers
-    && list_all customer_form t.customers && list_all (customer_limits t) t.customers
-    && list_all (account_form t) t.accounts
-    && list_all (permission_form t) t.permissions
-    && list_all (security_form t) t.securities
-    && list_all (last_trade_form t) t.last_trades
-    && list_all charge_form t.charges
-    && list_all (band_form schema) t.bands && no_overlap t.bands
-    && list_all tax_rate_form t.tax_rates
-    && list_all (customer_tax_form t) t.customer_taxes
-    && list_all (trade_form schema t) t.trades && same_numbers (map (λ row. row.id) t.trades) (range_with_len 1 (length t.trades))
-    && list_all (history_form t) t.history
-    && list_all (request_form schema t) t.requests
-    && list_all (holding_form t) t.holdings
-    && list_all (summary_form schema t) t.summaries
-    && list_all (holding_history_form t) t.holding_history
-    && list_all (settlement_form t) t.settlements
-    && list_all (cash_form t) t.cash
-    && list_all (move_form t) t.moves && all_distinct (trades_moved t.moves) && nat_le (length (filter (λ r. is_none r.trade) t.moves)) greatest_id
-    && option_map_or (λ day. nat_le day last_day) t.rule true
-    && lacks_later_rows schema t
+unfoldable pub satisfies_form_condition : Schema → Tables → Bool
+satisfies_form_condition schema t =
+    option_map_or (λ last. nat_le last greatest_stamp) t.last true
+    && tables_are_sorted_by_unique_key t
+    && has_distinct_tax_ids t.customers
+    && list_all is_well_formed_kept_row t.kept
+    && list_all is_well_formed_broker_row t.brokers
+    && list_all is_well_formed_customer_row t.customers && list_all (is_within_customer_limits t) t.customers
+    && list_all (is_well_formed_account_row t) t.accounts
+    && list_all (is_well_formed_permission_row t) t.permissions
+    && list_all (is_well_formed_security_row t) t.securities
+    && list_all (is_well_formed_last_trade_row t) t.last_trades
+    && list_all is_well_formed_charge_row t.charges
+    && list_all (is_well_formed_band_row schema) t.bands && bands_are_disjoint t.bands
+    && list_all is_well_formed_tax_rate_row t.tax_rates
+    && list_all (is_well_formed_customer_tax_row t) t.customer_taxes
+    && list_all (is_well_formed_trade_row schema t) t.trades && are_equal_number_lists (map (λ row. row.id) t.trades) (range_with_len 1 (length t.trades))
+    && list_all (is_well_formed_history_row t) t.history
+    && list_all (is_well_formed_request_row schema t) t.requests
+    && list_all (is_well_formed_holding_row t) t.holdings
+    && list_all (is_well_formed_summary_row schema t) t.summaries
+    && list_all (is_well_formed_holding_history_row t) t.holding_history
+    && list_all (is_well_formed_settlement_row t) t.settlements
+    && list_all (is_well_formed_cash_row t) t.cash
+    && list_all (is_well_formed_move_row t) t.moves && all_distinct (trade_ids_of_cash_rows t.moves) && nat_le (length (filter (λ r. is_none r.trade) t.moves)) greatest_id
+    && option_map_or (λ day. nat_le day greatest_day) t.rule true
+    && lacks_rows_of_later_schemas schema t
 
 -- True if the texts of K_ROW, K_LINE, T_EXEC_NAME, CT_NAME and CM_NAME are UTF-8. Typed rows always
 -- satisfy this; the bytes of a database need not.
-abbrev pub has_texts : Tables → Bool
-has_texts t =
+abbrev pub has_utf8_texts : Tables → Bool
+has_utf8_texts t =
     list_all (λ k. is_utf8 k.row_text && is_utf8 k.line) t.kept && list_all (λ r. is_utf8 r.executor) t.trades && list_all (λ r. is_utf8 r.name) t.cash
     && list_all (λ r. is_utf8 r.name) t.moves

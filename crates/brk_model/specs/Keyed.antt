@@ -9,40 +9,40 @@ use Rattle.brk_model.specs.Rows.{row_text, line_text}
 use Rattle.brk_model.specs.Step.{step}
 
 -- The stored row and reply of `base` under the key `key`; none if the key was not recorded.
-abbrev pub kept_under : Base → Key → Option Kept
-kept_under base key = find (λ k. bytes_eq k.key.batch key.batch && (k.key.row == key.row)) base.kept
+abbrev pub stored_row_with_key : Base → Key → Option Kept
+stored_row_with_key base key = find (λ k. bytes_eq k.key.batch key.batch && (k.key.row == key.row)) base.kept
 
 -- The base `base` with the row of the command and the line of its reply stored under the key;
 -- unchanged without a key.
-abbrev pub keeping : Option Key → Command → Reply → Base → Base
-keeping None command reply base = base
-keeping (Some key) command reply base =
+abbrev pub base_with_stored_reply : Option Key → Command → Reply → Base → Base
+base_with_stored_reply None command reply base = base
+base_with_stored_reply (Some key) command reply base =
     record base { kept = base.kept ++ record { key = key; row_text = row_text command; line = line_text reply } ∷ [] }
 
 -- The answer to a command, and the base after it, by the result of its step on `base`. If the step
 -- accepts the command, the base after it also stores the row and the reply under the key; if it
 -- refuses the command, the base is unchanged.
-abbrev pub acted : Base → Option Key → Command → Result (Reply × Base) Refusal → Answer × Base
-acted base key command (Ok booked) = (Done booked.0, keeping key command booked.0 booked.1)
-acted base key command (Err refusal) = (Refused refusal, base)
+abbrev pub answer_and_base_of_step : Base → Option Key → Command → Result (Reply × Base) Refusal → Answer × Base
+answer_and_base_of_step base key command (Ok booked) = (Done booked.0, base_with_stored_reply key command booked.0 booked.1)
+answer_and_base_of_step base key command (Err refusal) = (Refused refusal, base)
 
 -- The answer to a command whose key is recorded, and the unchanged base: the stored reply if the
 -- stored row `k` is the row of the command, otherwise the refusal 19 (`KeyReused`).
-abbrev pub repeated : Base → Command → Kept → Answer × Base
-repeated base command k = (if bytes_eq k.row_text (row_text command) then Again k.line else Refused KeyReused, base)
+abbrev pub answer_to_repeated_row : Base → Command → Kept → Answer × Base
+answer_to_repeated_row base command k = (if bytes_eq k.row_text (row_text command) then Again k.line else Refused KeyReused, base)
 
 -- The answer to a command and the base after it: by the stored row if there is one, otherwise by
 -- the step at the clock reading `now`.
-abbrev pub keyed : Base → ℕ → Command → Option Key → Option Kept → Answer × Base
-keyed base now command key (Some k) = repeated base command k
-keyed base now command key None = acted base key command (step base now command)
+abbrev pub answer_by_stored_row : Base → ℕ → Command → Option Key → Option Kept → Answer × Base
+answer_by_stored_row base now command key (Some k) = answer_to_repeated_row base command k
+answer_by_stored_row base now command key None = answer_and_base_of_step base key command (step base now command)
 
 -- The stored row and reply of `base` under the key; none without a key, or if the key was not
 -- recorded.
-abbrev pub kept_for : Base → Option Key → Option Kept
-kept_for base None = None
-kept_for base (Some key) = kept_under base key
+abbrev pub stored_row_with_optional_key : Base → Option Key → Option Kept
+stored_row_with_optional_key base None = None
+stored_row_with_optional_key base (Some key) = stored_row_with_key base key
 
 -- The answer to a command with or without a key at the clock reading `now`, and the base after it.
 unfoldable pub keyed_step : Base → ℕ → Command → Option Key → Answer × Base
-keyed_step base now command key = keyed base now command key (kept_for base key)
+keyed_step base now command key = answer_by_stored_row base now command key (stored_row_with_optional_key base key)

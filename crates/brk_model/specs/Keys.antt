@@ -2,8 +2,8 @@
 -- key.
 use Rattle.std.specs.Prelude.{ℕ, Bool, true, false, ◌&&◌, ◌||◌, nat_lt, not, List, [], ◌∷◌}
 use Rattle.brk_money.specs.Spelling.{Text}
-use Rattle.brk_money.specs.Kinds.{type_code, status_code}
-use Rattle.brk_model.specs.Lists.{insert_by, sort_by, text_before}
+use Rattle.brk_money.specs.Kinds.{trade_type_code, trade_status_code}
+use Rattle.brk_model.specs.Lists.{insert_by, sort_by, is_text_less}
 use Rattle.brk_model.specs.Records.{Customer, Permission, Charge, Band, TaxRate, CustomerTax, Kept}
 use Rattle.brk_model.specs.Tables.{BrokerRow, AccountRow, SecurityRow, LastTradeRow, TradeRow, HistoryRow, RequestRow, HoldingRow, SummaryRow, HoldingHistoryRow, SettlementRow, CashRow, MoveRow}
 
@@ -14,31 +14,31 @@ pub data KeyPart : Type 0 where
 
 -- True if the first part is less than the second: numbers by value, texts by their bytes, and every
 -- number before every text.
-abbrev pub part_before : KeyPart → KeyPart → Bool
-part_before (number m) (number n) = nat_lt m n
-part_before (word s) (word t) = text_before s t
-part_before (number m) (word t) = true
-part_before (word s) (number n) = false
+abbrev pub is_key_part_less : KeyPart → KeyPart → Bool
+is_key_part_less (number m) (number n) = nat_lt m n
+is_key_part_less (word s) (word t) = is_text_less s t
+is_key_part_less (number m) (word t) = true
+is_key_part_less (word s) (number n) = false
 
 -- True if the first key is less than the second, compared part by part; a key is less than any
 -- longer key that begins with it.
-abbrev pub key_before : List KeyPart → List KeyPart → Bool
-key_before js [] = false
-key_before [] (k ∷ ks) = true
-key_before (j ∷ js) (k ∷ ks) = part_before j k || (not (part_before k j) && key_before js ks)
+abbrev pub is_key_less : List KeyPart → List KeyPart → Bool
+is_key_less js [] = false
+is_key_less [] (k ∷ ks) = true
+is_key_less (j ∷ js) (k ∷ ks) = is_key_part_less j k || (not (is_key_part_less k j) && is_key_less js ks)
 
 -- True if the key of row `a` is less than the key of row `b`.
-abbrev pub row_before : {Row : Type 0} → (Row → List KeyPart) → Row → Row → Bool
-row_before key a b = key_before (key a) (key b)
+abbrev pub is_row_key_less : {Row : Type 0} → (Row → List KeyPart) → Row → Row → Bool
+is_row_key_less key a b = is_key_less (key a) (key b)
 
 -- The rows sorted by their key, ascending; two rows with one key keep their sequence.
-abbrev pub by_key : {Row : Type 0} → (Row → List KeyPart) → List Row → List Row
-by_key key rows = sort_by (row_before key) rows
+abbrev pub rows_sorted_by_key : {Row : Type 0} → (Row → List KeyPart) → List Row → List Row
+rows_sorted_by_key key rows = sort_by (is_row_key_less key) rows
 
 -- The list `rows` with `row` inserted before the first row whose key is not less than its key, or
 -- at the end if there is none.
-abbrev pub insert_row : {Row : Type 0} → (Row → List KeyPart) → Row → List Row → List Row
-insert_row key row rows = insert_by (row_before key) row rows
+abbrev pub insert_row_by_key : {Row : Type 0} → (Row → List KeyPart) → Row → List Row → List Row
+insert_row_by_key key row rows = insert_by (is_row_key_less key) row rows
 
 -- ---- the keys
 
@@ -72,12 +72,12 @@ last_trade_key r = word r.symbol ∷ []
 
 -- The primary key of a row of CHARGE: the code of the trade type and the tier.
 abbrev pub charge_key : Charge → List KeyPart
-charge_key r = word (type_code r.kind) ∷ number r.tier ∷ []
+charge_key r = word (trade_type_code r.kind) ∷ number r.tier ∷ []
 
 -- The primary key of a row of COMMISSION_RATE: the tier, the code of the trade type, the exchange
 -- and the lower bound.
 abbrev pub band_key : Band → List KeyPart
-band_key r = number r.tier ∷ word (type_code r.kind) ∷ word r.exchange ∷ number r.from_qty ∷ []
+band_key r = number r.tier ∷ word (trade_type_code r.kind) ∷ word r.exchange ∷ number r.from_qty ∷ []
 
 -- The primary key of a row of TAXRATE: the id.
 abbrev pub tax_rate_key : TaxRate → List KeyPart
@@ -93,7 +93,7 @@ trade_key r = number r.id ∷ []
 
 -- The primary key of a row of TRADE_HISTORY: the trade and the code of the status.
 abbrev pub history_key : HistoryRow → List KeyPart
-history_key r = number r.trade ∷ word (status_code r.status) ∷ []
+history_key r = number r.trade ∷ word (trade_status_code r.status) ∷ []
 
 -- The primary key of a row of TRADE_REQUEST: the trade.
 abbrev pub request_key : RequestRow → List KeyPart

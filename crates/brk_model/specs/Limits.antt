@@ -21,8 +21,8 @@ abbrev pub greatest_charge : ℕ
 greatest_charge = 1000000
 
 -- The greatest commission rate, in hundredths of a percent.
-abbrev pub greatest_rate : ℕ
-greatest_rate = Rate.GREATEST
+abbrev pub greatest_commission_rate : ℕ
+greatest_commission_rate = Rate.GREATEST
 
 -- The greatest tax rate, and the greatest sum of a customer's tax rates, in hundred-thousandths.
 abbrev pub greatest_tax_rate : ℕ
@@ -46,9 +46,9 @@ greatest_id = Id.GREATEST
 
 -- The greatest number of a cash row (CM_ID): the greatest number of trades plus the greatest number
 -- of movements.
-abbrev pub greatest_move_id : ℕ
-greatest_move_id = MoveId.GREATEST
+abbrev pub greatest_cash_row_number : ℕ
+greatest_cash_row_number = MoveId.GREATEST
 
 -- The greatest number of accounts of one customer.
-abbrev pub most_accounts : ℕ
-most_accounts = 10
+abbrev pub most_accounts_per_customer : ℕ
+most_accounts_per_customer = 10

@@ -21,8 +21,8 @@ sort_by_key key xs = sort_by (λ x y. nat_lt (key x) (key y)) xs
 
 -- True if the pair (`a`, `b`) is less than the pair (`a'`, `b'`): `a` is less than `a'`, or they
 -- are equal and `b` is less than `b'`.
-abbrev pub rising : ℕ → ℕ → ℕ → ℕ → Bool
-rising a a' b b' = nat_lt a a' || ((a == a') && nat_lt b b')
+abbrev pub is_pair_less : ℕ → ℕ → ℕ → ℕ → Bool
+is_pair_less a a' b b' = nat_lt a a' || ((a == a') && nat_lt b b')
 
 -- The sum of the signed numbers `f x` over the elements `x` of a list.
 unfoldable pub total_by : {X : Type 0} → (X → ℤ) → List X → ℤ
@@ -55,27 +55,27 @@ distinct_texts [] = []
 distinct_texts (t ∷ ts) = t ∷ filter (λ u. not (bytes_eq u t)) (distinct_texts ts)
 
 -- True if the text contains `part` as a run of adjacent bytes.
-abbrev pub holds_text : List ℕ → List ℕ → Bool
-holds_text part [] = starts_with nat_eq [] part
-holds_text part (c ∷ text) = starts_with nat_eq (c ∷ text) part || holds_text part text
+abbrev pub contains_text : List ℕ → List ℕ → Bool
+contains_text part [] = starts_with nat_eq [] part
+contains_text part (c ∷ text) = starts_with nat_eq (c ∷ text) part || contains_text part text
 
 -- The text without its first `skip` bytes, and with each later occurrence of `part` (not empty)
 -- replaced by `new`, from the left. The skipped bytes belong to an occurrence that was replaced
 -- before.
-abbrev pub replace_from : ℕ → List ℕ → List ℕ → List ℕ → List ℕ
-replace_from skip part new [] = []
-replace_from (suc skip) part new (c ∷ text) = replace_from skip part new text
-replace_from zero part new (c ∷ text) =
-    if starts_with nat_eq (c ∷ text) part then new ++ replace_from (length part - 1) part new text
-    else c ∷ replace_from zero part new text
+abbrev pub skip_and_replace_text : ℕ → List ℕ → List ℕ → List ℕ → List ℕ
+skip_and_replace_text skip part new [] = []
+skip_and_replace_text (suc skip) part new (c ∷ text) = skip_and_replace_text skip part new text
+skip_and_replace_text zero part new (c ∷ text) =
+    if starts_with nat_eq (c ∷ text) part then new ++ skip_and_replace_text (length part - 1) part new text
+    else c ∷ skip_and_replace_text zero part new text
 
 -- The text with each occurrence of `part` (not empty) replaced by `new`, from the left, without
 -- overlap.
 unfoldable pub replace_text : List ℕ → List ℕ → List ℕ → List ℕ
-replace_text part new text = replace_from 0 part new text
+replace_text part new text = skip_and_replace_text 0 part new text
 
 -- True if the first text is before the second in the lexicographic order of bytes.
-abbrev pub text_before : List ℕ → List ℕ → Bool
-text_before xs [] = false
-text_before [] (y ∷ ys) = true
-text_before (x ∷ xs) (y ∷ ys) = nat_lt x y || (not (nat_lt y x) && text_before xs ys)
+abbrev pub is_text_less : List ℕ → List ℕ → Bool
+is_text_less xs [] = false
+is_text_less [] (y ∷ ys) = true
+is_text_less (x ∷ xs) (y ∷ ys) = nat_lt x y || (not (nat_lt y x) && is_text_less xs ys)

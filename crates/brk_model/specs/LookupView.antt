@@ -4,12 +4,12 @@ use Rattle.std.specs.List.{list_any}
 use Rattle.std.specs.Option.{option_map_or}
 use Rattle.std.specs.Fmt.{signed_decimal}
 use Rattle.brk_money.specs.Spelling.{Text, cents_text, day_text}
-use Rattle.brk_money.specs.Kinds.{type_code, status_code}
-use Rattle.brk_model.specs.Lists.{sort_by, rising}
+use Rattle.brk_money.specs.Kinds.{trade_type_code, trade_status_code}
+use Rattle.brk_model.specs.Lists.{sort_by, is_pair_less}
 use Rattle.brk_model.specs.Tables.{Tables, TradeRow, HoldingHistoryRow, SettlementRow, MoveRow}
-use Rattle.brk_model.specs.Rows.{price_text, cash_word, end_word}
+use Rattle.brk_model.specs.Rows.{nonnegative_cents_text, cash_or_margin_word, lifo_or_fifo_word}
 use Rattle.brk_model.specs.Queries.{View}
-use Rattle.brk_model.specs.Joins.{trade_in, trades_in, history_in, oldest_first_rows}
+use Rattle.brk_model.specs.Joins.{trade_row_with_id, trade_rows_of_account, history_rows_with_trade_id, trade_rows_oldest_first}
 
 -- The record of a settlement: the word `settlement`, cash type, due day and amount.
 abbrev pub settlement_record : SettlementRow → List Text
@@ -23,51 +23,51 @@ cash_record c = codes "cash" ∷ decimal c.stamp ∷ cents_text c.amount ∷ c.n
 -- price is empty if the trade has none.
 abbrev pub trade_record : TradeRow → List Text
 trade_record t =
-    codes "trade" ∷ decimal t.id ∷ decimal t.stamp ∷ status_code t.status ∷ type_code t.kind
-    ∷ t.symbol ∷ decimal t.qty ∷ price_text t.bid ∷ t.executor
-    ∷ option_map_or price_text t.price [] ∷ price_text t.charge ∷ price_text t.commission ∷ price_text t.tax
-    ∷ cash_word t.is_cash ∷ end_word t.is_lifo ∷ []
+    codes "trade" ∷ decimal t.id ∷ decimal t.stamp ∷ trade_status_code t.status ∷ trade_type_code t.kind
+    ∷ t.symbol ∷ decimal t.qty ∷ nonnegative_cents_text t.bid ∷ t.executor
+    ∷ option_map_or nonnegative_cents_text t.price [] ∷ nonnegative_cents_text t.charge ∷ nonnegative_cents_text t.commission ∷ nonnegative_cents_text t.tax
+    ∷ cash_or_margin_word t.is_cash ∷ lifo_or_fifo_word t.is_lifo ∷ []
 
 -- True if the CASH_MOVE row belongs to the trade with the id `trade`.
-abbrev pub is_cash_of : ℕ → MoveRow → Bool
-is_cash_of trade row = option_map_or (λ id. id == trade) row.trade false
+abbrev pub is_cash_row_of_trade : ℕ → MoveRow → Bool
+is_cash_row_of_trade trade row = option_map_or (λ id. id == trade) row.trade false
 
 -- The records of the trade of a TRADE row: the trade, its settlement and its cash row if they
 -- exist, and its status changes, sorted by stamp, ascending.
-abbrev pub lookup_records : Tables → TradeRow → View
-lookup_records tables t =
+abbrev pub trade_lookup_records : Tables → TradeRow → View
+trade_lookup_records tables t =
     trade_record t
     ∷ map settlement_record (filter (λ s. s.trade == t.id) tables.settlements)
-    ++ map cash_record (filter (is_cash_of t.id) tables.moves)
-    ++ map (λ h. codes "history" ∷ decimal h.stamp ∷ status_code h.status ∷ []) (sort_by (λ a b. nat_lt a.stamp b.stamp) (history_in tables t.id))
+    ++ map cash_record (filter (is_cash_row_of_trade t.id) tables.moves)
+    ++ map (λ h. codes "history" ∷ decimal h.stamp ∷ trade_status_code h.status ∷ []) (sort_by (λ a b. nat_lt a.stamp b.stamp) (history_rows_with_trade_id tables t.id))
 
 -- The records of the first 20 trades that pass `test`, sorted by stamp, then by id, both ascending.
-unfoldable pub lookup_view : Tables → (TradeRow → Bool) → View
-lookup_view tables test = flat_map (lookup_records tables) (take 20 (oldest_first_rows (filter test tables.trades)))
+unfoldable pub trade_lookup_view : Tables → (TradeRow → Bool) → View
+trade_lookup_view tables test = flat_map (trade_lookup_records tables) (take 20 (trade_rows_oldest_first (filter test tables.trades)))
 
 -- True if the stamp of the TRADE row is between `first` and `last`, both included.
-abbrev pub is_between : ℕ → ℕ → TradeRow → Bool
-is_between first last t = nat_le first t.stamp && nat_le t.stamp last
+abbrev pub row_stamp_is_between : ℕ → ℕ → TradeRow → Bool
+row_stamp_is_between first last t = nat_le first t.stamp && nat_le t.stamp last
 
 -- True if a HOLDING_HISTORY row has the trade `trade` and the lot `lot`: the trade touched the lot.
-abbrev pub is_touched_by : Tables → ℕ → ℕ → Bool
-is_touched_by tables trade lot = list_any (λ row. (row.trade == trade) && (row.lot == lot)) tables.holding_history
+abbrev pub trade_touches_lot : Tables → ℕ → ℕ → Bool
+trade_touches_lot tables trade lot = list_any (λ row. (row.trade == trade) && (row.lot == lot)) tables.holding_history
 
 -- The stamp of the trade of a HOLDING_HISTORY row; 0 if this trade does not exist.
-abbrev pub touch_stamp : Tables → HoldingHistoryRow → ℕ
-touch_stamp tables row = option_map_or (λ t. t.stamp) (trade_in tables row.trade) 0
+abbrev pub stamp_of_touching_trade : Tables → HoldingHistoryRow → ℕ
+stamp_of_touching_trade tables row = option_map_or (λ t. t.stamp) (trade_row_with_id tables row.trade) 0
 
 -- The id of the trade, then the first 20 HOLDING_HISTORY rows of the lots that the trade touched,
 -- sorted by the stamp of the trade that changed the lot, then by lot, both ascending.
-abbrev pub touched_view : Tables → TradeRow → View
-touched_view tables t =
+abbrev pub touched_lots_view : Tables → TradeRow → View
+touched_lots_view tables t =
     (decimal t.id ∷ [])
     ∷ map (λ row. decimal row.lot ∷ decimal row.trade ∷ signed_decimal row.before ∷ signed_decimal row.after ∷ [])
-    (take 20 (sort_by (λ a b. rising (touch_stamp tables a) (touch_stamp tables b) a.lot b.lot)
-    (filter (λ row. is_touched_by tables t.id row.lot) tables.holding_history)))
+    (take 20 (sort_by (λ a b. is_pair_less (stamp_of_touching_trade tables a) (stamp_of_touching_trade tables b) a.lot b.lot)
+    (filter (λ row. trade_touches_lot tables t.id row.lot) tables.holding_history)))
 
 -- The lots that the oldest trade of the account `account` with a stamp of at least `first` touched,
 -- and their changes; empty if there is no such trade.
-unfoldable pub lots_view : Tables → ℕ → ℕ → View
-lots_view tables account first =
-    flat_map (touched_view tables) (take 1 (oldest_first_rows (filter (λ t. nat_le first t.stamp) (trades_in tables account))))
+unfoldable pub touched_lots_of_oldest_trade : Tables → ℕ → ℕ → View
+touched_lots_of_oldest_trade tables account first =
+    flat_map (touched_lots_view tables) (take 1 (trade_rows_oldest_first (filter (λ t. nat_le first t.stamp) (trade_rows_of_account tables account))))

@@ -4,81 +4,81 @@ use Rattle.std.specs.List.{list_any}
 use Rattle.std.specs.Option.{option_map_or}
 use Rattle.brk_money.specs.Spelling.{Text}
 use Rattle.brk_money.specs.Amounts.{commission, tax}
-use Rattle.brk_money.specs.Kinds.{side_of, is_market}
-use Rattle.brk_money.specs.OrderTypes.{kind_of, price_asked}
+use Rattle.brk_money.specs.Kinds.{side_of_trade_type, is_market_type}
+use Rattle.brk_money.specs.OrderTypes.{trade_type_of_order, price_of_order}
 use Rattle.brk_money.specs.declared.status.Status.{Status}
 use Rattle.brk_money.specs.declared.status.Status.TheVariants.{Submitted, Pending}
 use Rattle.brk_money.specs.declared.trade_type.TradeType.{TradeType}
 use Rattle.brk_model.specs.Records.{Customer, Permission, Executor, Trade}
-use Rattle.brk_model.specs.Base.{Base, completed, customer_with, charge_with, band_with, customer_of_account, tier_of, exchange_of, last_price, rates_of, is_taxed}
-use Rattle.brk_model.specs.Shares.{Share, Deal, buy_value, sell_value, gain}
-use Rattle.brk_model.specs.Derived.{shares_in, postings_of, balance_of, holdings_of}
+use Rattle.brk_model.specs.Base.{Base, completed_trades, customer_with_id, charge_for_type_and_tier, commission_band_for, customer_id_of_account, tier_of_account, exchange_of_security, last_price, tax_rate_sum_of_customer, is_taxable_account}
+use Rattle.brk_model.specs.Shares.{Share, Deal, buy_value, sell_value, realised_gain}
+use Rattle.brk_model.specs.Derived.{shares_of_position, postings_of_base, balance_of_account, holdings_market_value}
 use Rattle.brk_model.specs.Commands.{Order, Estimate, Reply, Ordered}
 
 -- True if the executor `e` has the first name `first`, the last name `last` and the tax id
 -- `tax_id`.
-abbrev pub is_person : Executor → Text → Text → Text → Bool
-is_person e first last tax_id = bytes_eq e.first_name first && bytes_eq e.last_name last && bytes_eq e.tax_id tax_id
+abbrev pub executor_has_identity : Executor → Text → Text → Text → Bool
+executor_has_identity e first last tax_id = bytes_eq e.first_name first && bytes_eq e.last_name last && bytes_eq e.tax_id tax_id
 
 -- True if the executor `e` is the customer `c`, or if one of the `permissions` has the executor's
 -- first name, last name and tax id (Trade-Order, frame 2).
 abbrev pub permitted : Customer → List Permission → Executor → Bool
 permitted c permissions e =
-    is_person e c.first_name c.last_name c.tax_id || list_any (λ p. is_person e p.first_name p.last_name p.tax_id) permissions
+    executor_has_identity e c.first_name c.last_name c.tax_id || list_any (λ p. executor_has_identity e p.first_name p.last_name p.tax_id) permissions
 
 -- True if the executor `e` is the customer of the account `account` or has a permission for it;
 -- also true if the customer does not exist.
-abbrev pub is_permitted : Base → ℕ → Executor → Bool
-is_permitted base account e =
-    option_map_or (λ c. permitted c (filter (λ p. p.account == account) base.permissions) e) (customer_with base (customer_of_account base account)) true
+abbrev pub may_order_for_account : Base → ℕ → Executor → Bool
+may_order_for_account base account e =
+    option_map_or (λ c. permitted c (filter (λ p. p.account == account) base.permissions) e) (customer_with_id base (customer_id_of_account base account)) true
 
 -- The price that the order `o` asks for, or the last price of its security if its type has no price
 -- (Trade-Order, frame 3).
 abbrev pub requested_price : Base → Order → ℕ
-requested_price base o = unwrap_or (price_asked o.order_type) (last_price base o.symbol)
+requested_price base o = unwrap_or (price_of_order o.order_type) (last_price base o.symbol)
 
 -- The commission, in cents, of the account `account` on `qty` shares of `symbol` at `price`, for
 -- the trade type `kind`; none if no commission band applies.
-abbrev pub commission_of : Base → ℕ → TradeType → Text → ℕ → ℕ → Option ℕ
-commission_of base account kind symbol qty price =
-    option_map (λ b. commission b.rate qty price) (band_with base (tier_of base account) kind (exchange_of base symbol) qty)
+abbrev pub commission_by_band : Base → ℕ → TradeType → Text → ℕ → ℕ → Option ℕ
+commission_by_band base account kind symbol qty price =
+    option_map (λ b. commission b.rate qty price) (commission_band_for base (tier_of_account base account) kind (exchange_of_security base symbol) qty)
 
 -- The tax, in cents, on the gain of the deal `d` against the position `shares` of the account
 -- `account`; 0 if the account is not taxable.
 abbrev pub tax_on_deal : Base → ℕ → Deal → List Share → ℕ
-tax_on_deal base account d shares = if is_taxed base account then tax (gain d shares) (rates_of base (customer_of_account base account)) else 0
+tax_on_deal base account d shares = if is_taxable_account base account then tax (realised_gain d shares) (tax_rate_sum_of_customer base (customer_id_of_account base account)) else 0
 
 -- The deal of the order `o` at its requested price, with the id of the next trade and the stamp 0.
-abbrev pub deal_at : Base → Order → Deal
-deal_at base o =
-    record { trade = length base.trades + 1; side = side_of (kind_of o.order_type); qty = o.qty; price = requested_price base o; stamp = 0; is_lifo = o.is_lifo }
+abbrev pub deal_of_order : Base → Order → Deal
+deal_of_order base o =
+    record { trade = length base.trades + 1; side = side_of_trade_type (trade_type_of_order o.order_type); qty = o.qty; price = requested_price base o; stamp = 0; is_lifo = o.is_lifo }
 
 -- The balance of the account `account` plus the market value of its holdings at last prices, in
 -- cents.
-abbrev pub assets_of : Base → ℕ → ℤ
-assets_of base account = balance_of base.accounts (postings_of base) account +ℤ holdings_of base.securities (completed base) account
+abbrev pub assets_of_account : Base → ℕ → ℤ
+assets_of_account base account = balance_of_account base.accounts (postings_of_base base) account +ℤ holdings_market_value base.securities (completed_trades base) account
 
 -- The estimate of the order `o` against the position `shares` of its account in its security. The
 -- commission is 0 if no band applies, and the charge is 0 if there is none for the type and tier.
-abbrev pub estimate_upon : List Share → Base → Order → Estimate
-estimate_upon shares base o = record {
+abbrev pub estimate_against_shares : List Share → Base → Order → Estimate
+estimate_against_shares shares base o = record {
   price = requested_price base o;
-  buy_value = buy_value (deal_at base o) shares;
-  sell_value = sell_value (deal_at base o) shares;
-  tax = tax_on_deal base o.account (deal_at base o) shares;
-  commission = unwrap_or (commission_of base o.account (kind_of o.order_type) o.symbol o.qty (requested_price base o)) 0;
-  charge = option_map_or (λ c. c.amount) (charge_with base (kind_of o.order_type) (tier_of base o.account)) 0;
-  assets = assets_of base o.account;
+  buy_value = buy_value (deal_of_order base o) shares;
+  sell_value = sell_value (deal_of_order base o) shares;
+  tax = tax_on_deal base o.account (deal_of_order base o) shares;
+  commission = unwrap_or (commission_by_band base o.account (trade_type_of_order o.order_type) o.symbol o.qty (requested_price base o)) 0;
+  charge = option_map_or (λ c. c.amount) (charge_for_type_and_tier base (trade_type_of_order o.order_type) (tier_of_account base o.account)) 0;
+  assets = assets_of_account base o.account;
 }
 
 -- The estimate of the order `o` against the open shares of its account in its security.
 unfoldable pub estimate : Base → Order → Estimate
-estimate base o = estimate_upon (shares_in (completed base) o.account o.symbol) base o
+estimate base o = estimate_against_shares (shares_of_position (completed_trades base) o.account o.symbol) base o
 
 -- The first status of a trade of the type `kind`: `Submitted` for a market type, otherwise
 -- `Pending`.
 abbrev pub first_status : TradeType → Status
-first_status kind = if is_market kind then Submitted else Pending
+first_status kind = if is_market_type kind then Submitted else Pending
 
 -- The executor's first name, a space and the last name.
 abbrev pub executor_name : Executor → Text
@@ -90,7 +90,7 @@ abbrev pub ordered_trade : Base → ℕ → Order → Trade
 ordered_trade base stamp o = record {
   id = length base.trades + 1;
   account = o.account;
-  kind = kind_of o.order_type;
+  kind = trade_type_of_order o.order_type;
   symbol = o.symbol;
   qty = o.qty;
   bid = requested_price base o;
@@ -101,16 +101,16 @@ ordered_trade base stamp o = record {
   commission = (estimate base o).commission;
   tax = 0;
   price = None;
-  marks = record { stamp = stamp; status = first_status (kind_of o.order_type) } ∷ [];
+  marks = record { stamp = stamp; status = first_status (trade_type_of_order o.order_type) } ∷ [];
   cash_type = [];
   cash_name = [];
 }
 
 -- The base `base` with the trade of the order `o` added at the end.
-abbrev pub with_order : Base → ℕ → Order → Base
-with_order base stamp o = record base { trades = base.trades ++ ordered_trade base stamp o ∷ [] }
+abbrev pub base_after_order : Base → ℕ → Order → Base
+base_after_order base stamp o = record base { trades = base.trades ++ ordered_trade base stamp o ∷ [] }
 
 -- The reply to the order `o` that is accepted at `stamp`: the stamp, the trade's id, its first
 -- status and the estimate.
-abbrev pub order_reply : Base → ℕ → Order → Reply
-order_reply base stamp o = Ordered stamp (length base.trades + 1) (first_status (kind_of o.order_type)) (estimate base o)
+abbrev pub reply_to_order : Base → ℕ → Order → Reply
+reply_to_order base stamp o = Ordered stamp (length base.trades + 1) (first_status (trade_type_of_order o.order_type)) (estimate base o)

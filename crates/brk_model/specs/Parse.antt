@@ -3,19 +3,19 @@ use Rattle.std.specs.Prelude.{ℕ, nat_le, if◌then◌else◌, List, [], ◌∷
 use Rattle.brk_money.specs.Spelling.{Text}
 use Rattle.brk_money.specs.declared.refusal.Refusal.TheVariants.{BadText, BadQty}
 use Rattle.brk_model.specs.Records.{Broker, Customer, Account, Permission, Charge, Band, TaxRate, CustomerTax, Executor}
-use Rattle.brk_model.specs.Forms.{Read, ◌⊛◌, read_id, read_stamp, read_qty, read_price, read_charge_amount, read_amount, read_day, read_opening, read_tax_status, read_type, read_cash, read_end, read_order_type, read_ids, some_of, then_read, read_name, read_tax_id, read_symbol, read_exchange, read_acl, read_tier, read_commission_rate, read_rate_of_tax}
+use Rattle.brk_model.specs.Forms.{ReadResult, ◌⊛◌, read_id, read_stamp, read_quantity, read_price, read_charge_amount, read_movement_amount, read_day, read_opening_balance, read_tax_status, read_trade_type, read_cash_or_margin, read_lifo_or_fifo, read_order_type, read_distinct_ids, one_to_twenty_elements, check_read_value, read_name, read_tax_id, read_symbol, read_exchange, read_acl, read_tier, read_commission_rate, read_tax_rate_number}
 use Rattle.brk_model.specs.Commands.{Command, Listing, Order, Tick, AddBroker, AddCustomer, AddAccount, AddPermission, AddSecurity, AddCharge, AddBand, AddTaxRate, AddCustomerTax, PlaceOrder, FeedTicks, CancelTrade, CompleteTrade, ChangeExecutors, ChangeCashTypes, ChangeCashNames, DepositCash, WithdrawCash, SetOneDay}
 
 -- ---- the fields after each kind
 
 -- The broker that two fields parse as (id, name), or the refusal of a malformed field.
-abbrev pub read_broker : List Text → Read Broker
+abbrev pub read_broker : List Text → ReadResult Broker
 read_broker (id ∷ name ∷ []) = Ok (λ i n. record { id = i; name = n }) ⊛ read_id id ⊛ read_name name
 read_broker _ = Err BadText
 
 -- The customer that five fields parse as (id, tier, tax id, last name, first name), or the refusal
 -- of a malformed field.
-abbrev pub read_customer : List Text → Read Customer
+abbrev pub read_customer : List Text → ReadResult Customer
 read_customer (id ∷ tier ∷ tax_id ∷ last ∷ first ∷ []) =
     Ok (λ i t x l f. record { id = i; tier = t; tax_id = x; last_name = l; first_name = f })
     ⊛ read_id id ⊛ read_tier tier ⊛ read_tax_id tax_id ⊛ read_name last ⊛ read_name first
@@ -23,15 +23,15 @@ read_customer _ = Err BadText
 
 -- The account that six fields parse as (id, customer, broker, name, tax status, opening balance),
 -- or the refusal of a malformed field.
-abbrev pub read_account : List Text → Read Account
+abbrev pub read_account : List Text → ReadResult Account
 read_account (id ∷ customer ∷ broker ∷ name ∷ tax_status ∷ opening ∷ []) =
     Ok (λ i c b n t o. record { id = i; customer = c; broker = b; name = n; tax_status = t; opening = o })
-    ⊛ read_id id ⊛ read_id customer ⊛ read_id broker ⊛ read_name name ⊛ read_tax_status tax_status ⊛ read_opening opening
+    ⊛ read_id id ⊛ read_id customer ⊛ read_id broker ⊛ read_name name ⊛ read_tax_status tax_status ⊛ read_opening_balance opening
 read_account _ = Err BadText
 
 -- The permission that five fields parse as (account, ACL, tax id, last name, first name), or the
 -- refusal of a malformed field.
-abbrev pub read_permission : List Text → Read Permission
+abbrev pub read_permission : List Text → ReadResult Permission
 read_permission (account ∷ acl ∷ tax_id ∷ last ∷ first ∷ []) =
     Ok (λ a c x l f. record { account = a; acl = c; tax_id = x; last_name = l; first_name = f })
     ⊛ read_id account ⊛ read_acl acl ⊛ read_tax_id tax_id ⊛ read_name last ⊛ read_name first
@@ -39,185 +39,185 @@ read_permission _ = Err BadText
 
 -- The listing of a security that five fields parse as (symbol, name, exchange, sector, price), or
 -- the refusal of a malformed field.
-abbrev pub read_security : List Text → Read Listing
-read_security (symbol ∷ name ∷ exchange ∷ sector ∷ price ∷ []) =
+abbrev pub read_listing : List Text → ReadResult Listing
+read_listing (symbol ∷ name ∷ exchange ∷ sector ∷ price ∷ []) =
     Ok (λ s n e c p. record { symbol = s; name = n; exchange = e; sector = c; price = p })
     ⊛ read_symbol symbol ⊛ read_name name ⊛ read_exchange exchange ⊛ read_name sector ⊛ read_price price
-read_security _ = Err BadText
+read_listing _ = Err BadText
 
 -- The charge that three fields parse as (type, tier, amount), or the refusal of a malformed field.
-abbrev pub read_charge : List Text → Read Charge
+abbrev pub read_charge : List Text → ReadResult Charge
 read_charge (kind ∷ tier ∷ amount ∷ []) =
-    Ok (λ k t a. record { kind = k; tier = t; amount = a }) ⊛ read_type kind ⊛ read_tier tier ⊛ read_charge_amount amount
+    Ok (λ k t a. record { kind = k; tier = t; amount = a }) ⊛ read_trade_type kind ⊛ read_tier tier ⊛ read_charge_amount amount
 read_charge _ = Err BadText
 
 -- The two quantities if the first is at most the second, otherwise the refusal `BadQty`.
-abbrev pub in_order : ℕ × ℕ → Read (ℕ × ℕ)
-in_order bounds = if nat_le bounds.0 bounds.1 then Ok bounds else Err BadQty
+abbrev pub ordered_bounds : ℕ × ℕ → ReadResult (ℕ × ℕ)
+ordered_bounds bounds = if nat_le bounds.0 bounds.1 then Ok bounds else Err BadQty
 
 -- The least and the greatest quantity of a band that two texts parse as; the refusal `BadQty` if
 -- one is malformed, or if the least is greater than the greatest.
-abbrev pub read_bounds : Text → Text → Read (ℕ × ℕ)
-read_bounds low high = then_read in_order (Ok (λ a b. (a, b)) ⊛ read_qty low ⊛ read_qty high)
+abbrev pub read_quantity_bounds : Text → Text → ReadResult (ℕ × ℕ)
+read_quantity_bounds low high = check_read_value ordered_bounds (Ok (λ a b. (a, b)) ⊛ read_quantity low ⊛ read_quantity high)
 
 -- The commission band that six fields parse as (tier, type, exchange, least quantity, greatest
 -- quantity, rate), or the refusal of a malformed field.
-abbrev pub read_band : List Text → Read Band
-read_band (tier ∷ kind ∷ exchange ∷ low ∷ high ∷ rate ∷ []) =
+abbrev pub read_commission_band : List Text → ReadResult Band
+read_commission_band (tier ∷ kind ∷ exchange ∷ low ∷ high ∷ rate ∷ []) =
     Ok (λ t k e b r. record { tier = t; kind = k; exchange = e; from_qty = b.0; to_qty = b.1; rate = r })
-    ⊛ read_tier tier ⊛ read_type kind ⊛ read_exchange exchange ⊛ read_bounds low high ⊛ read_commission_rate rate
-read_band _ = Err BadText
+    ⊛ read_tier tier ⊛ read_trade_type kind ⊛ read_exchange exchange ⊛ read_quantity_bounds low high ⊛ read_commission_rate rate
+read_commission_band _ = Err BadText
 
 -- The tax rate that three fields parse as (id, name, rate), or the refusal of a malformed field.
-abbrev pub read_tax_rate : List Text → Read TaxRate
+abbrev pub read_tax_rate : List Text → ReadResult TaxRate
 read_tax_rate (id ∷ name ∷ rate ∷ []) =
-    Ok (λ i n r. record { id = i; name = n; rate = r }) ⊛ read_id id ⊛ read_name name ⊛ read_rate_of_tax rate
+    Ok (λ i n r. record { id = i; name = n; rate = r }) ⊛ read_id id ⊛ read_name name ⊛ read_tax_rate_number rate
 read_tax_rate _ = Err BadText
 
 -- The tax of a customer that two fields parse as (customer, tax rate), or the refusal of a
 -- malformed field.
-abbrev pub read_customer_tax : List Text → Read CustomerTax
+abbrev pub read_customer_tax : List Text → ReadResult CustomerTax
 read_customer_tax (customer ∷ tax ∷ []) = Ok (λ c t. record { customer = c; tax = t }) ⊛ read_id customer ⊛ read_id tax
 read_customer_tax _ = Err BadText
 
 -- The executor that three texts parse as (first name, last name, tax id), or the refusal of a
 -- malformed text.
-abbrev pub read_executor : Text → Text → Text → Read Executor
+abbrev pub read_executor : Text → Text → Text → ReadResult Executor
 read_executor first last tax_id = Ok (λ f l x. record { first_name = f; last_name = l; tax_id = x }) ⊛ read_name first ⊛ read_name last ⊛ read_tax_id tax_id
 
 -- The order that ten fields parse as (account, type, symbol, quantity, price, `cash` or `margin`,
 -- `lifo` or `fifo`, first name, last name, tax id), or the refusal of a malformed field. An
 -- estimate has the same ten fields.
-abbrev pub read_order : List Text → Read Order
+abbrev pub read_order : List Text → ReadResult Order
 read_order (account ∷ kind ∷ symbol ∷ qty ∷ price ∷ cash ∷ end ∷ first ∷ last ∷ tax_id ∷ []) =
     Ok (λ a s q t c l e. record { account = a; order_type = t; symbol = s; qty = q; is_cash = c; is_lifo = l; executor = e })
-    ⊛ read_id account ⊛ read_symbol symbol ⊛ read_qty qty ⊛ read_order_type kind price ⊛ read_cash cash ⊛ read_end end
+    ⊛ read_id account ⊛ read_symbol symbol ⊛ read_quantity qty ⊛ read_order_type kind price ⊛ read_cash_or_margin cash ⊛ read_lifo_or_fifo end
     ⊛ read_executor first last tax_id
 read_order _ = Err BadText
 
 -- The ticks that the fields parse as, three fields each (symbol, price, quantity), or the refusal
 -- of a malformed field.
-abbrev pub read_ticks : List Text → Read (List Tick)
+abbrev pub read_ticks : List Text → ReadResult (List Tick)
 read_ticks [] = Ok []
 read_ticks (symbol ∷ price ∷ qty ∷ fields) =
-    Ok (λ s p q ticks. record { symbol = s; price = p; qty = q } ∷ ticks) ⊛ read_symbol symbol ⊛ read_price price ⊛ read_qty qty ⊛ read_ticks fields
+    Ok (λ s p q ticks. record { symbol = s; price = p; qty = q } ∷ ticks) ⊛ read_symbol symbol ⊛ read_price price ⊛ read_quantity qty ⊛ read_ticks fields
 read_ticks _ = Err BadText
 
 -- The 1 to 20 ticks of a feed that the fields parse as, or a refusal: `BadText` if there are none,
 -- `TooMany` if there are more than 20.
-abbrev pub read_feed : List Text → Read (List Tick)
-read_feed fields = then_read some_of (read_ticks fields)
+abbrev pub read_feed : List Text → ReadResult (List Tick)
+read_feed fields = check_read_value one_to_twenty_elements (read_ticks fields)
 
 -- The id of the trade to cancel that one field parses as, or the refusal `BadText`.
-abbrev pub read_cancel : List Text → Read ℕ
-read_cancel (trade ∷ []) = read_id trade
-read_cancel _ = Err BadText
+abbrev pub read_canceled_trade_id : List Text → ReadResult ℕ
+read_canceled_trade_id (trade ∷ []) = read_id trade
+read_canceled_trade_id _ = Err BadText
 
 -- The command `CompleteTrade` that two fields parse as (trade, price), or the refusal of a
 -- malformed field.
-abbrev pub read_result : List Text → Read Command
-read_result (trade ∷ price ∷ []) = Ok (λ t p. CompleteTrade t p) ⊛ read_id trade ⊛ read_price price
-read_result _ = Err BadText
+abbrev pub read_result_command : List Text → ReadResult Command
+read_result_command (trade ∷ price ∷ []) = Ok (λ t p. CompleteTrade t p) ⊛ read_id trade ⊛ read_price price
+read_result_command _ = Err BadText
 
 -- The command `ChangeCashTypes` that three fields parse as (account, first stamp, last stamp), or
 -- the refusal `BadText`.
-abbrev pub read_upcash : List Text → Read Command
-read_upcash (account ∷ first ∷ last ∷ []) = Ok (λ a f l. ChangeCashTypes a f l) ⊛ read_id account ⊛ read_stamp first ⊛ read_stamp last
-read_upcash _ = Err BadText
+abbrev pub read_cash_type_update : List Text → ReadResult Command
+read_cash_type_update (account ∷ first ∷ last ∷ []) = Ok (λ a f l. ChangeCashTypes a f l) ⊛ read_id account ⊛ read_stamp first ⊛ read_stamp last
+read_cash_type_update _ = Err BadText
 
 -- The command `ChangeCashNames` that three fields parse as (symbol, first stamp, last stamp), or
 -- the refusal `BadText`.
-abbrev pub read_uptext : List Text → Read Command
-read_uptext (symbol ∷ first ∷ last ∷ []) = Ok (λ s f l. ChangeCashNames s f l) ⊛ read_symbol symbol ⊛ read_stamp first ⊛ read_stamp last
-read_uptext _ = Err BadText
+abbrev pub read_cash_name_update : List Text → ReadResult Command
+read_cash_name_update (symbol ∷ first ∷ last ∷ []) = Ok (λ s f l. ChangeCashNames s f l) ⊛ read_symbol symbol ⊛ read_stamp first ⊛ read_stamp last
+read_cash_name_update _ = Err BadText
 
 -- The command that `moved` forms from the account and the amount that two fields parse as, or the
 -- refusal `BadText`.
-abbrev pub read_movement : (ℕ → ℕ → Command) → List Text → Read Command
-read_movement moved (account ∷ amount ∷ []) = Ok (λ a n. moved a n) ⊛ read_id account ⊛ read_amount amount
-read_movement moved _ = Err BadText
+abbrev pub read_movement_command : (ℕ → ℕ → Command) → List Text → ReadResult Command
+read_movement_command moved (account ∷ amount ∷ []) = Ok (λ a n. moved a n) ⊛ read_id account ⊛ read_movement_amount amount
+read_movement_command moved _ = Err BadText
 
 -- The settlement day that one field parses as, or the refusal `BadText`.
-abbrev pub read_oneday : List Text → Read ℕ
-read_oneday (day ∷ []) = read_day day
-read_oneday _ = Err BadText
+abbrev pub read_settlement_day : List Text → ReadResult ℕ
+read_settlement_day (day ∷ []) = read_day day
+read_settlement_day _ = Err BadText
 
 -- ---- the kinds
 
 -- The type of a named parser: the word of a row kind or of a view, and the parser of the fields
 -- after it.
-abbrev pub Reader : Type 0 → Type 0
-Reader A = Text × (List Text → Read A)
+abbrev pub NamedParser : Type 0 → Type 0
+NamedParser A = Text × (List Text → ReadResult A)
 
 -- The value that `read` reads from the input, with `wrap` applied to it, or the refusal of the
 -- reading.
-abbrev pub read_as : {A B Input : Type 0} → (A → B) → (Input → Read A) → Input → Read B
-read_as wrap read input = Ok wrap ⊛ read input
+abbrev pub read_and_wrap : {A B Input : Type 0} → (A → B) → (Input → ReadResult A) → Input → ReadResult B
+read_and_wrap wrap read input = Ok wrap ⊛ read input
 
 -- The parsers of the row kinds for brokers, customers and accounts.
-abbrev pub party_readers : List (Reader Command)
-party_readers =
-    (codes "broker", read_as AddBroker read_broker)
-    ∷ (codes "customer", read_as AddCustomer read_customer)
-    ∷ (codes "account", read_as AddAccount read_account) ∷ []
+abbrev pub party_row_parsers : List (NamedParser Command)
+party_row_parsers =
+    (codes "broker", read_and_wrap AddBroker read_broker)
+    ∷ (codes "customer", read_and_wrap AddCustomer read_customer)
+    ∷ (codes "account", read_and_wrap AddAccount read_account) ∷ []
 
 -- The parsers of the row kinds for permissions, securities, charges, bands, tax rates and the taxes
 -- of customers.
-abbrev pub term_readers : List (Reader Command)
-term_readers =
-    (codes "permission", read_as AddPermission read_permission)
-    ∷ (codes "security", read_as AddSecurity read_security)
-    ∷ (codes "charge", read_as AddCharge read_charge)
-    ∷ (codes "band", read_as AddBand read_band)
-    ∷ (codes "taxrate", read_as AddTaxRate read_tax_rate)
-    ∷ (codes "custtax", read_as AddCustomerTax read_customer_tax) ∷ []
+abbrev pub other_reference_row_parsers : List (NamedParser Command)
+other_reference_row_parsers =
+    (codes "permission", read_and_wrap AddPermission read_permission)
+    ∷ (codes "security", read_and_wrap AddSecurity read_listing)
+    ∷ (codes "charge", read_and_wrap AddCharge read_charge)
+    ∷ (codes "band", read_and_wrap AddBand read_commission_band)
+    ∷ (codes "taxrate", read_and_wrap AddTaxRate read_tax_rate)
+    ∷ (codes "custtax", read_and_wrap AddCustomerTax read_customer_tax) ∷ []
 
 -- The parsers of the nine kinds of reference rows.
-abbrev pub reference_readers : List (Reader Command)
-reference_readers = party_readers ++ term_readers
+abbrev pub reference_row_parsers : List (NamedParser Command)
+reference_row_parsers = party_row_parsers ++ other_reference_row_parsers
 
 -- The parsers of the row kinds for orders, feeds and cancels.
-abbrev pub order_readers : List (Reader Command)
-order_readers =
-    (codes "order", read_as PlaceOrder read_order)
-    ∷ (codes "feed", read_as FeedTicks read_feed)
-    ∷ (codes "cancel", read_as CancelTrade read_cancel) ∷ []
+abbrev pub order_row_parsers : List (NamedParser Command)
+order_row_parsers =
+    (codes "order", read_and_wrap PlaceOrder read_order)
+    ∷ (codes "feed", read_and_wrap FeedTicks read_feed)
+    ∷ (codes "cancel", read_and_wrap CancelTrade read_canceled_trade_id) ∷ []
 
 -- The parser of the row kind for results, as a list of one.
-abbrev pub result_readers : List (Reader Command)
-result_readers = (codes "result", read_result) ∷ []
+abbrev pub result_row_parsers : List (NamedParser Command)
+result_row_parsers = (codes "result", read_result_command) ∷ []
 
 -- The parsers of the row kinds for the three text updates.
-abbrev pub update_readers : List (Reader Command)
-update_readers =
-    (codes "upname", read_as ChangeExecutors read_ids)
-    ∷ (codes "upcash", read_upcash)
-    ∷ (codes "uptext", read_uptext) ∷ []
+abbrev pub update_row_parsers : List (NamedParser Command)
+update_row_parsers =
+    (codes "upname", read_and_wrap ChangeExecutors read_distinct_ids)
+    ∷ (codes "upcash", read_cash_type_update)
+    ∷ (codes "uptext", read_cash_name_update) ∷ []
 
 -- The parsers of the row kinds for deposits, withdrawals and the settlement day.
-abbrev pub movement_readers : List (Reader Command)
-movement_readers =
-    (codes "deposit", read_movement (λ a n. DepositCash a n))
-    ∷ (codes "withdraw", read_movement (λ a n. WithdrawCash a n))
-    ∷ (codes "oneday", read_as SetOneDay read_oneday) ∷ []
+abbrev pub movement_row_parsers : List (NamedParser Command)
+movement_row_parsers =
+    (codes "deposit", read_movement_command (λ a n. DepositCash a n))
+    ∷ (codes "withdraw", read_movement_command (λ a n. WithdrawCash a n))
+    ∷ (codes "oneday", read_and_wrap SetOneDay read_settlement_day) ∷ []
 
 -- The parsers of all row kinds.
-abbrev pub readers : List (Reader Command)
-readers = reference_readers ++ order_readers ++ result_readers ++ update_readers ++ movement_readers
+abbrev pub row_parsers : List (NamedParser Command)
+row_parsers = reference_row_parsers ++ order_row_parsers ++ result_row_parsers ++ update_row_parsers ++ movement_row_parsers
 
 -- The value that the parser reads from the fields, or its refusal; the refusal `BadText` if there
 -- is no parser.
-abbrev pub read_by : {A : Type 0} → Option (Reader A) → List Text → Read A
-read_by None fields = Err BadText
-read_by (Some reader) fields = reader.1 fields
+abbrev pub read_with_parser : {A : Type 0} → Option (NamedParser A) → List Text → ReadResult A
+read_with_parser None fields = Err BadText
+read_with_parser (Some reader) fields = reader.1 fields
 
 -- The value that the fields after the first parse as, by the parser that `table` has for the first
 -- field, or the refusal of that parser; the refusal `BadText` if there is no field or no such
 -- parser.
-abbrev pub parse_by : {A : Type 0} → List (Reader A) → List Text → Read A
-parse_by table [] = Err BadText
-parse_by table (kind ∷ fields) = read_by (find (λ reader. bytes_eq reader.0 kind) table) fields
+abbrev pub parse_by_first_field : {A : Type 0} → List (NamedParser A) → List Text → ReadResult A
+parse_by_first_field table [] = Err BadText
+parse_by_first_field table (kind ∷ fields) = read_with_parser (find (λ reader. bytes_eq reader.0 kind) table) fields
 
 -- The command that the fields of a row parse as, or the refusal of a malformed row.
-unfoldable pub parse_row : List Text → Read Command
-parse_row fields = parse_by readers fields
+unfoldable pub parse_row : List Text → ReadResult Command
+parse_row fields = parse_by_first_field row_parsers fields

@@ -3,40 +3,40 @@
 use Rattle.std.specs.Prelude.{ℕ, Bool, not, ◌&&◌, ◌||◌, ◌==◌, nat_lt, List, [], ◌∷◌, ◌++◌, map, filter, flat_map, take, ℤ, pos, ◌*ℤ◌, int_lt, codes, decimal}
 use Rattle.std.specs.List.{list_any}
 use Rattle.brk_money.specs.Spelling.{cents_text}
-use Rattle.brk_money.specs.Kinds.{status_name}
+use Rattle.brk_money.specs.Kinds.{trade_status_name}
 use Rattle.brk_model.specs.Records.{Customer}
-use Rattle.brk_model.specs.Lists.{sort_by, rising, total_by}
+use Rattle.brk_model.specs.Lists.{sort_by, is_pair_less, total_by}
 use Rattle.brk_model.specs.Tables.{Tables, AccountRow, TradeRow}
 use Rattle.brk_model.specs.Queries.{View}
-use Rattle.brk_model.specs.Joins.{price_in, trades_in, history_in, recent_first}
+use Rattle.brk_model.specs.Joins.{last_price_in_tables, trade_rows_of_account, history_rows_with_trade_id, trade_rows_recent_first}
 
 -- The market value of the account `a`, in cents: the sum over its HOLDING_SUMMARY rows of quantity
 -- times last price.
 abbrev pub asset_total : Tables → AccountRow → ℤ
-asset_total tables a = total_by (λ row. row.qty *ℤ pos (price_in tables row.symbol)) (filter (λ row. row.account == a.id) tables.summaries)
+asset_total tables a = total_by (λ row. row.qty *ℤ pos (last_price_in_tables tables row.symbol)) (filter (λ row. row.account == a.id) tables.summaries)
 
 -- True if account `a` has a smaller market value than account `b`, or an equal one and a smaller
 -- id.
-abbrev pub by_worth : Tables → AccountRow → AccountRow → Bool
-by_worth tables a b =
+abbrev pub is_before_by_assets : Tables → AccountRow → AccountRow → Bool
+is_before_by_assets tables a b =
     int_lt (asset_total tables a) (asset_total tables b) || (not (int_lt (asset_total tables b) (asset_total tables a)) && nat_lt a.id b.id)
 
 -- One record (id, balance, market value) for each account of the customers that pass `test`, sorted
 -- by market value, then by id, both ascending.
-unfoldable pub position_view : Tables → (Customer → Bool) → View
-position_view tables test =
+unfoldable pub customer_position_view : Tables → (Customer → Bool) → View
+customer_position_view tables test =
     map (λ a. decimal a.id ∷ cents_text a.balance ∷ cents_text (asset_total tables a) ∷ [])
-    (sort_by (by_worth tables) (filter (λ a. list_any (λ c. test c && (c.id == a.customer)) tables.customers) tables.accounts))
+    (sort_by (is_before_by_assets tables) (filter (λ a. list_any (λ c. test c && (c.id == a.customer)) tables.customers) tables.accounts))
 
 -- The 10 most recent TRADE rows of the account `account`, sorted by stamp, then by id, both
 -- descending.
-abbrev pub last_ten : Tables → ℕ → List TradeRow
-last_ten tables account = take 10 (recent_first (trades_in tables account))
+abbrev pub last_ten_trade_rows : Tables → ℕ → List TradeRow
+last_ten_trade_rows tables account = take 10 (trade_rows_recent_first (trade_rows_of_account tables account))
 
 -- One record for each of the 10 most recent trades of the account `account`, then one for each
 -- TRADE_HISTORY row of these trades, both sorted by stamp, then by trade, descending.
-unfoldable pub recent_view : Tables → ℕ → View
-recent_view tables account =
-    map (λ t. codes "trade" ∷ decimal t.id ∷ t.symbol ∷ decimal t.qty ∷ []) (last_ten tables account)
-    ++ map (λ h. codes "history" ∷ decimal h.trade ∷ status_name h.status ∷ decimal h.stamp ∷ [])
-    (sort_by (λ a b. rising b.stamp a.stamp b.trade a.trade) (flat_map (λ t. history_in tables t.id) (last_ten tables account)))
+unfoldable pub recent_trades_view : Tables → ℕ → View
+recent_trades_view tables account =
+    map (λ t. codes "trade" ∷ decimal t.id ∷ t.symbol ∷ decimal t.qty ∷ []) (last_ten_trade_rows tables account)
+    ++ map (λ h. codes "history" ∷ decimal h.trade ∷ trade_status_name h.status ∷ decimal h.stamp ∷ [])
+    (sort_by (λ a b. is_pair_less b.stamp a.stamp b.trade a.trade) (flat_map (λ t. history_rows_with_trade_id tables t.id) (last_ten_trade_rows tables account)))

@@ -80,8 +80,8 @@ pub record StatusChange : Type 0 where
   pub status : Status
 
 -- A trade as ordered, with its status changes and the values that its completion recorded. `price`
--- is the price at completion. `cash_type` is empty without a settlement, and `cash_name` without a
--- cash row.
+-- is the price at completion. `cash_type` is empty without a settlement, and `cash_text_of_trade`
+-- without a cash row.
 pub record Trade : Type 0 where
   pub id : ℕ
   pub account : ℕ

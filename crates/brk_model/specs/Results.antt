@@ -1,18 +1,18 @@
 -- Trade-Result: the completion of a submitted trade at a price.
 use Rattle.std.specs.Prelude.{ℕ, ◌==◌, if◌then◌else◌, [], ◌∷◌, ◌++◌, Some, unwrap_or, codes, decimal}
 use Rattle.brk_money.specs.Spelling.{Text}
-use Rattle.brk_money.specs.Kinds.{side_of, type_name}
+use Rattle.brk_money.specs.Kinds.{side_of_trade_type, trade_type_name}
 use Rattle.brk_money.specs.declared.status.Status.TheVariants.{Completed}
 use Rattle.brk_model.specs.Records.{Trade}
-use Rattle.brk_model.specs.Base.{Base, completed, marked, with_trades, security_name}
+use Rattle.brk_model.specs.Base.{Base, completed_trades, trade_with_status_change, base_with_updated_trades, security_name}
 use Rattle.brk_model.specs.Shares.{Deal, buy_value, sell_value}
-use Rattle.brk_model.specs.Derived.{shares_in, amount_of, due_day, postings_of, balance_of}
-use Rattle.brk_model.specs.Orders.{commission_of, tax_on_deal}
+use Rattle.brk_model.specs.Derived.{shares_of_position, settlement_amount, due_day, postings_of_base, balance_of_account}
+use Rattle.brk_model.specs.Orders.{commission_by_band, tax_on_deal}
 use Rattle.brk_model.specs.Commands.{Completion}
 
 -- The deal of the trade `t` that is completed at `price` with the stamp `stamp`.
-abbrev pub result_deal : ℕ → ℕ → Trade → Deal
-result_deal stamp price t = record { trade = t.id; side = side_of t.kind; qty = t.qty; price = price; stamp = stamp; is_lifo = t.is_lifo }
+abbrev pub deal_of_result : ℕ → ℕ → Trade → Deal
+deal_of_result stamp price t = record { trade = t.id; side = side_of_trade_type t.kind; qty = t.qty; price = price; stamp = stamp; is_lifo = t.is_lifo }
 
 -- The cash type of the settlement of the trade `t` at its completion (SE_CASH_TYPE): `Cash Account`
 -- for a cash trade, otherwise `Margin`.
@@ -21,46 +21,46 @@ first_cash_type t = if t.is_cash then codes "Cash Account" else codes "Margin"
 
 -- The name of the cash row of the trade `t`: the name of its type, a space, its quantity, the text
 -- `words`, and the name of its security.
-abbrev pub cash_text : Text → Base → Trade → Text
-cash_text words base t = type_name t.kind ++ 32 ∷ decimal t.qty ++ words ++ security_name base t.symbol
+abbrev pub cash_row_name : Text → Base → Trade → Text
+cash_row_name words base t = trade_type_name t.kind ++ 32 ∷ decimal t.qty ++ words ++ security_name base t.symbol
 
 -- The name of the cash row of the trade `t` at its completion (CM_NAME; CT_NAME in the first
 -- schema); empty if the trade is not a cash trade.
 abbrev pub first_cash_name : Base → Trade → Text
-first_cash_name base t = if t.is_cash then cash_text (codes " shares of ") base t else []
+first_cash_name base t = if t.is_cash then cash_row_name (codes " shares of ") base t else []
 
 -- The trade `t` after its completion at `price`: with the price, the commission, tax, cash type and
 -- cash row name that `base` determines, and with the status `Completed` at `stamp`. The commission
 -- is 0 if no band applies.
 unfoldable pub completed_trade : Base → ℕ → ℕ → Trade → Trade
-completed_trade base stamp price t = marked stamp Completed (record t {
+completed_trade base stamp price t = trade_with_status_change stamp Completed (record t {
   price = Some price;
-  commission = unwrap_or (commission_of base t.account t.kind t.symbol t.qty price) 0;
-  tax = tax_on_deal base t.account (result_deal stamp price t) (shares_in (completed base) t.account t.symbol);
+  commission = unwrap_or (commission_by_band base t.account t.kind t.symbol t.qty price) 0;
+  tax = tax_on_deal base t.account (deal_of_result stamp price t) (shares_of_position (completed_trades base) t.account t.symbol);
   cash_type = first_cash_type t;
   cash_name = first_cash_name base t;
 })
 
 -- The base `base` in which the trade with the id of `t` is completed at `price` with the stamp
 -- `stamp`.
-abbrev pub with_result : Base → ℕ → ℕ → Trade → Base
-with_result base stamp price t = with_trades (λ u. u.id == t.id) (completed_trade base stamp price) base
+abbrev pub base_after_result : Base → ℕ → ℕ → Trade → Base
+base_after_result base stamp price t = base_with_updated_trades (λ u. u.id == t.id) (completed_trade base stamp price) base
 
 -- The figures of a completion, from the base `base` before it, the base `after` it, its deal `d`
 -- and the completed trade `t`.
-abbrev pub completion_after : Base → Base → Deal → Trade → Completion
-completion_after base after d t = record {
+abbrev pub completion_between_bases : Base → Base → Deal → Trade → Completion
+completion_between_bases base after d t = record {
   commission = t.commission;
   tax = t.tax;
-  amount = amount_of after.accounts t;
+  amount = settlement_amount after.accounts t;
   due_day = due_day after.rule t;
-  buy_value = buy_value d (shares_in (completed base) t.account t.symbol);
-  sell_value = sell_value d (shares_in (completed base) t.account t.symbol);
-  balance = balance_of after.accounts (postings_of after) t.account;
+  buy_value = buy_value d (shares_of_position (completed_trades base) t.account t.symbol);
+  sell_value = sell_value d (shares_of_position (completed_trades base) t.account t.symbol);
+  balance = balance_of_account after.accounts (postings_of_base after) t.account;
 }
 
 -- The figures of the completion of the trade `t` of `base` at `price` with the stamp `stamp`, as
 -- the reply to a result states them.
-unfoldable pub completion : Base → ℕ → ℕ → Trade → Completion
-completion base stamp price t =
-    completion_after base (with_result base stamp price t) (result_deal stamp price t) (completed_trade base stamp price t)
+unfoldable pub completion_of_trade : Base → ℕ → ℕ → Trade → Completion
+completion_of_trade base stamp price t =
+    completion_between_bases base (base_after_result base stamp price t) (deal_of_result stamp price t) (completed_trade base stamp price t)

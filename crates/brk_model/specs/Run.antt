@@ -23,34 +23,34 @@ pub data Outcome : Type 0 where
   Failed : Fault → Outcome
 
 -- The fault is `Memory` or `Store`, the only faults with which a call may fail.
-abbrev pub MayFail : Fault → Type 0
-MayFail fault = (fault ≡ Memory) ⊎ (fault ≡ Store)
+abbrev pub IsCallFault : Fault → Type 0
+IsCallFault fault = (fault ≡ Memory) ⊎ (fault ≡ Store)
 
 -- The call is a command whose keyed step at the clock reading `now` on `base` results in `answer`
 -- and the base `after`. It is false for a query.
-abbrev pub GivesAnswer : Base → ℕ → Call → Answer → Base → Type 0
-GivesAnswer base now (Do command key) answer after = keyed_step base now command key ≡ (answer, after)
-GivesAnswer base now (Ask query) answer after = ⊥
+abbrev pub IsAnswerOfCommand : Base → ℕ → Call → Answer → Base → Type 0
+IsAnswerOfCommand base now (Do command key) answer after = keyed_step base now command key ≡ (answer, after)
+IsAnswerOfCommand base now (Ask query) answer after = ⊥
 
 -- The call is a query whose view or refusal on `base` is `seen`, and `after` equals `base`. It is
 -- false for a command.
-abbrev pub IsSeen : Base → Call → Result View Refusal → Base → Type 0
-IsSeen base (Ask query) seen after = (ask base query ≡ seen) × (after ≡ base)
-IsSeen base (Do command key) seen after = ⊥
+abbrev pub IsResultOfQuery : Base → Call → Result View Refusal → Base → Type 0
+IsResultOfQuery base (Ask query) seen after = (ask base query ≡ seen) × (after ≡ base)
+IsResultOfQuery base (Do command key) seen after = ⊥
 
 -- The call at the clock reading `now` on `base` may have the outcome, and the base after it may
 -- then be `after`. A fault, `Memory` or `Store`, is always possible and leaves the base unchanged.
-abbrev pub Answers : Base → ℕ → Call → Outcome → Base → Type 0
-Answers base now call (Did answer) after = GivesAnswer base now call answer after
-Answers base now call (Saw view) after = IsSeen base call (Ok view) after
-Answers base now call (NoView refusal) after = IsSeen base call (Err refusal) after
-Answers base now call (Failed fault) after = MayFail fault × (after ≡ base)
+abbrev pub IsOutcomeOfCall : Base → ℕ → Call → Outcome → Base → Type 0
+IsOutcomeOfCall base now call (Did answer) after = IsAnswerOfCommand base now call answer after
+IsOutcomeOfCall base now call (Saw view) after = IsResultOfQuery base call (Ok view) after
+IsOutcomeOfCall base now call (NoView refusal) after = IsResultOfQuery base call (Err refusal) after
+IsOutcomeOfCall base now call (Failed fault) after = IsCallFault fault × (after ≡ base)
 
 -- The calls, each with its clock reading and executed in sequence from `base` on, may have these
 -- outcomes, one each, and the base after the last may then be `after`. It is false if the lists
 -- have different lengths.
 abbrev pub Run : Base → List (ℕ × Call) → List Outcome → Base → Type 0
 Run base [] [] after = after ≡ base
-Run base (call ∷ calls) (outcome ∷ outcomes) after = (mid : Base) × Answers base call.0 call.1 outcome mid × Run mid calls outcomes after
+Run base (call ∷ calls) (outcome ∷ outcomes) after = (mid : Base) × IsOutcomeOfCall base call.0 call.1 outcome mid × Run mid calls outcomes after
 Run base [] (outcome ∷ outcomes) after = ⊥
 Run base (call ∷ calls) [] after = ⊥

@@ -5,55 +5,55 @@ use Rattle.brk_money.specs.Spelling.{Text, cents_text, day_text}
 use Rattle.brk_money.specs.Moments.{day_of}
 use Rattle.brk_money.specs.declared.refusal.Refusal.{Refusal}
 use Rattle.brk_money.specs.declared.refusal.Refusal.TheVariants.{BadText, NoAccount}
-use Rattle.brk_model.specs.Lists.{sort_by, sort_by_key, total_by, text_before}
+use Rattle.brk_model.specs.Lists.{sort_by, sort_by_key, total_by, is_text_less}
 use Rattle.brk_model.specs.Tables.{Tables, AccountRow, HoldingRow, MoveRow}
-use Rattle.brk_model.specs.Rows.{price_text}
-use Rattle.brk_model.specs.Joins.{account_in}
+use Rattle.brk_model.specs.Rows.{nonnegative_cents_text}
+use Rattle.brk_model.specs.Joins.{account_row_with_id}
 use Rattle.brk_model.specs.PositionView.{asset_total}
 
 -- The text padded with spaces on its right to `places` bytes; unchanged if it is longer.
-abbrev pub at_left : ℕ → Text → Text
-at_left places text = text ++ replicate (places - length text) 32
+abbrev pub left_aligned_text : ℕ → Text → Text
+left_aligned_text places text = text ++ replicate (places - length text) 32
 
 -- The text padded with spaces on its left to `places` bytes; unchanged if it is longer.
-abbrev pub at_right : ℕ → Text → Text
-at_right places text = replicate (places - length text) 32 ++ text
+abbrev pub right_aligned_text : ℕ → Text → Text
+right_aligned_text places text = replicate (places - length text) 32 ++ text
 
 -- The word `word`, padded on its right to 10 places, a space, and the text of the amount, padded on
 -- its left to 22 places.
 abbrev pub amount_line : Text → ℤ → Text
-amount_line word amount = at_left 10 word ++ 32 ∷ at_right 22 (cents_text amount)
+amount_line word amount = left_aligned_text 10 word ++ 32 ∷ right_aligned_text 22 (cents_text amount)
 
 -- The CASH_MOVE rows of the account `account`, sorted by stamp, ascending.
-abbrev pub cash_in : Tables → ℕ → List MoveRow
-cash_in tables account = sort_by_key (λ row. row.stamp) (filter (λ row. row.account == account) tables.moves)
+abbrev pub cash_move_rows_of_account : Tables → ℕ → List MoveRow
+cash_move_rows_of_account tables account = sort_by_key (λ row. row.stamp) (filter (λ row. row.account == account) tables.moves)
 
 -- The CASH_MOVE rows of the list whose day is before the day `from`.
-abbrev pub cash_before : ℕ → List MoveRow → List MoveRow
-cash_before from rows = filter (λ row. nat_lt (day_of row.stamp) from) rows
+abbrev pub cash_move_rows_before_day : ℕ → List MoveRow → List MoveRow
+cash_move_rows_before_day from rows = filter (λ row. nat_lt (day_of row.stamp) from) rows
 
 -- The CASH_MOVE rows of the list whose day is from `from` to `to`, both included.
-abbrev pub cash_within : ℕ → ℕ → List MoveRow → List MoveRow
-cash_within from to rows = filter (λ row. nat_le from (day_of row.stamp) && nat_le (day_of row.stamp) to) rows
+abbrev pub cash_move_rows_within_days : ℕ → ℕ → List MoveRow → List MoveRow
+cash_move_rows_within_days from to rows = filter (λ row. nat_le from (day_of row.stamp) && nat_le (day_of row.stamp) to) rows
 
 -- The sum of the amounts of the CASH_MOVE rows, in cents.
-abbrev pub cash_total : List MoveRow → ℤ
-cash_total rows = total_by (λ row. row.amount) rows
+abbrev pub cash_row_total : List MoveRow → ℤ
+cash_row_total rows = total_by (λ row. row.amount) rows
 
 -- The HOLDING rows of the account `account`, sorted by symbol, then by stamp, both ascending.
-abbrev pub lots_in : Tables → ℕ → List HoldingRow
-lots_in tables account =
-    sort_by (λ a b. text_before a.symbol b.symbol || (bytes_eq a.symbol b.symbol && nat_lt a.stamp b.stamp))
+abbrev pub lot_rows_of_account : Tables → ℕ → List HoldingRow
+lot_rows_of_account tables account =
+    sort_by (λ a b. is_text_less a.symbol b.symbol || (bytes_eq a.symbol b.symbol && nat_lt a.stamp b.stamp))
     (filter (λ row. row.account == account) tables.holdings)
 
 -- The statement line of a cash row: its day, its amount and its name.
-abbrev pub cash_line : MoveRow → Text
-cash_line row = day_text (day_of row.stamp) ++ 32 ∷ at_right 22 (cents_text row.amount) ++ 32 ∷ row.name
+abbrev pub text_line_of_cash_row : MoveRow → Text
+text_line_of_cash_row row = day_text (day_of row.stamp) ++ 32 ∷ right_aligned_text 22 (cents_text row.amount) ++ 32 ∷ row.name
 
 -- The statement line of a lot: its symbol, the trade that opened it, its quantity and its price.
 abbrev pub lot_line : HoldingRow → Text
 lot_line row =
-    at_left 15 row.symbol ++ 32 ∷ at_right 13 (decimal row.trade) ++ 32 ∷ at_right 11 (signed_decimal row.qty) ++ 32 ∷ at_right 10 (price_text row.price)
+    left_aligned_text 15 row.symbol ++ 32 ∷ right_aligned_text 13 (decimal row.trade) ++ 32 ∷ right_aligned_text 11 (signed_decimal row.qty) ++ 32 ∷ right_aligned_text 10 (nonnegative_cents_text row.price)
 
 -- The lines of the statement of account `a` over the days `from` to `to`, both included; `rows` are
 -- the cash rows of the account.
@@ -62,25 +62,25 @@ statement_lines tables a from to rows =
     (codes "Statement of account " ++ decimal a.id)
     ∷ a.name
     ∷ (codes "From " ++ day_text from ++ codes " to " ++ day_text to)
-    ∷ amount_line (codes "Opening") (a.opening +ℤ cash_total (cash_before from rows))
-    ∷ map cash_line (cash_within from to rows)
-    ++ amount_line (codes "Closing") (a.opening +ℤ cash_total (cash_before from rows) +ℤ cash_total (cash_within from to rows))
-    ∷ map lot_line (lots_in tables a.id)
+    ∷ amount_line (codes "Opening") (a.opening +ℤ cash_row_total (cash_move_rows_before_day from rows))
+    ∷ map text_line_of_cash_row (cash_move_rows_within_days from to rows)
+    ++ amount_line (codes "Closing") (a.opening +ℤ cash_row_total (cash_move_rows_before_day from rows) +ℤ cash_row_total (cash_move_rows_within_days from to rows))
+    ∷ map lot_line (lot_rows_of_account tables a.id)
     ++ amount_line (codes "Holdings") (asset_total tables a)
-    ∷ (codes "Cash rows " ++ decimal (length (cash_within from to rows)) ++ codes ", lots " ++ decimal (length (lots_in tables a.id)))
+    ∷ (codes "Cash rows " ++ decimal (length (cash_move_rows_within_days from to rows)) ++ codes ", lots " ++ decimal (length (lot_rows_of_account tables a.id)))
     ∷ []
 
 -- The text of the lines, each followed by a line feed.
-abbrev pub lines_text : List Text → Text
-lines_text lines = flat_map (λ line. line ++ 10 ∷ []) lines
+abbrev pub text_of_lines : List Text → Text
+text_of_lines lines = flat_map (λ line. line ++ 10 ∷ []) lines
 
 -- The statement of the account over the days `from` to `to`, or the refusal `NoAccount` if there is
 -- no account.
-abbrev pub statement_of : Tables → Option AccountRow → ℕ → ℕ → Result Text Refusal
-statement_of tables None from to = Err NoAccount
-statement_of tables (Some a) from to = Ok (lines_text (statement_lines tables a from to (cash_in tables a.id)))
+abbrev pub statement_or_refusal : Tables → Option AccountRow → ℕ → ℕ → Result Text Refusal
+statement_or_refusal tables None from to = Err NoAccount
+statement_or_refusal tables (Some a) from to = Ok (text_of_lines (statement_lines tables a from to (cash_move_rows_of_account tables a.id)))
 
 -- The statement of an account over the days `from` to `to`, both included. It is refused with
 -- `BadText` if `to` is before `from`, otherwise with `NoAccount` if the account does not exist.
 unfoldable pub statement : Tables → ℕ → ℕ → ℕ → Result Text Refusal
-statement tables account from to = if nat_lt to from then Err BadText else statement_of tables (account_in tables account) from to
+statement tables account from to = if nat_lt to from then Err BadText else statement_or_refusal tables (account_row_with_id tables account) from to

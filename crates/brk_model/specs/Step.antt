@@ -4,81 +4,81 @@ use Rattle.std.specs.Option.{option_map_or}
 use Rattle.brk_money.specs.declared.refusal.Refusal.{Refusal}
 use Rattle.brk_money.specs.declared.status.Status.TheVariants.{Canceled}
 use Rattle.brk_model.specs.Records.{Security}
-use Rattle.brk_model.specs.Base.{Base, trade_with, marked, with_trades}
-use Rattle.brk_model.specs.Orders.{with_order, order_reply}
-use Rattle.brk_model.specs.Feed.{with_ticks, triggered_by}
-use Rattle.brk_model.specs.Results.{with_result, completion}
-use Rattle.brk_model.specs.Updates.{chosen_of_account, chosen_of_symbol, with_executors, with_cash_types, with_cash_names}
-use Rattle.brk_model.specs.Movements.{deposit, withdrawal, with_movement, with_one_day, movement_reply}
-use Rattle.brk_model.specs.Tests.{next_stamp, refusal_of}
+use Rattle.brk_model.specs.Base.{Base, trade_with_id, trade_with_status_change, base_with_updated_trades}
+use Rattle.brk_model.specs.Orders.{base_after_order, reply_to_order}
+use Rattle.brk_model.specs.Feed.{base_after_ticks, triggered_trade_ids}
+use Rattle.brk_model.specs.Results.{base_after_result, completion_of_trade}
+use Rattle.brk_model.specs.Updates.{selected_ids_of_account, selected_ids_of_symbol, base_with_updated_executors, base_with_updated_cash_types, base_with_updated_cash_names}
+use Rattle.brk_model.specs.Movements.{deposit_movement, withdrawal_movement, base_after_movement, base_with_settlement_day, reply_to_movement}
+use Rattle.brk_model.specs.Tests.{stamp_of_next_command, refusal_of_command}
 use Rattle.brk_model.specs.Commands.{Command, Listing, Reply, Booked, Ticked, CanceledTrade, CompletedTrade, Changed, AddBroker, AddCustomer, AddAccount, AddPermission, AddSecurity, AddCharge, AddBand, AddTaxRate, AddCustomerTax, PlaceOrder, FeedTicks, CancelTrade, CompleteTrade, ChangeExecutors, ChangeCashTypes, ChangeCashNames, DepositCash, WithdrawCash, SetOneDay}
 
 -- The security of the listing `l`, with its first price as the last price, the volume 0 and the
 -- stamp `stamp`.
-abbrev pub listed : ℕ → Listing → Security
-listed stamp l = record { symbol = l.symbol; name = l.name; exchange = l.exchange; sector = l.sector; last_price = l.price; volume = 0; moment = stamp }
+abbrev pub security_of_listing : ℕ → Listing → Security
+security_of_listing stamp l = record { symbol = l.symbol; name = l.name; exchange = l.exchange; sector = l.sector; last_price = l.price; volume = 0; moment = stamp }
 
 -- The base `base` in which the trade with the id `id` is completed at `price` with the stamp
 -- `stamp`; unchanged if there is no such trade.
-abbrev pub with_result_of : Base → ℕ → ℕ → ℕ → Base
-with_result_of base stamp id price = option_map_or (with_result base stamp price) (trade_with base id) base
+abbrev pub base_after_result_by_id : Base → ℕ → ℕ → ℕ → Base
+base_after_result_by_id base stamp id price = option_map_or (base_after_result base stamp price) (trade_with_id base id) base
 
 -- The base after a command that is accepted at `stamp`, in which the last stamp is still that of
 -- `base`.
-unfoldable pub records_after : Base → ℕ → Command → Base
-records_after base stamp (AddBroker b) = record base { brokers = base.brokers ++ b ∷ [] }
-records_after base stamp (AddCustomer c) = record base { customers = base.customers ++ c ∷ [] }
-records_after base stamp (AddAccount a) = record base { accounts = base.accounts ++ a ∷ [] }
-records_after base stamp (AddPermission p) = record base { permissions = base.permissions ++ p ∷ [] }
-records_after base stamp (AddSecurity l) = record base { securities = base.securities ++ listed stamp l ∷ [] }
-records_after base stamp (AddCharge c) = record base { charges = base.charges ++ c ∷ [] }
-records_after base stamp (AddBand b) = record base { bands = base.bands ++ b ∷ [] }
-records_after base stamp (AddTaxRate r) = record base { tax_rates = base.tax_rates ++ r ∷ [] }
-records_after base stamp (AddCustomerTax x) = record base { customer_taxes = base.customer_taxes ++ x ∷ [] }
-records_after base stamp (PlaceOrder o) = with_order base stamp o
-records_after base stamp (FeedTicks ticks) = with_ticks stamp base ticks
-records_after base stamp (CancelTrade id) = with_trades (λ t. t.id == id) (marked stamp Canceled) base
-records_after base stamp (CompleteTrade id price) = with_result_of base stamp id price
-records_after base stamp (ChangeExecutors ids) = with_executors ids base
-records_after base stamp (ChangeCashTypes account first last) = with_cash_types (chosen_of_account base account first last) base
-records_after base stamp (ChangeCashNames symbol first last) = with_cash_names (chosen_of_symbol base symbol first last) base
-records_after base stamp (DepositCash account amount) = with_movement base (deposit stamp account amount)
-records_after base stamp (WithdrawCash account amount) = with_movement base (withdrawal stamp account amount)
-records_after base stamp (SetOneDay day) = with_one_day base day
+unfoldable pub base_after_command_unstamped : Base → ℕ → Command → Base
+base_after_command_unstamped base stamp (AddBroker b) = record base { brokers = base.brokers ++ b ∷ [] }
+base_after_command_unstamped base stamp (AddCustomer c) = record base { customers = base.customers ++ c ∷ [] }
+base_after_command_unstamped base stamp (AddAccount a) = record base { accounts = base.accounts ++ a ∷ [] }
+base_after_command_unstamped base stamp (AddPermission p) = record base { permissions = base.permissions ++ p ∷ [] }
+base_after_command_unstamped base stamp (AddSecurity l) = record base { securities = base.securities ++ security_of_listing stamp l ∷ [] }
+base_after_command_unstamped base stamp (AddCharge c) = record base { charges = base.charges ++ c ∷ [] }
+base_after_command_unstamped base stamp (AddBand b) = record base { bands = base.bands ++ b ∷ [] }
+base_after_command_unstamped base stamp (AddTaxRate r) = record base { tax_rates = base.tax_rates ++ r ∷ [] }
+base_after_command_unstamped base stamp (AddCustomerTax x) = record base { customer_taxes = base.customer_taxes ++ x ∷ [] }
+base_after_command_unstamped base stamp (PlaceOrder o) = base_after_order base stamp o
+base_after_command_unstamped base stamp (FeedTicks ticks) = base_after_ticks stamp base ticks
+base_after_command_unstamped base stamp (CancelTrade id) = base_with_updated_trades (λ t. t.id == id) (trade_with_status_change stamp Canceled) base
+base_after_command_unstamped base stamp (CompleteTrade id price) = base_after_result_by_id base stamp id price
+base_after_command_unstamped base stamp (ChangeExecutors ids) = base_with_updated_executors ids base
+base_after_command_unstamped base stamp (ChangeCashTypes account first last) = base_with_updated_cash_types (selected_ids_of_account base account first last) base
+base_after_command_unstamped base stamp (ChangeCashNames symbol first last) = base_with_updated_cash_names (selected_ids_of_symbol base symbol first last) base
+base_after_command_unstamped base stamp (DepositCash account amount) = base_after_movement base (deposit_movement stamp account amount)
+base_after_command_unstamped base stamp (WithdrawCash account amount) = base_after_movement base (withdrawal_movement stamp account amount)
+base_after_command_unstamped base stamp (SetOneDay day) = base_with_settlement_day base day
 
 -- The reply to a command that is accepted at `stamp` on `base`.
-unfoldable pub reply_to : Base → ℕ → Command → Reply
-reply_to base stamp (AddBroker b) = Booked stamp
-reply_to base stamp (AddCustomer c) = Booked stamp
-reply_to base stamp (AddAccount a) = Booked stamp
-reply_to base stamp (AddPermission p) = Booked stamp
-reply_to base stamp (AddSecurity l) = Booked stamp
-reply_to base stamp (AddCharge c) = Booked stamp
-reply_to base stamp (AddBand b) = Booked stamp
-reply_to base stamp (AddTaxRate r) = Booked stamp
-reply_to base stamp (AddCustomerTax x) = Booked stamp
-reply_to base stamp (PlaceOrder o) = order_reply base stamp o
-reply_to base stamp (FeedTicks ticks) = Ticked stamp (triggered_by stamp base ticks)
-reply_to base stamp (CancelTrade id) = CanceledTrade stamp
-reply_to base stamp (CompleteTrade id price) = option_map_or (λ t. CompletedTrade stamp (completion base stamp price t)) (trade_with base id) (Booked stamp)
-reply_to base stamp (ChangeExecutors ids) = Changed stamp (length ids)
-reply_to base stamp (ChangeCashTypes account first last) = Changed stamp (length (chosen_of_account base account first last))
-reply_to base stamp (ChangeCashNames symbol first last) = Changed stamp (length (chosen_of_symbol base symbol first last))
-reply_to base stamp (DepositCash account amount) = movement_reply base (deposit stamp account amount)
-reply_to base stamp (WithdrawCash account amount) = movement_reply base (withdrawal stamp account amount)
-reply_to base stamp (SetOneDay day) = Booked stamp
+unfoldable pub reply_to_command : Base → ℕ → Command → Reply
+reply_to_command base stamp (AddBroker b) = Booked stamp
+reply_to_command base stamp (AddCustomer c) = Booked stamp
+reply_to_command base stamp (AddAccount a) = Booked stamp
+reply_to_command base stamp (AddPermission p) = Booked stamp
+reply_to_command base stamp (AddSecurity l) = Booked stamp
+reply_to_command base stamp (AddCharge c) = Booked stamp
+reply_to_command base stamp (AddBand b) = Booked stamp
+reply_to_command base stamp (AddTaxRate r) = Booked stamp
+reply_to_command base stamp (AddCustomerTax x) = Booked stamp
+reply_to_command base stamp (PlaceOrder o) = reply_to_order base stamp o
+reply_to_command base stamp (FeedTicks ticks) = Ticked stamp (triggered_trade_ids stamp base ticks)
+reply_to_command base stamp (CancelTrade id) = CanceledTrade stamp
+reply_to_command base stamp (CompleteTrade id price) = option_map_or (λ t. CompletedTrade stamp (completion_of_trade base stamp price t)) (trade_with_id base id) (Booked stamp)
+reply_to_command base stamp (ChangeExecutors ids) = Changed stamp (length ids)
+reply_to_command base stamp (ChangeCashTypes account first last) = Changed stamp (length (selected_ids_of_account base account first last))
+reply_to_command base stamp (ChangeCashNames symbol first last) = Changed stamp (length (selected_ids_of_symbol base symbol first last))
+reply_to_command base stamp (DepositCash account amount) = reply_to_movement base (deposit_movement stamp account amount)
+reply_to_command base stamp (WithdrawCash account amount) = reply_to_movement base (withdrawal_movement stamp account amount)
+reply_to_command base stamp (SetOneDay day) = Booked stamp
 
 -- The base after the command that is accepted at `stamp`, with `stamp` as its last stamp.
-abbrev pub base_after : Base → ℕ → Command → Base
-base_after base stamp command = record (records_after base stamp command) { last = Some stamp }
+abbrev pub base_after_accepted_command : Base → ℕ → Command → Base
+base_after_accepted_command base stamp command = record (base_after_command_unstamped base stamp command) { last = Some stamp }
 
 -- The refusal as an error if there is one, otherwise `value`.
-abbrev pub unless : {A : Type 0} → Option Refusal → A → Result A Refusal
-unless None value = Ok value
-unless (Some refusal) value = Err refusal
+abbrev pub value_unless_refused : {A : Type 0} → Option Refusal → A → Result A Refusal
+value_unless_refused None value = Ok value
+value_unless_refused (Some refusal) value = Err refusal
 
 -- The result of one command at the clock reading `now` on `base`: its refusal, or its reply and the
 -- base after it.
 unfoldable pub step : Base → ℕ → Command → Result (Reply × Base) Refusal
 step base now command =
-    unless (refusal_of base now command) (reply_to base (next_stamp base now) command, base_after base (next_stamp base now) command)
+    value_unless_refused (refusal_of_command base now command) (reply_to_command base (stamp_of_next_command base now) command, base_after_accepted_command base (stamp_of_next_command base now) command)

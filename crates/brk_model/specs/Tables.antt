@@ -8,10 +8,10 @@ use Rattle.brk_money.specs.declared.tax_status.TaxStatus.{TaxStatus}
 use Rattle.brk_money.specs.declared.status.Status.TheVariants.{Canceled}
 use Rattle.brk_model.specs.Lists.{is_zero}
 use Rattle.brk_model.specs.Records.{Broker, Customer, Account, Permission, Security, Charge, Band, TaxRate, CustomerTax, Trade, SettleRule, Kept}
-use Rattle.brk_model.specs.Base.{Base, last_mark, moment_of, broker_in, completed, price_of}
-use Rattle.brk_model.specs.Shares.{Share, Deal, Touch, is_change, lot_qty, shares_after, touch_by}
+use Rattle.brk_model.specs.Base.{Base, last_status_change, last_status_stamp_of_trade, broker_id_in_accounts, completed_trades, completion_price}
+use Rattle.brk_model.specs.Shares.{Share, Deal, Touch, changes_lot_quantity, lot_quantity, shares_after_deal, touch_of_lot}
 use Rattle.brk_model.specs.Schemas.{Schema, third_schema}
-use Rattle.brk_model.specs.Derived.{Posting, deals_in, shares_in, summary_of, amount_of, due_day, cash_trades, postings, in_turn, balance_of, trade_count_of, commissions_of, pending}
+use Rattle.brk_model.specs.Derived.{Posting, deals_of_position, shares_of_position, holding_summary_quantity, settlement_amount, due_day, cash_trades, postings, postings_sorted_by_stamp, balance_of_account, trade_count_of_broker, commission_total_of_broker, pending_trades}
 
 -- A row of BROKER: B_ID, B_NAME, B_NUM_TRADES, B_COMM_TOTAL.
 pub record BrokerRow : Type 0 where
@@ -154,7 +154,7 @@ pub record Tables : Type 0 where
 -- completed trades `done` whose accounts have this broker.
 abbrev pub broker_row : List Account → List Trade → Broker → BrokerRow
 broker_row accounts done b =
-    record { id = b.id; name = b.name; trades = pos (trade_count_of accounts done b.id); commissions = commissions_of accounts done b.id }
+    record { id = b.id; name = b.name; trades = pos (trade_count_of_broker accounts done b.id); commissions = commission_total_of_broker accounts done b.id }
 
 -- The CUSTOMER_ACCOUNT row of the account `a`, with its balance after the postings `posted`.
 abbrev pub account_row : List Account → List Posting → Account → AccountRow
@@ -165,7 +165,7 @@ account_row accounts posted a = record {
   name = a.name;
   tax_status = a.tax_status;
   opening = a.opening;
-  balance = balance_of accounts posted a.id;
+  balance = balance_of_account accounts posted a.id;
 }
 
 -- The SECURITY row of a security.
@@ -177,16 +177,16 @@ abbrev pub last_trade_row : Security → LastTradeRow
 last_trade_row s = record { symbol = s.symbol; stamp = s.moment; price = s.last_price; volume = s.volume }
 
 -- The last status of the trade `t`; `Canceled` if it has no status change.
-abbrev pub status_of : Trade → Status
-status_of t = option_map_or (λ m. m.status) (last_mark t) Canceled
+abbrev pub last_status_of_trade : Trade → Status
+last_status_of_trade t = option_map_or (λ m. m.status) (last_status_change t) Canceled
 
 -- The TRADE row of a trade, with its last status and the stamp of that status.
 abbrev pub trade_row : Trade → TradeRow
 trade_row t =
     record {
       id = t.id;
-      stamp = moment_of t;
-      status = status_of t;
+      stamp = last_status_stamp_of_trade t;
+      status = last_status_of_trade t;
       kind = t.kind;
       is_cash = t.is_cash;
       symbol = t.symbol;
@@ -207,77 +207,77 @@ history_rows t = map (λ m. record { trade = t.id; status = m.status; stamp = m.
 
 -- The TRADE_REQUEST row of the pending trade `t`, with the broker of its account.
 abbrev pub request_row : List Account → Trade → RequestRow
-request_row accounts t = record { trade = t.id; kind = t.kind; symbol = t.symbol; qty = t.qty; bid = t.bid; broker = broker_in accounts t.account }
+request_row accounts t = record { trade = t.id; kind = t.kind; symbol = t.symbol; qty = t.qty; bid = t.bid; broker = broker_id_in_accounts accounts t.account }
 
 -- The rows that `rows` returns for each account and each symbol of `base`, account by account.
-abbrev pub by_position : {Row : Type 0} → Base → (ℕ → Text → List Row) → List Row
-by_position base rows = flat_map (λ a. flat_map (λ s. rows a.id s.symbol) base.securities) base.accounts
+abbrev pub rows_by_position : {Row : Type 0} → Base → (ℕ → Text → List Row) → List Row
+rows_by_position base rows = flat_map (λ a. flat_map (λ s. rows a.id s.symbol) base.securities) base.accounts
 
 -- The HOLDING row of the lot that the completed trade `t` opened; its quantity is 0 if no share of
 -- the lot is left after the completed trades `done`.
 abbrev pub holding_row : List Trade → Trade → HoldingRow
 holding_row done t =
-    record { trade = t.id; account = t.account; symbol = t.symbol; stamp = moment_of t; price = price_of t; qty = lot_qty (shares_in done t.account t.symbol) t.id }
+    record { trade = t.id; account = t.account; symbol = t.symbol; stamp = last_status_stamp_of_trade t; price = completion_price t; qty = lot_quantity (shares_of_position done t.account t.symbol) t.id }
 
 -- The HOLDING_HISTORY row of a lot that the trade with the id `trade` touched.
-abbrev pub touch_row : ℕ → Touch → HoldingHistoryRow
-touch_row trade touch = record { lot = touch.lot; trade = trade; before = touch.before; after = touch.after }
+abbrev pub holding_history_row : ℕ → Touch → HoldingHistoryRow
+holding_history_row trade touch = record { lot = touch.lot; trade = trade; before = touch.before; after = touch.after }
 
 -- The lot of a HOLDING_HISTORY row, with its quantities before and after.
 abbrev pub touch_of_row : HoldingHistoryRow → Touch
 touch_of_row row = record { lot = row.lot; before = row.before; after = row.after }
 
 -- True if the quantities before and after of a HOLDING_HISTORY row differ.
-abbrev pub is_moved : HoldingHistoryRow → Bool
-is_moved row = is_change (touch_of_row row)
+abbrev pub row_changes_quantity : HoldingHistoryRow → Bool
+row_changes_quantity row = changes_lot_quantity (touch_of_row row)
 
 -- One HOLDING_HISTORY row of the lot `lot` for each deal, whether or not it changes the lot; the
 -- deals are applied in sequence, from the position `shares` on.
-abbrev pub lot_rows : ℕ → List Share → List Deal → List HoldingHistoryRow
-lot_rows lot shares [] = []
-lot_rows lot shares (d ∷ deals) = touch_row d.trade (touch_by lot d shares) ∷ lot_rows lot (shares_after shares d) deals
+abbrev pub lot_rows_of_deals : ℕ → List Share → List Deal → List HoldingHistoryRow
+lot_rows_of_deals lot shares [] = []
+lot_rows_of_deals lot shares (d ∷ deals) = holding_history_row d.trade (touch_of_lot lot d shares) ∷ lot_rows_of_deals lot (shares_after_deal shares d) deals
 
 -- The HOLDING_HISTORY rows of the lot that the completed trade `t` opened: one for each deal of its
 -- position that changes the lot's quantity.
-abbrev pub lot_history : List Trade → Trade → List HoldingHistoryRow
-lot_history done t = filter is_moved (lot_rows t.id [] (deals_in done t.account t.symbol))
+abbrev pub holding_history_rows_of_lot : List Trade → Trade → List HoldingHistoryRow
+holding_history_rows_of_lot done t = filter row_changes_quantity (lot_rows_of_deals t.id [] (deals_of_position done t.account t.symbol))
 
 -- The HOLDING_SUMMARY row of the account `account` in the symbol `symbol`; no row if its quantity
 -- is 0.
 abbrev pub summary_rows : List Trade → ℕ → Text → List SummaryRow
 summary_rows done account symbol =
-    filter (λ row. not (is_zero row.qty)) (record { account = account; symbol = symbol; qty = summary_of done account symbol } ∷ [])
+    filter (λ row. not (is_zero row.qty)) (record { account = account; symbol = symbol; qty = holding_summary_quantity done account symbol } ∷ [])
 
 -- The SETTLEMENT row of a completed trade: its cash type, due day and amount.
 abbrev pub settlement_row : List Account → SettleRule → Trade → SettlementRow
-settlement_row accounts rule t = record { trade = t.id; cash_type = t.cash_type; due_day = due_day rule t; amount = amount_of accounts t }
+settlement_row accounts rule t = record { trade = t.id; cash_type = t.cash_type; due_day = due_day rule t; amount = settlement_amount accounts t }
 
 -- The CASH_TRANSACTION row of the completed cash trade `t`, a table that only the first schema
 -- fills.
 abbrev pub cash_row : List Account → Trade → CashRow
-cash_row accounts t = record { trade = t.id; stamp = moment_of t; amount = amount_of accounts t; name = t.cash_name }
+cash_row accounts t = record { trade = t.id; stamp = last_status_stamp_of_trade t; amount = settlement_amount accounts t; name = t.cash_name }
 
 -- The CASH_MOVE row of the posting `p`, with the number `id`.
 abbrev pub move_row : ℕ → Posting → MoveRow
 move_row id p = record { id = id; account = p.account; trade = p.trade; stamp = p.stamp; amount = p.amount; name = p.name }
 
 -- The CASH_MOVE rows of the postings, numbered `n`, `n + 1` and so on in the sequence of the list.
-abbrev pub numbered : ℕ → List Posting → List MoveRow
-numbered n [] = []
-numbered n (p ∷ posted) = move_row n p ∷ numbered (n + 1) posted
+abbrev pub numbered_move_rows : ℕ → List Posting → List MoveRow
+numbered_move_rows n [] = []
+numbered_move_rows n (p ∷ posted) = move_row n p ∷ numbered_move_rows (n + 1) posted
 
 -- The CASH_MOVE rows of the postings `posted`, sorted by stamp and numbered from 1; none if
 -- `schema` does not number cash rows.
 abbrev pub move_rows : Schema → List Posting → List MoveRow
-move_rows schema posted = if schema.has_moves then numbered 1 (in_turn posted) else []
+move_rows schema posted = if schema.has_moves then numbered_move_rows 1 (postings_sorted_by_stamp posted) else []
 
 -- The CASH_TRANSACTION rows of the cash trades of `done`; none if `schema` numbers cash rows.
 abbrev pub cash_rows : Schema → List Account → List Trade → List CashRow
 cash_rows schema accounts done = if schema.has_moves then [] else map (cash_row accounts) (cash_trades done)
 
 -- The tables without rows, as they are before any command is accepted.
-abbrev pub no_rows : Tables
-no_rows = record {
+abbrev pub tables_without_rows : Tables
+tables_without_rows = record {
   last = None;
   kept = [];
   brokers = [];
@@ -306,8 +306,8 @@ no_rows = record {
 -- brokers, the balances, lots, summaries, lot changes, settlements and cash rows are computed from
 -- `done`, the balances and the CASH_MOVE rows also from the movements, and the requests from the
 -- pending trades. The schema determines only which table has the cash rows.
-abbrev pub tables_upon : Schema → Base → List Trade → Tables
-tables_upon schema base done = record {
+abbrev pub tables_from_completed_trades : Schema → Base → List Trade → Tables
+tables_from_completed_trades schema base done = record {
   last = base.last;
   kept = base.kept;
   brokers = map (broker_row base.accounts done) base.brokers;
@@ -322,10 +322,10 @@ tables_upon schema base done = record {
   customer_taxes = base.customer_taxes;
   trades = map trade_row base.trades;
   history = flat_map history_rows base.trades;
-  requests = map (request_row base.accounts) (pending base.trades);
+  requests = map (request_row base.accounts) (pending_trades base.trades);
   holdings = filter (λ row. not (is_zero row.qty)) (map (holding_row done) done);
-  summaries = by_position base (summary_rows done);
-  holding_history = flat_map (lot_history done) done;
+  summaries = rows_by_position base (summary_rows done);
+  holding_history = flat_map (holding_history_rows_of_lot done) done;
   settlements = map (settlement_row base.accounts base.rule) done;
   cash = cash_rows schema base.accounts done;
   moves = move_rows schema (postings base.accounts done base.movements);
@@ -333,9 +333,9 @@ tables_upon schema base done = record {
 }
 
 -- The tables of `base` in the schema `schema`, which are computed from its completed trades.
-unfoldable pub tables_at : Schema → Base → Tables
-tables_at schema base = tables_upon schema base (completed base)
+unfoldable pub tables_of_base_in_schema : Schema → Base → Tables
+tables_of_base_in_schema schema base = tables_from_completed_trades schema base (completed_trades base)
 
 -- The tables of `base` in the third schema, which a desk uses.
-abbrev pub tables_of : Base → Tables
-tables_of base = tables_at third_schema base
+abbrev pub tables_of_base : Base → Tables
+tables_of_base base = tables_of_base_in_schema third_schema base

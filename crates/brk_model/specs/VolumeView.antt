@@ -3,33 +3,33 @@ use Rattle.std.specs.Prelude.{ℕ, ◌*◌, Bool, false, ◌&&◌, ◌||◌, ◌
 use Rattle.std.specs.List.{list_any}
 use Rattle.std.specs.Option.{option_map_or}
 use Rattle.brk_money.specs.Spelling.{Text}
-use Rattle.brk_model.specs.Lists.{sort_by, text_before}
+use Rattle.brk_model.specs.Lists.{sort_by, is_text_less}
 use Rattle.brk_model.specs.Tables.{Tables, BrokerRow, RequestRow}
-use Rattle.brk_model.specs.Rows.{price_text}
+use Rattle.brk_model.specs.Rows.{nonnegative_cents_text}
 use Rattle.brk_model.specs.Queries.{View}
-use Rattle.brk_model.specs.Joins.{security_in}
+use Rattle.brk_model.specs.Joins.{security_row_with_symbol}
 
 -- The TRADE_REQUEST rows of the broker `broker` whose securities are in the sector `sector`.
-abbrev pub requests_in : Tables → Text → ℕ → List RequestRow
-requests_in tables sector broker =
-    filter (λ r. (r.broker == broker) && option_map_or (λ s. bytes_eq s.sector sector) (security_in tables r.symbol) false) tables.requests
+abbrev pub sector_requests_of_broker : Tables → Text → ℕ → List RequestRow
+sector_requests_of_broker tables sector broker =
+    filter (λ r. (r.broker == broker) && option_map_or (λ s. bytes_eq s.sector sector) (security_row_with_symbol tables r.symbol) false) tables.requests
 
 -- The value of the pending requests of the broker `broker` in the sector `sector`, at their bid
 -- prices, in cents.
-abbrev pub volume_in : Tables → Text → ℕ → ℕ
-volume_in tables sector broker = sum_by (λ r. r.qty * r.bid) (requests_in tables sector broker)
+abbrev pub sector_volume_of_broker : Tables → Text → ℕ → ℕ
+sector_volume_of_broker tables sector broker = sum_by (λ r. r.qty * r.bid) (sector_requests_of_broker tables sector broker)
 
 -- True if broker `a` is before broker `b` in the volume view: sorted by volume, descending, then by
 -- name and id, ascending.
-abbrev pub by_volume : Tables → Text → BrokerRow → BrokerRow → Bool
-by_volume tables sector a b =
-    nat_lt (volume_in tables sector b.id) (volume_in tables sector a.id)
-    || ((volume_in tables sector b.id == volume_in tables sector a.id) && (text_before a.name b.name || (bytes_eq a.name b.name && nat_lt a.id b.id)))
+abbrev pub is_before_by_volume : Tables → Text → BrokerRow → BrokerRow → Bool
+is_before_by_volume tables sector a b =
+    nat_lt (sector_volume_of_broker tables sector b.id) (sector_volume_of_broker tables sector a.id)
+    || ((sector_volume_of_broker tables sector b.id == sector_volume_of_broker tables sector a.id) && (is_text_less a.name b.name || (bytes_eq a.name b.name && nat_lt a.id b.id)))
 
 -- One record (name, id, volume) for each broker that has one of the `names` and a pending request
 -- in the sector, sorted by volume, descending, then by name and id, ascending.
-unfoldable pub volume_view : Tables → Text → List Text → View
-volume_view tables sector names =
-    map (λ b. b.name ∷ decimal b.id ∷ price_text (volume_in tables sector b.id) ∷ [])
-    (sort_by (by_volume tables sector)
-    (filter (λ b. list_any (bytes_eq b.name) names && nat_lt 0 (length (requests_in tables sector b.id))) tables.brokers))
+unfoldable pub broker_volume_view : Tables → Text → List Text → View
+broker_volume_view tables sector names =
+    map (λ b. b.name ∷ decimal b.id ∷ nonnegative_cents_text (sector_volume_of_broker tables sector b.id) ∷ [])
+    (sort_by (is_before_by_volume tables sector)
+    (filter (λ b. list_any (bytes_eq b.name) names && nat_lt 0 (length (sector_requests_of_broker tables sector b.id))) tables.brokers))

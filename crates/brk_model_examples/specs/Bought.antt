@@ -5,7 +5,7 @@ use Rattle.brk_money.specs.declared.trade_type.TradeType.TheVariants.{MarketBuy,
 use Rattle.brk_money.specs.declared.status.Status.TheVariants.{Completed, Submitted}
 use Rattle.brk_money.specs.declared.tax_status.TaxStatus.TheVariants.{Withheld}
 use Rattle.brk_model.specs.Tables.{Tables, AccountRow, TradeRow, HoldingRow, SettlementRow, CashRow, MoveRow}
-use Rattle.brk_model_examples.specs.Setting.{setting}
+use Rattle.brk_model_examples.specs.Setting.{setting_base}
 
 -- The tables after the first purchase in the third schema, each sorted by key.
 unfoldable pub bought_tables : Tables
@@ -13,7 +13,7 @@ bought_tables = record {
   last = Some 1709251200017;
   kept = [];
   brokers = record { id = 1; name = codes "Bo"; trades = pos 1; commissions = 1010 } ∷ [];
-  customers = setting.customers;
+  customers = setting_base.customers;
   accounts = record { id = 100; customer = 10; broker = 1; name = codes "Main"; tax_status = Withheld; opening = pos 1000000; balance = pos 897490 } ∷ [];
   permissions = [];
   securities = record { symbol = codes "ABC"; name = codes "Acme"; exchange = codes "NYSE"; sector = codes "Tech" } ∷ [];
@@ -30,8 +30,8 @@ bought_tables = record {
       ∷ record { tier = 1; kind = MarketBuy; exchange = codes "NYSE"; from_qty = 1; to_qty = 999999; rate = 100 }
       ∷ record { tier = 1; kind = MarketSell; exchange = codes "NYSE"; from_qty = 1; to_qty = 999999; rate = 100 }
       ∷ record { tier = 1; kind = StopLoss; exchange = codes "NYSE"; from_qty = 1; to_qty = 999999; rate = 100 } ∷ [];
-  tax_rates = setting.tax_rates;
-  customer_taxes = setting.customer_taxes;
+  tax_rates = setting_base.tax_rates;
+  customer_taxes = setting_base.customer_taxes;
   trades = record {
     id = 1;
     stamp = 1709251200017;
@@ -61,8 +61,8 @@ bought_tables = record {
 }
 
 -- The tables after the first purchase in the first schema, each sorted by key.
-unfoldable pub first_tables : Tables
-first_tables = record bought_tables {
+unfoldable pub first_schema_tables : Tables
+first_schema_tables = record bought_tables {
   cash = record { trade = 1; stamp = 1709251200017; amount = negsuc 102509; name = codes "Market-Buy 100 shares of Acme" } ∷ [];
   moves = [];
 }
@@ -70,114 +70,114 @@ first_tables = record bought_tables {
 -- ---- tables that another program changed
 
 -- The tables after the first purchase, in which the trade has the quantity 0.
-unfoldable pub no_quantity : Tables
-no_quantity = record bought_tables { trades = map {B = TradeRow} (λ t. record t { qty = 0 }) bought_tables.trades }
+unfoldable pub trade_without_quantity : Tables
+trade_without_quantity = record bought_tables { trades = map {B = TradeRow} (λ t. record t { qty = 0 }) bought_tables.trades }
 
 -- The tables after the first purchase, in which the security has no LAST_TRADE row.
-unfoldable pub lacks_last_trade : Tables
-lacks_last_trade = record bought_tables { last_trades = [] }
+unfoldable pub security_without_last_trade : Tables
+security_without_last_trade = record bought_tables { last_trades = [] }
 
 -- The tables after the first purchase, in which TRADE_HISTORY lacks the row of the submission.
-unfoldable pub no_submission : Tables
-no_submission = record bought_tables { history = record { trade = 1; status = Completed; stamp = 1709251200017 } ∷ [] }
+unfoldable pub history_without_submission : Tables
+history_without_submission = record bought_tables { history = record { trade = 1; status = Completed; stamp = 1709251200017 } ∷ [] }
 
 -- The tables after the first purchase, in which the TRADE row has another status than the last one
 -- of its history.
-unfoldable pub other_status : Tables
-other_status = record bought_tables { trades = map {B = TradeRow} (λ t. record t { status = Submitted }) bought_tables.trades }
+unfoldable pub changed_trade_status : Tables
+changed_trade_status = record bought_tables { trades = map {B = TradeRow} (λ t. record t { status = Submitted }) bought_tables.trades }
 
 -- The tables after the first purchase, in which the completed trade has a TRADE_REQUEST row.
-unfoldable pub a_request : Tables
-a_request = record bought_tables { requests = record { trade = 1; kind = MarketBuy; symbol = codes "ABC"; qty = 100; bid = 1000; broker = 1 } ∷ [] }
+unfoldable pub request_of_completed_trade : Tables
+request_of_completed_trade = record bought_tables { requests = record { trade = 1; kind = MarketBuy; symbol = codes "ABC"; qty = 100; bid = 1000; broker = 1 } ∷ [] }
 
 -- The tables after the first purchase, in which the lot has one share less.
-unfoldable pub other_lot : Tables
-other_lot = record bought_tables { holdings = map {B = HoldingRow} (λ h. record h { qty = pos 99 }) bought_tables.holdings }
+unfoldable pub changed_lot_quantity : Tables
+changed_lot_quantity = record bought_tables { holdings = map {B = HoldingRow} (λ h. record h { qty = pos 99 }) bought_tables.holdings }
 
 -- The tables after the first purchase, in which the lot has another price.
-unfoldable pub other_lot_price : Tables
-other_lot_price = record bought_tables { holdings = map {B = HoldingRow} (λ h. record h { price = 1011 }) bought_tables.holdings }
+unfoldable pub changed_lot_price : Tables
+changed_lot_price = record bought_tables { holdings = map {B = HoldingRow} (λ h. record h { price = 1011 }) bought_tables.holdings }
 
 -- The tables after the first purchase, in which the trade has another completion price.
-unfoldable pub other_trade_price : Tables
-other_trade_price = record bought_tables { trades = map {B = TradeRow} (λ t. record t { price = Some 1011 }) bought_tables.trades }
+unfoldable pub changed_trade_price : Tables
+changed_trade_price = record bought_tables { trades = map {B = TradeRow} (λ t. record t { price = Some 1011 }) bought_tables.trades }
 
 -- The tables after the first purchase, in which the HOLDING_HISTORY row has another quantity.
-unfoldable pub other_history : Tables
-other_history = record bought_tables { holding_history = record { lot = 1; trade = 1; before = pos 0; after = pos 99 } ∷ [] }
+unfoldable pub changed_lot_history : Tables
+changed_lot_history = record bought_tables { holding_history = record { lot = 1; trade = 1; before = pos 0; after = pos 99 } ∷ [] }
 
 -- The tables after the first purchase, in which the holding summary has one share more.
-unfoldable pub other_summary : Tables
-other_summary = record bought_tables { summaries = record { account = 100; symbol = codes "ABC"; qty = pos 101 } ∷ [] }
+unfoldable pub changed_summary : Tables
+changed_summary = record bought_tables { summaries = record { account = 100; symbol = codes "ABC"; qty = pos 101 } ∷ [] }
 
 -- The tables after the first purchase, in which the broker has one trade more.
-unfoldable pub other_count : Tables
-other_count = record bought_tables { brokers = record { id = 1; name = codes "Bo"; trades = pos 2; commissions = 1010 } ∷ [] }
+unfoldable pub changed_trade_count : Tables
+changed_trade_count = record bought_tables { brokers = record { id = 1; name = codes "Bo"; trades = pos 2; commissions = 1010 } ∷ [] }
 
 -- The tables after the first purchase, in which the commission total of the broker is one cent
 -- more.
-unfoldable pub other_commissions : Tables
-other_commissions = record bought_tables { brokers = record { id = 1; name = codes "Bo"; trades = pos 1; commissions = 1011 } ∷ [] }
+unfoldable pub changed_broker_commissions : Tables
+changed_broker_commissions = record bought_tables { brokers = record { id = 1; name = codes "Bo"; trades = pos 1; commissions = 1011 } ∷ [] }
 
 -- The tables after the first purchase, in which the commission of the trade is one cent more.
-unfoldable pub other_commission : Tables
-other_commission = record bought_tables { trades = map {B = TradeRow} (λ t. record t { commission = 1011 }) bought_tables.trades }
+unfoldable pub changed_trade_commission : Tables
+changed_trade_commission = record bought_tables { trades = map {B = TradeRow} (λ t. record t { commission = 1011 }) bought_tables.trades }
 
 -- The tables after the first purchase, in which the settlement amount is one cent off.
-unfoldable pub other_settlement : Tables
-other_settlement = record bought_tables { settlements = map {B = SettlementRow} (λ s. record s { amount = negsuc 102508 }) bought_tables.settlements }
+unfoldable pub changed_settlement : Tables
+changed_settlement = record bought_tables { settlements = map {B = SettlementRow} (λ s. record s { amount = negsuc 102508 }) bought_tables.settlements }
 
 -- The tables after the first purchase, in which the amount of the cash row is one cent off.
-unfoldable pub other_cash : Tables
-other_cash = record bought_tables { moves = map {B = MoveRow} (λ r. record r { amount = negsuc 102508 }) bought_tables.moves }
+unfoldable pub changed_cash_amount : Tables
+changed_cash_amount = record bought_tables { moves = map {B = MoveRow} (λ r. record r { amount = negsuc 102508 }) bought_tables.moves }
 
 -- The tables after the first purchase, in which the cash row has another number.
-unfoldable pub other_number : Tables
-other_number = record bought_tables { moves = map {B = MoveRow} (λ r. record r { id = 2 }) bought_tables.moves }
+unfoldable pub changed_cash_row_number : Tables
+changed_cash_row_number = record bought_tables { moves = map {B = MoveRow} (λ r. record r { id = 2 }) bought_tables.moves }
 
 -- The tables after the first purchase, in which the trade has a second cash row.
-unfoldable pub second_row : Tables
-second_row = record bought_tables { moves = bought_tables.moves ++ map {B = MoveRow} (λ r. record r { id = 2 }) bought_tables.moves }
+unfoldable pub second_cash_row_of_trade : Tables
+second_cash_row_of_trade = record bought_tables { moves = bought_tables.moves ++ map {B = MoveRow} (λ r. record r { id = 2 }) bought_tables.moves }
 
 -- The tables after the first purchase, in which CASH_TRANSACTION, the cash table of the first
 -- schema, still has its row.
-unfoldable pub left_behind : Tables
-left_behind = record bought_tables { cash = first_tables.cash }
+unfoldable pub cash_row_of_older_schema : Tables
+cash_row_of_older_schema = record bought_tables { cash = first_schema_tables.cash }
 
 -- The tables after the first purchase, in which the trade has a quantity above the limit of the
 -- schemas before the third.
-unfoldable pub large_quantity : Tables
-large_quantity = record bought_tables { trades = map {B = TradeRow} (λ t. record t { qty = 1000000 }) bought_tables.trades }
+unfoldable pub trade_above_older_limit : Tables
+trade_above_older_limit = record bought_tables { trades = map {B = TradeRow} (λ t. record t { qty = 1000000 }) bought_tables.trades }
 
 -- The tables after the first purchase, in which a commission band has a quantity above the limit of
 -- the schemas before the third.
-unfoldable pub large_band : Tables
-large_band = record bought_tables { bands = record { tier = 1; kind = MarketBuy; exchange = codes "NYSE"; from_qty = 1; to_qty = 9999999; rate = 100 } ∷ [] }
+unfoldable pub band_above_older_limit : Tables
+band_above_older_limit = record bought_tables { bands = record { tier = 1; kind = MarketBuy; exchange = codes "NYSE"; from_qty = 1; to_qty = 9999999; rate = 100 } ∷ [] }
 
 -- The tables after the first purchase, with a settlement day that is after the day of the
 -- completion.
-unfoldable pub day_set : Tables
-day_set = record bought_tables { rule = Some 19784 }
+unfoldable pub settlement_day_after_completion : Tables
+settlement_day_after_completion = record bought_tables { rule = Some 19784 }
 
 -- The tables after the first purchase, with a settlement day that is not after the day of the
 -- completion.
-unfoldable pub early_day : Tables
-early_day = record bought_tables { rule = Some 19783 }
+unfoldable pub settlement_day_before_completion : Tables
+settlement_day_before_completion = record bought_tables { rule = Some 19783 }
 
 -- The tables after the first purchase, with a second cash row that has no trade, at `stamp`, of
 -- `amount` cents, with the name `name`. The balance includes the amount.
-abbrev pub movement_of : ℕ → ℤ → Text → Tables
-movement_of stamp amount name = record bought_tables {
+abbrev pub tables_with_movement : ℕ → ℤ → Text → Tables
+tables_with_movement stamp amount name = record bought_tables {
   last = Some 1709251200018;
   moves = bought_tables.moves ++ record { id = 2; account = 100; trade = None; stamp = stamp; amount = amount; name = name } ∷ [];
   accounts = map {B = AccountRow} (λ a. record a { balance = a.balance +ℤ amount }) bought_tables.accounts;
 }
 
 -- The tables after the first purchase, in which the balance of the account is one cent more.
-unfoldable pub other_balance : Tables
-other_balance = record bought_tables { accounts = record { id = 100; customer = 10; broker = 1; name = codes "Main"; tax_status = Withheld; opening = pos 1000000; balance = pos 897491 } ∷ [] }
+unfoldable pub changed_account_balance : Tables
+changed_account_balance = record bought_tables { accounts = record { id = 100; customer = 10; broker = 1; name = codes "Main"; tax_status = Withheld; opening = pos 1000000; balance = pos 897491 } ∷ [] }
 
 -- The tables after the first purchase without lots and holding summaries, so that two conditions
 -- fail.
-unfoldable pub two_changes : Tables
-two_changes = record bought_tables { holdings = []; summaries = [] }
+unfoldable pub missing_lots_and_summaries : Tables
+missing_lots_and_summaries = record bought_tables { holdings = []; summaries = [] }

@@ -8,11 +8,11 @@ use Rattle.brk_money.specs.declared.status.Status.TheVariants.{Completed, Pendin
 use Rattle.brk_model.specs.Records.{Trade}
 use Rattle.brk_model.specs.Base.{Base}
 use Rattle.brk_model.specs.Queries.{View}
-use Rattle.brk_model_examples.specs.Setting.{setting}
+use Rattle.brk_model_examples.specs.Setting.{setting_base}
 
 -- A pending limit sell of 10 shares with the id `n`.
-abbrev pub waiting_trade : ℕ → Trade
-waiting_trade n = record {
+abbrev pub pending_limit_sale : ℕ → Trade
+pending_limit_sale n = record {
   id = n;
   account = 100;
   kind = LimitSell;
@@ -32,12 +32,12 @@ waiting_trade n = record {
 }
 
 -- The setting with fifty-one pending trades.
-unfoldable pub fifty_one : Base
-fifty_one = record setting { trades = map waiting_trade (range_with_len 1 51); last = Some 1709251200066 }
+unfoldable pub fifty_one_pending_trades : Base
+fifty_one_pending_trades = record setting_base { trades = map pending_limit_sale (range_with_len 1 51); last = Some 1709251200066 }
 
 -- A completed purchase of one share on margin with the id `n`.
-abbrev pub margin_trade : ℕ → Trade
-margin_trade n = record {
+abbrev pub margin_purchase : ℕ → Trade
+margin_purchase n = record {
   id = n;
   account = 100;
   kind = MarketBuy;
@@ -57,12 +57,12 @@ margin_trade n = record {
 }
 
 -- The setting with twenty-one completed purchases of one share on margin.
-unfoldable pub twenty_one : Base
-twenty_one = record setting { trades = map margin_trade (range_with_len 1 21); last = Some 1709251200057 }
+unfoldable pub twenty_one_margin_purchases : Base
+twenty_one_margin_purchases = record setting_base { trades = map margin_purchase (range_with_len 1 21); last = Some 1709251200057 }
 
 -- The setting with ` shares of ` in the name of its security.
-unfoldable pub misnamed : Base
-misnamed = record setting {
+unfoldable pub misleading_security_name : Base
+misleading_security_name = record setting_base {
   securities =
       record {
         symbol = codes "ABC";
@@ -77,21 +77,21 @@ misnamed = record setting {
 
 -- The id in a record of a view, as a list of one, if it is the record of a trade; otherwise the
 -- empty list.
-abbrev pub id_in : List Text → List Text
-id_in (word ∷ id ∷ fields) = if bytes_eq word (codes "trade") then id ∷ [] else []
-id_in _ = []
+abbrev pub trade_id_of_record : List Text → List Text
+trade_id_of_record (word ∷ id ∷ fields) = if bytes_eq word (codes "trade") then id ∷ [] else []
+trade_id_of_record _ = []
 
 -- The ids of the trades in a view; none if the query is refused.
-abbrev pub ids_in : Result View Refusal → List Text
-ids_in (Ok view) = flat_map id_in view
-ids_in (Err refusal) = []
+abbrev pub trade_ids_of_view : Result View Refusal → List Text
+trade_ids_of_view (Ok view) = flat_map trade_id_of_record view
+trade_ids_of_view (Err refusal) = []
 
 -- The first field of a record; empty if it has no field.
-abbrev pub first_in : List Text → Text
-first_in [] = []
-first_in (field ∷ fields) = field
+abbrev pub first_field_of_record : List Text → Text
+first_field_of_record [] = []
+first_field_of_record (field ∷ fields) = field
 
 -- The first fields of the records of a view; none if the query is refused.
-abbrev pub firsts_in : Result View Refusal → List Text
-firsts_in (Ok view) = map first_in view
-firsts_in (Err refusal) = []
+abbrev pub first_fields_of_view : Result View Refusal → List Text
+first_fields_of_view (Ok view) = map first_field_of_record view
+first_fields_of_view (Err refusal) = []

@@ -1,33 +1,33 @@
 -- Bases at their limits.
 use Rattle.std.specs.Prelude.{ℕ, pos, false, Some, [], ◌∷◌, map, codes}
 use Rattle.std.specs.List.{range_with_len}
-use Rattle.brk_money.specs.Moments.{last_stamp}
+use Rattle.brk_money.specs.Moments.{greatest_stamp}
 use Rattle.brk_money.specs.declared.trade_type.TradeType.TheVariants.{MarketBuy}
 use Rattle.brk_money.specs.declared.status.Status.TheVariants.{Submitted, Completed}
 use Rattle.brk_money.specs.declared.tax_status.TaxStatus.TheVariants.{Untaxed}
 use Rattle.brk_model.specs.Records.{Account, Trade}
 use Rattle.brk_model.specs.Base.{Base}
-use Rattle.brk_model_examples.specs.Setting.{setting}
+use Rattle.brk_model_examples.specs.Setting.{setting_base}
 
 -- The setting with the greatest stamp as its last stamp.
-unfoldable pub at_the_end : Base
-at_the_end = record setting { last = Some last_stamp }
+unfoldable pub base_at_greatest_stamp : Base
+base_at_greatest_stamp = record setting_base { last = Some greatest_stamp }
 
 -- The setting with ten accounts of its customer.
-unfoldable pub ten_accounts : Base
-ten_accounts = record setting {
+unfoldable pub customer_with_ten_accounts : Base
+customer_with_ten_accounts = record setting_base {
   accounts = map {B = Account} (λ id. record { id = id; customer = 10; broker = 1; name = codes "Main"; tax_status = Untaxed; opening = pos 0 }) (range_with_len 100 10);
 }
 
 -- The setting with a security whose volume is one hundred shares below its limit.
-unfoldable pub full_volume : Base
-full_volume = record setting {
+unfoldable pub volume_near_limit : Base
+volume_near_limit = record setting_base {
   securities = record { symbol = codes "ABC"; name = codes "Acme"; exchange = codes "NYSE"; sector = codes "Tech"; last_price = 1000; volume = 99999999999999900; moment = 1709251200003 } ∷ [];
 }
 
 -- A completed trade of another security with the commission `commission`, in cents.
-abbrev pub costly : ℕ → Trade
-costly commission = record {
+abbrev pub trade_with_commission : ℕ → Trade
+trade_with_commission commission = record {
   id = 1;
   account = 100;
   kind = MarketBuy;
@@ -48,5 +48,5 @@ costly commission = record {
 
 -- The setting with one completed trade of the commission `commission`, which is the commission
 -- total of its broker.
-abbrev pub commissions_before : ℕ → Base
-commissions_before commission = record setting { trades = costly commission ∷ [] }
+abbrev pub broker_with_commissions : ℕ → Base
+broker_with_commissions commission = record setting_base { trades = trade_with_commission commission ∷ [] }

@@ -2,17 +2,17 @@
 use Rattle.std.specs.Prelude.{ℕ, Bool, List, [], ◌∷◌, length}
 use Rattle.brk_money.specs.declared.side.Side.{Side}
 use Rattle.brk_money.specs.declared.side.Side.TheVariants.{Buy}
-use Rattle.brk_model.specs.Shares.{Deal, Touch, touches, replay, opened_shares, buy_value, sell_value}
+use Rattle.brk_model.specs.Shares.{Deal, Touch, touches_of_existing_lots, replay, opened_shares, buy_value, sell_value}
 
 -- The deals of two purchases: 100 shares at 10.10, and 200 shares at 12.00.
-abbrev pub two_deals : List Deal
-two_deals =
+abbrev pub two_purchase_deals : List Deal
+two_purchase_deals =
     record { trade = 1; side = Buy; qty = 100; price = 1010; stamp = 1; is_lifo = Bool.false }
     ∷ record { trade = 2; side = Buy; qty = 200; price = 1200; stamp = 2; is_lifo = Bool.false } ∷ []
 
--- A deal of `qty` shares at 13.00 after the deals of `two_deals`, on the side `side`.
-abbrev pub deal : Side → ℕ → Bool → Deal
-deal side qty is_lifo = record { trade = 9; side = side; qty = qty; price = 1300; stamp = 3; is_lifo = is_lifo }
+-- A deal of `qty` shares at 13.00 after the deals of `two_purchase_deals`, on the side `side`.
+abbrev pub deal_against_two_lots : Side → ℕ → Bool → Deal
+deal_against_two_lots side qty is_lifo = record { trade = 9; side = side; qty = qty; price = 1300; stamp = 3; is_lifo = is_lifo }
 
 -- The effect of a deal: the lots that it touches, the number of shares that it opens, and its buy
 -- and sell values.
@@ -22,11 +22,11 @@ pub record Closed : Type 0 where
   pub buy_value : ℕ
   pub sell_value : ℕ
 
--- The effect of the deal `d` on the position after `two_deals`.
-unfoldable pub closed_by : Deal → Closed
-closed_by d = record {
-  touched = touches d (replay two_deals);
-  opened = length (opened_shares d (replay two_deals));
-  buy_value = buy_value d (replay two_deals);
-  sell_value = sell_value d (replay two_deals);
+-- The effect of the deal `d` on the position after `two_purchase_deals`.
+unfoldable pub effect_of_deal : Deal → Closed
+effect_of_deal d = record {
+  touched = touches_of_existing_lots d (replay two_purchase_deals);
+  opened = length (opened_shares d (replay two_purchase_deals));
+  buy_value = buy_value d (replay two_purchase_deals);
+  sell_value = sell_value d (replay two_purchase_deals);
 }

@@ -26,8 +26,8 @@ setting_rows =
     ∷ codes "custtax,10,1" ∷ []
 
 -- The base after the rows of the setting, without its stored rows and replies.
-unfoldable pub setting : Base
-setting = record {
+unfoldable pub setting_base : Base
+setting_base = record {
   brokers = record { id = 1; name = codes "Bo" } ∷ [];
   customers = record { id = 10; tier = 1; tax_id = codes "T10"; last_name = codes "Lee"; first_name = codes "Ann" } ∷ [];
   accounts = record { id = 100; customer = 10; broker = 1; name = codes "Main"; tax_status = Withheld; opening = pos 1000000 } ∷ [];

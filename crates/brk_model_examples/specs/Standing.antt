@@ -1,7 +1,7 @@
 -- The part of a base's tables that an example shows.
 use Rattle.std.specs.Prelude.{ℕ, ℤ, List, map, filter, ◌==◌}
 use Rattle.brk_model.specs.Base.{Base}
-use Rattle.brk_model.specs.Tables.{Tables, tables_of}
+use Rattle.brk_model.specs.Tables.{Tables, tables_of_base}
 
 -- The lots (trade, quantity), the changes of lots by one trade (lot, before, after), the summaries,
 -- the balances, and the broker totals (trade count, commissions).
@@ -14,8 +14,8 @@ pub record Standing : Type 0 where
 
 -- The part of the tables that an example shows, with the changes of lots by the trade with the id
 -- `trade`.
-abbrev pub standing_in : Tables → ℕ → Standing
-standing_in tables trade = record {
+abbrev pub positions_and_totals_of_tables : Tables → ℕ → Standing
+positions_and_totals_of_tables tables trade = record {
   lots = map {B = ℕ × ℤ} (λ row. (row.trade, row.qty)) tables.holdings;
   changes = map {B = ℕ × ℤ × ℤ} (λ row. (row.lot, row.before, row.after)) (filter (λ row. row.trade == trade) tables.holding_history);
   summaries = map {B = ℤ} (λ row. row.qty) tables.summaries;
@@ -25,5 +25,5 @@ standing_in tables trade = record {
 
 -- The part of the tables of `base` that an example shows, with the changes of lots by the trade
 -- with the id `trade`.
-abbrev pub standing : Base → ℕ → Standing
-standing base trade = standing_in (tables_of base) trade
+abbrev pub positions_and_totals_of_base : Base → ℕ → Standing
+positions_and_totals_of_base base trade = positions_and_totals_of_tables (tables_of_base base) trade

@@ -4,7 +4,7 @@ use Rattle.brk_money.specs.declared.trade_type.TradeType.TheVariants.{MarketBuy,
 use Rattle.brk_money.specs.declared.status.Status.TheVariants.{Completed, Submitted}
 use Rattle.brk_model.specs.Records.{Trade}
 use Rattle.brk_model.specs.Base.{Base}
-use Rattle.brk_model_examples.specs.Setting.{setting}
+use Rattle.brk_model_examples.specs.Setting.{setting_base}
 
 -- The completed trade of a purchase of 100 shares at 10.10.
 abbrev pub first_purchase : Trade
@@ -49,8 +49,8 @@ second_purchase = record {
 }
 
 -- The completed trade of a sale of 150 shares at 13.00, first in first out.
-abbrev pub first_sale : Trade
-first_sale = record {
+abbrev pub sale_first_in_first_out : Trade
+sale_first_in_first_out = record {
   id = 3;
   account = 100;
   kind = MarketSell;
@@ -70,8 +70,8 @@ first_sale = record {
 }
 
 -- The completed trade of a sale of 150 shares at 13.00, last in first out.
-abbrev pub last_sale : Trade
-last_sale = record {
+abbrev pub sale_last_in_first_out : Trade
+sale_last_in_first_out = record {
   id = 3;
   account = 100;
   kind = MarketSell;
@@ -112,8 +112,8 @@ short_sale = record {
 }
 
 -- The completed trade of a purchase of 300 shares at 11.00, which closes the short position.
-abbrev pub cover : Trade
-cover = record {
+abbrev pub short_covering_purchase : Trade
+short_covering_purchase = record {
   id = 5;
   account = 100;
   kind = MarketBuy;
@@ -154,34 +154,35 @@ sale_of_all = record {
 }
 
 -- The setting with the trades `trades` and the last stamp `last`.
-abbrev pub traded : List Trade → ℕ → Base
-traded trades last = record setting { trades = trades; last = Some last }
+abbrev pub setting_with_trades : List Trade → ℕ → Base
+setting_with_trades trades last = record setting_base { trades = trades; last = Some last }
 
 -- The base after the first purchase.
-unfoldable pub bought : Base
-bought = traded (first_purchase ∷ []) 1709251200017
+unfoldable pub base_after_first_purchase : Base
+base_after_first_purchase = setting_with_trades (first_purchase ∷ []) 1709251200017
 
 -- The base after both purchases.
-unfoldable pub bought_twice : Base
-bought_twice = traded (first_purchase ∷ second_purchase ∷ []) 1709251200019
+unfoldable pub base_after_two_purchases : Base
+base_after_two_purchases = setting_with_trades (first_purchase ∷ second_purchase ∷ []) 1709251200019
 
 -- The base after both purchases and the sale, first in first out.
-unfoldable pub sold : Base
-sold = traded (first_purchase ∷ second_purchase ∷ first_sale ∷ []) 1709251200021
+unfoldable pub base_after_fifo_sale : Base
+base_after_fifo_sale = setting_with_trades (first_purchase ∷ second_purchase ∷ sale_first_in_first_out ∷ []) 1709251200021
 
 -- The base after both purchases and the sale, last in first out.
-unfoldable pub sold_last_first : Base
-sold_last_first = traded (first_purchase ∷ second_purchase ∷ last_sale ∷ []) 1709251200021
+unfoldable pub base_after_lifo_sale : Base
+base_after_lifo_sale = setting_with_trades (first_purchase ∷ second_purchase ∷ sale_last_in_first_out ∷ []) 1709251200021
 
 -- The base after both purchases, the sale, first in first out, and the sale that turns the position
 -- short.
-unfoldable pub flipped : Base
-flipped = traded (first_purchase ∷ second_purchase ∷ first_sale ∷ short_sale ∷ []) 1709251200023
+unfoldable pub base_after_short_sale : Base
+base_after_short_sale = setting_with_trades (first_purchase ∷ second_purchase ∷ sale_first_in_first_out ∷ short_sale ∷ []) 1709251200023
 
--- The base `flipped` after the purchase that closes the short position and opens a long one.
-unfoldable pub covered : Base
-covered = traded (first_purchase ∷ second_purchase ∷ first_sale ∷ short_sale ∷ cover ∷ []) 1709251200025
+-- The base `base_after_short_sale` after the purchase that closes the short position and opens a
+-- long one.
+unfoldable pub base_after_covering_purchase : Base
+base_after_covering_purchase = setting_with_trades (first_purchase ∷ second_purchase ∷ sale_first_in_first_out ∷ short_sale ∷ short_covering_purchase ∷ []) 1709251200025
 
--- The base `covered` after the sale of all shares.
-unfoldable pub closed : Base
-closed = traded (first_purchase ∷ second_purchase ∷ first_sale ∷ short_sale ∷ cover ∷ sale_of_all ∷ []) 1709251200027
+-- The base `base_after_covering_purchase` after the sale of all shares.
+unfoldable pub base_after_sale_of_all : Base
+base_after_sale_of_all = setting_with_trades (first_purchase ∷ second_purchase ∷ sale_first_in_first_out ∷ short_sale ∷ short_covering_purchase ∷ sale_of_all ∷ []) 1709251200027

@@ -3,16 +3,16 @@
 
 ghost use Rattle.std.specs.Prelude.{◌≡◌, ◌∷◌, [], Err, Some, None, pos, negsuc, codes};
 ghost use Rattle.std.specs.List.{repeat};
-ghost use Rattle.brk_money.specs.Spelling.{cents_of, number_of};
+ghost use Rattle.brk_money.specs.Spelling.{cents_of_text, decimal_number_of_text};
 ghost use Rattle.brk_money.specs.declared.refusal.Refusal.TheVariants.{BadText, BadQty, BadPrice, BadType, TooMany};
 ghost use Rattle.brk_model.specs.Parse.{parse_row};
-ghost use Rattle.brk_model_examples.specs.Batches.{Gives};
-ghost use Rattle.brk_model_examples.specs.Setting.{setting};
+ghost use Rattle.brk_model_examples.specs.Batches.{BatchOutputsLines};
+ghost use Rattle.brk_model_examples.specs.Setting.{setting_base};
 
 /// Shows that of several malformed fields of a row the refusal is returned that is first in the
 /// sequence text, quantity, price, type; that the price must fit the type; and that the number of
 /// ticks is checked last.
-pub fn order_of_forms()
+pub fn refusals_follow_format_check_order()
     ensures text_first { parse_row (codes "charge" ∷ codes "TMX" ∷ codes "9" ∷ codes "5.00" ∷ []) ≡ Err BadText }
     ensures qty_then { parse_row (codes "order" ∷ codes "1" ∷ codes "TMX" ∷ codes "ABC" ∷ codes "0" ∷ codes "x" ∷ codes "cash" ∷ codes "fifo" ∷ codes "A" ∷ codes "B" ∷ codes "C" ∷ []) ≡ Err BadQty }
     ensures price_then { parse_row (codes "order" ∷ codes "1" ∷ codes "TMX" ∷ codes "ABC" ∷ codes "1" ∷ codes "x" ∷ codes "cash" ∷ codes "fifo" ∷ codes "A" ∷ codes "B" ∷ codes "C" ∷ []) ≡ Err BadPrice }
@@ -28,22 +28,22 @@ pub fn order_of_forms()
 
 /// Shows which texts parse as an amount or a number, and that a text that is not canonical does
 /// not.
-pub fn spellings()
-    ensures cents { cents_of (codes "10000.00") ≡ Some (pos 1000000) }
-    ensures minus { cents_of (codes "-0.01") ≡ Some (negsuc 0) }
-    ensures minus_zero { cents_of (codes "-0.00") ≡ None }
-    ensures needless_zero { cents_of (codes "010.00") ≡ None }
-    ensures one_place { cents_of (codes "10.0") ≡ None }
-    ensures number { number_of (codes "120") ≡ Some 120 }
-    ensures zero { number_of (codes "0") ≡ Some 0 }
-    ensures zeros { number_of (codes "00") ≡ None }
-    ensures sign { number_of (codes "+1") ≡ None }
-    ensures empty { number_of [] ≡ None }
+pub fn values_have_one_canonical_text()
+    ensures cents { cents_of_text (codes "10000.00") ≡ Some (pos 1000000) }
+    ensures minus { cents_of_text (codes "-0.01") ≡ Some (negsuc 0) }
+    ensures minus_zero { cents_of_text (codes "-0.00") ≡ None }
+    ensures needless_zero { cents_of_text (codes "010.00") ≡ None }
+    ensures one_place { cents_of_text (codes "10.0") ≡ None }
+    ensures number { decimal_number_of_text (codes "120") ≡ Some 120 }
+    ensures zero { decimal_number_of_text (codes "0") ≡ Some 0 }
+    ensures zeros { decimal_number_of_text (codes "00") ≡ None }
+    ensures sign { decimal_number_of_text (codes "+1") ≡ None }
+    ensures empty { decimal_number_of_text [] ≡ None }
 {}
 
 /// Shows that an account is refused if the text of its opening balance is not canonical.
-pub fn opening_spelled_otherwise()
-    ensures { Gives setting
+pub fn noncanonical_opening_balance_is_refused()
+    ensures { BatchOutputsLines setting_base
         (codes "account,101,10,1,Main,1,-0.00"
         ∷ codes "account,101,10,1,Main,1,010.00"
         ∷ codes "account,101,10,1,Main,1,10.0" ∷ [])

@@ -2,50 +2,50 @@
 #![tactic(auto, unfolding(crate::proofs::OnLiterals::model_on_literals))]
 
 ghost use Rattle.std.specs.Prelude.{◌≡◌, ◌∷◌, ◌==◌, [], ℕ, Ok, map, filter, codes};
-ghost use Rattle.brk_model.specs.Shares.{history};
-ghost use Rattle.brk_model.specs.Tables.{tables_of};
-ghost use Rattle.brk_model_examples.specs.Batches.{after, Gives, unkept, view};
-ghost use Rattle.brk_model_examples.specs.Setting.{setting};
-ghost use Rattle.brk_model_examples.specs.Waiting.{waiting, waiting_rows};
-ghost use Rattle.brk_model_examples.specs.Extremes.{full_volume};
+ghost use Rattle.brk_model.specs.Shares.{lot_touches_of_deal};
+ghost use Rattle.brk_model.specs.Tables.{tables_of_base};
+ghost use Rattle.brk_model_examples.specs.Batches.{base_after_batch, BatchOutputsLines, base_without_stored_replies, view_by_name_and_arguments};
+ghost use Rattle.brk_model_examples.specs.Setting.{setting_base};
+ghost use Rattle.brk_model_examples.specs.Waiting.{base_with_pending_orders, pending_order_rows};
+ghost use Rattle.brk_model_examples.specs.Extremes.{volume_near_limit};
 
 /// Shows that a feed of two ticks of one symbol triggers two of three pending trades, both by its
 /// second tick, and that this tick gives the last price.
-pub fn triggers()
-    ensures waiting { Gives setting waiting_rows
+pub fn feed_triggers_pending_trades()
+    ensures waiting { BatchOutputsLines setting_base pending_order_rows
         (codes "1,ok,1709251200016,1,PNDG,9.50,0.00,0.00,0.00,0.95,5.00,10000.00"
         ∷ codes "2,ok,1709251200017,2,PNDG,10.00,0.00,0.00,0.00,1.00,5.00,10000.00"
         ∷ codes "3,ok,1709251200018,3,PNDG,10.50,0.00,0.00,0.00,1.05,5.00,10000.00"
         ∷ codes "end,3,0,0" ∷ []) }
-    ensures base { unkept (after setting waiting_rows) ≡ waiting }
-    ensures lines { Gives waiting
+    ensures base { base_without_stored_replies (base_after_batch setting_base pending_order_rows) ≡ base_with_pending_orders }
+    ensures lines { BatchOutputsLines base_with_pending_orders
         (codes "feed,ABC,10.01,100,ABC,9.50,200" ∷ [])
         (codes "1,ok,1709251200019,1,2"
         ∷ codes "end,1,0,0" ∷ []) }
-    ensures one_tick { Gives waiting
+    ensures one_tick { BatchOutputsLines base_with_pending_orders
         (codes "feed,ABC,10.01,100" ∷ [])
         (codes "1,ok,1709251200019"
         ∷ codes "end,1,0,0" ∷ []) }
-    ensures before { view waiting (codes "volume") (codes "Tech" ∷ codes "Bo" ∷ [])
+    ensures before { view_by_name_and_arguments base_with_pending_orders (codes "volume") (codes "Tech" ∷ codes "Bo" ∷ [])
         ≡ Ok ((codes "Bo" ∷ codes "1" ∷ codes "300.00" ∷ [])
         ∷ []) }
-    ensures after { view (after waiting
+    ensures after { view_by_name_and_arguments (base_after_batch base_with_pending_orders
         (codes "feed,ABC,10.01,100,ABC,9.50,200" ∷ [])) (codes "volume") (codes "Tech" ∷ codes "Bo" ∷ [])
         ≡ Ok ((codes "Bo" ∷ codes "1" ∷ codes "105.00" ∷ [])
         ∷ []) }
-    ensures prices { (tables_of (after waiting
+    ensures prices { (tables_of_base (base_after_batch base_with_pending_orders
         (codes "feed,ABC,10.01,100,ABC,9.50,200" ∷ []))).last_trades
         ≡ record { symbol = codes "ABC"; stamp = 1709251200019; price = 950; volume = 300 } ∷ [] }
-    ensures requests { map {B = ℕ} (λ r. r.trade) (tables_of (after waiting
+    ensures requests { map {B = ℕ} (λ r. r.trade) (tables_of_base (base_after_batch base_with_pending_orders
         (codes "feed,ABC,10.01,100,ABC,9.50,200" ∷ []))).requests ≡ 3 ∷ [] }
-    ensures history { map {B = ℕ} (λ h. h.trade) (filter (λ h. h.stamp == 1709251200019) (tables_of (after waiting
+    ensures history { map {B = ℕ} (λ h. h.trade) (filter (λ h. h.stamp == 1709251200019) (tables_of_base (base_after_batch base_with_pending_orders
         (codes "feed,ABC,10.01,100,ABC,9.50,200" ∷ []))).history) ≡ 1 ∷ 2 ∷ [] }
 {}
 
 /// Shows that a cancel is refused unless the trade is pending, and a feed unless its securities
 /// exist. Shows also the submitted trades and an estimate after a cancel and a feed.
-pub fn cancels()
-    ensures lines { Gives waiting
+pub fn cancel_needs_pending_trade()
+    ensures lines { BatchOutputsLines base_with_pending_orders
         (codes "cancel,1"
         ∷ codes "cancel,1"
         ∷ codes "feed,ABC,9.50,100"
@@ -61,12 +61,12 @@ pub fn cancels()
         ∷ codes "6,no,4"
         ∷ codes "7,no,18"
         ∷ codes "end,2,0,5" ∷ []) }
-    ensures submitted { view (after waiting
+    ensures submitted { view_by_name_and_arguments (base_after_batch base_with_pending_orders
         (codes "cancel,1"
         ∷ codes "feed,ABC,9.50,100" ∷ [])) (codes "submitted") ([])
         ≡ Ok ((codes "2" ∷ codes "TLB" ∷ codes "ABC" ∷ codes "10" ∷ codes "10.00" ∷ [])
         ∷ []) }
-    ensures estimate { view (after waiting
+    ensures estimate { view_by_name_and_arguments (base_after_batch base_with_pending_orders
         (codes "cancel,1"
         ∷ codes "feed,ABC,9.50,100" ∷ [])) (codes "estimate") (codes "100" ∷ codes "TMB" ∷ codes "ABC" ∷ codes "100" ∷ [] ∷ codes "cash" ∷ codes "fifo" ∷ codes "Ann" ∷ codes "Lee" ∷ codes "T10" ∷ [])
         ≡ Ok ((codes "9.50" ∷ codes "0.00" ∷ codes "0.00" ∷ codes "0.00" ∷ codes "9.50" ∷ codes "5.00" ∷ codes "10000.00" ∷ [])
@@ -75,12 +75,12 @@ pub fn cancels()
 
 /// Shows that a feed is refused if it takes the volume of a security above its limit, also if only
 /// two ticks together do.
-pub fn volume_at_its_end()
-    ensures room { Gives full_volume
+pub fn volume_limit_is_checked()
+    ensures room { BatchOutputsLines volume_near_limit
         (codes "feed,ABC,10.00,100" ∷ [])
         (codes "1,ok,1709251200016"
         ∷ codes "end,1,0,0" ∷ []) }
-    ensures none { Gives full_volume
+    ensures none { BatchOutputsLines volume_near_limit
         (codes "feed,ABC,10.00,101"
         ∷ codes "feed,ABC,10.00,100,ABC,10.00,1" ∷ [])
         (codes "1,no,14,volume"

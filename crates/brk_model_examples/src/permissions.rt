@@ -2,23 +2,23 @@
 #![tactic(auto, unfolding(crate::proofs::OnLiterals::model_on_literals))]
 
 ghost use Rattle.std.specs.Prelude.{◌∷◌, [], codes};
-ghost use Rattle.brk_model_examples.specs.Batches.{Gives};
-ghost use Rattle.brk_model_examples.specs.Setting.{setting};
+ghost use Rattle.brk_model_examples.specs.Batches.{BatchOutputsLines};
+ghost use Rattle.brk_model_examples.specs.Setting.{setting_base};
 
 /// Shows that an executor with another tax id than the customer's is refused, unless a permission
 /// has the executor's first name, last name and tax id.
-pub fn permission()
-    ensures refused { Gives setting
+pub fn order_needs_permission_of_executor()
+    ensures refused { BatchOutputsLines setting_base
         (codes "order,100,TMB,ABC,100,,cash,fifo,Ann,Lee,T11" ∷ [])
         (codes "1,no,6"
         ∷ codes "end,0,0,1" ∷ []) }
-    ensures allowed { Gives setting
+    ensures allowed { BatchOutputsLines setting_base
         (codes "permission,100,0000,T11,Lee,Ann"
         ∷ codes "order,100,TMB,ABC,100,,cash,fifo,Ann,Lee,T11" ∷ [])
         (codes "1,ok,1709251200016"
         ∷ codes "2,ok,1709251200017,1,SBMT,10.00,0.00,0.00,0.00,10.00,5.00,10000.00"
         ∷ codes "end,2,0,0" ∷ []) }
-    ensures other_name { Gives setting
+    ensures other_name { BatchOutputsLines setting_base
         (codes "permission,100,0000,T11,Lee,Ann"
         ∷ codes "order,100,TMB,ABC,100,,cash,fifo,Kim,Lee,T11" ∷ [])
         (codes "1,ok,1709251200016"
@@ -28,8 +28,8 @@ pub fn permission()
 
 /// Shows that an order for a customer of another tier is refused without a charge, and then without
 /// a commission band.
-pub fn charge_and_rate()
-    ensures { Gives setting
+pub fn order_needs_charge_and_commission_band()
+    ensures { BatchOutputsLines setting_base
         (codes "customer,11,2,T11,Kay,Kim"
         ∷ codes "account,101,11,1,Side,0,0.00"
         ∷ codes "order,101,TMB,ABC,100,,cash,fifo,Kim,Kay,T11"
@@ -45,8 +45,8 @@ pub fn charge_and_rate()
 
 /// Shows that an order is refused if its account does not exist, and otherwise if its security does
 /// not exist.
-pub fn unknown_names()
-    ensures { Gives setting
+pub fn order_needs_account_and_security()
+    ensures { BatchOutputsLines setting_base
         (codes "order,999,TMB,QQQ,100,,cash,fifo,Ann,Lee,T10"
         ∷ codes "order,100,TMB,QQQ,100,,cash,fifo,Kim,Kay,T11" ∷ [])
         (codes "1,no,1"

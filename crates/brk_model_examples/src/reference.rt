@@ -3,14 +3,14 @@
 
 ghost use Rattle.std.specs.Prelude.{◌≡◌, ◌∷◌, [], ℕ, map, codes};
 ghost use Rattle.brk_model.specs.Base.{empty_base};
-ghost use Rattle.brk_model_examples.specs.Batches.{after, Gives, unkept};
-ghost use Rattle.brk_model_examples.specs.Setting.{setting, setting_rows};
-ghost use Rattle.brk_model_examples.specs.Extremes.{ten_accounts};
+ghost use Rattle.brk_model_examples.specs.Batches.{base_after_batch, BatchOutputsLines, base_without_stored_replies};
+ghost use Rattle.brk_model_examples.specs.Setting.{setting_base, setting_rows};
+ghost use Rattle.brk_model_examples.specs.Extremes.{customer_with_ten_accounts};
 
 /// Shows the answers to a broker, a customer and two accounts. The second account is refused,
 /// because its customer does not exist, and its key is not recorded.
-pub fn first_run()
-    ensures rows { Gives empty_base
+pub fn refused_reference_row_records_no_key()
+    ensures rows { BatchOutputsLines empty_base
         (codes "broker,1,Bo"
         ∷ codes "customer,10,1,T10,Lee,Ann"
         ∷ codes "account,100,10,1,Main,1,10000.00"
@@ -20,19 +20,19 @@ pub fn first_run()
         ∷ codes "3,ok,1709251200002"
         ∷ codes "4,no,2"
         ∷ codes "end,3,0,1" ∷ []) }
-    ensures kept { map {B = ℕ} (λ k. k.key.row) (after empty_base
+    ensures kept { map {B = ℕ} (λ k. k.key.row) (base_after_batch empty_base
         (codes "broker,1,Bo"
         ∷ codes "customer,10,1,T10,Lee,Ann"
         ∷ codes "account,100,10,1,Main,1,10000.00"
         ∷ codes "account,101,11,1,Side,0,0.00" ∷ [])).kept ≡ 1 ∷ 2 ∷ 3 ∷ [] }
-    ensures none { Gives empty_base
+    ensures none { BatchOutputsLines empty_base
         []
         (codes "end,0,0,0" ∷ []) }
 {}
 
 /// Shows the answers to the sixteen rows of the setting, and the base after them.
-pub fn setting_is_told()
-    ensures lines { Gives empty_base setting_rows
+pub fn setting_rows_result_in_setting()
+    ensures lines { BatchOutputsLines empty_base setting_rows
         (codes "1,ok,1709251200000"
         ∷ codes "2,ok,1709251200001"
         ∷ codes "3,ok,1709251200002"
@@ -50,12 +50,12 @@ pub fn setting_is_told()
         ∷ codes "15,ok,1709251200014"
         ∷ codes "16,ok,1709251200015"
         ∷ codes "end,16,0,0" ∷ []) }
-    ensures base { unkept (after empty_base setting_rows) ≡ setting }
+    ensures base { base_without_stored_replies (base_after_batch empty_base setting_rows) ≡ setting_base }
 {}
 
 /// Shows the refusals of ten malformed or inconsistent reference rows.
-pub fn refused_rows()
-    ensures { Gives setting
+pub fn reference_row_refusals()
+    ensures { BatchOutputsLines setting_base
         (codes "band,1,TMB,NYSE,999999,999999,50"
         ∷ codes "band,1,TMB,NYSE,2,1,50"
         ∷ codes "taxrate,2,Fed,80001"
@@ -83,8 +83,8 @@ pub fn refused_rows()
 
 /// Shows that an eleventh account of a customer is refused, and that a missing broker is checked
 /// before.
-pub fn eleventh_account()
-    ensures { Gives ten_accounts
+pub fn eleventh_account_is_refused()
+    ensures { BatchOutputsLines customer_with_ten_accounts
         (codes "account,110,10,1,Main,1,0.00"
         ∷ codes "account,110,10,2,Main,1,0.00" ∷ [])
         (codes "1,no,14,accounts"
@@ -93,8 +93,8 @@ pub fn eleventh_account()
 {}
 
 /// Shows that a reference row is refused if a row with its key exists.
-pub fn names_twice()
-    ensures { Gives setting
+pub fn duplicate_reference_rows_are_refused()
+    ensures { BatchOutputsLines setting_base
         (codes "broker,1,Bob"
         ∷ codes "customer,10,2,T11,Lee,Ann"
         ∷ codes "account,100,10,1,Main,1,0.00"

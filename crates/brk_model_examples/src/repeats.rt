@@ -4,14 +4,14 @@
 ghost use Rattle.std.specs.Prelude.{◌≡◌, ◌∷◌, [], ℕ, map, codes};
 ghost use Rattle.brk_model.specs.Base.{empty_base};
 ghost use Rattle.brk_model.specs.Batch.{NoEnd, BadEnd, BadHeader, EndedWell};
-ghost use Rattle.brk_model.specs.Computed.{batch};
-ghost use Rattle.brk_model_examples.specs.Batches.{clock, batch_text, in_lines, after, Gives};
-ghost use Rattle.brk_model_examples.specs.Setting.{setting, setting_rows};
+ghost use Rattle.brk_model.specs.Computed.{batch_of_input};
+ghost use Rattle.brk_model_examples.specs.Batches.{twenty_clock_readings, bytes_of_batch, lines_of_texts, base_after_batch, BatchOutputsLines};
+ghost use Rattle.brk_model_examples.specs.Setting.{setting_base, setting_rows};
 
 /// Shows that a retried batch is answered with its stored replies and leaves the base unchanged,
 /// and that a changed row under a recorded key is refused.
-pub fn repeats()
-    ensures once { Gives setting
+pub fn retried_batch_changes_nothing()
+    ensures once { BatchOutputsLines setting_base
         (codes "order,100,TMB,ABC,100,,cash,fifo,Ann,Lee,T10"
         ∷ codes "result,1,10.10"
         ∷ codes "order,100,TMB,ABC,200,,cash,fifo,Ann,Lee,T10"
@@ -25,7 +25,7 @@ pub fn repeats()
         ∷ codes "5,ok,1709251200020,3,SBMT,10.00,1610.00,1500.00,0.00,15.00,5.00,9545.90"
         ∷ codes "6,ok,1709251200021,19.50,68.00,1857.50,2024-03-03,1610.00,1950.00,8403.40"
         ∷ codes "end,6,0,0" ∷ []) }
-    ensures again { Gives (after setting
+    ensures again { BatchOutputsLines (base_after_batch setting_base
         (codes "order,100,TMB,ABC,100,,cash,fifo,Ann,Lee,T10"
         ∷ codes "result,1,10.10"
         ∷ codes "order,100,TMB,ABC,200,,cash,fifo,Ann,Lee,T10"
@@ -45,7 +45,7 @@ pub fn repeats()
         ∷ codes "5,again,1709251200020,3,SBMT,10.00,1610.00,1500.00,0.00,15.00,5.00,9545.90"
         ∷ codes "6,again,1709251200021,19.50,68.00,1857.50,2024-03-03,1610.00,1950.00,8403.40"
         ∷ codes "end,0,6,0" ∷ []) }
-    ensures other { Gives (after setting
+    ensures other { BatchOutputsLines (base_after_batch setting_base
         (codes "order,100,TMB,ABC,100,,cash,fifo,Ann,Lee,T10"
         ∷ codes "result,1,10.10"
         ∷ codes "order,100,TMB,ABC,200,,cash,fifo,Ann,Lee,T10"
@@ -65,7 +65,7 @@ pub fn repeats()
         ∷ codes "5,again,1709251200020,3,SBMT,10.00,1610.00,1500.00,0.00,15.00,5.00,9545.90"
         ∷ codes "6,again,1709251200021,19.50,68.00,1857.50,2024-03-03,1610.00,1950.00,8403.40"
         ∷ codes "end,0,5,1" ∷ []) }
-    ensures base { after (after setting
+    ensures base { base_after_batch (base_after_batch setting_base
         (codes "order,100,TMB,ABC,100,,cash,fifo,Ann,Lee,T10"
         ∷ codes "result,1,10.10"
         ∷ codes "order,100,TMB,ABC,200,,cash,fifo,Ann,Lee,T10"
@@ -77,7 +77,7 @@ pub fn repeats()
         ∷ codes "order,100,TMB,ABC,200,,cash,fifo,Ann,Lee,T10"
         ∷ codes "result,2,12.00"
         ∷ codes "order,100,TMS,ABC,150,,cash,fifo,Ann,Lee,T10"
-        ∷ codes "result,3,13.00" ∷ []) ≡ after setting
+        ∷ codes "result,3,13.00" ∷ []) ≡ base_after_batch setting_base
         (codes "order,100,TMB,ABC,100,,cash,fifo,Ann,Lee,T10"
         ∷ codes "result,1,10.10"
         ∷ codes "order,100,TMB,ABC,200,,cash,fifo,Ann,Lee,T10"
@@ -88,8 +88,8 @@ pub fn repeats()
 
 /// Shows the answers to the setting when it is retried, and when it is retried with another first
 /// row.
-pub fn setting_again()
-    ensures again { Gives (after empty_base setting_rows) setting_rows
+pub fn retried_setting_is_answered_again()
+    ensures again { BatchOutputsLines (base_after_batch empty_base setting_rows) setting_rows
         (codes "1,again,1709251200000"
         ∷ codes "2,again,1709251200001"
         ∷ codes "3,again,1709251200002"
@@ -107,7 +107,7 @@ pub fn setting_again()
         ∷ codes "15,again,1709251200014"
         ∷ codes "16,again,1709251200015"
         ∷ codes "end,0,16,0" ∷ []) }
-    ensures other { Gives (after empty_base setting_rows)
+    ensures other { BatchOutputsLines (base_after_batch empty_base setting_rows)
         (codes "broker,1,Bob"
         ∷ codes "customer,10,1,T10,Lee,Ann"
         ∷ codes "account,100,10,1,Main,1,10000.00"
@@ -145,34 +145,34 @@ pub fn setting_again()
 
 /// Shows that a refused row records no key: a retry is accepted once the reason for the refusal is
 /// removed.
-pub fn refused_then_accepted()
-    ensures { (batch (batch (after setting
-        (codes "account,101,11,1,Side,0,0.00" ∷ [])) clock (batch_text (codes "U") (codes "customer,11,1,T11,Kay,Kim" ∷ []))).base clock
-        (batch_text (codes "T") (codes "account,101,11,1,Side,0,0.00" ∷ []))).text
-        ≡ in_lines (codes "1,ok,1709251200017"
+pub fn refused_row_may_be_retried()
+    ensures { (batch_of_input (batch_of_input (base_after_batch setting_base
+        (codes "account,101,11,1,Side,0,0.00" ∷ [])) twenty_clock_readings (bytes_of_batch (codes "U") (codes "customer,11,1,T11,Kay,Kim" ∷ []))).base twenty_clock_readings
+        (bytes_of_batch (codes "T") (codes "account,101,11,1,Side,0,0.00" ∷ []))).text
+        ≡ lines_of_texts (codes "1,ok,1709251200017"
         ∷ codes "end,1,0,0" ∷ []) }
 {}
 
 /// Shows that of an input without an end record the last row is refused and not executed.
-pub fn cut_input()
-    ensures text { (batch setting clock (codes "batch,C\nbroker,2,Cy\nbroker,3\nbroker,4,D")).text ≡ in_lines (codes "1,ok,1709251200016"
+pub fn cut_input_refuses_last_row()
+    ensures text { (batch_of_input setting_base twenty_clock_readings (codes "batch,C\nbroker,2,Cy\nbroker,3\nbroker,4,D")).text ≡ lines_of_texts (codes "1,ok,1709251200016"
         ∷ codes "2,no,18"
         ∷ codes "3,no,18" ∷ []) }
-    ensures ending { (batch setting clock (codes "batch,C\nbroker,2,Cy\nbroker,3\nbroker,4,D")).ending ≡ NoEnd }
-    ensures rows { (batch setting clock (codes "batch,C\nbroker,2,Cy\nbroker,3\nbroker,4,D")).rows ≡ 3 }
-    ensures brokers { map {B = ℕ} (λ b. b.id) (batch setting clock (codes "batch,C\nbroker,2,Cy\nbroker,3\nbroker,4,D")).base.brokers ≡ 1 ∷ 2 ∷ [] }
-    ensures header_alone { (batch setting clock (codes "batch,C\n")).ending ≡ NoEnd }
+    ensures ending { (batch_of_input setting_base twenty_clock_readings (codes "batch,C\nbroker,2,Cy\nbroker,3\nbroker,4,D")).ending ≡ NoEnd }
+    ensures rows { (batch_of_input setting_base twenty_clock_readings (codes "batch,C\nbroker,2,Cy\nbroker,3\nbroker,4,D")).rows ≡ 3 }
+    ensures brokers { map {B = ℕ} (λ b. b.id) (batch_of_input setting_base twenty_clock_readings (codes "batch,C\nbroker,2,Cy\nbroker,3\nbroker,4,D")).base.brokers ≡ 1 ∷ 2 ∷ [] }
+    ensures header_alone { (batch_of_input setting_base twenty_clock_readings (codes "batch,C\n")).ending ≡ NoEnd }
 {}
 
 /// Shows malformed headers and wrong end records. The row before a wrong end record is executed.
-pub fn headers_and_ends()
-    ensures nothing { (batch setting clock []).ending ≡ BadHeader }
-    ensures no_name { (batch setting clock (codes "batch,\nend,0\n")).ending ≡ BadHeader }
-    ensures more { (batch setting clock (codes "batch,A,B\nend,0\n")).ending ≡ BadHeader }
-    ensures other_count { (batch setting clock (codes "batch,C\nbroker,2,Cy\nend,2\n")).ending ≡ BadEnd }
-    ensures zero { (batch setting clock (codes "batch,C\nend,00\n")).ending ≡ BadEnd }
-    ensures field_more { (batch setting clock (codes "batch,C\nend,0,\n")).ending ≡ BadEnd }
-    ensures no_count { (batch setting clock (codes "batch,C\nend\n")).ending ≡ BadEnd }
-    ensures acted { (batch setting clock (codes "batch,C\nbroker,2,Cy\nend,2\n")).text ≡ in_lines (codes "1,ok,1709251200016" ∷ []) }
-    ensures well { (batch setting clock (codes "batch,C\nbroker,2,Cy\nend,1\nbroker,3,Di\n")).ending ≡ EndedWell }
+pub fn headers_and_end_records_are_checked()
+    ensures nothing { (batch_of_input setting_base twenty_clock_readings []).ending ≡ BadHeader }
+    ensures no_name { (batch_of_input setting_base twenty_clock_readings (codes "batch,\nend,0\n")).ending ≡ BadHeader }
+    ensures more { (batch_of_input setting_base twenty_clock_readings (codes "batch,A,B\nend,0\n")).ending ≡ BadHeader }
+    ensures other_count { (batch_of_input setting_base twenty_clock_readings (codes "batch,C\nbroker,2,Cy\nend,2\n")).ending ≡ BadEnd }
+    ensures zero { (batch_of_input setting_base twenty_clock_readings (codes "batch,C\nend,00\n")).ending ≡ BadEnd }
+    ensures field_more { (batch_of_input setting_base twenty_clock_readings (codes "batch,C\nend,0,\n")).ending ≡ BadEnd }
+    ensures no_count { (batch_of_input setting_base twenty_clock_readings (codes "batch,C\nend\n")).ending ≡ BadEnd }
+    ensures acted { (batch_of_input setting_base twenty_clock_readings (codes "batch,C\nbroker,2,Cy\nend,2\n")).text ≡ lines_of_texts (codes "1,ok,1709251200016" ∷ []) }
+    ensures well { (batch_of_input setting_base twenty_clock_readings (codes "batch,C\nbroker,2,Cy\nend,1\nbroker,3,Di\n")).ending ≡ EndedWell }
 {}

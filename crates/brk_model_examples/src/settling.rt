@@ -2,16 +2,16 @@
 #![tactic(auto, unfolding(crate::proofs::OnLiterals::model_on_literals))]
 
 ghost use Rattle.std.specs.Prelude.{◌≡◌, ◌∷◌, [], ℕ, map, Some, replicate, codes};
-ghost use Rattle.brk_model.specs.Tables.{tables_of};
-ghost use Rattle.brk_model.specs.Computed.{batch};
-ghost use Rattle.brk_model_examples.specs.Batches.{after, batch_text, Gives, in_lines, unkept};
-ghost use Rattle.brk_model_examples.specs.Moving.{one_day};
-ghost use Rattle.brk_model_examples.specs.Setting.{setting};
+ghost use Rattle.brk_model.specs.Tables.{tables_of_base};
+ghost use Rattle.brk_model.specs.Computed.{batch_of_input};
+ghost use Rattle.brk_model_examples.specs.Batches.{base_after_batch, bytes_of_batch, BatchOutputsLines, lines_of_texts, base_without_stored_replies};
+ghost use Rattle.brk_model_examples.specs.Moving.{purchase_with_settlement_day};
+ghost use Rattle.brk_model_examples.specs.Setting.{setting_base};
 
 /// Shows that the settlement day must be after the day of its command, and can be set only once. A
 /// trade that is completed before it settles after two days.
-pub fn day_is_set()
-    ensures lines { Gives setting
+pub fn settlement_day_is_set_once()
+    ensures lines { BatchOutputsLines setting_base
         (codes "oneday,2024-03-01"
         ∷ codes "oneday,2024-03-02"
         ∷ codes "oneday,2024-03-01"
@@ -23,47 +23,47 @@ pub fn day_is_set()
         ∷ codes "4,ok,1709251200017,1,SBMT,10.00,0.00,0.00,0.00,10.00,5.00,10000.00"
         ∷ codes "5,ok,1709251200018,10.10,0.00,-1025.10,2024-03-03,0.00,0.00,8974.90"
         ∷ codes "end,3,0,2" ∷ []) }
-    ensures base { unkept (after setting
+    ensures base { base_without_stored_replies (base_after_batch setting_base
         (codes "oneday,2024-03-02"
         ∷ codes "order,100,TMB,ABC,100,,cash,fifo,Ann,Lee,T10"
-        ∷ codes "result,1,10.10" ∷ [])) ≡ one_day }
-    ensures day { (tables_of one_day).rule ≡ Some 19784 }
+        ∷ codes "result,1,10.10" ∷ [])) ≡ purchase_with_settlement_day }
+    ensures day { (tables_of_base purchase_with_settlement_day).rule ≡ Some 19784 }
 {}
 
 /// Shows that from the settlement day on a trade settles after one day. The due day of a trade that
 /// was completed before does not change.
-pub fn days_from_the_set_day()
-    ensures lines { (batch one_day (replicate 2 1709337600000) (batch_text (codes "G")
+pub fn settlement_after_one_day()
+    ensures lines { (batch_of_input purchase_with_settlement_day (replicate 2 1709337600000) (bytes_of_batch (codes "G")
         (codes "order,100,TMB,ABC,200,,cash,fifo,Ann,Lee,T10"
         ∷ codes "result,2,12.00" ∷ []))).text
-        ≡ in_lines (codes "1,ok,1709337600000,2,SBMT,10.00,0.00,0.00,0.00,20.00,5.00,9974.90"
+        ≡ lines_of_texts (codes "1,ok,1709337600000,2,SBMT,10.00,0.00,0.00,0.00,20.00,5.00,9974.90"
         ∷ codes "2,ok,1709337600001,24.00,0.00,-2429.00,2024-03-03,0.00,0.00,6545.90"
         ∷ codes "end,2,0,0" ∷ []) }
-    ensures days { map {B = ℕ} (λ row. row.due_day) (tables_of (batch one_day (1709337600000 ∷ 1709424000000 ∷ []) (batch_text (codes "G")
+    ensures days { map {B = ℕ} (λ row. row.due_day) (tables_of_base (batch_of_input purchase_with_settlement_day (1709337600000 ∷ 1709424000000 ∷ []) (bytes_of_batch (codes "G")
         (codes "order,100,TMB,ABC,200,,cash,fifo,Ann,Lee,T10"
         ∷ codes "result,2,12.00" ∷ []))).base).settlements ≡ 19785 ∷ 19786 ∷ [] }
 {}
 
 /// Shows that 9999-12-30 is the last day for a completion that settles after one day.
-pub fn last_day_of_a_completion()
-    ensures accepted { (batch one_day (253402214399998 ∷ 253402214399999 ∷ []) (batch_text (codes "Y")
+pub fn last_day_for_one_day_settlement()
+    ensures accepted { (batch_of_input purchase_with_settlement_day (253402214399998 ∷ 253402214399999 ∷ []) (bytes_of_batch (codes "Y")
         (codes "order,100,TMB,ABC,100,,cash,fifo,Ann,Lee,T10"
         ∷ codes "result,2,10.00" ∷ []))).text
-        ≡ in_lines (codes "1,ok,253402214399998,2,SBMT,10.00,0.00,0.00,0.00,10.00,5.00,9974.90"
+        ≡ lines_of_texts (codes "1,ok,253402214399998,2,SBMT,10.00,0.00,0.00,0.00,10.00,5.00,9974.90"
         ∷ codes "2,ok,253402214399999,10.00,0.00,-1015.00,9999-12-31,0.00,0.00,7959.90"
         ∷ codes "end,2,0,0" ∷ []) }
-    ensures refused { (batch one_day (253402214399999 ∷ 253402214400000 ∷ []) (batch_text (codes "Y")
+    ensures refused { (batch_of_input purchase_with_settlement_day (253402214399999 ∷ 253402214400000 ∷ []) (bytes_of_batch (codes "Y")
         (codes "order,100,TMB,ABC,100,,cash,fifo,Ann,Lee,T10"
         ∷ codes "result,2,10.00" ∷ []))).text
-        ≡ in_lines (codes "1,ok,253402214399999,2,SBMT,10.00,0.00,0.00,0.00,10.00,5.00,9974.90"
+        ≡ lines_of_texts (codes "1,ok,253402214399999,2,SBMT,10.00,0.00,0.00,0.00,10.00,5.00,9974.90"
         ∷ codes "2,no,21"
         ∷ codes "end,1,0,1" ∷ []) }
 {}
 
 /// Shows that a settlement day is refused if its text is not the canonical text of a day of the
 /// calendar, or if there is not exactly one field.
-pub fn days_out_of_form()
-    ensures { Gives setting
+pub fn malformed_days_are_refused()
+    ensures { BatchOutputsLines setting_base
         (codes "oneday,2024-3-02"
         ∷ codes "oneday,2024-02-30"
         ∷ codes "oneday,10000-01-01"
@@ -81,8 +81,8 @@ pub fn days_out_of_form()
 
 /// Shows that an order of 1,000,000 shares is accepted once a commission band covers it, and that
 /// 10,000,000 is malformed.
-pub fn large_quantities()
-    ensures { Gives setting
+pub fn large_quantities_need_a_band()
+    ensures { BatchOutputsLines setting_base
         (codes "order,100,TMB,ABC,1000000,,cash,fifo,Ann,Lee,T10"
         ∷ codes "band,1,TMB,NYSE,1000000,9999999,50"
         ∷ codes "order,100,TMB,ABC,1000000,,cash,fifo,Ann,Lee,T10"

@@ -3,17 +3,17 @@
 
 ghost use Rattle.std.specs.Prelude.{◌≡◌, ◌∷◌, [], Ok, Err, Some, None, codes, negsuc, pos};
 ghost use Rattle.brk_money.specs.Spelling.{day_text, day_of_text};
-ghost use Rattle.brk_money.specs.Moments.{last_day};
+ghost use Rattle.brk_money.specs.Moments.{greatest_day};
 ghost use Rattle.brk_money.specs.declared.refusal.Refusal.TheVariants.{BadText, NoAccount};
-ghost use Rattle.brk_model.specs.Tables.{tables_of};
+ghost use Rattle.brk_model.specs.Tables.{tables_of_base};
 ghost use Rattle.brk_model.specs.Statement.{amount_line, statement};
-ghost use Rattle.brk_model_examples.specs.Batches.{in_lines};
-ghost use Rattle.brk_model_examples.specs.Trading.{sold};
+ghost use Rattle.brk_model_examples.specs.Batches.{lines_of_texts};
+ghost use Rattle.brk_model_examples.specs.Trading.{base_after_fifo_sale};
 
 /// Shows the statement after a sale, over its month and over the days after it, and its two
 /// refusals.
 pub fn statement_after_a_sale()
-    ensures month { statement (tables_of sold) 100 19783 19813 ≡ Ok (in_lines (codes "Statement of account 100"
+    ensures month { statement (tables_of_base base_after_fifo_sale) 100 19783 19813 ≡ Ok (lines_of_texts (codes "Statement of account 100"
         ∷ codes "Main"
         ∷ codes "From 2024-03-01 to 2024-03-31"
         ∷ codes "Opening                  10000.00"
@@ -24,7 +24,7 @@ pub fn statement_after_a_sale()
         ∷ codes "ABC                         2         150      12.00"
         ∷ codes "Holdings                  1500.00"
         ∷ codes "Cash rows 3, lots 1" ∷ [])) }
-    ensures later { statement (tables_of sold) 100 19784 19813 ≡ Ok (in_lines (codes "Statement of account 100"
+    ensures later { statement (tables_of_base base_after_fifo_sale) 100 19784 19813 ≡ Ok (lines_of_texts (codes "Statement of account 100"
         ∷ codes "Main"
         ∷ codes "From 2024-03-02 to 2024-03-31"
         ∷ codes "Opening                   8403.40"
@@ -32,24 +32,24 @@ pub fn statement_after_a_sale()
         ∷ codes "ABC                         2         150      12.00"
         ∷ codes "Holdings                  1500.00"
         ∷ codes "Cash rows 0, lots 1" ∷ [])) }
-    ensures turned { statement (tables_of sold) 999 19784 19783 ≡ Err BadText }
-    ensures unknown { statement (tables_of sold) 999 19783 19813 ≡ Err NoAccount }
+    ensures turned { statement (tables_of_base base_after_fifo_sale) 999 19784 19783 ≡ Err BadText }
+    ensures unknown { statement (tables_of_base base_after_fifo_sale) 999 19783 19813 ≡ Err NoAccount }
 {}
 
 /// Shows that an amount is right-aligned in its column, and that an amount wider than the column is
 /// not cut.
-pub fn wide_amounts()
+pub fn wide_amounts_are_not_cut()
     ensures narrow { amount_line (codes "Holdings") (negsuc 0) ≡ codes "Holdings                    -0.01" }
     ensures full { amount_line (codes "Holdings") (pos 100000000000000000000) ≡ codes "Holdings   1000000000000000000.00" }
     ensures wider { amount_line (codes "Holdings") (pos 1000000000000000000000) ≡ codes "Holdings   10000000000000000000.00" }
 {}
 
 /// Shows the numbers of some dates, and texts that are no dates.
-pub fn days()
+pub fn day_texts_match_day_numbers()
     ensures march { day_of_text (codes "2024-03-01") ≡ Some 19783 }
     ensures leap { day_of_text (codes "2024-02-29") ≡ Some 19782 }
     ensures no_leap { day_of_text (codes "2023-02-29") ≡ None }
     ensures first { day_text 0 ≡ codes "1970-01-01" }
-    ensures last { day_text last_day ≡ codes "9999-12-31" }
+    ensures last { day_text greatest_day ≡ codes "9999-12-31" }
     ensures short { day_of_text (codes "2024-3-01") ≡ None }
 {}

@@ -2,12 +2,12 @@
 #![tactic(auto, unfolding(crate::proofs::OnLiterals::model_on_literals))]
 
 ghost use Rattle.std.specs.Prelude.{◌∷◌, [], codes};
-ghost use Rattle.brk_model_examples.specs.Batches.{Gives};
-ghost use Rattle.brk_model_examples.specs.Setting.{setting};
+ghost use Rattle.brk_model_examples.specs.Batches.{BatchOutputsLines};
+ghost use Rattle.brk_model_examples.specs.Setting.{setting_base};
 
 /// Shows that the tax on a gain is recorded at the tax statuses 1 and 2, and withheld at 1 only.
-pub fn tax_statuses()
-    ensures none { Gives setting
+pub fn tax_status_decides_recorded_tax()
+    ensures none { BatchOutputsLines setting_base
         (codes "account,102,10,1,Tax,0,10000.00"
         ∷ codes "order,102,TMB,ABC,100,,cash,fifo,Ann,Lee,T10"
         ∷ codes "result,1,10.10"
@@ -23,7 +23,7 @@ pub fn tax_statuses()
         ∷ codes "6,ok,1709251200021,3,SBMT,10.00,1610.00,1500.00,0.00,15.00,5.00,9545.90"
         ∷ codes "7,ok,1709251200022,19.50,0.00,1925.50,2024-03-03,1610.00,1950.00,8471.40"
         ∷ codes "end,7,0,0" ∷ []) }
-    ensures withheld { Gives setting
+    ensures withheld { BatchOutputsLines setting_base
         (codes "account,103,10,1,Tax,1,10000.00"
         ∷ codes "order,103,TMB,ABC,100,,cash,fifo,Ann,Lee,T10"
         ∷ codes "result,1,10.10"
@@ -39,7 +39,7 @@ pub fn tax_statuses()
         ∷ codes "6,ok,1709251200021,3,SBMT,10.00,1610.00,1500.00,0.00,15.00,5.00,9545.90"
         ∷ codes "7,ok,1709251200022,19.50,68.00,1857.50,2024-03-03,1610.00,1950.00,8403.40"
         ∷ codes "end,7,0,0" ∷ []) }
-    ensures reported { Gives setting
+    ensures reported { BatchOutputsLines setting_base
         (codes "account,104,10,1,Tax,2,10000.00"
         ∷ codes "order,104,TMB,ABC,100,,cash,fifo,Ann,Lee,T10"
         ∷ codes "result,1,10.10"
@@ -58,8 +58,8 @@ pub fn tax_statuses()
 {}
 
 /// Shows that a loss is taxed at none of the three tax statuses.
-pub fn loss()
-    ensures none { Gives setting
+pub fn loss_is_not_taxed()
+    ensures none { BatchOutputsLines setting_base
         (codes "account,102,10,1,Tax,0,10000.00"
         ∷ codes "order,102,TMB,ABC,100,,cash,fifo,Ann,Lee,T10"
         ∷ codes "result,1,10.10"
@@ -75,7 +75,7 @@ pub fn loss()
         ∷ codes "6,ok,1709251200021,3,SBMT,10.00,1610.00,1500.00,0.00,15.00,5.00,9545.90"
         ∷ codes "7,ok,1709251200022,15.00,0.00,1480.00,2024-03-03,1610.00,1500.00,8025.90"
         ∷ codes "end,7,0,0" ∷ []) }
-    ensures withheld { Gives setting
+    ensures withheld { BatchOutputsLines setting_base
         (codes "account,103,10,1,Tax,1,10000.00"
         ∷ codes "order,103,TMB,ABC,100,,cash,fifo,Ann,Lee,T10"
         ∷ codes "result,1,10.10"
@@ -91,7 +91,7 @@ pub fn loss()
         ∷ codes "6,ok,1709251200021,3,SBMT,10.00,1610.00,1500.00,0.00,15.00,5.00,9545.90"
         ∷ codes "7,ok,1709251200022,15.00,0.00,1480.00,2024-03-03,1610.00,1500.00,8025.90"
         ∷ codes "end,7,0,0" ∷ []) }
-    ensures reported { Gives setting
+    ensures reported { BatchOutputsLines setting_base
         (codes "account,104,10,1,Tax,2,10000.00"
         ∷ codes "order,104,TMB,ABC,100,,cash,fifo,Ann,Lee,T10"
         ∷ codes "result,1,10.10"

@@ -2,16 +2,16 @@
 #![tactic(auto, unfolding(crate::proofs::OnLiterals::model_on_literals))]
 
 ghost use Rattle.std.specs.Prelude.{◌≡◌, ◌∷◌, [], Ok, map, codes};
-ghost use Rattle.brk_model.specs.Tables.{tables_of};
-ghost use Rattle.brk_model.specs.Updates.{changed_executor};
-ghost use Rattle.brk_model_examples.specs.Batches.{after, Gives, view};
-ghost use Rattle.brk_model_examples.specs.Crowds.{misnamed};
-ghost use Rattle.brk_model_examples.specs.Setting.{setting};
-ghost use Rattle.brk_model_examples.specs.Trading.{sold};
+ghost use Rattle.brk_model.specs.Tables.{tables_of_base};
+ghost use Rattle.brk_model.specs.Updates.{updated_executor_name};
+ghost use Rattle.brk_model_examples.specs.Batches.{base_after_batch, BatchOutputsLines, view_by_name_and_arguments};
+ghost use Rattle.brk_model_examples.specs.Crowds.{misleading_security_name};
+ghost use Rattle.brk_model_examples.specs.Setting.{setting_base};
+ghost use Rattle.brk_model_examples.specs.Trading.{base_after_fifo_sale};
 
 /// Shows the answers to text updates after a sale, and the texts of a trade after them.
-pub fn updates()
-    ensures lines { Gives sold
+pub fn text_updates_after_sale()
+    ensures lines { BatchOutputsLines base_after_fifo_sale
         (codes "upname,1"
         ∷ codes "upname,1,1"
         ∷ codes "upname,1,9"
@@ -25,7 +25,7 @@ pub fn updates()
         ∷ codes "5,ok,1709251200024,3"
         ∷ codes "6,ok,1709251200025,0"
         ∷ codes "end,4,0,2" ∷ []) }
-    ensures words { view (after sold
+    ensures words { view_by_name_and_arguments (base_after_batch base_after_fifo_sale
         (codes "upname,1"
         ∷ codes "upname,1,1"
         ∷ codes "upname,1,9"
@@ -38,7 +38,7 @@ pub fn updates()
         ∷ (codes "history" ∷ codes "1709251200016" ∷ codes "SBMT" ∷ [])
         ∷ (codes "history" ∷ codes "1709251200017" ∷ codes "CMPT" ∷ [])
         ∷ []) }
-    ensures all { map (λ row. row.cash_type) (tables_of (after sold
+    ensures all { map (λ row. row.cash_type) (tables_of_base (base_after_batch base_after_fifo_sale
         (codes "upname,1"
         ∷ codes "upname,1,1"
         ∷ codes "upname,1,9"
@@ -49,23 +49,23 @@ pub fn updates()
 
 /// Shows that `upname` replaces spaces by ` X ` in an executor's name, and the other way round if
 /// it contains ` X `.
-pub fn names()
-    ensures in_it { map (λ t. t.executor) (after sold
+pub fn update_toggles_executor_name()
+    ensures in_it { map (λ t. t.executor) (base_after_batch base_after_fifo_sale
         (codes "upname,1" ∷ [])).trades ≡ codes "Ann X Lee" ∷ codes "Ann Lee" ∷ codes "Ann Lee" ∷ [] }
-    ensures out { map (λ t. t.executor) (after sold
+    ensures out { map (λ t. t.executor) (base_after_batch base_after_fifo_sale
         (codes "upname,1"
         ∷ codes "upname,1" ∷ [])).trades ≡ codes "Ann Lee" ∷ codes "Ann Lee" ∷ codes "Ann Lee" ∷ [] }
-    ensures twice { changed_executor (codes "Ann X X Lee") ≡ codes "Ann X Lee" }
-    ensures both_spaces { changed_executor (codes "Ann  Lee") ≡ codes "Ann X  X Lee" }
-    ensures out_of_both { changed_executor (codes "Ann X  X Lee") ≡ codes "Ann  Lee" }
-    ensures at_the_head { changed_executor (codes "X Lee") ≡ codes "X X Lee" }
-    ensures out_of_the_head { changed_executor (codes "X X Lee") ≡ codes "X Lee" }
+    ensures twice { updated_executor_name (codes "Ann X X Lee") ≡ codes "Ann X Lee" }
+    ensures both_spaces { updated_executor_name (codes "Ann  Lee") ≡ codes "Ann X  X Lee" }
+    ensures out_of_both { updated_executor_name (codes "Ann X  X Lee") ≡ codes "Ann  Lee" }
+    ensures at_the_head { updated_executor_name (codes "X Lee") ≡ codes "X X Lee" }
+    ensures out_of_the_head { updated_executor_name (codes "X X Lee") ≡ codes "X Lee" }
 {}
 
 /// Shows a security whose own name contains ` shares of `: `uptext` searches the whole text, so
 /// that every update writes ` Shares of `.
-pub fn words_in_a_name()
-    ensures lines { Gives misnamed
+pub fn cash_name_update_searches_whole_text()
+    ensures lines { BatchOutputsLines misleading_security_name
         (codes "order,100,TMB,ABC,100,,cash,fifo,Ann,Lee,T10"
         ∷ codes "result,1,10.10"
         ∷ codes "uptext,ABC,0,253402300799999"
@@ -75,14 +75,14 @@ pub fn words_in_a_name()
         ∷ codes "3,ok,1709251200018,1"
         ∷ codes "4,ok,1709251200019,1"
         ∷ codes "end,4,0,0" ∷ []) }
-    ensures at_first { map (λ t. t.cash_name) (after misnamed
+    ensures at_first { map (λ t. t.cash_name) (base_after_batch misleading_security_name
         (codes "order,100,TMB,ABC,100,,cash,fifo,Ann,Lee,T10"
         ∷ codes "result,1,10.10" ∷ [])).trades ≡ codes "Market-Buy 100 shares of Big shares of Small" ∷ [] }
-    ensures once { map (λ t. t.cash_name) (after misnamed
+    ensures once { map (λ t. t.cash_name) (base_after_batch misleading_security_name
         (codes "order,100,TMB,ABC,100,,cash,fifo,Ann,Lee,T10"
         ∷ codes "result,1,10.10"
         ∷ codes "uptext,ABC,0,253402300799999" ∷ [])).trades ≡ codes "Market-Buy 100 Shares of Big shares of Small" ∷ [] }
-    ensures twice { map (λ t. t.cash_name) (after misnamed
+    ensures twice { map (λ t. t.cash_name) (base_after_batch misleading_security_name
         (codes "order,100,TMB,ABC,100,,cash,fifo,Ann,Lee,T10"
         ∷ codes "result,1,10.10"
         ∷ codes "uptext,ABC,0,253402300799999"
@@ -91,17 +91,17 @@ pub fn words_in_a_name()
 
 /// Shows the text updates of a margin trade: `upcash` changes its cash type, and `uptext` does not
 /// select it.
-pub fn margin_words()
-    ensures once { map (λ t. t.cash_type) (after setting
+pub fn text_updates_of_margin_trade()
+    ensures once { map (λ t. t.cash_type) (base_after_batch setting_base
         (codes "order,100,TMB,ABC,100,,margin,fifo,Ann,Lee,T10"
         ∷ codes "result,1,10.10"
         ∷ codes "upcash,100,0,253402300799999" ∷ [])).trades ≡ codes "Margin Account" ∷ [] }
-    ensures twice { map (λ t. t.cash_type) (after setting
+    ensures twice { map (λ t. t.cash_type) (base_after_batch setting_base
         (codes "order,100,TMB,ABC,100,,margin,fifo,Ann,Lee,T10"
         ∷ codes "result,1,10.10"
         ∷ codes "upcash,100,0,253402300799999"
         ∷ codes "upcash,100,0,253402300799999" ∷ [])).trades ≡ codes "Margin" ∷ [] }
-    ensures text { Gives setting
+    ensures text { BatchOutputsLines setting_base
         (codes "order,100,TMB,ABC,100,,margin,fifo,Ann,Lee,T10"
         ∷ codes "result,1,10.10"
         ∷ codes "uptext,ABC,0,253402300799999" ∷ [])

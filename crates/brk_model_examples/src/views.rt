@@ -3,25 +3,25 @@
 
 ghost use Rattle.std.specs.Prelude.{◌≡◌, ◌∷◌, [], Ok, Err, codes};
 ghost use Rattle.brk_money.specs.declared.refusal.Refusal.TheVariants.{BadText, NoCustomer, NoTrade, NotPermitted};
-ghost use Rattle.brk_model_examples.specs.Batches.{view};
-ghost use Rattle.brk_model_examples.specs.Trading.{bought, bought_twice, sold};
+ghost use Rattle.brk_model_examples.specs.Batches.{view_by_name_and_arguments};
+ghost use Rattle.brk_model_examples.specs.Trading.{base_after_first_purchase, base_after_two_purchases, base_after_fifo_sale};
 
 /// Shows the position of a customer, by id and by tax id.
-pub fn customer_position()
-    ensures by_id { view sold (codes "customer") (codes "10" ∷ [])
+pub fn position_view_of_customer()
+    ensures by_id { view_by_name_and_arguments base_after_fifo_sale (codes "customer") (codes "10" ∷ [])
         ≡ Ok ((codes "100" ∷ codes "8403.40" ∷ codes "1500.00" ∷ [])
         ∷ []) }
-    ensures by_tax_id { view sold (codes "taxid") (codes "T10" ∷ [])
+    ensures by_tax_id { view_by_name_and_arguments base_after_fifo_sale (codes "taxid") (codes "T10" ∷ [])
         ≡ Ok ((codes "100" ∷ codes "8403.40" ∷ codes "1500.00" ∷ [])
         ∷ []) }
-    ensures unknown { view sold (codes "customer") (codes "11" ∷ [])
+    ensures unknown { view_by_name_and_arguments base_after_fifo_sale (codes "customer") (codes "11" ∷ [])
         ≡ Err NoCustomer }
 {}
 
 /// Shows the view `recent` of an account with one trade: the trade and its status changes, the last
 /// first.
-pub fn recent_trades()
-    ensures { view bought (codes "recent") (codes "100" ∷ [])
+pub fn recent_view_of_account()
+    ensures { view_by_name_and_arguments base_after_first_purchase (codes "recent") (codes "100" ∷ [])
         ≡ Ok ((codes "trade" ∷ codes "1" ∷ codes "ABC" ∷ codes "100" ∷ [])
         ∷ (codes "history" ∷ codes "1" ∷ codes "Completed" ∷ codes "1709251200017" ∷ [])
         ∷ (codes "history" ∷ codes "1" ∷ codes "Submitted" ∷ codes "1709251200016" ∷ [])
@@ -29,8 +29,8 @@ pub fn recent_trades()
 {}
 
 /// Shows the view `status` of an account: its customer and broker, and its trades, the last first.
-pub fn trade_status()
-    ensures { view sold (codes "status") (codes "100" ∷ [])
+pub fn status_view_of_account()
+    ensures { view_by_name_and_arguments base_after_fifo_sale (codes "status") (codes "100" ∷ [])
         ≡ Ok ((codes "Lee" ∷ codes "Ann" ∷ codes "Bo" ∷ [])
         ∷ (codes "3" ∷ codes "1709251200021" ∷ codes "Completed" ∷ codes "Market-Sell" ∷ codes "ABC" ∷ codes "150" ∷ codes "Ann Lee" ∷ codes "5.00" ∷ codes "Acme" ∷ codes "NYSE" ∷ [])
         ∷ (codes "2" ∷ codes "1709251200019" ∷ codes "Completed" ∷ codes "Market-Buy" ∷ codes "ABC" ∷ codes "200" ∷ codes "Ann Lee" ∷ codes "5.00" ∷ codes "Acme" ∷ codes "NYSE" ∷ [])
@@ -39,58 +39,58 @@ pub fn trade_status()
 {}
 
 /// Shows the lookup of a trade by its id, by its account and by its symbol, and its refusals.
-pub fn trade_lookup()
-    ensures by_id { view sold (codes "trades") (codes "3" ∷ [])
+pub fn lookup_views_of_trade()
+    ensures by_id { view_by_name_and_arguments base_after_fifo_sale (codes "trades") (codes "3" ∷ [])
         ≡ Ok ((codes "trade" ∷ codes "3" ∷ codes "1709251200021" ∷ codes "CMPT" ∷ codes "TMS" ∷ codes "ABC" ∷ codes "150" ∷ codes "10.00" ∷ codes "Ann Lee" ∷ codes "13.00" ∷ codes "5.00" ∷ codes "19.50" ∷ codes "68.00" ∷ codes "cash" ∷ codes "fifo" ∷ [])
         ∷ (codes "settlement" ∷ codes "Cash Account" ∷ codes "2024-03-03" ∷ codes "1857.50" ∷ [])
         ∷ (codes "cash" ∷ codes "1709251200021" ∷ codes "1857.50" ∷ codes "Market-Sell 150 shares of Acme" ∷ [])
         ∷ (codes "history" ∷ codes "1709251200020" ∷ codes "SBMT" ∷ [])
         ∷ (codes "history" ∷ codes "1709251200021" ∷ codes "CMPT" ∷ [])
         ∷ []) }
-    ensures by_account { view sold (codes "accounttrades") (codes "100" ∷ codes "1709251200021" ∷ codes "1709251200021" ∷ [])
+    ensures by_account { view_by_name_and_arguments base_after_fifo_sale (codes "accounttrades") (codes "100" ∷ codes "1709251200021" ∷ codes "1709251200021" ∷ [])
         ≡ Ok ((codes "trade" ∷ codes "3" ∷ codes "1709251200021" ∷ codes "CMPT" ∷ codes "TMS" ∷ codes "ABC" ∷ codes "150" ∷ codes "10.00" ∷ codes "Ann Lee" ∷ codes "13.00" ∷ codes "5.00" ∷ codes "19.50" ∷ codes "68.00" ∷ codes "cash" ∷ codes "fifo" ∷ [])
         ∷ (codes "settlement" ∷ codes "Cash Account" ∷ codes "2024-03-03" ∷ codes "1857.50" ∷ [])
         ∷ (codes "cash" ∷ codes "1709251200021" ∷ codes "1857.50" ∷ codes "Market-Sell 150 shares of Acme" ∷ [])
         ∷ (codes "history" ∷ codes "1709251200020" ∷ codes "SBMT" ∷ [])
         ∷ (codes "history" ∷ codes "1709251200021" ∷ codes "CMPT" ∷ [])
         ∷ []) }
-    ensures by_symbol { view sold (codes "symboltrades") (codes "ABC" ∷ codes "1709251200021" ∷ codes "1709251200021" ∷ [])
+    ensures by_symbol { view_by_name_and_arguments base_after_fifo_sale (codes "symboltrades") (codes "ABC" ∷ codes "1709251200021" ∷ codes "1709251200021" ∷ [])
         ≡ Ok ((codes "trade" ∷ codes "3" ∷ codes "1709251200021" ∷ codes "CMPT" ∷ codes "TMS" ∷ codes "ABC" ∷ codes "150" ∷ codes "10.00" ∷ codes "Ann Lee" ∷ codes "13.00" ∷ codes "5.00" ∷ codes "19.50" ∷ codes "68.00" ∷ codes "cash" ∷ codes "fifo" ∷ [])
         ∷ (codes "settlement" ∷ codes "Cash Account" ∷ codes "2024-03-03" ∷ codes "1857.50" ∷ [])
         ∷ (codes "cash" ∷ codes "1709251200021" ∷ codes "1857.50" ∷ codes "Market-Sell 150 shares of Acme" ∷ [])
         ∷ (codes "history" ∷ codes "1709251200020" ∷ codes "SBMT" ∷ [])
         ∷ (codes "history" ∷ codes "1709251200021" ∷ codes "CMPT" ∷ [])
         ∷ []) }
-    ensures unknown { view sold (codes "trades") (codes "9" ∷ [])
+    ensures unknown { view_by_name_and_arguments base_after_fifo_sale (codes "trades") (codes "9" ∷ [])
         ≡ Err NoTrade }
-    ensures twice { view sold (codes "trades") (codes "3" ∷ codes "3" ∷ [])
+    ensures twice { view_by_name_and_arguments base_after_fifo_sale (codes "trades") (codes "3" ∷ codes "3" ∷ [])
         ≡ Err BadText }
 {}
 
 /// Shows the changes of all lots that the oldest trade from a stamp on touched.
-pub fn touched_lots()
-    ensures last { view sold (codes "lots") (codes "100" ∷ codes "1709251200021" ∷ [])
+pub fn lots_view_of_oldest_trade()
+    ensures last { view_by_name_and_arguments base_after_fifo_sale (codes "lots") (codes "100" ∷ codes "1709251200021" ∷ [])
         ≡ Ok ((codes "3" ∷ [])
         ∷ (codes "1" ∷ codes "1" ∷ codes "0" ∷ codes "100" ∷ [])
         ∷ (codes "2" ∷ codes "2" ∷ codes "0" ∷ codes "200" ∷ [])
         ∷ (codes "1" ∷ codes "3" ∷ codes "100" ∷ codes "0" ∷ [])
         ∷ (codes "2" ∷ codes "3" ∷ codes "200" ∷ codes "150" ∷ [])
         ∷ []) }
-    ensures first { view sold (codes "lots") (codes "100" ∷ codes "0" ∷ [])
+    ensures first { view_by_name_and_arguments base_after_fifo_sale (codes "lots") (codes "100" ∷ codes "0" ∷ [])
         ≡ Ok ((codes "1" ∷ [])
         ∷ (codes "1" ∷ codes "1" ∷ codes "0" ∷ codes "100" ∷ [])
         ∷ (codes "1" ∷ codes "3" ∷ codes "100" ∷ codes "0" ∷ [])
         ∷ []) }
-    ensures none { view sold (codes "lots") (codes "100" ∷ codes "1709251200022" ∷ [])
+    ensures none { view_by_name_and_arguments base_after_fifo_sale (codes "lots") (codes "100" ∷ codes "1709251200022" ∷ [])
         ≡ Ok ([]) }
 {}
 
 /// Shows that an estimate returns the figures of an order, and is refused for the executor of whom
 /// the order would be refused.
-pub fn estimates()
-    ensures numbers { view bought_twice (codes "estimate") (codes "100" ∷ codes "TMS" ∷ codes "ABC" ∷ codes "150" ∷ [] ∷ codes "cash" ∷ codes "fifo" ∷ codes "Ann" ∷ codes "Lee" ∷ codes "T10" ∷ [])
+pub fn estimate_returns_order_figures()
+    ensures numbers { view_by_name_and_arguments base_after_two_purchases (codes "estimate") (codes "100" ∷ codes "TMS" ∷ codes "ABC" ∷ codes "150" ∷ [] ∷ codes "cash" ∷ codes "fifo" ∷ codes "Ann" ∷ codes "Lee" ∷ codes "T10" ∷ [])
         ≡ Ok ((codes "10.00" ∷ codes "1610.00" ∷ codes "1500.00" ∷ codes "0.00" ∷ codes "15.00" ∷ codes "5.00" ∷ codes "9545.90" ∷ [])
         ∷ []) }
-    ensures refused { view bought_twice (codes "estimate") (codes "100" ∷ codes "TMS" ∷ codes "ABC" ∷ codes "150" ∷ [] ∷ codes "cash" ∷ codes "fifo" ∷ codes "Ann" ∷ codes "Lee" ∷ codes "T11" ∷ [])
+    ensures refused { view_by_name_and_arguments base_after_two_purchases (codes "estimate") (codes "100" ∷ codes "TMS" ∷ codes "ABC" ∷ codes "150" ∷ [] ∷ codes "cash" ∷ codes "fifo" ∷ codes "Ann" ∷ codes "Lee" ∷ codes "T11" ∷ [])
         ≡ Err NotPermitted }
 {}

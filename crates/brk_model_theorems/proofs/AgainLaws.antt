@@ -7,35 +7,35 @@ use Rattle.csv.specs.Records.{field_at}
 use Rattle.brk_money.specs.Spelling.{Text}
 use Rattle.brk_model.specs.Records.{Key}
 use Rattle.brk_model.specs.Base.{Base}
-use Rattle.brk_model.specs.Forms.{Read}
+use Rattle.brk_model.specs.Forms.{ReadResult}
 use Rattle.brk_model.specs.Commands.{Command, Answer, Refused}
 use Rattle.brk_model.specs.Keyed.{keyed_step}
-use Rattle.brk_model.specs.Answers.{Fields, RowCall, InTurn, call_step, with_formed, formed_from, calls_of, woven, woven_one, AreAnswered}
-use Rattle.brk_model.specs.Input.{text_of, IsName, IsEnd, header_of, end_of}
-use Rattle.brk_model.specs.Lines.{lines_from, end_line, is_refused, count_refused}
-use Rattle.brk_model.specs.Batch.{Batch, Ending, EndedWell, BadHeader, NoEnd, BadEnd, AreDecided, BatchText, HasNoHeader, Ends, IsAnswered, row_step}
+use Rattle.brk_model.specs.Answers.{Fields, RowCall, CallsHaveAnswers, answer_to_row_call, with_well_formed_row, well_formed_rows_from, calls_of_rows, answers_interleaved_with_refusals, answers_from_row_on, AreAnswered}
+use Rattle.brk_model.specs.Input.{input_text, IsBatchName, IsEndRecord, batch_header, end_record_after}
+use Rattle.brk_model.specs.Lines.{answer_lines_from, batch_end_line, is_refused_answer, refused_answer_count}
+use Rattle.brk_model.specs.Batch.{Batch, Ending, EndedWell, BadHeader, NoEnd, BadEnd, AreDecided, IsResultOfBatch, HasNoHeader, MatchesEnding, IsAnswered, step_of_row}
 use Rattle.brk_model.specs.Computed.{complete_batch}
-use Rattle.brk_model_theorems.specs.Laws.{LeadsTo, IsCleanBatch, again_of}
+use Rattle.brk_model_theorems.specs.Laws.{SomeRunLeadsTo, IsBatchWithoutRefusals, answer_to_retry}
 use Rattle.brk_model_theorems.proofs.KeptLaws.{Grows, grows-on, run-grows, still, remembers, answers-again}
 use Rattle.brk_model_theorems.proofs.RunLaws.{rows-run}
 use Rattle.brk_model_theorems.proofs.BatchLaws.{length-calls, All-back}
 
 -- ---- the calls of a batch
 
-pub length-turned : (calls : List (RowCall Command)) (answers : List Answer) (base after : Base) → InTurn row_step base calls answers after → length answers ≡ length calls
+pub length-turned : (calls : List (RowCall Command)) (answers : List Answer) (base after : Base) → CallsHaveAnswers step_of_row base calls answers after → length answers ≡ length calls
 length-turned [] [] base after r = refl
 length-turned [] (answer ∷ answers) base after r = absurd r
 length-turned (call ∷ calls) [] base after r = absurd r
-length-turned (call ∷ calls) (answer ∷ answers) base after r = ap suc (length-turned calls answers (call_step row_step base call).1 after r.1)
+length-turned (call ∷ calls) (answer ∷ answers) base after r = ap suc (length-turned calls answers (answer_to_row_call step_of_row base call).1 after r.1)
 
 -- no answer is a refusal
 abbrev pub NoneRefused : List Answer → Type 0
-NoneRefused answers = AllByRecursion (λ answer. is_refused answer ≡ false) answers
+NoneRefused answers = AllByRecursion (λ answer. is_refused_answer answer ≡ false) answers
 
 -- the same rows over a later base, at other moments
 pub in-turn-again : (name : Text) (rows : List (ℕ × Command)) (moments others : List ℕ) (replies told : List Answer) (base after later last : Base)
-    → length moments ≡ length rows → length others ≡ length rows → NoneRefused replies → InTurn row_step base (calls_of name moments rows) replies after → Grows after later
-    → InTurn row_step later (calls_of name others rows) told last → (told ≡ map again_of replies) × (last ≡ later)
+    → length moments ≡ length rows → length others ≡ length rows → NoneRefused replies → CallsHaveAnswers step_of_row base (calls_of_rows name moments rows) replies after → Grows after later
+    → CallsHaveAnswers step_of_row later (calls_of_rows name others rows) told last → (told ≡ map answer_to_retry replies) × (last ≡ later)
 in-turn-again name [] [] [] [] [] base after later last l m none r g s = (refl, s)
 in-turn-again name [] [] [] [] (t ∷ told) base after later last l m none r g s = absurd s
 in-turn-again name [] [] [] (reply ∷ replies) told base after later last l m none r g s = absurd r
@@ -47,7 +47,7 @@ in-turn-again name (row ∷ rows) (moment ∷ moments) (o ∷ others) [] told ba
 in-turn-again name (row ∷ rows) (moment ∷ moments) (o ∷ others) (reply ∷ replies) [] base after later last l m none r g s = absurd s
 in-turn-again name (row ∷ rows) (moment ∷ moments) (o ∷ others) (reply ∷ replies) (t ∷ told) base after later last l m none r g s =
     let rest = in-turn-again name rows moments others replies told mid after later last (omega (l, arith)) (omega (m, arith)) none.1 r.1 g onward in
-    (ap (λ a. a ∷ told) (s.0 ∙ ap (λ a. a.0) answered) ∙ ap (λ a. again_of reply ∷ a) rest.0, rest.1)
+    (ap (λ a. a ∷ told) (s.0 ∙ ap (λ a. a.0) answered) ∙ ap (λ a. answer_to_retry reply ∷ a) rest.0, rest.1)
   where
     key : Key
     key = record { batch = name; row = row.0 }
@@ -56,72 +56,72 @@ in-turn-again name (row ∷ rows) (moment ∷ moments) (o ∷ others) (reply ∷
     mid = (keyed_step base moment row.1 (Some key)).1
 
     grown : Grows mid later
-    grown = let run = rows-run mid (calls_of name moments rows) replies after r.1 in grows-on mid after later (run-grows _ _ mid after run) g
+    grown = let run = rows-run mid (calls_of_rows name moments rows) replies after r.1 in grows-on mid after later (run-grows _ _ mid after run) g
 
-    answered : keyed_step later o row.1 (Some key) ≡ (again_of reply, later)
+    answered : keyed_step later o row.1 (Some key) ≡ (answer_to_retry reply, later)
     answered = answers-again later o row.1 key reply (still mid later key row.1 reply grown (remembers base moment row.1 key reply mid (ap (λ a. (a, mid)) (sym r.0)) none.0))
 
-    onward : InTurn row_step later (calls_of name others rows) told last
-    onward = subst (λ a. InTurn row_step a.1 (calls_of name others rows) told last) answered s.1
+    onward : CallsHaveAnswers step_of_row later (calls_of_rows name others rows) told last
+    onward = subst (λ a. CallsHaveAnswers step_of_row a.1 (calls_of_rows name others rows) told last) answered s.1
 
 -- ---- the answers of form between them
 
 -- a row that form refuses is refused again
-pub woven-again : {C : Type 0} (form : Fields → Read C) (rows : List Fields) (replies : List Answer) → woven form rows (map again_of replies) ≡ map again_of (woven form rows replies)
+pub woven-again : {C : Type 0} (form : Fields → ReadResult C) (rows : List Fields) (replies : List Answer) → answers_interleaved_with_refusals form rows (map answer_to_retry replies) ≡ map answer_to_retry (answers_interleaved_with_refusals form rows replies)
 woven-again form [] replies = refl
-woven-again form (row ∷ rows) replies = one (form row) (woven form rows) replies (woven-again form rows)
+woven-again form (row ∷ rows) replies = one (form row) (answers_interleaved_with_refusals form rows) replies (woven-again form rows)
   where
-    one : {C : Type 0} (r : Read C) (more : List Answer → List Answer) (replies : List Answer) → ((others : List Answer) → more (map again_of others) ≡ map again_of (more others))
-        → woven_one r more (map again_of replies) ≡ map again_of (woven_one r more replies)
+    one : {C : Type 0} (r : ReadResult C) (more : List Answer → List Answer) (replies : List Answer) → ((others : List Answer) → more (map answer_to_retry others) ≡ map answer_to_retry (more others))
+        → answers_from_row_on r more (map answer_to_retry replies) ≡ map answer_to_retry (answers_from_row_on r more replies)
     one (Ok command) more [] each = each []
-    one (Ok command) more (reply ∷ replies) each = ap (λ l. again_of reply ∷ l) (each replies)
+    one (Ok command) more (reply ∷ replies) each = ap (λ l. answer_to_retry reply ∷ l) (each replies)
     one (Err refusal) more replies each = ap (λ l. Refused refusal ∷ l) (each replies)
 
-pub none-first : (answer : Answer) (answers : List Answer) → count_refused (answer ∷ answers) ≡ 0 → (is_refused answer ≡ false) × (count_refused answers ≡ 0)
-none-first answer answers h = at (is_refused answer) (sym (sum_by-cons (λ a. cond (is_refused a) 1 0) answer answers) ∙ h)
+pub none-first : (answer : Answer) (answers : List Answer) → refused_answer_count (answer ∷ answers) ≡ 0 → (is_refused_answer answer ≡ false) × (refused_answer_count answers ≡ 0)
+none-first answer answers h = at (is_refused_answer answer) (sym (sum_by-cons (λ a. cond (is_refused_answer a) 1 0) answer answers) ∙ h)
   where
-    at : (b : Bool) → cond b 1 0 + count_refused answers ≡ 0 → (b ≡ false) × (count_refused answers ≡ 0)
+    at : (b : Bool) → cond b 1 0 + refused_answer_count answers ≡ 0 → (b ≡ false) × (refused_answer_count answers ≡ 0)
     at true k = absurd (omega (k, arith))
     at false k = (refl, omega (k, arith))
 
 -- where no row is refused, no call of the run is
-pub none-woven : {C : Type 0} (form : Fields → Read C) (n : ℕ) (rows : List Fields) (replies : List Answer) → length replies ≡ length (formed_from form n rows)
-    → count_refused (woven form rows replies) ≡ 0 → NoneRefused replies
+pub none-woven : {C : Type 0} (form : Fields → ReadResult C) (n : ℕ) (rows : List Fields) (replies : List Answer) → length replies ≡ length (well_formed_rows_from form n rows)
+    → refused_answer_count (answers_interleaved_with_refusals form rows replies) ≡ 0 → NoneRefused replies
 none-woven form n [] [] l h = tt
 none-woven form n [] (reply ∷ replies) l h = absurd (omega (l, arith))
-none-woven form n (row ∷ rows) replies l h = one (form row) n (formed_from form (n + 1) rows) (woven form rows) replies (none-woven form (n + 1) rows) l h
+none-woven form n (row ∷ rows) replies l h = one (form row) n (well_formed_rows_from form (n + 1) rows) (answers_interleaved_with_refusals form rows) replies (none-woven form (n + 1) rows) l h
   where
-    one : {C : Type 0} (r : Read C) (n : ℕ) (rest : List (ℕ × C)) (more : List Answer → List Answer) (replies : List Answer)
-        → ((others : List Answer) → length others ≡ length rest → count_refused (more others) ≡ 0 → NoneRefused others)
-        → length replies ≡ length (with_formed r n rest) → count_refused (woven_one r more replies) ≡ 0 → NoneRefused replies
+    one : {C : Type 0} (r : ReadResult C) (n : ℕ) (rest : List (ℕ × C)) (more : List Answer → List Answer) (replies : List Answer)
+        → ((others : List Answer) → length others ≡ length rest → refused_answer_count (more others) ≡ 0 → NoneRefused others)
+        → length replies ≡ length (with_well_formed_row r n rest) → refused_answer_count (answers_from_row_on r more replies) ≡ 0 → NoneRefused replies
     one (Ok command) n rest more [] each l h = tt
     one (Ok command) n rest more (reply ∷ replies) each l h =
         let k = none-first reply (more replies) h in (k.0, each replies (omega (l, arith)) k.1)
     one (Err refusal) n rest more replies each l h = let k = none-first (Refused refusal) (more replies) h in absurd (cc)
 
 -- the rows of a batch settled again
-pub settled-again : (form : Fields → Read Command) (name : Text) (moments others : List ℕ) (rows : List Fields) (answers told : List Answer) (base after later last : Base) → count_refused answers ≡ 0
-    → AreDecided form row_step name base moments rows answers after → Grows after later → AreDecided form row_step name later others rows told last
-    → (told ≡ map again_of answers) × (last ≡ later)
+pub settled-again : (form : Fields → ReadResult Command) (name : Text) (moments others : List ℕ) (rows : List Fields) (answers told : List Answer) (base after later last : Base) → refused_answer_count answers ≡ 0
+    → AreDecided form step_of_row name base moments rows answers after → Grows after later → AreDecided form step_of_row name later others rows told last
+    → (told ≡ map answer_to_retry answers) × (last ≡ later)
 settled-again form name moments others rows answers told base after later last none first g second =
-    (two.all ∙ ap (woven form rows) again.0 ∙ woven-again form rows one.replies ∙ ap (map again_of) (sym one.all), again.1)
+    (two.all ∙ ap (answers_interleaved_with_refusals form rows) again.0 ∙ woven-again form rows one.replies ∙ ap (map answer_to_retry) (sym one.all), again.1)
   where
-    one : AreAnswered form row_step name base moments rows answers after
+    one : AreAnswered form step_of_row name base moments rows answers after
     one = first.answered
 
-    two : AreAnswered form row_step name later others rows told last
+    two : AreAnswered form step_of_row name later others rows told last
     two = second.answered
 
     formed : List (ℕ × Command)
-    formed = formed_from form 1 rows
+    formed = well_formed_rows_from form 1 rows
 
     each : length one.replies ≡ length formed
-    each = length-turned (calls_of name moments formed) one.replies base after one.run ∙ length-calls name moments formed (omega (one.one_each, arith))
+    each = length-turned (calls_of_rows name moments formed) one.replies base after one.run ∙ length-calls name moments formed (omega (one.one_each, arith))
 
     done : NoneRefused one.replies
-    done = none-woven form 1 rows one.replies each (ap count_refused (sym one.all) ∙ none)
+    done = none-woven form 1 rows one.replies each (ap refused_answer_count (sym one.all) ∙ none)
 
-    again : (two.replies ≡ map again_of one.replies) × (last ≡ later)
+    again : (two.replies ≡ map answer_to_retry one.replies) × (last ≡ later)
     again = in-turn-again name formed moments others one.replies two.replies base after later last one.one_each two.one_each done one.run g two.run
 
 -- ---- the records of the text
@@ -144,16 +144,16 @@ others-same x y xs ys e = ap others_of e
 
 -- none of the rows is an end record
 abbrev pub NoEnds : List Fields → Type 0
-NoEnds rows = AllByRecursion (λ row. ¬ (IsEnd row)) rows
+NoEnds rows = AllByRecursion (λ row. ¬ (IsEndRecord row)) rows
 
-no-end-within : (rows others : List Fields) (end : Fields) (more : List Fields) → IsEnd end → rows ++ end ∷ more ≡ others → NoEnds others → ⊥
-no-end-within rows others end more h e only = (All-back (λ row. ¬ (IsEnd row)) rows (end ∷ more) (subst NoEnds (sym e) only)).0 h
+no-end-within : (rows others : List Fields) (end : Fields) (more : List Fields) → IsEndRecord end → rows ++ end ∷ more ≡ others → NoEnds others → ⊥
+no-end-within rows others end more h e only = (All-back (λ row. ¬ (IsEndRecord row)) rows (end ∷ more) (subst NoEnds (sym e) only)).0 h
 
 -- the first end record parts the rows in one way
-pub ends-first : (rows others : List Fields) (end last : Fields) (more rest : List Fields) → NoEnds rows → NoEnds others → IsEnd end → IsEnd last → rows ++ end ∷ more ≡ others ++ last ∷ rest → (rows ≡ others) × (end ≡ last)
+pub ends-first : (rows others : List Fields) (end last : Fields) (more rest : List Fields) → NoEnds rows → NoEnds others → IsEndRecord end → IsEndRecord last → rows ++ end ∷ more ≡ others ++ last ∷ rest → (rows ≡ others) × (end ≡ last)
 ends-first [] [] end last more rest only all h k e = (refl, first-same end last more rest e)
-ends-first [] (other ∷ others) end last more rest only all h k e = absurd (all.0 (subst IsEnd (first-same end other more (others ++ last ∷ rest) e) h))
-ends-first (row ∷ rows) [] end last more rest only all h k e = absurd (only.0 (subst IsEnd (sym (first-same row last (rows ++ end ∷ more) rest e)) k))
+ends-first [] (other ∷ others) end last more rest only all h k e = absurd (all.0 (subst IsEndRecord (first-same end other more (others ++ last ∷ rest) e) h))
+ends-first (row ∷ rows) [] end last more rest only all h k e = absurd (only.0 (subst IsEndRecord (sym (first-same row last (rows ++ end ∷ more) rest e)) k))
 ends-first (row ∷ rows) (other ∷ others) end last more rest only all h k e =
     let tails = ends-first rows others end last more rest only.1 all.1 h k (others-same row other (rows ++ end ∷ more) (others ++ last ∷ rest) e) in
     (ap (λ r. r ∷ rows) (first-same row other _ _ e) ∙ ap (λ rs. other ∷ rs) tails.0, tails.1)
@@ -167,11 +167,11 @@ second_of [] = []
 second_of (word ∷ []) = []
 second_of (word ∷ name ∷ more) = name
 
-pub name-same : (name other : Text) (rows others : List Fields) → header_of name ∷ rows ≡ header_of other ∷ others → name ≡ other
+pub name-same : (name other : Text) (rows others : List Fields) → batch_header name ∷ rows ≡ batch_header other ∷ others → name ≡ other
 unfolding second_of
-name-same name other rows others e = ap second_of (first-same (header_of name) (header_of other) rows others e)
+name-same name other rows others e = ap second_of (first-same (batch_header name) (batch_header other) rows others e)
 
-pub right_end : (n : ℕ) → IsEnd (end_of n)
+pub right_end : (n : ℕ) → IsEndRecord (end_record_after n)
 unfolding field_at
 right_end n = refl
 
@@ -181,80 +181,80 @@ made : Text → Base → Ending → ℕ → Batch Base
 made text base ending rows = record { text = text; base = base; ending = ending; rows = rows }
 
 -- a batch of these answers, from its parts
-by_parts : (batch : Batch Base) (answers : List Answer) (base : Base) → batch.text ≡ lines_from 1 answers ++ end_line answers → batch.base ≡ base → batch.ending ≡ EndedWell
+by_parts : (batch : Batch Base) (answers : List Answer) (base : Base) → batch.text ≡ answer_lines_from 1 answers ++ batch_end_line answers → batch.base ≡ base → batch.ending ≡ EndedWell
     → batch.rows ≡ length answers → batch ≡ complete_batch {B = Base} (answers, base)
 unfolding made
 by_parts batch answers base t b e n =
-    let text : Text = lines_from 1 answers ++ end_line answers in
+    let text : Text = answer_lines_from 1 answers ++ batch_end_line answers in
     ap (λ x. made x batch.base batch.ending batch.rows) t ∙ ap (λ x. made text x batch.ending batch.rows) b ∙ ap (λ x. made text base x batch.rows) e ∙ ap (made text base EndedWell) n
 
 -- the records of a batch that ended well
 abbrev pub HasRecords : Text → Text → List Fields → Type 0
-HasRecords input name rows = (more : List Fields) × (records default_config (text_of input) ≡ header_of name ∷ (rows ++ end_of (length rows) ∷ more))
+HasRecords input name rows = (more : List Fields) × (records default_config (input_text input) ≡ batch_header name ∷ (rows ++ end_record_after (length rows) ∷ more))
 
 -- the second one ends well, and has the same rows
 by_ending : (input name other : Text) (rows others : List Fields) (answers told : List Answer) (ending : Ending) (out : Text) → NoEnds rows → NoEnds others
-    → HasRecords input name rows → Ends (Some (text_of input)) ending other others answers told out
-    → (ending ≡ EndedWell) × (name ≡ other) × (rows ≡ others) × (told ≡ answers) × (out ≡ lines_from 1 answers ++ end_line answers)
+    → HasRecords input name rows → MatchesEnding (Some (input_text input)) ending other others answers told out
+    → (ending ≡ EndedWell) × (name ≡ other) × (rows ≡ others) × (told ≡ answers) × (out ≡ answer_lines_from 1 answers ++ batch_end_line answers)
 by_ending input name other rows others answers told EndedWell out only all has ends =
-    let end = end_of (length others) in
-    let e = sym has.1 ∙ ends.0.1 ∙ ap (λ rs. header_of other ∷ rs) (append_assoc others (end ∷ []) ends.0.0) in
-    let tail = others-same (header_of name) (header_of other) _ _ e in
-    let k = ends-first rows others (end_of (length rows)) end has.0 ends.0.0 only all (right_end (length rows)) (right_end (length others)) tail in
+    let end = end_record_after (length others) in
+    let e = sym has.1 ∙ ends.0.1 ∙ ap (λ rs. batch_header other ∷ rs) (append_assoc others (end ∷ []) ends.0.0) in
+    let tail = others-same (batch_header name) (batch_header other) _ _ e in
+    let k = ends-first rows others (end_record_after (length rows)) end has.0 ends.0.0 only all (right_end (length rows)) (right_end (length others)) tail in
     (refl, name-same name other _ _ e, k.0, ends.1, ends.2)
 by_ending input name other rows others answers told BadEnd out only all has ends =
     let last = ends.0.0 in
-    let e = sym has.1 ∙ ends.0.3.1 ∙ ap (λ rs. header_of other ∷ rs) (append_assoc others (last ∷ []) ends.0.3.0) in
-    let tail = others-same (header_of name) (header_of other) _ _ e in
-    let k = ends-first rows others (end_of (length rows)) last has.0 ends.0.3.0 only all (right_end (length rows)) ends.0.1 tail in
-    absurd (ends.0.2 (sym k.1 ∙ ap (λ rs. end_of (length rs)) k.0))
+    let e = sym has.1 ∙ ends.0.3.1 ∙ ap (λ rs. batch_header other ∷ rs) (append_assoc others (last ∷ []) ends.0.3.0) in
+    let tail = others-same (batch_header name) (batch_header other) _ _ e in
+    let k = ends-first rows others (end_record_after (length rows)) last has.0 ends.0.3.0 only all (right_end (length rows)) ends.0.1 tail in
+    absurd (ends.0.2 (sym k.1 ∙ ap (λ rs. end_record_after (length rs)) k.0))
 by_ending input name other rows others answers told NoEnd out only all has (inl cut, said) =
-    let e = others-same (header_of name) (header_of other) _ _ (sym has.1 ∙ cut.1) in
-    absurd (no-end-within rows [] (end_of (length rows)) has.0 (right_end (length rows)) e tt)
+    let e = others-same (batch_header name) (batch_header other) _ _ (sym has.1 ∙ cut.1) in
+    absurd (no-end-within rows [] (end_record_after (length rows)) has.0 (right_end (length rows)) e tt)
 by_ending input name other rows others answers told NoEnd out only all has (inr cut, said) =
-    let e = others-same (header_of name) (header_of other) _ _ (sym has.1 ∙ cut.2) in
-    let none = All-joined (λ row. ¬ (IsEnd row)) others cut.0 all cut.1 in
-    absurd (no-end-within rows (others ++ cut.0 ∷ []) (end_of (length rows)) has.0 (right_end (length rows)) e none)
+    let e = others-same (batch_header name) (batch_header other) _ _ (sym has.1 ∙ cut.2) in
+    let none = All-joined (λ row. ¬ (IsEndRecord row)) others cut.0 all cut.1 in
+    absurd (no-end-within rows (others ++ cut.0 ∷ []) (end_record_after (length rows)) has.0 (right_end (length rows)) e none)
 by_ending input name other rows others answers told BadHeader out only all has ends = absurd ends
 
 -- the records of the first one
-pub by_first : (input name : Text) (rows : List Fields) (answers told : List Answer) (ending : Ending) (out : Text) → ending ≡ EndedWell → Ends (Some (text_of input)) ending name rows answers told out
+pub by_first : (input name : Text) (rows : List Fields) (answers told : List Answer) (ending : Ending) (out : Text) → ending ≡ EndedWell → MatchesEnding (Some (input_text input)) ending name rows answers told out
     → HasRecords input name rows
-by_first input name rows answers told EndedWell out well ends = (ends.0.0, ends.0.1 ∙ ap (λ rs. header_of name ∷ rs) (append_assoc rows (end_of (length rows) ∷ []) ends.0.0))
+by_first input name rows answers told EndedWell out well ends = (ends.0.0, ends.0.1 ∙ ap (λ rs. batch_header name ∷ rs) (append_assoc rows (end_record_after (length rows) ∷ []) ends.0.0))
 by_first input name rows answers told BadHeader out well ends = absurd ends
 by_first input name rows answers told NoEnd out well ends = absurd (cc)
 by_first input name rows answers told BadEnd out well ends = absurd (cc)
 
 -- a batch with such records is not without a header
-no-header : (input name : Text) (rest : List Fields) → IsName name → records default_config (text_of input) ≡ header_of name ∷ rest → HasNoHeader (Some (text_of input)) → ⊥
+no-header : (input name : Text) (rest : List Fields) → IsBatchName name → records default_config (input_text input) ≡ batch_header name ∷ rest → HasNoHeader (Some (input_text input)) → ⊥
 no-header input name rest named e (inl empty) = let no = sym empty ∙ e in absurd (cc)
-no-header input name rest named e (inr begins) = begins.2 name named (first-same begins.0 (header_of name) begins.1.0 rest (sym begins.1.1 ∙ e))
+no-header input name rest named e (inr begins) = begins.2 name named (first-same begins.0 (batch_header name) begins.1.0 rest (sym begins.1.1 ∙ e))
 
-by_kind : (form : Fields → Read Command) (base later : Base) (moments others : List ℕ) (input : Text) (answers : List Answer) (first second : Batch Base)
-    (one : IsAnswered form row_step base moments (Some (text_of input)) first) → one.answers ≡ answers → count_refused answers ≡ 0 → HasRecords input one.name one.rows
-    → Grows first.base later → BatchText form row_step later others input second → second ≡ complete_batch {B = Base} (map again_of answers, later)
+by_kind : (form : Fields → ReadResult Command) (base later : Base) (moments others : List ℕ) (input : Text) (answers : List Answer) (first second : Batch Base)
+    (one : IsAnswered form step_of_row base moments (Some (input_text input)) first) → one.answers ≡ answers → refused_answer_count answers ≡ 0 → HasRecords input one.name one.rows
+    → Grows first.base later → IsResultOfBatch form step_of_row later others input second → second ≡ complete_batch {B = Base} (map answer_to_retry answers, later)
 by_kind form base later moments others input answers first second one these none has g (inr two) = absurd (no-header input one.name _ one.settled.named has.1 two.headless)
 by_kind form base later moments others input answers first second one these none has g (inl two) =
-    by_parts second (map again_of answers) later (k.4 ∙ ap (λ a. lines_from 1 a ++ end_line a) same) again.1 k.0 (two.counted ∙ ap length (k.3 ∙ same))
+    by_parts second (map answer_to_retry answers) later (k.4 ∙ ap (λ a. answer_lines_from 1 a ++ batch_end_line a) same) again.1 k.0 (two.counted ∙ ap length (k.3 ∙ same))
   where
-    k : (second.ending ≡ EndedWell) × (one.name ≡ two.name) × (one.rows ≡ two.rows) × (two.told ≡ two.answers) × (second.text ≡ lines_from 1 two.answers ++ end_line two.answers)
+    k : (second.ending ≡ EndedWell) × (one.name ≡ two.name) × (one.rows ≡ two.rows) × (two.told ≡ two.answers) × (second.text ≡ answer_lines_from 1 two.answers ++ batch_end_line two.answers)
     k = by_ending input one.name two.name one.rows two.rows two.answers two.told second.ending second.text one.settled.rows_only two.settled.rows_only has two.ends
 
-    named : AreDecided form row_step one.name later others two.rows two.answers second.base
-    named = subst (λ n. AreDecided form row_step n later others two.rows two.answers second.base) (sym k.1) two.settled
+    named : AreDecided form step_of_row one.name later others two.rows two.answers second.base
+    named = subst (λ n. AreDecided form step_of_row n later others two.rows two.answers second.base) (sym k.1) two.settled
 
-    settled : AreDecided form row_step one.name later others one.rows two.answers second.base
-    settled = subst (λ rs. AreDecided form row_step one.name later others rs two.answers second.base) (sym k.2) named
+    settled : AreDecided form step_of_row one.name later others one.rows two.answers second.base
+    settled = subst (λ rs. AreDecided form step_of_row one.name later others rs two.answers second.base) (sym k.2) named
 
-    again : (two.answers ≡ map again_of one.answers) × (second.base ≡ later)
-    again = settled-again form one.name moments others one.rows one.answers two.answers base first.base later second.base (ap count_refused these ∙ none) one.settled g settled
+    again : (two.answers ≡ map answer_to_retry one.answers) × (second.base ≡ later)
+    again = settled-again form one.name moments others one.rows one.answers two.answers base first.base later second.base (ap refused_answer_count these ∙ none) one.settled g settled
 
-    same : two.answers ≡ map again_of answers
-    same = again.0 ∙ ap (map again_of) these
+    same : two.answers ≡ map answer_to_retry answers
+    same = again.0 ∙ ap (map answer_to_retry) these
 
-pub comes-again : (form : Fields → Read Command) (base later : Base) (moments others : List ℕ) (input : Text) (answers : List Answer) (first second : Batch Base) → IsCleanBatch form base moments input answers first
-    → LeadsTo first.base later → BatchText form row_step later others input second → second ≡ complete_batch {B = Base} (map again_of answers, later)
+pub comes-again : (form : Fields → ReadResult Command) (base later : Base) (moments others : List ℕ) (input : Text) (answers : List Answer) (first second : Batch Base) → IsBatchWithoutRefusals form base moments input answers first
+    → SomeRunLeadsTo first.base later → IsResultOfBatch form step_of_row later others input second → second ≡ complete_batch {B = Base} (map answer_to_retry answers, later)
 comes-again form base later moments others input answers first second went leads two =
-    let one : IsAnswered form row_step base moments (Some (text_of input)) first = went.answered in
+    let one : IsAnswered form step_of_row base moments (Some (input_text input)) first = went.answered in
     let has = by_first input one.name one.rows one.answers one.told first.ending first.text went.ended one.ends in
     by_kind form base later moments others input answers first second one went.these went.none_refused has (run-grows leads.0 leads.1 first.base later leads.2) two

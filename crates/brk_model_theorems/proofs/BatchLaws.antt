@@ -8,32 +8,32 @@ use Rattle.csv.specs.Records.{field_at}
 use Rattle.brk_money.specs.Spelling.{Text}
 use Rattle.brk_money.specs.declared.refusal.Refusal.TheVariants.{BadText}
 use Rattle.brk_model.specs.Base.{Base}
-use Rattle.brk_model.specs.Forms.{Read, is_batch_name}
+use Rattle.brk_model.specs.Forms.{ReadResult, is_batch_name}
 use Rattle.brk_model.specs.Parse.{parse_row}
 use Rattle.brk_model.specs.Commands.{Answer, Refused}
-use Rattle.brk_model.specs.Answers.{Fields, RowStep, RowCall, call_step, InTurn, formed_from, with_formed, calls_of, woven, woven_one}
-use Rattle.brk_model.specs.Input.{text_of, Begins, AreAll, IsName, IsEnd, header_of, end_of}
-use Rattle.brk_model.specs.Batch.{Batch, BadEnd, AreDecided, IsAnswered, IsUnanswered, BatchText, row_step}
-use Rattle.brk_model.specs.Computed.{AnswersAndBase, answered_in_turn, settled, is_end, Split, with_row, split_at_end, name_of_header, is_right, batch_without_end, complete_batch, ended_by, cut_off, batch_of_split, named, batch_from, batch}
+use Rattle.brk_model.specs.Answers.{Fields, RowStep, RowCall, answer_to_row_call, CallsHaveAnswers, well_formed_rows_from, with_well_formed_row, calls_of_rows, answers_interleaved_with_refusals, answers_from_row_on}
+use Rattle.brk_model.specs.Input.{input_text, BeginsWithRecords, HasExactlyRecords, IsBatchName, IsEndRecord, batch_header, end_record_after}
+use Rattle.brk_model.specs.Batch.{Batch, BadEnd, AreDecided, IsAnswered, IsUnanswered, IsResultOfBatch, step_of_row}
+use Rattle.brk_model.specs.Computed.{AnswersAndBase, answers_and_base_of_calls, answers_and_base_of_rows, is_end_record, RowsAndEndRecord, with_row_in_front, split_at_end_record, batch_name_of_header, has_correct_row_count, batch_without_end_line, complete_batch, batch_with_end_record, batch_without_end_record, batch_of_rows, batch_of_named_rows, batch_of_records, batch_of_input}
 
 -- ---- a run and its answers
 
-pub run_of : {B C : Type 0} (step : RowStep B C) (base : B) (calls : List (RowCall C)) → InTurn step base calls (answered_in_turn step base calls).0 (answered_in_turn step base calls).1
+pub run_of : {B C : Type 0} (step : RowStep B C) (base : B) (calls : List (RowCall C)) → CallsHaveAnswers step base calls (answers_and_base_of_calls step base calls).0 (answers_and_base_of_calls step base calls).1
 run_of step base [] = refl
-run_of step base (call ∷ calls) = (refl, run_of step (call_step step base call).1 calls)
+run_of step base (call ∷ calls) = (refl, run_of step (answer_to_row_call step base call).1 calls)
 
-pub length-in_turn : {B C : Type 0} (step : RowStep B C) (base : B) (calls : List (RowCall C)) → length (answered_in_turn step base calls).0 ≡ length calls
+pub length-in_turn : {B C : Type 0} (step : RowStep B C) (base : B) (calls : List (RowCall C)) → length (answers_and_base_of_calls step base calls).0 ≡ length calls
 length-in_turn step base [] = refl
-length-in_turn step base (call ∷ calls) = ap suc (length-in_turn step (call_step step base call).1 calls)
+length-in_turn step base (call ∷ calls) = ap suc (length-in_turn step (answer_to_row_call step base call).1 calls)
 
 -- moments past the last row are not asked for
-pub calls-take : {C : Type 0} (name : Text) (moments : List ℕ) (rows : List (ℕ × C)) → calls_of name (take (length rows) moments) rows ≡ calls_of name moments rows
+pub calls-take : {C : Type 0} (name : Text) (moments : List ℕ) (rows : List (ℕ × C)) → calls_of_rows name (take (length rows) moments) rows ≡ calls_of_rows name moments rows
 calls-take name [] [] = refl
 calls-take name [] (row ∷ rows) = refl
 calls-take name (moment ∷ moments) [] = refl
 calls-take name (moment ∷ moments) (row ∷ rows) = ap (λ calls. record { key = record { batch = name; row = row.0 }; now = moment; command = row.1 } ∷ calls) (calls-take name moments rows)
 
-pub length-calls : {C : Type 0} (name : Text) (moments : List ℕ) (rows : List (ℕ × C)) → length rows ≤ length moments → length (calls_of name moments rows) ≡ length rows
+pub length-calls : {C : Type 0} (name : Text) (moments : List ℕ) (rows : List (ℕ × C)) → length rows ≤ length moments → length (calls_of_rows name moments rows) ≡ length rows
 length-calls name [] [] h = refl
 length-calls name [] (row ∷ rows) h = absurd (omega (h, arith))
 length-calls name (moment ∷ moments) [] h = refl
@@ -46,21 +46,21 @@ length-taken (suc n) (x ∷ xs) h = ap suc (length-taken n xs (omega (h, arith))
 
 -- ---- the rows in form, and all of them
 
-pub formed-few : {C : Type 0} (form : Fields → Read C) (n : ℕ) (rows : List Fields) → length (formed_from form n rows) ≤ length rows
+pub formed-few : {C : Type 0} (form : Fields → ReadResult C) (n : ℕ) (rows : List Fields) → length (well_formed_rows_from form n rows) ≤ length rows
 formed-few form n [] = omega arith
-formed-few form n (row ∷ rows) = one (form row) n (formed_from form (n + 1) rows) (length rows) (formed-few form (n + 1) rows)
+formed-few form n (row ∷ rows) = one (form row) n (well_formed_rows_from form (n + 1) rows) (length rows) (formed-few form (n + 1) rows)
   where
-    one : {C : Type 0} (r : Read C) (n : ℕ) (rest : List (ℕ × C)) (k : ℕ) → length rest ≤ k → length (with_formed r n rest) ≤ suc k
+    one : {C : Type 0} (r : ReadResult C) (n : ℕ) (rest : List (ℕ × C)) (k : ℕ) → length rest ≤ k → length (with_well_formed_row r n rest) ≤ suc k
     one (Ok command) n rest k h = omega (h, arith)
     one (Err refusal) n rest k h = omega (h, arith)
 
-pub length-woven : {C : Type 0} (form : Fields → Read C) (n : ℕ) (rows : List Fields) (answers : List Answer)
-    → length answers ≡ length (formed_from form n rows) → length (woven form rows answers) ≡ length rows
+pub length-woven : {C : Type 0} (form : Fields → ReadResult C) (n : ℕ) (rows : List Fields) (answers : List Answer)
+    → length answers ≡ length (well_formed_rows_from form n rows) → length (answers_interleaved_with_refusals form rows answers) ≡ length rows
 length-woven form n [] answers h = refl
-length-woven form n (row ∷ rows) answers h = one (form row) n (formed_from form (n + 1) rows) (woven form rows) (length rows) answers (length-woven form (n + 1) rows) h
+length-woven form n (row ∷ rows) answers h = one (form row) n (well_formed_rows_from form (n + 1) rows) (answers_interleaved_with_refusals form rows) (length rows) answers (length-woven form (n + 1) rows) h
   where
-    one : {C : Type 0} (r : Read C) (n : ℕ) (rest : List (ℕ × C)) (more : List Answer → List Answer) (k : ℕ) (answers : List Answer)
-        → ((others : List Answer) → length others ≡ length rest → length (more others) ≡ k) → length answers ≡ length (with_formed r n rest) → length (woven_one r more answers) ≡ suc k
+    one : {C : Type 0} (r : ReadResult C) (n : ℕ) (rest : List (ℕ × C)) (more : List Answer → List Answer) (k : ℕ) (answers : List Answer)
+        → ((others : List Answer) → length others ≡ length rest → length (more others) ≡ k) → length answers ≡ length (with_well_formed_row r n rest) → length (answers_from_row_on r more answers) ≡ suc k
     one (Ok command) n rest more k [] each h = absurd (omega (h, arith))
     one (Ok command) n rest more k (answer ∷ answers) each h = ap suc (each answers (omega (h, arith)))
     one (Err refusal) n rest more k answers each h = ap suc (each answers h)
@@ -80,36 +80,36 @@ some-inj {X = X} {x = x} e = ap (value x) e
     value d None = d
     value d (Some x) = x
 
-pub end_is : (row : Fields) → is_end row ≡ true → IsEnd row
+pub end_is : (row : Fields) → is_end_record row ≡ true → IsEndRecord row
 unfolding field_at
 end_is [] h = absurd (cc)
 end_is (word ∷ fields) h = ap Some (sound word (codes "end") h)
 
-pub is_end_of : (row : Fields) → IsEnd row → is_end row ≡ true
+pub is_end_of : (row : Fields) → IsEndRecord row → is_end_record row ≡ true
 unfolding field_at
 is_end_of [] h = absurd (cc)
 is_end_of (word ∷ fields) h = same word (codes "end") (some-inj h)
 
-pub no_end : (row : Fields) → is_end row ≡ false → ¬ (IsEnd row)
+pub no_end : (row : Fields) → is_end_record row ≡ false → ¬ (IsEndRecord row)
 no_end row h e = let k = is_end_of row e in absurd (cc)
 
 -- what the split says of the rows
-abbrev pub Splits : List Fields → Split → Type 0
-Splits rows (front, Some last) = AllByRecursion (λ row. ¬ (IsEnd row)) front × IsEnd last × ((more : List Fields) × (rows ≡ front ++ last ∷ more))
-Splits rows (front, None) = AllByRecursion (λ row. ¬ (IsEnd row)) front × (rows ≡ front)
+abbrev pub Splits : List Fields → RowsAndEndRecord → Type 0
+Splits rows (front, Some last) = AllByRecursion (λ row. ¬ (IsEndRecord row)) front × IsEndRecord last × ((more : List Fields) × (rows ≡ front ++ last ∷ more))
+Splits rows (front, None) = AllByRecursion (λ row. ¬ (IsEndRecord row)) front × (rows ≡ front)
 
-pub with_row-Splits : (row : Fields) (rows : List Fields) (split : Split) → ¬ (IsEnd row) → Splits rows split → Splits (row ∷ rows) (with_row row split)
+pub with_row-Splits : (row : Fields) (rows : List Fields) (split : RowsAndEndRecord) → ¬ (IsEndRecord row) → Splits rows split → Splits (row ∷ rows) (with_row_in_front row split)
 with_row-Splits row rows (front, Some last) h s = ((h, s.0), s.1, (s.2.0, ap (λ rs. row ∷ rs) s.2.1))
 with_row-Splits row rows (front, None) h s = ((h, s.0), ap (λ rs. row ∷ rs) s.1)
 
-pub splits_one : (row : Fields) (rows : List Fields) (b : Bool) → is_end row ≡ b → Splits rows (split_at_end rows)
-    → Splits (row ∷ rows) (cond b ([], Some row) (with_row row (split_at_end rows)))
+pub splits_one : (row : Fields) (rows : List Fields) (b : Bool) → is_end_record row ≡ b → Splits rows (split_at_end_record rows)
+    → Splits (row ∷ rows) (cond b ([], Some row) (with_row_in_front row (split_at_end_record rows)))
 splits_one row rows true h s = (tt, end_is row h, (rows, refl))
-splits_one row rows false h s = with_row-Splits row rows (split_at_end rows) (no_end row h) s
+splits_one row rows false h s = with_row-Splits row rows (split_at_end_record rows) (no_end row h) s
 
-pub splits : (rows : List Fields) → Splits rows (split_at_end rows)
+pub splits : (rows : List Fields) → Splits rows (split_at_end_record rows)
 splits [] = (tt, refl)
-splits (row ∷ rows) = splits_one row rows (is_end row) refl (splits rows)
+splits (row ∷ rows) = splits_one row rows (is_end_record row) refl (splits rows)
 
 -- ---- the header and the right end
 
@@ -124,10 +124,10 @@ first_of (word ∷ more) = word
 
 -- what the name in a header says of it
 abbrev pub NameSays : Fields → Option Text → Type 0
-NameSays header (Some name) = (header ≡ header_of name) × IsName name
-NameSays header None = (name : Text) → IsName name → header ≡ header_of name → ⊥
+NameSays header (Some name) = (header ≡ batch_header name) × IsBatchName name
+NameSays header None = (name : Text) → IsBatchName name → header ≡ batch_header name → ⊥
 
-pub header_says : (header : Fields) → NameSays header (name_of_header header)
+pub header_says : (header : Fields) → NameSays header (batch_name_of_header header)
 unfolding second_of first_of
 header_says [] = λ name named e. absurd (cc)
 header_says (word ∷ []) = λ name named e. absurd (cc)
@@ -141,10 +141,10 @@ header_says (word ∷ name ∷ []) = at (bytes_eq word (codes "batch")) refl (is
 
 -- what the test of an end record says of it
 abbrev pub RightSays : ℕ → Fields → Bool → Type 0
-RightSays n last true = last ≡ end_of n
-RightSays n last false = last ≡ end_of n → ⊥
+RightSays n last true = last ≡ end_record_after n
+RightSays n last false = last ≡ end_record_after n → ⊥
 
-pub right_says : (n : ℕ) (last : Fields) → IsEnd last → RightSays n last (is_right n last)
+pub right_says : (n : ℕ) (last : Fields) → IsEndRecord last → RightSays n last (has_correct_row_count n last)
 unfolding field_at second_of
 right_says n [] h = λ e. absurd (cc)
 right_says n (word ∷ []) h = λ e. absurd (cc)
@@ -158,32 +158,32 @@ right_says n (word ∷ count ∷ []) h = at (bytes_eq count (decimal n)) refl
 -- ---- the batch
 
 -- rows that are none of them an end record, settled
-pub settles : {B C : Type 0} (form : Fields → Read C) (step : RowStep B C) (name : Text) (base : B) (moments : List ℕ) (rows : List Fields)
-    → IsName name → AllByRecursion (λ row. ¬ (IsEnd row)) rows → length rows ≤ length moments
-    → AreDecided form step name base (take (length (formed_from form 1 rows)) moments) rows (settled form step name base moments rows).0 (settled form step name base moments rows).1
+pub settles : {B C : Type 0} (form : Fields → ReadResult C) (step : RowStep B C) (name : Text) (base : B) (moments : List ℕ) (rows : List Fields)
+    → IsBatchName name → AllByRecursion (λ row. ¬ (IsEndRecord row)) rows → length rows ≤ length moments
+    → AreDecided form step name base (take (length (well_formed_rows_from form 1 rows)) moments) rows (answers_and_base_of_rows form step name base moments rows).0 (answers_and_base_of_rows form step name base moments rows).1
 settles {B = B} {C = C} form step name base moments rows named only h = record {
   named = named;
   rows_only = only;
   answered = record {
-    replies = (answered_in_turn step base calls).0;
+    replies = (answers_and_base_of_calls step base calls).0;
     one_each = length-taken (length formed) moments enough;
-    run = subst (λ cs. InTurn step base cs (answered_in_turn step base calls).0 (answered_in_turn step base calls).1) (sym (calls-take name moments formed)) (run_of step base calls);
+    run = subst (λ cs. CallsHaveAnswers step base cs (answers_and_base_of_calls step base calls).0 (answers_and_base_of_calls step base calls).1) (sym (calls-take name moments formed)) (run_of step base calls);
     all = refl;
   };
-  each = length-woven form 1 rows (answered_in_turn step base calls).0 (length-in_turn step base calls ∙ length-calls name moments formed enough);
+  each = length-woven form 1 rows (answers_and_base_of_calls step base calls).0 (length-in_turn step base calls ∙ length-calls name moments formed enough);
 }
   where
     formed : List (ℕ × C)
-    formed = formed_from form 1 rows
+    formed = well_formed_rows_from form 1 rows
 
     calls : List (RowCall C)
-    calls = calls_of name moments formed
+    calls = calls_of_rows name moments formed
 
     enough : length formed ≤ length moments
     enough = let k = formed-few form 1 rows in omega (k, h, arith)
 
 -- a batch comes to this with the first of the moments
-abbrev pub Comes : {B C : Type 0} → (Fields → Read C) → RowStep B C → B → List ℕ → Text → Batch B → Type 0
+abbrev pub Comes : {B C : Type 0} → (Fields → ReadResult C) → RowStep B C → B → List ℕ → Text → Batch B → Type 0
 Comes form step base moments text batch =
     (n : ℕ) × (IsAnswered form step base (take n moments) (Some text) batch ⊎ IsUnanswered base (take n moments) (Some text) batch)
 
@@ -196,36 +196,36 @@ length-append_one [] y zs = omega arith
 length-append_one (x ∷ xs) y zs = let h = length-append_one xs y zs in omega (h, arith)
 
 -- the rows before an end record, right or wrong
-pub ends_with : {B C : Type 0} (form : Fields → Read C) (step : RowStep B C) (name : Text) (base : B) (moments : List ℕ) (text : Text) (rows : List Fields) (last : Fields) (more : List Fields)
-    → IsName name → AllByRecursion (λ row. ¬ (IsEnd row)) rows → IsEnd last → records default_config text ≡ header_of name ∷ (rows ++ last ∷ more) → length rows ≤ length moments
-    → Comes form step base moments text (ended_by form step name base moments rows last)
-ends_with {B = B} form step name base moments text rows last more named only end all h = at (is_right (length rows) last) (right_says (length rows) last end)
+pub ends_with : {B C : Type 0} (form : Fields → ReadResult C) (step : RowStep B C) (name : Text) (base : B) (moments : List ℕ) (text : Text) (rows : List Fields) (last : Fields) (more : List Fields)
+    → IsBatchName name → AllByRecursion (λ row. ¬ (IsEndRecord row)) rows → IsEndRecord last → records default_config text ≡ batch_header name ∷ (rows ++ last ∷ more) → length rows ≤ length moments
+    → Comes form step base moments text (batch_with_end_record form step name base moments rows last)
+ends_with {B = B} form step name base moments text rows last more named only end all h = at (has_correct_row_count (length rows) last) (right_says (length rows) last end)
   where
     run : AnswersAndBase B
-    run = settled form step name base moments rows
+    run = answers_and_base_of_rows form step name base moments rows
 
-    at : (b : Bool) → RightSays (length rows) last b → Comes form step base moments text (cond b (complete_batch run) (batch_without_end run BadEnd))
+    at : (b : Bool) → RightSays (length rows) last b → Comes form step base moments text (cond b (complete_batch run) (batch_without_end_line run BadEnd))
     at true k = (
-      length (formed_from form 1 rows),
+      length (well_formed_rows_from form 1 rows),
       inl (record {
         name = name;
         rows = rows;
         answers = run.0;
         told = run.0;
         settled = settles form step name base moments rows named only h;
-        ends = ((more, all ∙ ap (λ l. header_of name ∷ (rows ++ l ∷ more)) k ∙ ap (λ rs. header_of name ∷ rs) (append-assoc rows (end_of (length rows) ∷ []) more)), refl, refl);
+        ends = ((more, all ∙ ap (λ l. batch_header name ∷ (rows ++ l ∷ more)) k ∙ ap (λ rs. batch_header name ∷ rs) (append-assoc rows (end_record_after (length rows) ∷ []) more)), refl, refl);
         counted = refl;
       }),
     )
     at false k = (
-      length (formed_from form 1 rows),
+      length (well_formed_rows_from form 1 rows),
       inl (record {
         name = name;
         rows = rows;
         answers = run.0;
         told = run.0;
         settled = settles form step name base moments rows named only h;
-        ends = ((last, end, k, (more, all ∙ ap (λ rs. header_of name ∷ rs) (append-assoc rows (last ∷ []) more))), refl, refl);
+        ends = ((last, end, k, (more, all ∙ ap (λ rs. batch_header name ∷ rs) (append-assoc rows (last ∷ []) more))), refl, refl);
         counted = refl;
       }),
     )
@@ -244,15 +244,15 @@ All-back P [] ys h = h
 All-back P (x ∷ xs) ys h = All-back P xs ys h.1
 
 -- rows with no end record after them
-pub cuts_off : {B C : Type 0} (form : Fields → Read C) (step : RowStep B C) (name : Text) (base : B) (moments : List ℕ) (text : Text) (rows : List Fields)
-    → IsName name → AllByRecursion (λ row. ¬ (IsEnd row)) rows → records default_config text ≡ header_of name ∷ rows → length rows ≤ length moments
-    → Comes form step base moments text (cut_off form step name base moments rows)
+pub cuts_off : {B C : Type 0} (form : Fields → ReadResult C) (step : RowStep B C) (name : Text) (base : B) (moments : List ℕ) (text : Text) (rows : List Fields)
+    → IsBatchName name → AllByRecursion (λ row. ¬ (IsEndRecord row)) rows → records default_config text ≡ batch_header name ∷ rows → length rows ≤ length moments
+    → Comes form step base moments text (batch_without_end_record form step name base moments rows)
 cuts_off form step name base moments text [] named only all h = (
-  length (formed_from form 1 []),
+  length (well_formed_rows_from form 1 []),
   inl (record {
     name = name;
     rows = [];
-    answers = (settled form step name base moments []).0;
+    answers = (answers_and_base_of_rows form step name base moments []).0;
     told = [];
     settled = settles form step name base moments [] named only h;
     ends = (inl (refl, all, refl), refl);
@@ -260,26 +260,26 @@ cuts_off form step name base moments text [] named only all h = (
   }),
 )
 cuts_off {B = B} form step name base moments text (row ∷ rows) named only all h = (
-  length (formed_from form 1 front),
+  length (well_formed_rows_from form 1 front),
   inl (record {
     name = name;
     rows = front;
     answers = run.0;
     told = run.0 ++ Refused BadText ∷ [];
     settled = settles form step name base moments front named (All-front P front (end.0 ∷ []) only') enough;
-    ends = (inr (end.0, (All-back P front (end.0 ∷ []) only').0, all ∙ ap (λ rs. header_of name ∷ rs) end.1, refl), refl);
+    ends = (inr (end.0, (All-back P front (end.0 ∷ []) only').0, all ∙ ap (λ rs. batch_header name ∷ rs) end.1, refl), refl);
     counted = refl;
   }),
 )
   where
     P : Fields → Type 0
-    P r = ¬ (IsEnd r)
+    P r = ¬ (IsEndRecord r)
 
     front : List Fields
     front = take (length rows) (row ∷ rows)
 
     run : AnswersAndBase B
-    run = settled form step name base moments front
+    run = answers_and_base_of_rows form step name base moments front
 
     end : (last : Fields) × (row ∷ rows ≡ front ++ last ∷ [])
     end = last_of row rows
@@ -291,39 +291,39 @@ cuts_off {B = B} form step name base moments text (row ∷ rows) named only all 
     enough = let k = length-append_one front end.0 [] in let e = ap length end.1 in omega (k, e, h, arith)
 
 -- the records after a header
-pub comes_named : {B C : Type 0} (form : Fields → Read C) (step : RowStep B C) (name : Text) (base : B) (moments : List ℕ) (text : Text) (rest : List Fields) (split : Split)
-    → IsName name → records default_config text ≡ header_of name ∷ rest → length rest ≤ length moments → Splits rest split
-    → Comes form step base moments text (batch_of_split form step name base moments split)
+pub comes_named : {B C : Type 0} (form : Fields → ReadResult C) (step : RowStep B C) (name : Text) (base : B) (moments : List ℕ) (text : Text) (rest : List Fields) (split : RowsAndEndRecord)
+    → IsBatchName name → records default_config text ≡ batch_header name ∷ rest → length rest ≤ length moments → Splits rest split
+    → Comes form step base moments text (batch_of_rows form step name base moments split)
 comes_named form step name base moments text rest (rows, Some last) named all h s =
-    ends_with form step name base moments text rows last s.2.0 named s.0 s.1 (all ∙ ap (λ rs. header_of name ∷ rs) s.2.1)
+    ends_with form step name base moments text rows last s.2.0 named s.0 s.1 (all ∙ ap (λ rs. batch_header name ∷ rs) s.2.1)
     (let k = length-append_one rows last s.2.0 in let e = ap length s.2.1 in omega (k, e, h, arith))
 comes_named form step name base moments text rest (rows, None) named all h s =
-    cuts_off form step name base moments text rows named s.0 (all ∙ ap (λ rs. header_of name ∷ rs) s.1) (let e = ap length s.1 in omega (e, h, arith))
+    cuts_off form step name base moments text rows named s.0 (all ∙ ap (λ rs. batch_header name ∷ rs) s.1) (let e = ap length s.1 in omega (e, h, arith))
 
 -- a batch without a header
-pub comes_headless : {B C : Type 0} (form : Fields → Read C) (step : RowStep B C) (base : B) (moments : List ℕ) (text : Text)
-    → (AreAll (Some text) [] ⊎ ((first : Fields) × Begins (Some text) (first ∷ []) × ((name : Text) → IsName name → first ≡ header_of name → ⊥)))
-    → Comes form step base moments text (named form step None base moments [])
+pub comes_headless : {B C : Type 0} (form : Fields → ReadResult C) (step : RowStep B C) (base : B) (moments : List ℕ) (text : Text)
+    → (HasExactlyRecords (Some text) [] ⊎ ((first : Fields) × BeginsWithRecords (Some text) (first ∷ []) × ((name : Text) → IsBatchName name → first ≡ batch_header name → ⊥)))
+    → Comes form step base moments text (batch_of_named_rows form step None base moments [])
 comes_headless form step base moments text h =
     (0, inr (record { headless = h; ending = refl; asked = refl; unchanged = refl; told = refl; counted = refl }))
 
 -- by the name in the header
-pub comes_headed : {B C : Type 0} (form : Fields → Read C) (step : RowStep B C) (base : B) (moments : List ℕ) (text : Text) (header : Fields) (rest : List Fields) (name : Option Text)
+pub comes_headed : {B C : Type 0} (form : Fields → ReadResult C) (step : RowStep B C) (base : B) (moments : List ℕ) (text : Text) (header : Fields) (rest : List Fields) (name : Option Text)
     → records default_config text ≡ header ∷ rest → length rest ≤ length moments → NameSays header name
-    → Comes form step base moments text (named form step name base moments rest)
+    → Comes form step base moments text (batch_of_named_rows form step name base moments rest)
 comes_headed form step base moments text header rest (Some name) all h says =
-    comes_named form step name base moments text rest (split_at_end rest) says.1 (all ∙ ap (λ r. r ∷ rest) says.0) h (splits rest)
+    comes_named form step name base moments text rest (split_at_end_record rest) says.1 (all ∙ ap (λ r. r ∷ rest) says.0) h (splits rest)
 comes_headed form step base moments text header rest None all h says =
     comes_headless form step base moments text (inr (header, (rest, all), says))
 
-pub comes : {B C : Type 0} (form : Fields → Read C) (step : RowStep B C) (base : B) (moments : List ℕ) (text : Text) (all : List Fields)
-    → records default_config text ≡ all → length all ≤ length moments → Comes form step base moments text (batch_from form step base moments all)
+pub comes : {B C : Type 0} (form : Fields → ReadResult C) (step : RowStep B C) (base : B) (moments : List ℕ) (text : Text) (all : List Fields)
+    → records default_config text ≡ all → length all ≤ length moments → Comes form step base moments text (batch_of_records form step base moments all)
 comes form step base moments text [] e h = comes_headless form step base moments text (inl e)
 comes form step base moments text (header ∷ rest) e h =
-    comes_headed form step base moments text header rest (name_of_header header) e (omega (h, arith)) (header_says header)
+    comes_headed form step base moments text header rest (batch_name_of_header header) e (omega (h, arith)) (header_says header)
 
 -- the function gives the batch text, and takes the first of the moments
-pub computes : (base : Base) (moments : List ℕ) (input : Text) → length (records default_config (text_of input)) ≤ length moments
-    → (n : ℕ) × BatchText parse_row row_step base (take n moments) input (batch base moments input)
-unfolding batch
-computes base moments input h = comes parse_row row_step base moments (text_of input) (records default_config (text_of input)) refl h
+pub computes : (base : Base) (moments : List ℕ) (input : Text) → length (records default_config (input_text input)) ≤ length moments
+    → (n : ℕ) × IsResultOfBatch parse_row step_of_row base (take n moments) input (batch_of_input base moments input)
+unfolding batch_of_input
+computes base moments input h = comes parse_row step_of_row base moments (input_text input) (records default_config (input_text input)) refl h

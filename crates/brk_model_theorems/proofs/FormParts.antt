@@ -3,14 +3,14 @@ use Rattle.std.proofs.Common.{◌≡◌, Bool, true, List, [], ◌∷◌, map, f
 use Rattle.std.specs.Prelude.{is_none, nat_le}
 use Rattle.std.specs.List.{list_all, range_with_len}
 use Rattle.std.specs.Option.{option_map_or}
-use Rattle.brk_money.specs.Moments.{last_day, last_stamp}
+use Rattle.brk_money.specs.Moments.{greatest_day, greatest_stamp}
 use Rattle.brk_model.specs.Limits.{greatest_id}
 use Rattle.brk_model.specs.Lists.{all_distinct}
 use Rattle.brk_model.specs.Schemas.{Schema}
 use Rattle.brk_model.specs.Tables.{Tables}
-use Rattle.brk_model.specs.Form.{kept_form, broker_form, customer_form, customer_limits, account_form, permission_form, security_form, last_trade_form, charge_form, band_form, no_overlap, tax_rate_form, customer_tax_form, trade_form, same_numbers, history_form, request_form, holding_form, summary_form, holding_history_form, settlement_form, cash_form, move_form, trades_moved, lacks_later_rows, has_keys, has_form, distinct_tax_ids, rises}
+use Rattle.brk_model.specs.Form.{is_well_formed_kept_row, is_well_formed_broker_row, is_well_formed_customer_row, is_within_customer_limits, is_well_formed_account_row, is_well_formed_permission_row, is_well_formed_security_row, is_well_formed_last_trade_row, is_well_formed_charge_row, is_well_formed_band_row, bands_are_disjoint, is_well_formed_tax_rate_row, is_well_formed_customer_tax_row, is_well_formed_trade_row, are_equal_number_lists, is_well_formed_history_row, is_well_formed_request_row, is_well_formed_holding_row, is_well_formed_summary_row, is_well_formed_holding_history_row, is_well_formed_settlement_row, is_well_formed_cash_row, is_well_formed_move_row, trade_ids_of_cash_rows, lacks_rows_of_later_schemas, tables_are_sorted_by_unique_key, satisfies_form_condition, has_distinct_tax_ids, is_sorted_by_unique_key}
 use Rattle.brk_model.specs.Keys.{kept_key, broker_key, customer_key, account_key, permission_key, security_key, last_trade_key, charge_key, band_key, tax_rate_key, customer_tax_key, trade_key, history_key, request_key, holding_key, summary_key, holding_history_key, settlement_key, cash_key, move_key}
-use Rattle.brk_model_theorems.specs.FormParts.{FormParts, KeysRise}
+use Rattle.brk_model_theorems.specs.FormParts.{SatisfiesFormParts, HasSortedTables}
 use Rattle.brk_model_theorems.proofs.Conjunctions.{parts, whole}
 
 -- ---- form
@@ -18,40 +18,40 @@ use Rattle.brk_model_theorems.proofs.Conjunctions.{parts, whole}
 -- its parts after the first one
 abbrev forms : Schema → Tables → List Bool
 forms schema t =
-    has_keys t ∷
-    distinct_tax_ids t.customers ∷
-    list_all kept_form t.kept ∷
-    list_all broker_form t.brokers ∷
-    list_all customer_form t.customers ∷
-    list_all (customer_limits t) t.customers ∷
-    list_all (account_form t) t.accounts ∷
-    list_all (permission_form t) t.permissions ∷
-    list_all (security_form t) t.securities ∷
-    list_all (last_trade_form t) t.last_trades ∷
-    list_all charge_form t.charges ∷
-    list_all (band_form schema) t.bands ∷
-    no_overlap t.bands ∷
-    list_all tax_rate_form t.tax_rates ∷
-    list_all (customer_tax_form t) t.customer_taxes ∷
-    list_all (trade_form schema t) t.trades ∷
-    same_numbers (map (λ row. row.id) t.trades) (range_with_len 1 (length t.trades)) ∷
-    list_all (history_form t) t.history ∷
-    list_all (request_form schema t) t.requests ∷
-    list_all (holding_form t) t.holdings ∷
-    list_all (summary_form schema t) t.summaries ∷
-    list_all (holding_history_form t) t.holding_history ∷
-    list_all (settlement_form t) t.settlements ∷
-    list_all (cash_form t) t.cash ∷
-    list_all (move_form t) t.moves ∷
-    all_distinct (trades_moved t.moves) ∷
+    tables_are_sorted_by_unique_key t ∷
+    has_distinct_tax_ids t.customers ∷
+    list_all is_well_formed_kept_row t.kept ∷
+    list_all is_well_formed_broker_row t.brokers ∷
+    list_all is_well_formed_customer_row t.customers ∷
+    list_all (is_within_customer_limits t) t.customers ∷
+    list_all (is_well_formed_account_row t) t.accounts ∷
+    list_all (is_well_formed_permission_row t) t.permissions ∷
+    list_all (is_well_formed_security_row t) t.securities ∷
+    list_all (is_well_formed_last_trade_row t) t.last_trades ∷
+    list_all is_well_formed_charge_row t.charges ∷
+    list_all (is_well_formed_band_row schema) t.bands ∷
+    bands_are_disjoint t.bands ∷
+    list_all is_well_formed_tax_rate_row t.tax_rates ∷
+    list_all (is_well_formed_customer_tax_row t) t.customer_taxes ∷
+    list_all (is_well_formed_trade_row schema t) t.trades ∷
+    are_equal_number_lists (map (λ row. row.id) t.trades) (range_with_len 1 (length t.trades)) ∷
+    list_all (is_well_formed_history_row t) t.history ∷
+    list_all (is_well_formed_request_row schema t) t.requests ∷
+    list_all (is_well_formed_holding_row t) t.holdings ∷
+    list_all (is_well_formed_summary_row schema t) t.summaries ∷
+    list_all (is_well_formed_holding_history_row t) t.holding_history ∷
+    list_all (is_well_formed_settlement_row t) t.settlements ∷
+    list_all (is_well_formed_cash_row t) t.cash ∷
+    list_all (is_well_formed_move_row t) t.moves ∷
+    all_distinct (trade_ids_of_cash_rows t.moves) ∷
     nat_le (length (filter (λ r. is_none r.trade) t.moves)) greatest_id ∷
-    option_map_or (λ day. nat_le day last_day) t.rule true ∷
-    lacks_later_rows schema t ∷ []
+    option_map_or (λ day. nat_le day greatest_day) t.rule true ∷
+    lacks_rows_of_later_schemas schema t ∷ []
 
-pub form_parts : (schema : Schema) (t : Tables) → has_form schema t ≡ true → FormParts schema t
-unfolding has_form
+pub form_parts : (schema : Schema) (t : Tables) → satisfies_form_condition schema t ≡ true → SatisfiesFormParts schema t
+unfolding satisfies_form_condition
 form_parts schema t h =
-    let p = parts (option_map_or (λ last. nat_le last last_stamp) t.last true) (forms schema t) h in
+    let p = parts (option_map_or (λ last. nat_le last greatest_stamp) t.last true) (forms schema t) h in
     record {
       clock = p.0;
       keys = p.1.0;
@@ -85,40 +85,40 @@ form_parts schema t h =
       fits = p.1.1.1.1.1.1.1.1.1.1.1.1.1.1.1.1.1.1.1.1.1.1.1.1.1.1.1.1.1.0;
     }
 
-pub form_whole : (schema : Schema) (t : Tables) → FormParts schema t → has_form schema t ≡ true
-unfolding has_form
+pub form_whole : (schema : Schema) (t : Tables) → SatisfiesFormParts schema t → satisfies_form_condition schema t ≡ true
+unfolding satisfies_form_condition
 form_whole schema t h =
-    whole (option_map_or (λ last. nat_le last last_stamp) t.last true) (forms schema t) h.clock
+    whole (option_map_or (λ last. nat_le last greatest_stamp) t.last true) (forms schema t) h.clock
     (h.keys, (h.tax_ids, (h.kept, (h.brokers, (h.customers, (h.limits, (h.accounts, (h.permissions, (h.securities, (h.last_trades, (h.charges, (h.bands, (h.apart, (h.tax_rates, (h.customer_taxes, (h.trades, (h.numbers, (h.history, (h.requests, (h.holdings, (h.summaries, (h.holding_history, (h.settlements, (h.cash, (h.moves, (h.own_moves, (h.counted, (h.rule, (h.fits, tt)))))))))))))))))))))))))))))
 
 -- ---- keys
 
 abbrev rests : Tables → List Bool
 rests t =
-    rises broker_key t.brokers ∷
-    rises customer_key t.customers ∷
-    rises account_key t.accounts ∷
-    rises permission_key t.permissions ∷
-    rises security_key t.securities ∷
-    rises last_trade_key t.last_trades ∷
-    rises charge_key t.charges ∷
-    rises band_key t.bands ∷
-    rises tax_rate_key t.tax_rates ∷
-    rises customer_tax_key t.customer_taxes ∷
-    rises trade_key t.trades ∷
-    rises history_key t.history ∷
-    rises request_key t.requests ∷
-    rises holding_key t.holdings ∷
-    rises summary_key t.summaries ∷
-    rises holding_history_key t.holding_history ∷
-    rises settlement_key t.settlements ∷
-    rises cash_key t.cash ∷
-    rises move_key t.moves ∷ []
+    is_sorted_by_unique_key broker_key t.brokers ∷
+    is_sorted_by_unique_key customer_key t.customers ∷
+    is_sorted_by_unique_key account_key t.accounts ∷
+    is_sorted_by_unique_key permission_key t.permissions ∷
+    is_sorted_by_unique_key security_key t.securities ∷
+    is_sorted_by_unique_key last_trade_key t.last_trades ∷
+    is_sorted_by_unique_key charge_key t.charges ∷
+    is_sorted_by_unique_key band_key t.bands ∷
+    is_sorted_by_unique_key tax_rate_key t.tax_rates ∷
+    is_sorted_by_unique_key customer_tax_key t.customer_taxes ∷
+    is_sorted_by_unique_key trade_key t.trades ∷
+    is_sorted_by_unique_key history_key t.history ∷
+    is_sorted_by_unique_key request_key t.requests ∷
+    is_sorted_by_unique_key holding_key t.holdings ∷
+    is_sorted_by_unique_key summary_key t.summaries ∷
+    is_sorted_by_unique_key holding_history_key t.holding_history ∷
+    is_sorted_by_unique_key settlement_key t.settlements ∷
+    is_sorted_by_unique_key cash_key t.cash ∷
+    is_sorted_by_unique_key move_key t.moves ∷ []
 
-pub keys_rise : (t : Tables) → has_keys t ≡ true → KeysRise t
-unfolding has_keys
+pub keys_rise : (t : Tables) → tables_are_sorted_by_unique_key t ≡ true → HasSortedTables t
+unfolding tables_are_sorted_by_unique_key
 keys_rise t h =
-    let p = parts (rises kept_key t.kept) (rests t) h in
+    let p = parts (is_sorted_by_unique_key kept_key t.kept) (rests t) h in
     record {
       kept = p.0;
       brokers = p.1.0;
@@ -142,6 +142,6 @@ keys_rise t h =
       moves = p.1.1.1.1.1.1.1.1.1.1.1.1.1.1.1.1.1.1.1.0;
     }
 
-pub keys_whole : (t : Tables) → KeysRise t → has_keys t ≡ true
-unfolding has_keys
-keys_whole t h = whole (rises kept_key t.kept) (rests t) h.kept (h.brokers, (h.customers, (h.accounts, (h.permissions, (h.securities, (h.last_trades, (h.charges, (h.bands, (h.tax_rates, (h.customer_taxes, (h.trades, (h.history, (h.requests, (h.holdings, (h.summaries, (h.holding_history, (h.settlements, (h.cash, (h.moves, tt)))))))))))))))))))
+pub keys_whole : (t : Tables) → HasSortedTables t → tables_are_sorted_by_unique_key t ≡ true
+unfolding tables_are_sorted_by_unique_key
+keys_whole t h = whole (is_sorted_by_unique_key kept_key t.kept) (rests t) h.kept (h.brokers, (h.customers, (h.accounts, (h.permissions, (h.securities, (h.last_trades, (h.charges, (h.bands, (h.tax_rates, (h.customer_taxes, (h.trades, (h.history, (h.requests, (h.holdings, (h.summaries, (h.holding_history, (h.settlements, (h.cash, (h.moves, tt)))))))))))))))))))

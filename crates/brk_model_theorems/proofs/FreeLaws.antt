@@ -10,11 +10,11 @@ use Rattle.brk_model.specs.Records.{Key, Kept}
 use Rattle.brk_model.specs.Base.{Base}
 use Rattle.brk_model.specs.Commands.{Command, Reply, Answer, Done, Again, Refused}
 use Rattle.brk_model.specs.Rows.{row_text}
-use Rattle.brk_model.specs.Lines.{is_refused}
-use Rattle.brk_model.specs.Keyed.{kept_under, keyed_step, keyed, acted, keeping}
+use Rattle.brk_model.specs.Lines.{is_refused_answer}
+use Rattle.brk_model.specs.Keyed.{stored_row_with_key, keyed_step, answer_by_stored_row, answer_and_base_of_step, base_with_stored_reply}
 use Rattle.brk_model.specs.Step.{step}
-use Rattle.brk_model.specs.Run.{Call, Do, Ask, Outcome, Did, Saw, NoView, Failed, Answers, Run}
-use Rattle.brk_model_theorems.specs.Laws.{IsDoneUnder, NoneDoneUnder}
+use Rattle.brk_model.specs.Run.{Call, Do, Ask, Outcome, Did, Saw, NoView, Failed, IsOutcomeOfCall, Run}
+use Rattle.brk_model_theorems.specs.Laws.{IsAcceptedUnderKey, AcceptsNothingUnderKey}
 use Rattle.brk_model_theorems.proofs.Steps.{Accepted, accepted, records-kept}
 use Rattle.brk_model_theorems.proofs.KeyLaws.{matches, row_kept, Keeps, keeps}
 use Rattle.brk_model_theorems.proofs.RunLaws.{keyed_step-says}
@@ -22,9 +22,9 @@ use Rattle.brk_model_theorems.proofs.RunLaws.{keyed_step-says}
 -- ---- a refused row
 
 pub keeps-none : (base : Base) (now : ℕ) (command : Command) (key : Key) (refusal : Refusal) (after : Base) → keyed_step base now command (Some key) ≡ (Refused refusal, after)
-    → kept_under base key ≡ None → (after ≡ base) × (kept_under after key ≡ None)
+    → stored_row_with_key base key ≡ None → (after ≡ base) × (stored_row_with_key after key ≡ None)
 keeps-none base now command key refusal after e none =
-    let same = keyed_step-says base now command (Some key) (Refused refusal) after e in (same, ap (λ b. kept_under b key) same ∙ none)
+    let same = keyed_step-says base now command (Some key) (Refused refusal) after e in (same, ap (λ b. stored_row_with_key b key) same ∙ none)
 
 refusal_in : Refusal → Answer → Refusal
 refusal_in d (Done reply) = d
@@ -33,25 +33,25 @@ refusal_in d (Refused refusal) = refusal
 
 by_row : (base : Base) (line : Text) (refusal : Refusal) (after : Base) (b : Bool) → ◌≡◌ {A = Answer × Base} (cond b (Again line) (Refused KeyReused), base) (Refused refusal, after) → refusal ≡ KeyReused
 unfolding refusal_in
-by_row base line refusal after true e = let no : false ≡ true = ap (λ r. is_refused r.0) e in absurd (cc)
+by_row base line refusal after true e = let no : false ≡ true = ap (λ r. is_refused_answer r.0) e in absurd (cc)
 by_row base line refusal after false e = sym (ap (λ r. refusal_in refusal r.0) e)
 
 by_found : (base : Base) (now : ℕ) (command : Command) (key : Key) (refusal : Refusal) (after : Base) (found : Option Kept)
-    → keyed base now command (Some key) found ≡ (Refused refusal, after) → ¬ (refusal ≡ KeyReused) → found ≡ None
+    → answer_by_stored_row base now command (Some key) found ≡ (Refused refusal, after) → ¬ (refusal ≡ KeyReused) → found ≡ None
 by_found base now command key refusal after None e other = refl
 by_found base now command key refusal after (Some k) e other = absurd (other (by_row base k.line refusal after (bytes_eq k.row_text (row_text command)) e))
 
 -- where it is refused for anything but its key
 pub was-free : (base : Base) (now : ℕ) (command : Command) (key : Key) (refusal : Refusal) (after : Base) → keyed_step base now command (Some key) ≡ (Refused refusal, after)
-    → ¬ (refusal ≡ KeyReused) → kept_under base key ≡ None
+    → ¬ (refusal ≡ KeyReused) → stored_row_with_key base key ≡ None
 unfolding keyed_step
-was-free base now command key refusal after e other = by_found base now command key refusal after (kept_under base key) e other
+was-free base now command key refusal after e other = by_found base now command key refusal after (stored_row_with_key base key) e other
 
 -- where nothing is kept the row is answered by the step
-pub acts : (base : Base) (now : ℕ) (command : Command) (key : Key) (reply : Reply) (booked : Base) → kept_under base key ≡ None → step base now command ≡ Ok (reply, booked)
-    → keyed_step base now command (Some key) ≡ (Done reply, keeping (Some key) command reply booked)
+pub acts : (base : Base) (now : ℕ) (command : Command) (key : Key) (reply : Reply) (booked : Base) → stored_row_with_key base key ≡ None → step base now command ≡ Ok (reply, booked)
+    → keyed_step base now command (Some key) ≡ (Done reply, base_with_stored_reply (Some key) command reply booked)
 unfolding keyed_step
-acts base now command key reply booked none h = ap (keyed base now command (Some key)) none ∙ ap (acted base (Some key) command) h
+acts base now command key reply booked none h = ap (answer_by_stored_row base now command (Some key)) none ∙ ap (answer_and_base_of_step base (Some key) command) h
 
 -- ---- calls under other keys
 
@@ -78,7 +78,7 @@ other_key key other command reply differs = at (bytes_eq other.batch key.batch) 
 
 -- a command without a key keeps no row
 by_step : (base : Base) (now : ℕ) (command : Command) (answer : Answer) (after : Base) (r : Result (Reply × Base) Refusal) → step base now command ≡ r
-    → acted base None command r ≡ (answer, after) → after.kept ≡ base.kept
+    → answer_and_base_of_step base None command r ≡ (answer, after) → after.kept ≡ base.kept
 by_step base now command answer after (Err refusal) h e = ap (λ r. r.1.kept) (sym e)
 by_step base now command answer after (Ok booked) h e =
     let k : Accepted base now command booked.0 booked.1 = accepted base now command booked.0 booked.1 h in
@@ -89,11 +89,11 @@ unfolding keyed_step
 without_key base now command answer after e = by_step base now command answer after (step base now command) refl e
 
 -- a base that keeps what another one keeps
-free_as : (base after : Base) (key : Key) → kept_under base key ≡ None → after.kept ≡ base.kept → kept_under after key ≡ None
+free_as : (base after : Base) (key : Key) → stored_row_with_key base key ≡ None → after.kept ≡ base.kept → stored_row_with_key after key ≡ None
 free_as base after key none same = ap (find (matches key)) same ∙ none
 
-answer-free : (base : Base) (now : ℕ) (call : Call) (answer : Answer) (after : Base) (key : Key) → kept_under base key ≡ None → Answers base now call (Did answer) after
-    → ¬ (IsDoneUnder key call (Did answer)) → kept_under after key ≡ None
+answer-free : (base : Base) (now : ℕ) (call : Call) (answer : Answer) (after : Base) (key : Key) → stored_row_with_key base key ≡ None → IsOutcomeOfCall base now call (Did answer) after
+    → ¬ (IsAcceptedUnderKey key call (Did answer)) → stored_row_with_key after key ≡ None
 answer-free base now (Ask query) answer after key none a other = absurd a
 answer-free base now (Do command None) answer after key none a other = free_as base after key none (without_key base now command answer after a)
 answer-free base now (Do command (Some k)) (Done reply) after key none a other =
@@ -103,8 +103,8 @@ answer-free base now (Do command (Some k)) (Again line) after key none a other =
 answer-free base now (Do command (Some k)) (Refused refusal) after key none a other =
     free_as base after key none (ap (λ b. b.kept) (keyed_step-says base now command (Some k) (Refused refusal) after a))
 
-call-free : (base : Base) (now : ℕ) (call : Call) (outcome : Outcome) (after : Base) (key : Key) → kept_under base key ≡ None → Answers base now call outcome after
-    → ¬ (IsDoneUnder key call outcome) → kept_under after key ≡ None
+call-free : (base : Base) (now : ℕ) (call : Call) (outcome : Outcome) (after : Base) (key : Key) → stored_row_with_key base key ≡ None → IsOutcomeOfCall base now call outcome after
+    → ¬ (IsAcceptedUnderKey key call outcome) → stored_row_with_key after key ≡ None
 call-free base now call (Did answer) after key none a other = answer-free base now call answer after key none a other
 call-free base now (Do command k) (Saw view) after key none a other = absurd a
 call-free base now (Ask query) (Saw view) after key none a other = free_as base after key none (ap (λ b. b.kept) a.1)
@@ -112,8 +112,8 @@ call-free base now (Do command k) (NoView refusal) after key none a other = absu
 call-free base now (Ask query) (NoView refusal) after key none a other = free_as base after key none (ap (λ b. b.kept) a.1)
 call-free base now call (Failed fault) after key none a other = free_as base after key none (ap (λ b. b.kept) a.1)
 
-pub stays-free : (key : Key) (calls : List (ℕ × Call)) (outcomes : List Outcome) (base later : Base) → kept_under base key ≡ None → Run base calls outcomes later
-    → NoneDoneUnder key calls outcomes → kept_under later key ≡ None
+pub stays-free : (key : Key) (calls : List (ℕ × Call)) (outcomes : List Outcome) (base later : Base) → stored_row_with_key base key ≡ None → Run base calls outcomes later
+    → AcceptsNothingUnderKey key calls outcomes → stored_row_with_key later key ≡ None
 stays-free key [] [] base later none r others = free_as base later key none (ap (λ b. b.kept) r)
 stays-free key [] (outcome ∷ outcomes) base later none r others = absurd r
 stays-free key (call ∷ calls) [] base later none r others = absurd r

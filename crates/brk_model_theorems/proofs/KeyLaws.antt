@@ -10,7 +10,7 @@ use Rattle.brk_model.specs.Records.{Key, Kept}
 use Rattle.brk_model.specs.Base.{Base}
 use Rattle.brk_model.specs.Commands.{Command, Reply, Answer, Done, Again, Refused}
 use Rattle.brk_model.specs.Rows.{row_text, line_text}
-use Rattle.brk_model.specs.Keyed.{kept_under, keyed_step, keyed, acted, repeated, keeping}
+use Rattle.brk_model.specs.Keyed.{stored_row_with_key, keyed_step, answer_by_stored_row, answer_and_base_of_step, answer_to_repeated_row, base_with_stored_reply}
 use Rattle.brk_model.specs.Step.{step}
 use Rattle.brk_model_theorems.proofs.Steps.{Accepted, accepted, records-kept}
 
@@ -48,7 +48,7 @@ row_kept key command reply = record { key = key; row_text = row_text command; li
 
 -- after an accepted row its key is found with it
 pub record Keeps (base : Base) (key : Key) (command : Command) (reply : Reply) (after : Base) : Type 0 where
-  pub fresh : kept_under base key ≡ None
+  pub fresh : stored_row_with_key base key ≡ None
   pub kept : after.kept ≡ base.kept ++ row_kept key command reply ∷ []
 
 base_in : Answer × Base → Base
@@ -62,21 +62,21 @@ is_done (Done reply) = true
 is_done (Again line) = false
 is_done (Refused refusal) = false
 
-by_step : (base : Base) (now : ℕ) (command : Command) (key : Key) (reply : Reply) (after : Base) → kept_under base key ≡ None → (r : Result (Reply × Base) Refusal) → step base now command ≡ r
-    → acted base (Some key) command r ≡ (Done reply, after) → Keeps base key command reply after
+by_step : (base : Base) (now : ℕ) (command : Command) (key : Key) (reply : Reply) (after : Base) → stored_row_with_key base key ≡ None → (r : Result (Reply × Base) Refusal) → step base now command ≡ r
+    → answer_and_base_of_step base (Some key) command r ≡ (Done reply, after) → Keeps base key command reply after
 unfolding base_in answer_in is_done
 by_step base now command key reply after fresh (Err refusal) h e = let no : false ≡ true = ap (λ a. is_done (answer_in a)) e in absurd (cc)
 by_step base now command key reply after fresh (Ok booked) h e =
     let told : booked.0 ≡ reply = done-inj (ap answer_in e) in
     let k : Accepted base now command booked.0 booked.1 = accepted base now command booked.0 booked.1 h in
-    let same : after ≡ keeping (Some key) command booked.0 booked.1 = sym (ap base_in e) in
+    let same : after ≡ base_with_stored_reply (Some key) command booked.0 booked.1 = sym (ap base_in e) in
     record {
       fresh = fresh;
       kept = ap (λ b. b.kept) same ∙ ap (λ b. b.kept ++ row_kept key command booked.0 ∷ []) k.moved
           ∙ ap (λ ks. ks ++ row_kept key command booked.0 ∷ []) (records-kept base _ command) ∙ ap (λ r. base.kept ++ row_kept key command r ∷ []) told;
     }
 
-repeated-not_done : (base : Base) (command : Command) (k : Kept) (reply : Reply) (after : Base) → repeated base command k ≡ (Done reply, after) → ⊥
+repeated-not_done : (base : Base) (command : Command) (k : Kept) (reply : Reply) (after : Base) → answer_to_repeated_row base command k ≡ (Done reply, after) → ⊥
 unfolding answer_in is_done
 repeated-not_done base command k reply after e = at (bytes_eq k.row_text (row_text command)) (ap (λ a. is_done (answer_in a)) e)
   where
@@ -84,17 +84,17 @@ repeated-not_done base command k reply after e = at (bytes_eq k.row_text (row_te
     at true h = absurd (cc)
     at false h = absurd (cc)
 
-by_kept : (base : Base) (now : ℕ) (command : Command) (key : Key) (reply : Reply) (after : Base) (found : Option Kept) → kept_under base key ≡ found
-    → keyed base now command (Some key) found ≡ (Done reply, after) → Keeps base key command reply after
+by_kept : (base : Base) (now : ℕ) (command : Command) (key : Key) (reply : Reply) (after : Base) (found : Option Kept) → stored_row_with_key base key ≡ found
+    → answer_by_stored_row base now command (Some key) found ≡ (Done reply, after) → Keeps base key command reply after
 by_kept base now command key reply after (Some k) h e = absurd (repeated-not_done base command k reply after e)
 by_kept base now command key reply after None h e = by_step base now command key reply after h (step base now command) refl e
 
 pub keeps : (base : Base) (now : ℕ) (command : Command) (key : Key) (reply : Reply) (after : Base) → keyed_step base now command (Some key) ≡ (Done reply, after) → Keeps base key command reply after
 unfolding keyed_step
-keeps base now command key reply after e = by_kept base now command key reply after (kept_under base key) refl e
+keeps base now command key reply after e = by_kept base now command key reply after (stored_row_with_key base key) refl e
 
 -- and it is found again
-pub found_again : (base : Base) (command : Command) (key : Key) (reply : Reply) (after : Base) → Keeps base key command reply after → kept_under after key ≡ Some (row_kept key command reply)
+pub found_again : (base : Base) (command : Command) (key : Key) (reply : Reply) (after : Base) → Keeps base key command reply after → stored_row_with_key after key ≡ Some (row_kept key command reply)
 found_again base command key reply after k =
     ap (find (matches key)) k.kept ∙ find-last (matches key) base.kept (row_kept key command reply) k.fresh (same_key key (row_text command) (line_text reply))
 
@@ -105,7 +105,7 @@ pub again : (base : Base) (now later : ℕ) (command : Command) (key : Key) (rep
     → keyed_step after later command (Some key) ≡ (Again (line_text reply), after)
 unfolding keyed_step
 again base now later command key reply after e =
-    ap (keyed after later command (Some key)) (found_again base command key reply after (keeps base now command key reply after e))
+    ap (answer_by_stored_row after later command (Some key)) (found_again base command key reply after (keeps base now command key reply after e))
     ∙ ap (λ b. (cond b (Again (line_text reply)) (Refused KeyReused), after)) ((bytes_eq-Decides (row_text command) (row_text command)).1 refl)
 
 -- another row is refused, and leaves it
@@ -113,5 +113,5 @@ pub changed : (base : Base) (now later : ℕ) (command other : Command) (key : K
     → bytes_eq (row_text command) (row_text other) ≡ false → keyed_step after later other (Some key) ≡ (Refused KeyReused, after)
 unfolding keyed_step
 changed base now later command other key reply after e h =
-    ap (keyed after later other (Some key)) (found_again base command key reply after (keeps base now command key reply after e))
+    ap (answer_by_stored_row after later other (Some key)) (found_again base command key reply after (keeps base now command key reply after e))
     ∙ ap (λ b. (cond b (Again (line_text reply)) (Refused KeyReused), after)) h

@@ -4,13 +4,13 @@ use Rattle.std.specs.List.{AllByRecursion}
 use Rattle.std.proofs.lemmas.List.Sums.{sum_by-cons}
 use Rattle.brk_money.specs.Spelling.{Text}
 use Rattle.brk_model.specs.Base.{Base}
-use Rattle.brk_model.specs.Forms.{Read}
+use Rattle.brk_model.specs.Forms.{ReadResult}
 use Rattle.brk_model.specs.Commands.{Command, Answer, Refused}
-use Rattle.brk_model.specs.Answers.{Fields, RowCall, InTurn, call_step, with_formed, formed_from, calls_of, woven, woven_one}
-use Rattle.brk_model.specs.Batch.{AreDecided, Batch, IsAnswered, row_step}
-use Rattle.brk_model.specs.Input.{Begins, IsEnd, end_of, header_of, text_of}
-use Rattle.brk_model.specs.Lines.{count_refused, is_refused}
-use Rattle.brk_model_theorems.specs.Laws.{LeadsTo, IsCleanBatch, again_of}
+use Rattle.brk_model.specs.Answers.{Fields, RowCall, CallsHaveAnswers, answer_to_row_call, with_well_formed_row, well_formed_rows_from, calls_of_rows, answers_interleaved_with_refusals, answers_from_row_on}
+use Rattle.brk_model.specs.Batch.{AreDecided, Batch, IsAnswered, step_of_row}
+use Rattle.brk_model.specs.Input.{BeginsWithRecords, IsEndRecord, end_record_after, batch_header, input_text}
+use Rattle.brk_model.specs.Lines.{refused_answer_count, is_refused_answer}
+use Rattle.brk_model_theorems.specs.Laws.{SomeRunLeadsTo, IsBatchWithoutRefusals, answer_to_retry}
 use Rattle.brk_model_theorems.proofs.AgainLaws.{HasRecords, by_first, first-same, length-turned, name-same, none-first, others-same, right_end, settled-again}
 use Rattle.brk_model_theorems.proofs.BatchLaws.{All-front, length-calls, length-woven}
 use Rattle.brk_model_theorems.proofs.KeptLaws.{Grows, grows-on, run-grows}
@@ -40,19 +40,19 @@ parts (suc n) k (x ∷ xs) e = let p = parts n k xs (omega (e, arith)) in record
 
 -- ---- calls in two parts
 
-formed-joined : {C : Type 0} (form : Fields → Read C) (n : ℕ) (front more : List Fields)
-    → formed_from form n (front ++ more) ≡ formed_from form n front ++ formed_from form (n + length front) more
-formed-joined form n [] more = ap (λ m. formed_from form m more) (omega arith)
+formed-joined : {C : Type 0} (form : Fields → ReadResult C) (n : ℕ) (front more : List Fields)
+    → well_formed_rows_from form n (front ++ more) ≡ well_formed_rows_from form n front ++ well_formed_rows_from form (n + length front) more
+formed-joined form n [] more = ap (λ m. well_formed_rows_from form m more) (omega arith)
 formed-joined form n (row ∷ front) more =
-    ap (with_formed (form row) n) (formed-joined form (n + 1) front more ∙ ap (λ m. formed_from form (n + 1) front ++ formed_from form m more) (omega arith))
-    ∙ one (form row) n (formed_from form (n + 1) front) (formed_from form (n + length (row ∷ front)) more)
+    ap (with_well_formed_row (form row) n) (formed-joined form (n + 1) front more ∙ ap (λ m. well_formed_rows_from form (n + 1) front ++ well_formed_rows_from form m more) (omega arith))
+    ∙ one (form row) n (well_formed_rows_from form (n + 1) front) (well_formed_rows_from form (n + length (row ∷ front)) more)
   where
-    one : {C : Type 0} (r : Read C) (n : ℕ) (xs ys : List (ℕ × C)) → with_formed r n (xs ++ ys) ≡ with_formed r n xs ++ ys
+    one : {C : Type 0} (r : ReadResult C) (n : ℕ) (xs ys : List (ℕ × C)) → with_well_formed_row r n (xs ++ ys) ≡ with_well_formed_row r n xs ++ ys
     one (Ok command) n xs ys = refl
     one (Err refusal) n xs ys = refl
 
 calls-joined : {C : Type 0} (name : Text) (early late : List ℕ) (xs ys : List (ℕ × C)) → length early ≡ length xs
-    → calls_of name (early ++ late) (xs ++ ys) ≡ calls_of name early xs ++ calls_of name late ys
+    → calls_of_rows name (early ++ late) (xs ++ ys) ≡ calls_of_rows name early xs ++ calls_of_rows name late ys
 calls-joined name [] late [] ys e = refl
 calls-joined name [] late (x ∷ xs) ys e = absurd (omega (e, arith))
 calls-joined name (m ∷ early) late [] ys e = absurd (omega (e, arith))
@@ -64,33 +64,33 @@ record Turned (base : Base) (front more : List (RowCall Command)) (answers : Lis
   pub first : List Answer
   pub rest : List Answer
   pub are : answers ≡ first ++ rest
-  pub before : InTurn row_step base front first mid
-  pub then : InTurn row_step mid more rest after
+  pub before : CallsHaveAnswers step_of_row base front first mid
+  pub then : CallsHaveAnswers step_of_row mid more rest after
 
-turned : (base : Base) (front more : List (RowCall Command)) (answers : List Answer) (after : Base) → InTurn row_step base (front ++ more) answers after → Turned base front more answers after
+turned : (base : Base) (front more : List (RowCall Command)) (answers : List Answer) (after : Base) → CallsHaveAnswers step_of_row base (front ++ more) answers after → Turned base front more answers after
 turned base [] more answers after r = record { mid = base; first = []; rest = answers; are = refl; before = refl; then = r }
 turned base (call ∷ front) more [] after r = absurd r
 turned base (call ∷ front) more (answer ∷ answers) after r =
-    let t = turned (call_step row_step base call).1 front more answers after r.1 in
+    let t = turned (answer_to_row_call step_of_row base call).1 front more answers after r.1 in
     record { mid = t.mid; first = answer ∷ t.first; rest = t.rest; are = ap (λ l. answer ∷ l) t.are; before = (r.0, t.before); then = t.then }
 
-pub in-turn-joined : (base mid after : Base) (front more : List (RowCall Command)) (first rest : List Answer) → InTurn row_step base front first mid → InTurn row_step mid more rest after
-    → InTurn row_step base (front ++ more) (first ++ rest) after
-in-turn-joined base mid after [] more [] rest r s = subst (λ b. InTurn row_step b more rest after) r s
+pub in-turn-joined : (base mid after : Base) (front more : List (RowCall Command)) (first rest : List Answer) → CallsHaveAnswers step_of_row base front first mid → CallsHaveAnswers step_of_row mid more rest after
+    → CallsHaveAnswers step_of_row base (front ++ more) (first ++ rest) after
+in-turn-joined base mid after [] more [] rest r s = subst (λ b. CallsHaveAnswers step_of_row b more rest after) r s
 in-turn-joined base mid after [] more (answer ∷ first) rest r s = absurd r
 in-turn-joined base mid after (call ∷ front) more [] rest r s = absurd r
-in-turn-joined base mid after (call ∷ front) more (answer ∷ first) rest r s = (r.0, in-turn-joined (call_step row_step base call).1 mid after front more first rest r.1 s)
+in-turn-joined base mid after (call ∷ front) more (answer ∷ first) rest r s = (r.0, in-turn-joined (answer_to_row_call step_of_row base call).1 mid after front more first rest r.1 s)
 
-woven-joined : {C : Type 0} (form : Fields → Read C) (n : ℕ) (front more : List Fields) (first rest : List Answer) → length first ≡ length (formed_from form n front)
-    → woven form (front ++ more) (first ++ rest) ≡ woven form front first ++ woven form more rest
+woven-joined : {C : Type 0} (form : Fields → ReadResult C) (n : ℕ) (front more : List Fields) (first rest : List Answer) → length first ≡ length (well_formed_rows_from form n front)
+    → answers_interleaved_with_refusals form (front ++ more) (first ++ rest) ≡ answers_interleaved_with_refusals form front first ++ answers_interleaved_with_refusals form more rest
 woven-joined form n [] more [] rest e = refl
 woven-joined form n [] more (answer ∷ first) rest e = absurd (omega (e, arith))
 woven-joined form n (row ∷ front) more first rest e =
-    one (form row) n (formed_from form (n + 1) front) (woven form (front ++ more)) (woven form front) (woven form more rest) first rest (λ answers. woven-joined form (n + 1) front more answers rest) e
+    one (form row) n (well_formed_rows_from form (n + 1) front) (answers_interleaved_with_refusals form (front ++ more)) (answers_interleaved_with_refusals form front) (answers_interleaved_with_refusals form more rest) first rest (λ answers. woven-joined form (n + 1) front more answers rest) e
   where
-    one : {C : Type 0} (r : Read C) (n : ℕ) (formed : List (ℕ × C)) (whole part : List Answer → List Answer) (back first rest : List Answer)
+    one : {C : Type 0} (r : ReadResult C) (n : ℕ) (formed : List (ℕ × C)) (whole part : List Answer → List Answer) (back first rest : List Answer)
         → ((answers : List Answer) → length answers ≡ length formed → whole (answers ++ rest) ≡ part answers ++ back)
-        → length first ≡ length (with_formed r n formed) → woven_one r whole (first ++ rest) ≡ woven_one r part first ++ back
+        → length first ≡ length (with_well_formed_row r n formed) → answers_from_row_on r whole (first ++ rest) ≡ answers_from_row_on r part first ++ back
     one (Ok command) n formed whole part back [] rest each e = absurd (omega (e, arith))
     one (Ok command) n formed whole part back (answer ∷ first) rest each e = ap (λ l. answer ∷ l) (each first (omega (e, arith)))
     one (Err refusal) n formed whole part back first rest each e = ap (λ l. Refused refusal ∷ l) (each first e)
@@ -98,7 +98,7 @@ woven-joined form n (row ∷ front) more first rest e =
 -- ---- rows in two parts
 
 -- the rows of a batch that were settled, in two parts
-record Parted (form : Fields → Read Command) (name : Text) (base : Base) (moments : List ℕ) (front more : List Fields) (answers : List Answer) (after : Base) : Type 0 where
+record Parted (form : Fields → ReadResult Command) (name : Text) (base : Base) (moments : List ℕ) (front more : List Fields) (answers : List Answer) (after : Base) : Type 0 where
   pub mid : Base
   pub early : List ℕ
   pub late : List ℕ
@@ -107,29 +107,29 @@ record Parted (form : Fields → Read Command) (name : Text) (base : Base) (mome
   pub replies : List Answer
   pub moments_are : moments ≡ early ++ late
   pub answers_are : answers ≡ first ++ rest
-  pub settled : AreDecided form row_step name base early front first mid
-  pub one_each : length late ≡ length (formed_from form (1 + length front) more)
-  pub run : InTurn row_step mid (calls_of name late (formed_from form (1 + length front) more)) replies after
-  pub all : rest ≡ woven form more replies
+  pub settled : AreDecided form step_of_row name base early front first mid
+  pub one_each : length late ≡ length (well_formed_rows_from form (1 + length front) more)
+  pub run : CallsHaveAnswers step_of_row mid (calls_of_rows name late (well_formed_rows_from form (1 + length front) more)) replies after
+  pub all : rest ≡ answers_interleaved_with_refusals form more replies
 
 length-joined : {X : Type 0} (xs ys : List X) → length (xs ++ ys) ≡ length xs + length ys
 length-joined [] ys = omega arith
 length-joined (x ∷ xs) ys = let h = length-joined xs ys in omega (h, arith)
 
-parted : (form : Fields → Read Command) (name : Text) (base : Base) (moments : List ℕ) (front more : List Fields) (answers : List Answer) (after : Base)
-    → AreDecided form row_step name base moments (front ++ more) answers after → Parted form name base moments front more answers after
+parted : (form : Fields → ReadResult Command) (name : Text) (base : Base) (moments : List ℕ) (front more : List Fields) (answers : List Answer) (after : Base)
+    → AreDecided form step_of_row name base moments (front ++ more) answers after → Parted form name base moments front more answers after
 parted form name base moments front more answers after s = record {
   mid = t.mid;
   early = p.front;
   late = p.back;
-  first = woven form front t.first;
-  rest = woven form more t.rest;
+  first = answers_interleaved_with_refusals form front t.first;
+  rest = answers_interleaved_with_refusals form more t.rest;
   replies = t.rest;
   moments_are = p.are;
-  answers_are = s.answered.all ∙ ap (woven form (front ++ more)) t.are ∙ woven-joined form 1 front more t.first t.rest firsts;
+  answers_are = s.answered.all ∙ ap (answers_interleaved_with_refusals form (front ++ more)) t.are ∙ woven-joined form 1 front more t.first t.rest firsts;
   settled = record {
     named = s.named;
-    rows_only = All-front (λ row. ¬ (IsEnd row)) front more s.rows_only;
+    rows_only = All-front (λ row. ¬ (IsEndRecord row)) front more s.rows_only;
     answered = record { replies = t.first; one_each = p.counted; run = t.before; all = refl };
     each = length-woven form 1 front t.first firsts;
   };
@@ -139,10 +139,10 @@ parted form name base moments front more answers after s = record {
 }
   where
     own : List (ℕ × Command)
-    own = formed_from form 1 front
+    own = well_formed_rows_from form 1 front
 
     others : List (ℕ × Command)
-    others = formed_from form (1 + length front) more
+    others = well_formed_rows_from form (1 + length front) more
 
     counted : length moments ≡ length own + length others
     counted = s.answered.one_each ∙ ap length (formed-joined form 1 front more) ∙ length-joined own others
@@ -153,154 +153,154 @@ parted form name base moments front more answers after s = record {
     lates : length p.back ≡ length others
     lates = let a = ap length p.are ∙ length-joined p.front p.back in let b = p.counted in let c = counted in omega (a, b, c, arith)
 
-    t : Turned base (calls_of name p.front own) (calls_of name p.back others) s.answered.replies after
-    t = turned base (calls_of name p.front own) (calls_of name p.back others) s.answered.replies after
-        (subst (λ calls. InTurn row_step base calls s.answered.replies after)
-        (ap (λ ms. calls_of name ms (formed_from form 1 (front ++ more))) p.are ∙ ap (calls_of name (p.front ++ p.back)) (formed-joined form 1 front more)
+    t : Turned base (calls_of_rows name p.front own) (calls_of_rows name p.back others) s.answered.replies after
+    t = turned base (calls_of_rows name p.front own) (calls_of_rows name p.back others) s.answered.replies after
+        (subst (λ calls. CallsHaveAnswers step_of_row base calls s.answered.replies after)
+        (ap (λ ms. calls_of_rows name ms (well_formed_rows_from form 1 (front ++ more))) p.are ∙ ap (calls_of_rows name (p.front ++ p.back)) (formed-joined form 1 front more)
         ∙ calls-joined name p.front p.back own others p.counted) s.answered.run)
 
     firsts : length t.first ≡ length own
-    firsts = length-turned (calls_of name p.front own) t.first base t.mid t.before ∙ length-calls name p.front own (let e = p.counted in omega (e, arith))
+    firsts = length-turned (calls_of_rows name p.front own) t.first base t.mid t.before ∙ length-calls name p.front own (let e = p.counted in omega (e, arith))
 
 -- the second part after another settling of the first one
-pub joined : (form : Fields → Read Command) (name : Text) (base mid after : Base) (early late : List ℕ) (front more : List Fields) (first replies : List Answer)
-    → AreDecided form row_step name base early front first mid → AllByRecursion (λ row. ¬ (IsEnd row)) (front ++ more)
-    → length late ≡ length (formed_from form (1 + length front) more)
-    → InTurn row_step mid (calls_of name late (formed_from form (1 + length front) more)) replies after
-    → AreDecided form row_step name base (early ++ late) (front ++ more) (first ++ woven form more replies) after
+pub joined : (form : Fields → ReadResult Command) (name : Text) (base mid after : Base) (early late : List ℕ) (front more : List Fields) (first replies : List Answer)
+    → AreDecided form step_of_row name base early front first mid → AllByRecursion (λ row. ¬ (IsEndRecord row)) (front ++ more)
+    → length late ≡ length (well_formed_rows_from form (1 + length front) more)
+    → CallsHaveAnswers step_of_row mid (calls_of_rows name late (well_formed_rows_from form (1 + length front) more)) replies after
+    → AreDecided form step_of_row name base (early ++ late) (front ++ more) (first ++ answers_interleaved_with_refusals form more replies) after
 joined form name base mid after early late front more first replies s only lates r = record {
   named = s.named;
   rows_only = only;
   answered = record {
     replies = s.answered.replies ++ replies;
     one_each = counted;
-    run = subst (λ calls. InTurn row_step base calls (s.answered.replies ++ replies) after) (sym calls)
-        (in-turn-joined base mid after (calls_of name early own) (calls_of name late others) s.answered.replies replies s.answered.run r);
+    run = subst (λ calls. CallsHaveAnswers step_of_row base calls (s.answered.replies ++ replies) after) (sym calls)
+        (in-turn-joined base mid after (calls_of_rows name early own) (calls_of_rows name late others) s.answered.replies replies s.answered.run r);
     all = told;
   };
   each = ap length told ∙ length-woven form 1 (front ++ more) (s.answered.replies ++ replies) enough;
 }
   where
     own : List (ℕ × Command)
-    own = formed_from form 1 front
+    own = well_formed_rows_from form 1 front
 
     others : List (ℕ × Command)
-    others = formed_from form (1 + length front) more
+    others = well_formed_rows_from form (1 + length front) more
 
-    calls : calls_of name (early ++ late) (formed_from form 1 (front ++ more)) ≡ calls_of name early own ++ calls_of name late others
-    calls = ap (calls_of name (early ++ late)) (formed-joined form 1 front more) ∙ calls-joined name early late own others s.answered.one_each
+    calls : calls_of_rows name (early ++ late) (well_formed_rows_from form 1 (front ++ more)) ≡ calls_of_rows name early own ++ calls_of_rows name late others
+    calls = ap (calls_of_rows name (early ++ late)) (formed-joined form 1 front more) ∙ calls-joined name early late own others s.answered.one_each
 
     firsts : length s.answered.replies ≡ length own
-    firsts = length-turned (calls_of name early own) s.answered.replies base mid s.answered.run ∙ length-calls name early own (let e = s.answered.one_each in omega (e, arith))
+    firsts = length-turned (calls_of_rows name early own) s.answered.replies base mid s.answered.run ∙ length-calls name early own (let e = s.answered.one_each in omega (e, arith))
 
     rests : length replies ≡ length others
-    rests = length-turned (calls_of name late others) replies mid after r ∙ length-calls name late others (let e = lates in omega (e, arith))
+    rests = length-turned (calls_of_rows name late others) replies mid after r ∙ length-calls name late others (let e = lates in omega (e, arith))
 
-    all_formed : length (formed_from form 1 (front ++ more)) ≡ length own + length others
+    all_formed : length (well_formed_rows_from form 1 (front ++ more)) ≡ length own + length others
     all_formed = ap length (formed-joined form 1 front more) ∙ length-joined own others
 
-    counted : length (early ++ late) ≡ length (formed_from form 1 (front ++ more))
+    counted : length (early ++ late) ≡ length (well_formed_rows_from form 1 (front ++ more))
     counted = let a = length-joined early late in let b = s.answered.one_each in let c = lates in let d = all_formed in omega (a, b, c, d, arith)
 
-    enough : length (s.answered.replies ++ replies) ≡ length (formed_from form 1 (front ++ more))
+    enough : length (s.answered.replies ++ replies) ≡ length (well_formed_rows_from form 1 (front ++ more))
     enough = let a = length-joined s.answered.replies replies in let b = firsts in let c = rests in let d = all_formed in omega (a, b, c, d, arith)
 
-    told : first ++ woven form more replies ≡ woven form (front ++ more) (s.answered.replies ++ replies)
-    told = ap (λ l. l ++ woven form more replies) s.answered.all ∙ sym (woven-joined form 1 front more s.answered.replies replies firsts)
+    told : first ++ answers_interleaved_with_refusals form more replies ≡ answers_interleaved_with_refusals form (front ++ more) (s.answered.replies ++ replies)
+    told = ap (λ l. l ++ answers_interleaved_with_refusals form more replies) s.answered.all ∙ sym (woven-joined form 1 front more s.answered.replies replies firsts)
 
 -- ---- a part settled again
 
-pub none-with : (x : Answer) (xs : List Answer) → is_refused x ≡ false → count_refused xs ≡ 0 → count_refused (x ∷ xs) ≡ 0
-none-with x xs h k = sum_by-cons (λ a. cond (is_refused a) 1 0) x xs ∙ (λ i. cond (h i) 1 0 + k i)
+pub none-with : (x : Answer) (xs : List Answer) → is_refused_answer x ≡ false → refused_answer_count xs ≡ 0 → refused_answer_count (x ∷ xs) ≡ 0
+none-with x xs h k = sum_by-cons (λ a. cond (is_refused_answer a) 1 0) x xs ∙ (λ i. cond (h i) 1 0 + k i)
 
-none-front : (xs ys : List Answer) → count_refused (xs ++ ys) ≡ 0 → count_refused xs ≡ 0
+none-front : (xs ys : List Answer) → refused_answer_count (xs ++ ys) ≡ 0 → refused_answer_count xs ≡ 0
 none-front [] ys h = refl
 none-front (x ∷ xs) ys h = let k = none-first x (xs ++ ys) h in none-with x xs k.0 (none-front xs ys k.1)
 
 -- the first rows of those that were settled before
-pub part-again : (form : Fields → Read Command) (name : Text) (base after later last : Base) (moments others : List ℕ) (front more : List Fields) (answers told : List Answer)
-    → count_refused answers ≡ 0 → AreDecided form row_step name base moments (front ++ more) answers after → Grows after later → AreDecided form row_step name later others front told last
-    → (told ≡ map again_of (take (length front) answers)) × (last ≡ later)
+pub part-again : (form : Fields → ReadResult Command) (name : Text) (base after later last : Base) (moments others : List ℕ) (front more : List Fields) (answers told : List Answer)
+    → refused_answer_count answers ≡ 0 → AreDecided form step_of_row name base moments (front ++ more) answers after → Grows after later → AreDecided form step_of_row name later others front told last
+    → (told ≡ map answer_to_retry (take (length front) answers)) × (last ≡ later)
 part-again form name base after later last moments others front more answers told none one g two =
     let p = parted form name base moments front more answers after one in
-    let grown : Grows p.mid later = grows-on p.mid after later (run-grows _ _ p.mid after (rows-run p.mid (calls_of name p.late (formed_from form (1 + length front) more)) p.replies after p.run)) g in
-    let again = settled-again form name p.early others front p.first told base p.mid later last (none-front p.first p.rest (ap count_refused (sym p.answers_are) ∙ none)) p.settled grown two in
+    let grown : Grows p.mid later = grows-on p.mid after later (run-grows _ _ p.mid after (rows-run p.mid (calls_of_rows name p.late (well_formed_rows_from form (1 + length front) more)) p.replies after p.run)) g in
+    let again = settled-again form name p.early others front p.first told base p.mid later last (none-front p.first p.rest (ap refused_answer_count (sym p.answers_are) ∙ none)) p.settled grown two in
     let same : take (length front) answers ≡ p.first =
     ap (λ (n : ℕ). take n answers) (sym p.settled.each) ∙ ap (take (length p.first)) p.answers_are ∙ take-front p.first p.rest in
-    (again.0 ∙ ap (map again_of) (sym same), again.1)
+    (again.0 ∙ ap (map answer_to_retry) (sym same), again.1)
 
 -- rows of which the first ones were settled before
-pub completed-by : (form : Fields → Read Command) (name : Text) (base mid last : Base) (moments others : List ℕ) (front more : List Fields) (answers told : List Answer)
-    → count_refused answers ≡ 0 → AreDecided form row_step name base moments front answers mid → AreDecided form row_step name mid others (front ++ more) told last
-    → (take (length front) told ≡ map again_of answers)
-    × AreDecided form row_step name base (moments ++ drop (length moments) others) (front ++ more) (answers ++ drop (length front) told) last
+pub completed-by : (form : Fields → ReadResult Command) (name : Text) (base mid last : Base) (moments others : List ℕ) (front more : List Fields) (answers told : List Answer)
+    → refused_answer_count answers ≡ 0 → AreDecided form step_of_row name base moments front answers mid → AreDecided form step_of_row name mid others (front ++ more) told last
+    → (take (length front) told ≡ map answer_to_retry answers)
+    × AreDecided form step_of_row name base (moments ++ drop (length moments) others) (front ++ more) (answers ++ drop (length front) told) last
 completed-by form name base mid last moments others front more answers told none one two =
     (ap (λ (n : ℕ). take n told) (sym p.settled.each) ∙ ap (take (length p.first)) p.answers_are ∙ take-front p.first p.rest ∙ again.0, whole)
   where
     p : Parted form name mid others front more told last
     p = parted form name mid others front more told last two
 
-    again : (p.first ≡ map again_of answers) × (p.mid ≡ mid)
+    again : (p.first ≡ map answer_to_retry answers) × (p.mid ≡ mid)
     again = settled-again form name moments p.early front answers p.first base mid mid p.mid none one ([], sym (append-nil mid.kept)) p.settled
 
     lates : drop (length moments) others ≡ p.late
     lates =
         ap (λ (n : ℕ). drop n others) (one.answered.one_each ∙ sym p.settled.answered.one_each) ∙ ap (drop (length p.early)) p.moments_are ∙ drop-front p.early p.late
 
-    rests : drop (length front) told ≡ woven form more p.replies
+    rests : drop (length front) told ≡ answers_interleaved_with_refusals form more p.replies
     rests = ap (λ (n : ℕ). drop n told) (sym p.settled.each) ∙ ap (drop (length p.first)) p.answers_are ∙ drop-front p.first p.rest ∙ p.all
 
-    both : AreDecided form row_step name base (moments ++ p.late) (front ++ more) (answers ++ woven form more p.replies) last
+    both : AreDecided form step_of_row name base (moments ++ p.late) (front ++ more) (answers ++ answers_interleaved_with_refusals form more p.replies) last
     both =
         joined form name base mid last moments p.late front more answers p.replies one two.rows_only p.one_each
-        (subst (λ b. InTurn row_step b (calls_of name p.late (formed_from form (1 + length front) more)) p.replies last) again.1 p.run)
+        (subst (λ b. CallsHaveAnswers step_of_row b (calls_of_rows name p.late (well_formed_rows_from form (1 + length front) more)) p.replies last) again.1 p.run)
 
-    whole : AreDecided form row_step name base (moments ++ drop (length moments) others) (front ++ more) (answers ++ drop (length front) told) last
+    whole : AreDecided form step_of_row name base (moments ++ drop (length moments) others) (front ++ more) (answers ++ drop (length front) told) last
     whole =
-        subst (λ ms. AreDecided form row_step name base (moments ++ ms) (front ++ more) (answers ++ drop (length front) told) last) (sym lates)
-        (subst (λ l. AreDecided form row_step name base (moments ++ p.late) (front ++ more) (answers ++ l) last) (sym rests) both)
+        subst (λ ms. AreDecided form step_of_row name base (moments ++ ms) (front ++ more) (answers ++ drop (length front) told) last) (sym lates)
+        (subst (λ l. AreDecided form step_of_row name base (moments ++ p.late) (front ++ more) (answers ++ l) last) (sym rests) both)
 
 -- ---- the rows of a text
 
 -- the rows before the first end record begin with those that were settled
-pub prefix : (rows others rest : List Fields) (end : Fields) (more : List Fields) → AllByRecursion (λ row. ¬ (IsEnd row)) rows → IsEnd end → rows ++ rest ≡ others ++ end ∷ more
+pub prefix : (rows others rest : List Fields) (end : Fields) (more : List Fields) → AllByRecursion (λ row. ¬ (IsEndRecord row)) rows → IsEndRecord end → rows ++ rest ≡ others ++ end ∷ more
     → (back : List Fields) × (others ≡ rows ++ back)
 prefix [] others rest end more only h e = (others, refl)
-prefix (row ∷ rows) [] rest end more only h e = absurd (only.0 (subst IsEnd (sym (first-same row end (rows ++ rest) more e)) h))
+prefix (row ∷ rows) [] rest end more only h e = absurd (only.0 (subst IsEndRecord (sym (first-same row end (rows ++ rest) more e)) h))
 prefix (row ∷ rows) (other ∷ others) rest end more only h e =
     let p = prefix rows others rest end more only.1 h (others-same row other (rows ++ rest) (others ++ end ∷ more) e) in
     (p.0, (λ i. sym (first-same row other (rows ++ rest) (others ++ end ∷ more) e) i ∷ p.1 i))
 
 -- whatever rows of a batch that went through are settled again change nothing
-pub rows-again : (form : Fields → Read Command) (base later last : Base) (moments others : List ℕ) (input : Text) (answers told : List Answer) (first : Batch Base) (name : Text) (rows : List Fields)
-    → IsCleanBatch form base moments input answers first → LeadsTo first.base later → Begins (Some (text_of input)) (header_of name ∷ rows)
-    → AreDecided form row_step name later others rows told last → (told ≡ map again_of (take (length rows) answers)) × (last ≡ later)
+pub rows-again : (form : Fields → ReadResult Command) (base later last : Base) (moments others : List ℕ) (input : Text) (answers told : List Answer) (first : Batch Base) (name : Text) (rows : List Fields)
+    → IsBatchWithoutRefusals form base moments input answers first → SomeRunLeadsTo first.base later → BeginsWithRecords (Some (input_text input)) (batch_header name ∷ rows)
+    → AreDecided form step_of_row name later others rows told last → (told ≡ map answer_to_retry (take (length rows) answers)) × (last ≡ later)
 rows-again form base later last moments others input answers told first name rows went leads begins two =
-    (again.0 ∙ ap (λ l. map again_of (take (length rows) l)) went.these, again.1)
+    (again.0 ∙ ap (λ l. map answer_to_retry (take (length rows) l)) went.these, again.1)
   where
-    one : IsAnswered form row_step base moments (Some (text_of input)) first
+    one : IsAnswered form step_of_row base moments (Some (input_text input)) first
     one = went.answered
 
     has : HasRecords input one.name one.rows
     has = by_first input one.name one.rows one.answers one.told first.ending first.text went.ended one.ends
 
-    same : header_of name ∷ (rows ++ begins.0) ≡ header_of one.name ∷ (one.rows ++ end_of (length one.rows) ∷ has.0)
+    same : batch_header name ∷ (rows ++ begins.0) ≡ batch_header one.name ∷ (one.rows ++ end_record_after (length one.rows) ∷ has.0)
     same = sym begins.1 ∙ has.1
 
     names : one.name ≡ name
-    names = sym (name-same name one.name (rows ++ begins.0) (one.rows ++ end_of (length one.rows) ∷ has.0) same)
+    names = sym (name-same name one.name (rows ++ begins.0) (one.rows ++ end_record_after (length one.rows) ∷ has.0) same)
 
     back : (back : List Fields) × (one.rows ≡ rows ++ back)
-    back = prefix rows one.rows begins.0 (end_of (length one.rows)) has.0 two.rows_only (right_end (length one.rows))
-        (others-same (header_of name) (header_of one.name) (rows ++ begins.0) (one.rows ++ end_of (length one.rows) ∷ has.0) same)
+    back = prefix rows one.rows begins.0 (end_record_after (length one.rows)) has.0 two.rows_only (right_end (length one.rows))
+        (others-same (batch_header name) (batch_header one.name) (rows ++ begins.0) (one.rows ++ end_record_after (length one.rows) ∷ has.0) same)
 
-    named : AreDecided form row_step name base moments one.rows one.answers first.base
-    named = subst (λ n. AreDecided form row_step n base moments one.rows one.answers first.base) names one.settled
+    named : AreDecided form step_of_row name base moments one.rows one.answers first.base
+    named = subst (λ n. AreDecided form step_of_row n base moments one.rows one.answers first.base) names one.settled
 
-    settled : AreDecided form row_step name base moments (rows ++ back.0) one.answers first.base
-    settled = subst (λ rs. AreDecided form row_step name base moments rs one.answers first.base) back.1 named
+    settled : AreDecided form step_of_row name base moments (rows ++ back.0) one.answers first.base
+    settled = subst (λ rs. AreDecided form step_of_row name base moments rs one.answers first.base) back.1 named
 
-    again : (told ≡ map again_of (take (length rows) one.answers)) × (last ≡ later)
+    again : (told ≡ map answer_to_retry (take (length rows) one.answers)) × (last ≡ later)
     again =
-        part-again form name base first.base later last moments others rows back.0 one.answers told (ap count_refused went.these ∙ went.none_refused) settled
+        part-again form name base first.base later last moments others rows back.0 one.answers told (ap refused_answer_count went.these ∙ went.none_refused) settled
         (run-grows leads.0 leads.1 first.base later leads.2) two

@@ -6,12 +6,12 @@ use Rattle.brk_model.specs.Records.{Key, Kept}
 use Rattle.brk_model.specs.Base.{Base, empty_base}
 use Rattle.brk_model.specs.Commands.{Command, Reply, Booked, Ordered, Ticked, CanceledTrade, CompletedTrade, Changed, MovedCash, Answer, Done, Again, Refused}
 use Rattle.brk_model.specs.Rows.{line_text, row_text}
-use Rattle.brk_model.specs.Keyed.{kept_under, keyed_step, repeated}
+use Rattle.brk_model.specs.Keyed.{stored_row_with_key, keyed_step, answer_to_repeated_row}
 use Rattle.brk_model.specs.Answers.{Fields, RowCall}
-use Rattle.brk_model.specs.Forms.{Read}
-use Rattle.brk_model.specs.Input.{text_of}
-use Rattle.brk_model.specs.Lines.{count_refused}
-use Rattle.brk_model.specs.Batch.{AreDecided, Batch, EndedWell, IsAnswered, row_step}
+use Rattle.brk_model.specs.Forms.{ReadResult}
+use Rattle.brk_model.specs.Input.{input_text}
+use Rattle.brk_model.specs.Lines.{refused_answer_count}
+use Rattle.brk_model.specs.Batch.{AreDecided, Batch, EndedWell, IsAnswered, step_of_row}
 use Rattle.brk_model.specs.Run.{Call, Do, Ask, Outcome, Did, Saw, NoView, Failed, Run}
 
 -- The stamp of a reply.
@@ -26,24 +26,24 @@ stamp_of_reply (MovedCash stamp move balance) = stamp
 
 -- The stamp of the reply if the outcome accepts a command, as a list of one element; the empty list
 -- for other outcomes.
-abbrev pub stamp_in : Outcome → List ℕ
-stamp_in (Did (Done reply)) = stamp_of_reply reply ∷ []
-stamp_in (Did (Again line)) = []
-stamp_in (Did (Refused refusal)) = []
-stamp_in (Saw view) = []
-stamp_in (NoView refusal) = []
-stamp_in (Failed fault) = []
+abbrev pub stamps_of_outcome : Outcome → List ℕ
+stamps_of_outcome (Did (Done reply)) = stamp_of_reply reply ∷ []
+stamps_of_outcome (Did (Again line)) = []
+stamps_of_outcome (Did (Refused refusal)) = []
+stamps_of_outcome (Saw view) = []
+stamps_of_outcome (NoView refusal) = []
+stamps_of_outcome (Failed fault) = []
 
 -- The stamps of the replies to the accepted commands, in the order of the outcomes.
 abbrev pub accepted_stamps : List Outcome → List ℕ
 accepted_stamps [] = []
-accepted_stamps (outcome ∷ outcomes) = stamp_in outcome ++ accepted_stamps outcomes
+accepted_stamps (outcome ∷ outcomes) = stamps_of_outcome outcome ++ accepted_stamps outcomes
 
 -- The stamps are strictly ascending, and the first is greater than `last`. Without a stamp `last`
 -- there is no lower bound.
-abbrev pub RiseFrom : Option ℕ → List ℕ → Type 0
-RiseFrom last [] = ⊤
-RiseFrom last (stamp ∷ stamps) = IfSome last (λ l. l < stamp) × RiseFrom (Some stamp) stamps
+abbrev pub AscendsFrom : Option ℕ → List ℕ → Type 0
+AscendsFrom last [] = ⊤
+AscendsFrom last (stamp ∷ stamps) = IfSome last (λ l. l < stamp) × AscendsFrom (Some stamp) stamps
 
 -- The base after the call at the clock reading `now`: that of the keyed step if the answer is
 -- `Done`, otherwise `base`.
@@ -55,128 +55,129 @@ base_after_answer base now (Ask query) answer = base
 
 -- The base after the call at the clock reading `now`: that of the keyed step if the outcome accepts
 -- a command, otherwise `base`.
-abbrev pub moved : Base → ℕ → Call → Outcome → Base
-moved base now call (Did answer) = base_after_answer base now call answer
-moved base now call (Saw view) = base
-moved base now call (NoView refusal) = base
-moved base now call (Failed fault) = base
+abbrev pub base_after_outcome : Base → ℕ → Call → Outcome → Base
+base_after_outcome base now call (Did answer) = base_after_answer base now call answer
+base_after_outcome base now call (Saw view) = base
+base_after_outcome base now call (NoView refusal) = base
+base_after_outcome base now call (Failed fault) = base
 
 -- The base after exactly the calls whose commands were accepted, executed in order from `base`.
-abbrev pub accepted_after : Base → List (ℕ × Call) → List Outcome → Base
-accepted_after base [] outcomes = base
-accepted_after base (call ∷ calls) [] = base
-accepted_after base (call ∷ calls) (outcome ∷ outcomes) = accepted_after (moved base call.0 call.1 outcome) calls outcomes
+abbrev pub base_after_accepted_commands : Base → List (ℕ × Call) → List Outcome → Base
+base_after_accepted_commands base [] outcomes = base
+base_after_accepted_commands base (call ∷ calls) [] = base
+base_after_accepted_commands base (call ∷ calls) (outcome ∷ outcomes) = base_after_accepted_commands (base_after_outcome base call.0 call.1 outcome) calls outcomes
 
 -- The call of a row of a batch, with its clock reading and its key.
-abbrev pub call_of_row : RowCall Command → ℕ × Call
-call_of_row call = (call.now, Do call.command (Some call.key))
+abbrev pub call_of_batch_row : RowCall Command → ℕ × Call
+call_of_batch_row call = (call.now, Do call.command (Some call.key))
 
 -- The call is a command with the key `key`, and the outcome accepts it.
-abbrev pub IsDoneUnder : Key → Call → Outcome → Type 0
-IsDoneUnder key (Do command (Some other)) (Did (Done reply)) = other ≡ key
-IsDoneUnder key call outcome = ⊥
+abbrev pub IsAcceptedUnderKey : Key → Call → Outcome → Type 0
+IsAcceptedUnderKey key (Do command (Some other)) (Did (Done reply)) = other ≡ key
+IsAcceptedUnderKey key call outcome = ⊥
 
 -- No call of the list is a command with the key `key` that its outcome accepts.
-abbrev pub NoneDoneUnder : Key → List (ℕ × Call) → List Outcome → Type 0
-NoneDoneUnder key (call ∷ calls) (outcome ∷ outcomes) = ¬ (IsDoneUnder key call.1 outcome) × NoneDoneUnder key calls outcomes
-NoneDoneUnder key calls outcomes = ⊤
+abbrev pub AcceptsNothingUnderKey : Key → List (ℕ × Call) → List Outcome → Type 0
+AcceptsNothingUnderKey key (call ∷ calls) (outcome ∷ outcomes) = ¬ (IsAcceptedUnderKey key call.1 outcome) × AcceptsNothingUnderKey key calls outcomes
+AcceptsNothingUnderKey key calls outcomes = ⊤
 
 -- Some run of calls leads from `base` to `after`.
-abbrev pub LeadsTo : Base → Base → Type 0
-LeadsTo base after = (calls : List (ℕ × Call)) × (outcomes : List Outcome) × Run base calls outcomes after
+abbrev pub SomeRunLeadsTo : Base → Base → Type 0
+SomeRunLeadsTo base after = (calls : List (ℕ × Call)) × (outcomes : List Outcome) × Run base calls outcomes after
 
 -- Some run of calls leads from the empty base to `base`.
-abbrev pub IsReached : Base → Type 0
-IsReached base = LeadsTo empty_base base
+abbrev pub IsReachableFromEmptyBase : Base → Type 0
+IsReachableFromEmptyBase base = SomeRunLeadsTo empty_base base
 
 -- The batch over the input is complete, its rows have the answers `answers`, and none of them is a
 -- refusal. The format check of the rows is `form`.
-pub record IsCleanBatch (form : Fields → Read Command) (base : Base) (moments : List ℕ) (input : Text) (answers : List Answer) (batch : Batch Base) : Type 0 where
-  pub answered : IsAnswered form row_step base moments (Some (text_of input)) batch
+pub record IsBatchWithoutRefusals (form : Fields → ReadResult Command) (base : Base) (moments : List ℕ) (input : Text) (answers : List Answer) (batch : Batch Base) : Type 0 where
+  pub answered : IsAnswered form step_of_row base moments (Some (input_text input)) batch
   pub ended : batch.ending ≡ EndedWell
   pub these : answered.answers ≡ answers
-  pub none_refused : count_refused answers ≡ 0
+  pub none_refused : refused_answer_count answers ≡ 0
 
 -- The answer to a retry of a row with this answer: the stored line if the row was accepted,
 -- otherwise the same answer.
-abbrev pub again_of : Answer → Answer
-again_of (Done reply) = Again (line_text reply)
-again_of (Again line) = Again line
-again_of (Refused refusal) = Refused refusal
+abbrev pub answer_to_retry : Answer → Answer
+answer_to_retry (Done reply) = Again (line_text reply)
+answer_to_retry (Again line) = Again line
+answer_to_retry (Refused refusal) = Refused refusal
 
 -- ---- rows of which some have their keys in a base
 
 -- The calls whose keys are not stored in the base.
-abbrev pub calls_left : Base → List (RowCall Command) → List (RowCall Command)
-calls_left base calls = filter (λ call. is_none (kept_under base call.key)) calls
+abbrev pub calls_with_new_keys : Base → List (RowCall Command) → List (RowCall Command)
+calls_with_new_keys base calls = filter (λ call. is_none (stored_row_with_key base call.key)) calls
 
 -- The answers to the calls whose keys are not stored in the base.
-abbrev pub answers_left : Base → List (RowCall Command) → List Answer → List Answer
-answers_left base (call ∷ calls) (answer ∷ answers) =
-    if is_none (kept_under base call.key) then answer ∷ answers_left base calls answers else answers_left base calls answers
-answers_left base calls answers = []
+abbrev pub answers_for_new_keys : Base → List (RowCall Command) → List Answer → List Answer
+answers_for_new_keys base (call ∷ calls) (answer ∷ answers) =
+    if is_none (stored_row_with_key base call.key) then answer ∷ answers_for_new_keys base calls answers else answers_for_new_keys base calls answers
+answers_for_new_keys base calls answers = []
 
 -- If `k` is stored under the key of the call, the answer is the answer to a repeated key: the
 -- stored line if the row texts are equal, otherwise a refusal. Vacuous if nothing is stored.
-abbrev pub IsKeptAnswer : Base → Option Kept → RowCall Command → Answer → Type 0
-IsKeptAnswer base None call answer = ⊤
-IsKeptAnswer base (Some k) call answer = answer ≡ (repeated base call.command k).0
+abbrev pub MatchesStoredReply : Base → Option Kept → RowCall Command → Answer → Type 0
+MatchesStoredReply base None call answer = ⊤
+MatchesStoredReply base (Some k) call answer = answer ≡ (answer_to_repeated_row base call.command k).0
 
 -- Each call whose key is stored in the base is answered with the stored line if the row texts are
 -- equal, and refused otherwise. Vacuous for other calls.
-abbrev pub AreKeptAnswers : Base → List (RowCall Command) → List Answer → Type 0
-AreKeptAnswers base (call ∷ calls) (answer ∷ answers) = IsKeptAnswer base (kept_under base call.key) call answer × AreKeptAnswers base calls answers
-AreKeptAnswers base calls answers = ⊤
+abbrev pub MatchStoredReplies : Base → List (RowCall Command) → List Answer → Type 0
+MatchStoredReplies base (call ∷ calls) (answer ∷ answers) = MatchesStoredReply base (stored_row_with_key base call.key) call answer × MatchStoredReplies base calls answers
+MatchStoredReplies base calls answers = ⊤
 
 -- ---- rows that were accepted
 
 -- The calls that were accepted: those whose answer is `Done`.
-abbrev pub done_calls : List (RowCall Command) → List Answer → List (RowCall Command)
-done_calls (call ∷ calls) (Done reply ∷ answers) = call ∷ done_calls calls answers
-done_calls (call ∷ calls) (Again line ∷ answers) = done_calls calls answers
-done_calls (call ∷ calls) (Refused refusal ∷ answers) = done_calls calls answers
-done_calls calls answers = []
+abbrev pub accepted_calls : List (RowCall Command) → List Answer → List (RowCall Command)
+accepted_calls (call ∷ calls) (Done reply ∷ answers) = call ∷ accepted_calls calls answers
+accepted_calls (call ∷ calls) (Again line ∷ answers) = accepted_calls calls answers
+accepted_calls (call ∷ calls) (Refused refusal ∷ answers) = accepted_calls calls answers
+accepted_calls calls answers = []
 
 -- The answers that are `Done`.
-abbrev pub done_answers : List Answer → List Answer
-done_answers [] = []
-done_answers (Done reply ∷ answers) = Done reply ∷ done_answers answers
-done_answers (Again line ∷ answers) = done_answers answers
-done_answers (Refused refusal ∷ answers) = done_answers answers
+abbrev pub accepted_answers : List Answer → List Answer
+accepted_answers [] = []
+accepted_answers (Done reply ∷ answers) = Done reply ∷ accepted_answers answers
+accepted_answers (Again line ∷ answers) = accepted_answers answers
+accepted_answers (Refused refusal ∷ answers) = accepted_answers answers
 
 -- If the answer is `Done`, the base stores the row text and the reply of the call under its key.
 -- Vacuous for other answers.
-abbrev pub IsRemembered : Base → RowCall Command → Answer → Type 0
-IsRemembered base call (Done reply) = kept_under base call.key ≡ Some (record { key = call.key; row_text = row_text call.command; line = line_text reply })
-IsRemembered base call (Again line) = ⊤
-IsRemembered base call (Refused refusal) = ⊤
+abbrev pub IsStoredIfAccepted : Base → RowCall Command → Answer → Type 0
+IsStoredIfAccepted base call (Done reply) = stored_row_with_key base call.key ≡ Some (record { key = call.key; row_text = row_text call.command; line = line_text reply })
+IsStoredIfAccepted base call (Again line) = ⊤
+IsStoredIfAccepted base call (Refused refusal) = ⊤
 
 -- For each call whose answer is `Done`, the base stores its row text and its reply under its key.
 -- Vacuous for other answers.
-abbrev pub AreRemembered : Base → List (RowCall Command) → List Answer → Type 0
-AreRemembered base (call ∷ calls) (answer ∷ answers) = IsRemembered base call answer × AreRemembered base calls answers
-AreRemembered base calls answers = ⊤
+abbrev pub AcceptedCallsAreStored : Base → List (RowCall Command) → List Answer → Type 0
+AcceptedCallsAreStored base (call ∷ calls) (answer ∷ answers) = IsStoredIfAccepted base call answer × AcceptedCallsAreStored base calls answers
+AcceptedCallsAreStored base calls answers = ⊤
 
 -- ---- rows of a batch that was interrupted
 
 -- The row after the rows `front` of the batch `name` is well-formed. Executed from `mid` at the
 -- clock reading `moment` under its key, it has the answer `answer` and leads to the base `stood`.
-pub record IsBookedNext (form : Fields → Read Command) (name : Text) (mid : Base) (front more : List Fields) (moment : ℕ) (answer : Answer) (stood : Base) : Type 0 where
+pub record NextRowLeadsTo (form : Fields → ReadResult Command) (name : Text) (mid : Base) (front more : List Fields) (moment : ℕ) (answer : Answer) (stood : Base) : Type 0 where
   pub row : Fields
   pub rest : List Fields
   pub next : more ≡ row ∷ rest
   pub command : Command
   pub formed : form row ≡ Ok command
   -- The answer to the row, and the base after it.
-  pub booked : row_step mid moment command (record { batch = name; row = length front + 1 }) ≡ (answer, stood)
+  pub booked : step_of_row mid moment command (record { batch = name; row = length front + 1 }) ≡ (answer, stood)
 
 -- The base `stood` is the base `mid` after the rows `front`, or the base after one more row.
-abbrev pub IsBaseAfter : (Fields → Read Command) → Text → Base → List Fields → List Fields → Base → Type 0
-IsBaseAfter form name mid front more stood = (stood ≡ mid) ⊎ ((moment : ℕ) × (answer : Answer) × IsBookedNext form name mid front more moment answer stood)
+abbrev pub IsBaseAfterInterruption : (Fields → ReadResult Command) → Text → Base → List Fields → List Fields → Base → Type 0
+IsBaseAfterInterruption form name mid front more stood = (stood ≡ mid) ⊎ ((moment : ℕ) × (answer : Answer) × NextRowLeadsTo form name mid front more moment answer stood)
 
 -- The rows of the batch `name` are decided as by one uninterrupted run to the base `last`. The
 -- first rows have `answers`, at the clock readings `earlier`, and their retry has the answers that
--- `again_of` gives. The other rows have the answers in `told`, at the clock readings `later`.
-pub record IsCompleted (form : Fields → Read Command) (name : Text) (base : Base) (earlier later : List ℕ) (rows : List Fields) (answers told : List Answer) (last : Base) : Type 0 where
-  pub again : take (length answers) told ≡ map again_of answers
-  pub settled : AreDecided form row_step name base (earlier ++ drop (length earlier) later) rows (answers ++ drop (length answers) told) last
+-- `answer_to_retry` gives. The other rows have the answers in `told`, at the clock readings
+-- `later`.
+pub record IsCompletedByRetry (form : Fields → ReadResult Command) (name : Text) (base : Base) (earlier later : List ℕ) (rows : List Fields) (answers told : List Answer) (last : Base) : Type 0 where
+  pub again : take (length answers) told ≡ map answer_to_retry answers
+  pub settled : AreDecided form step_of_row name base (earlier ++ drop (length earlier) later) rows (answers ++ drop (length answers) told) last

@@ -7,13 +7,13 @@ use Rattle.brk_model.specs.Shares.{Share}
 use Rattle.brk_model.specs.Tables.{HoldingRow}
 
 -- All shares of the list have the side `side`.
-abbrev pub AllOf : Side → List Share → Type 0
-AllOf side shares = AllByRecursion (λ share. share.side ≡ side) shares
+abbrev pub AllSharesHaveSide : Side → List Share → Type 0
+AllSharesHaveSide side shares = AllByRecursion (λ share. share.side ≡ side) shares
 
 -- All shares of the list have the same side.
 abbrev pub IsOneSided : List Share → Type 0
-IsOneSided shares = (side : Side) × AllOf side shares
+IsOneSided shares = (side : Side) × AllSharesHaveSide side shares
 
 -- True if the row of HOLDING belongs to the account and the symbol.
-abbrev pub in_position : ℕ → Text → HoldingRow → Bool
-in_position account symbol row = (row.account == account) && bytes_eq row.symbol symbol
+abbrev pub is_row_of_position : ℕ → Text → HoldingRow → Bool
+is_row_of_position account symbol row = (row.account == account) && bytes_eq row.symbol symbol

@@ -7,21 +7,21 @@ ghost use Rattle.brk_model.specs.Base.{Base};
 ghost use Rattle.brk_model.specs.Records.{Key};
 ghost use Rattle.brk_model.specs.Commands.{Again, Command, Done, Refused, Reply};
 ghost use Rattle.brk_model.specs.Rows.{line_text, row_text};
-ghost use Rattle.brk_model.specs.Keyed.{keeping, kept_under, keyed_step};
+ghost use Rattle.brk_model.specs.Keyed.{base_with_stored_reply, stored_row_with_key, keyed_step};
 ghost use Rattle.brk_model.specs.Step.{step};
 ghost use Rattle.brk_model.specs.Run.{Call, Outcome, Run};
-ghost use Rattle.brk_model_theorems.specs.Laws.{NoneDoneUnder};
+ghost use Rattle.brk_model_theorems.specs.Laws.{AcceptsNothingUnderKey};
 
 /// Proves that a retry of an accepted row under its key, from the base after it and at any clock
 /// reading, returns the stored line and changes nothing.
-pub fn repeat_is_answered()
+pub fn retry_returns_the_stored_line()
     ensures { (base after : Base) (now later : ℕ) (command : Command) (key : Key) (reply : Reply) → keyed_step base now command (Some key) ≡ (Done reply, after)
         → keyed_step after later command (Some key) ≡ (Again (line_text reply), after) }
 {}
 
 /// Proves that a row with another text under the key of an accepted row, from the base after it, is
 /// refused with `KeyReused` and changes nothing.
-pub fn changed_repeat_is_refused()
+pub fn other_row_under_same_key_is_refused()
     ensures { (base after : Base) (now later : ℕ) (command other : Command) (key : Key) (reply : Reply) → keyed_step base now command (Some key) ≡ (Done reply, after)
         → bytes_eq (row_text command) (row_text other) ≡ false → keyed_step after later other (Some key) ≡ (Refused KeyReused, after) }
 {}
@@ -30,13 +30,13 @@ pub fn changed_repeat_is_refused()
 /// reason of a refusal is not `KeyReused`, the key was unused. A key stays unused in any run that
 /// accepts no row under it. From a base that does not store the key, the row is accepted if the
 /// command is.
-pub fn a_refused_row_keeps_no_key()
+pub fn refused_row_stores_no_key()
     ensures keeps_none { (base after : Base) (now : ℕ) (command : Command) (key : Key) (refusal : Refusal) → keyed_step base now command (Some key) ≡ (Refused refusal, after)
-        → kept_under base key ≡ None → (after ≡ base) × (kept_under after key ≡ None) }
+        → stored_row_with_key base key ≡ None → (after ≡ base) × (stored_row_with_key after key ≡ None) }
     ensures was_free { (base after : Base) (now : ℕ) (command : Command) (key : Key) (refusal : Refusal) → keyed_step base now command (Some key) ≡ (Refused refusal, after)
-        → ¬ (refusal ≡ KeyReused) → kept_under base key ≡ None }
-    ensures stays_free { (base later : Base) (key : Key) (calls : List (ℕ × Call)) (outcomes : List Outcome) → kept_under base key ≡ None
-        → Run base calls outcomes later → NoneDoneUnder key calls outcomes → kept_under later key ≡ None }
-    ensures acts { (later booked : Base) (now : ℕ) (command : Command) (key : Key) (reply : Reply) → kept_under later key ≡ None
-        → step later now command ≡ Ok (reply, booked) → keyed_step later now command (Some key) ≡ (Done reply, keeping (Some key) command reply booked) }
+        → ¬ (refusal ≡ KeyReused) → stored_row_with_key base key ≡ None }
+    ensures stays_free { (base later : Base) (key : Key) (calls : List (ℕ × Call)) (outcomes : List Outcome) → stored_row_with_key base key ≡ None
+        → Run base calls outcomes later → AcceptsNothingUnderKey key calls outcomes → stored_row_with_key later key ≡ None }
+    ensures acts { (later booked : Base) (now : ℕ) (command : Command) (key : Key) (reply : Reply) → stored_row_with_key later key ≡ None
+        → step later now command ≡ Ok (reply, booked) → keyed_step later now command (Some key) ≡ (Done reply, base_with_stored_reply (Some key) command reply booked) }
 {}

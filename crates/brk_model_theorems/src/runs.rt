@@ -7,21 +7,21 @@ ghost use Rattle.brk_model.specs.Records.{Key};
 ghost use Rattle.brk_model.specs.Commands.{Again, Command, Refused};
 ghost use Rattle.brk_model.specs.Keyed.{keyed_step};
 ghost use Rattle.brk_model.specs.Run.{Call, Outcome, Run};
-ghost use Rattle.brk_model_theorems.specs.Laws.{RiseFrom, accepted_after, accepted_stamps};
+ghost use Rattle.brk_model_theorems.specs.Laws.{AscendsFrom, base_after_accepted_commands, accepted_stamps};
 
 /// Proves that a command that is refused, or answered with a stored line, does not change the base.
-pub fn others_leave_the_base()
+pub fn refusals_and_retries_change_nothing()
     ensures refused { (base after : Base) (now : ℕ) (command : Command) (key : Option Key) (refusal : Refusal) → keyed_step base now command key ≡ (Refused refusal, after) → after ≡ base }
     ensures again { (base after : Base) (now : ℕ) (command : Command) (key : Option Key) (line : List ℕ) → keyed_step base now command key ≡ (Again line, after) → after ≡ base }
 {}
 
 /// Proves that the base after a run of calls equals the base after its accepted commands alone.
-pub fn accepted_commands_make_the_base()
-    ensures { (base after : Base) (calls : List (ℕ × Call)) (outcomes : List Outcome) → Run base calls outcomes after → after ≡ accepted_after base calls outcomes }
+pub fn accepted_commands_determine_the_base()
+    ensures { (base after : Base) (calls : List (ℕ × Call)) (outcomes : List Outcome) → Run base calls outcomes after → after ≡ base_after_accepted_commands base calls outcomes }
 {}
 
 /// Proves that the stamps of a run's accepted commands are strictly ascending and greater than the
 /// last stamp before the run.
-pub fn stamps_rise()
-    ensures { (base after : Base) (calls : List (ℕ × Call)) (outcomes : List Outcome) → Run base calls outcomes after → RiseFrom base.last (accepted_stamps outcomes) }
+pub fn accepted_stamps_ascend_strictly()
+    ensures { (base after : Base) (calls : List (ℕ × Call)) (outcomes : List Outcome) → Run base calls outcomes after → AscendsFrom base.last (accepted_stamps outcomes) }
 {}

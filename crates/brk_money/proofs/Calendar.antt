@@ -7,7 +7,7 @@ use Rattle.jiff.proofs.SpanFacts.{signed_arith}
 use Rattle.jiff_core.specs.Calendar.{day_count}
 use Rattle.jiff_core.specs.declared.civil.date.Date.{Date}
 use Rattle.jiff_core.proofs.CalendarLemmas.{day_count-day, day_count-day_of_year, day_count-end, day_count-epoch, day_count-last_of_year, day_count-later_year, day_count-next_month, day_count-next_year, days_from_civil-day_count, days_in_month_bounds, days_in_year_bounds}
-use Rattle.brk_money.specs.Moments.{Civil, civil_of, date_from, date_in_year}
+use Rattle.brk_money.specs.Moments.{Civil, civil_date_of_day, date_after_year_start, date_after_month_start}
 
 -- a date from a year on, that so many days go before
 pub record IsDateAt (c : Civil) (year count : ℕ) : Type 0 where
@@ -31,7 +31,7 @@ december y n h =
     omega (arith, h, last, days)
 
 in_year : (k y m n : ℕ) → m + k ≡ 12 → 1 ≤ m → day_count (pos y) m 1 + n < day_count (pos y) 1 1 + days_in_year (pos y)
-    → IsDateAt (date_in_year k y m n) y (day_count (pos y) m 1 + n)
+    → IsDateAt (date_after_month_start k y m n) y (day_count (pos y) m 1 + n)
 in_year zero y m n e low h =
     let twelve : m ≡ 12 = omega arith in
     let fits : n < days_in_month (pos y) m = rw twelve (december y n (rw twelve at h)) in
@@ -39,36 +39,36 @@ in_year zero y m n e low h =
 in_year (suc k) y m n e low h = at (in_year k y (m + 1)) (nat_lt n (days_in_month (pos y) m)) refl
   where
     at : ((rest : ℕ) → m + 1 + k ≡ 12 → 1 ≤ m + 1 → day_count (pos y) (m + 1) 1 + rest < day_count (pos y) 1 1 + days_in_year (pos y)
-        → IsDateAt (date_in_year k y (m + 1) rest) y (day_count (pos y) (m + 1) 1 + rest)) → (b : Bool) → nat_lt n (days_in_month (pos y) m) ≡ b
-        → IsDateAt (date_in_year (suc k) y m n) y (day_count (pos y) m 1 + n)
-    at more true t = rw (date_in_year, t) (in_month y m n (low, omega arith) (ltb-true _ _ t))
+        → IsDateAt (date_after_month_start k y (m + 1) rest) y (day_count (pos y) (m + 1) 1 + rest)) → (b : Bool) → nat_lt n (days_in_month (pos y) m) ≡ b
+        → IsDateAt (date_after_month_start (suc k) y m n) y (day_count (pos y) m 1 + n)
+    at more true t = rw (date_after_month_start, t) (in_month y m n (low, omega arith) (ltb-true _ _ t))
     at more false t =
         let beyond = ltb-false _ _ t in
         let next = day_count-next_month (pos y) m low in
         let rest = n - days_in_month (pos y) m in
         let same : day_count (pos y) (m + 1) 1 + rest ≡ day_count (pos y) m 1 + n = omega (arith, beyond, next) in
-        rw (date_in_year, t) (subst (IsDateAt (date_in_year k y (m + 1) rest) y) same
+        rw (date_after_month_start, t) (subst (IsDateAt (date_after_month_start k y (m + 1) rest) y) same
         (more rest (omega (arith, e)) (omega arith) (omega (arith, same, h))))
 
-from_year : (k y n : ℕ) → n < 365 * (k + 1) → IsDateAt (date_from k y n) y (day_count (pos y) 1 1 + n)
+from_year : (k y n : ℕ) → n < 365 * (k + 1) → IsDateAt (date_after_year_start k y n) y (day_count (pos y) 1 1 + n)
 from_year zero y n h = in_year 11 y 1 n refl (omega arith) (omega (arith, h, days_in_year_bounds (pos y)))
 from_year (suc k) y n h = at (from_year k (y + 1)) (nat_lt n (days_in_year (pos y))) refl
   where
-    at : ((rest : ℕ) → rest < 365 * (k + 1) → IsDateAt (date_from k (y + 1) rest) (y + 1) (day_count (pos (y + 1)) 1 1 + rest)) → (b : Bool)
-        → nat_lt n (days_in_year (pos y)) ≡ b → IsDateAt (date_from (suc k) y n) y (day_count (pos y) 1 1 + n)
-    at more true t = rw (date_from, t) (in_year 11 y 1 n refl (omega arith) (omega (arith, ltb-true _ _ t)))
+    at : ((rest : ℕ) → rest < 365 * (k + 1) → IsDateAt (date_after_year_start k (y + 1) rest) (y + 1) (day_count (pos (y + 1)) 1 1 + rest)) → (b : Bool)
+        → nat_lt n (days_in_year (pos y)) ≡ b → IsDateAt (date_after_year_start (suc k) y n) y (day_count (pos y) 1 1 + n)
+    at more true t = rw (date_after_year_start, t) (in_year 11 y 1 n refl (omega arith) (omega (arith, ltb-true _ _ t)))
     at more false t =
         let beyond = ltb-false _ _ t in
         let next = day_count-next_year (pos y) (pos (y + 1)) (omega (arith, signed_arith)) (omega (arith, signed_arith)) in
         let rest = n - days_in_year (pos y) in
         let same : day_count (pos (y + 1)) 1 1 + rest ≡ day_count (pos y) 1 1 + n = omega (arith, beyond, next) in
         let later = more rest (omega (arith, h, beyond, days_in_year_bounds (pos y))) in
-        let d : IsDateAt (date_from k (y + 1) rest) y (day_count (pos y) 1 1 + n) = record { year_from = omega (arith, later.year_from); month_in = later.month_in; day_in = later.day_in; counted = later.counted ∙ same } in
-        rw (date_from, t) d
+        let d : IsDateAt (date_after_year_start k (y + 1) rest) y (day_count (pos y) 1 1 + n) = record { year_from = omega (arith, later.year_from); month_in = later.month_in; day_in = later.day_in; counted = later.counted ∙ same } in
+        rw (date_after_year_start, t) d
 
-pub civil_at : (n : ℕ) → IsDateAt (civil_of n) 1970 (4_371_953 + n)
-unfolding civil_of
-civil_at n = subst (IsDateAt (civil_of n) 1970) (ap (λ k. k + n) day_count-epoch) (from_year (n / 365) 1970 n (omega arith))
+pub civil_at : (n : ℕ) → IsDateAt (civil_date_of_day n) 1970 (4_371_953 + n)
+unfolding civil_date_of_day
+civil_at n = subst (IsDateAt (civil_date_of_day n) 1970) (ap (λ k. k + n) day_count-epoch) (from_year (n / 365) 1970 n (omega arith))
 
 -- a date of the days up to 9999-12-31 is of the year 9999 at most
 pub last_year : (c : Civil) (n : ℕ) → n ≤ 2_932_896 → IsDateAt c 1970 (4_371_953 + n) → c.year ≤ 9999
@@ -87,11 +87,11 @@ last_year c n h d = at (nat_lt 9999 c.year) refl
 unfoldable pub date_at : (n : ℕ) → n ≤ 2_932_896 → Date
 date_at n h =
     let d = civil_at n in
-    let high = last_year (civil_of n) n h d in
+    let high = last_year (civil_date_of_day n) n h d in
     record {
-      year = pos (civil_of n).year;
-      month = (civil_of n).month;
-      day = (civil_of n).day;
+      year = pos (civil_date_of_day n).year;
+      month = (civil_date_of_day n).month;
+      day = (civil_date_of_day n).day;
       year_in = (omega (arith, signed_arith), omega (arith, signed_arith, high));
       month_in = d.month_in;
       day_in = d.day_in;
@@ -101,10 +101,10 @@ pub epoch_day-date_at : (n : ℕ) (h : n ≤ 2_932_896) → epoch_day (date_at n
 unfolding date_at
 epoch_day-date_at n h =
     let d = civil_at n in
-    omega (arith, signed_arith, d.counted, days_from_civil-day_count (pos (civil_of n).year) (civil_of n).month (civil_of n).day)
+    omega (arith, signed_arith, d.counted, days_from_civil-day_count (pos (civil_date_of_day n).year) (civil_date_of_day n).month (civil_date_of_day n).day)
 
 -- a date with the number of a day has the parts of the day's date
-pub parts_of : (d : Date) (n : ℕ) → epoch_day d ≡ pos n → (d.year ≡ pos (civil_of n).year) × (d.month ≡ (civil_of n).month) × (d.day ≡ (civil_of n).day)
+pub parts_of : (d : Date) (n : ℕ) → epoch_day d ≡ pos n → (d.year ≡ pos (civil_date_of_day n).year) × (d.month ≡ (civil_date_of_day n).month) × (d.day ≡ (civil_date_of_day n).day)
 unfolding date_at
 parts_of d n e =
     let h : n ≤ 2_932_896 = omega (arith, signed_arith, epoch_day_range d, e) in
@@ -122,27 +122,27 @@ pub from_zero : (d : Date) (n : ℕ) → epoch_day d ≡ pos n → pos 0 ≤ℤ 
 from_zero d n e = rw ((parts_of d n e).0) (omega (arith, signed_arith))
 
 -- the date of a day is one of the calendar
-pub is_date : (n : ℕ) → n ≤ 2_932_896 → IsDate (pos (civil_of n).year) (pos (civil_of n).month) (pos (civil_of n).day)
+pub is_date : (n : ℕ) → n ≤ 2_932_896 → IsDate (pos (civil_date_of_day n).year) (pos (civil_date_of_day n).month) (pos (civil_date_of_day n).day)
 is_date n h =
     let d = civil_at n in
-    let high = last_year (civil_of n) n h d in (
+    let high = last_year (civil_date_of_day n) n h d in (
       (omega (arith, signed_arith), omega (arith, signed_arith, high)),
       (omega (arith, signed_arith, d.month_in), omega (arith, signed_arith, d.month_in)),
       (omega (arith, signed_arith, d.day_in), omega (arith, signed_arith, d.day_in)),
     )
 
 -- its parts have four, two and two digits
-pub is_short : (n : ℕ) → n ≤ 2_932_896 → ((civil_of n).year < 10000) × ((civil_of n).month < 100) × ((civil_of n).day < 100)
+pub is_short : (n : ℕ) → n ≤ 2_932_896 → ((civil_date_of_day n).year < 10000) × ((civil_date_of_day n).month < 100) × ((civil_date_of_day n).day < 100)
 is_short n h =
     let d = civil_at n in
-    let high = last_year (civil_of n) n h d in
-    let long = days_in_month_bounds (pos (civil_of n).year) (civil_of n).month in
+    let high = last_year (civil_date_of_day n) n h d in
+    let long = days_in_month_bounds (pos (civil_date_of_day n).year) (civil_date_of_day n).month in
     (omega (arith, high), omega (arith, d.month_in), omega (arith, d.day_in, long))
 
 -- days with one date are one day
-pub same_day : (m n : ℕ) → (civil_of m).year ≡ (civil_of n).year → (civil_of m).month ≡ (civil_of n).month → (civil_of m).day ≡ (civil_of n).day → m ≡ n
+pub same_day : (m n : ℕ) → (civil_date_of_day m).year ≡ (civil_date_of_day n).year → (civil_date_of_day m).month ≡ (civil_date_of_day n).month → (civil_date_of_day m).day ≡ (civil_date_of_day n).day → m ≡ n
 same_day m n year month day =
     let a = (civil_at m).counted in
     let b = (civil_at n).counted in
-    let same : day_count (pos (civil_of m).year) (civil_of m).month (civil_of m).day ≡ day_count (pos (civil_of n).year) (civil_of n).month (civil_of n).day = rw (year, month, day) refl in
+    let same : day_count (pos (civil_date_of_day m).year) (civil_date_of_day m).month (civil_date_of_day m).day ≡ day_count (pos (civil_date_of_day n).year) (civil_date_of_day n).month (civil_date_of_day n).day = rw (year, month, day) refl in
     omega (arith, a, b, same)

@@ -3,7 +3,7 @@ use Rattle.std.proofs.Common.{◌≡◌, ◌+◌, ◌-◌, ◌*◌, ◌/◌, ◌
 use Rattle.std.specs.Prelude.{suc, ℤ, pos, negsuc}
 use Rattle.std.specs.Fmt.{decimal}
 use Rattle.std.proofs.lemmas.List.{length-append, take_at, drop_at, take-append-drop, get_or_append_left, take_all}
-use Rattle.brk_money.specs.Spelling.{magnitude_text, cents_text, IsAmount}
+use Rattle.brk_money.specs.Spelling.{unsigned_cents_text, cents_text, IsWithinAmountLimit}
 use Rattle.std.proofs.lemmas.Fmt.{decimal_injective}
 use Rattle.std.proofs.lemmas.Str.Parse.{tells_all_ascii_digits}
 use Rattle.std.specs.Str.{all_ascii_digits}
@@ -21,7 +21,7 @@ cut ds cs bs three e =
     let place : length ds ≡ length bs - 3 = omega arith in
     (omega arith, ap (take (length bs - 3)) e ∙ take_at ds cs (length bs - 3) place, ap (drop (length bs - 3)) e ∙ drop_at ds cs (length bs - 3) place)
 
-pub plain_split : (bs : List ℕ) (n : ℕ) → bs ≡ magnitude_text n → IsPlain bs n
+pub plain_split : (bs : List ℕ) (n : ℕ) → bs ≡ unsigned_cents_text n → IsPlain bs n
 plain_split bs n e =
     let c = cut (decimal (n / 100)) (46 ∷ (48 + n % 100 / 10) ∷ (48 + n % 10) ∷ []) bs refl e in
     record { long = c.0; whole = c.1; rest = c.2 }
@@ -36,7 +36,7 @@ three_of (a ∷ b ∷ c ∷ d ∷ ds) h = absurd (omega arith)
 -- a whole number, a point and two digits are those of an amount
 pub plain_joined : (bs : List ℕ) (k u : ℕ) → length (drop k bs) ≡ 3 → take k bs ≡ decimal u → get_or (drop k bs) 0 0 ≡ 46
     → 48 ≤ get_or (drop k bs) 1 0 → get_or (drop k bs) 1 0 ≤ 57 → 48 ≤ get_or (drop k bs) 2 0 → get_or (drop k bs) 2 0 ≤ 57
-    → bs ≡ magnitude_text (u * 100 + (get_or (drop k bs) 1 0 - 48) * 10 + (get_or (drop k bs) 2 0 - 48))
+    → bs ≡ unsigned_cents_text (u * 100 + (get_or (drop k bs) 1 0 - 48) * 10 + (get_or (drop k bs) 2 0 - 48))
 plain_joined bs k u three front point tl th ol oh =
     let t = get_or (drop k bs) 1 0 in
     let o = get_or (drop k bs) 2 0 in
@@ -56,9 +56,9 @@ plain_reads bs k n u small fits p at front =
     rw rest (omega arith)
 
 -- no two amounts without a sign are spelled alike
-pub plain_injective : (m n : ℕ) → m ≤ 10 ^ 17 → n ≤ 10 ^ 17 → magnitude_text m ≡ magnitude_text n → m ≡ n
+pub plain_injective : (m n : ℕ) → m ≤ 10 ^ 17 → n ≤ 10 ^ 17 → unsigned_cents_text m ≡ unsigned_cents_text n → m ≡ n
 plain_injective m n fm fn e =
-    let bs = magnitude_text m in
+    let bs = unsigned_cents_text m in
     let p = plain_split bs m refl in
     let q = plain_split bs n e in
     sym (plain_reads bs (length bs - 3) m (m / 100) fm (omega arith) p refl p.whole) ∙ plain_reads bs (length bs - 3) n (m / 100) fn (omega arith) q refl p.whole
@@ -68,32 +68,32 @@ starts [] p h = absurd (omega arith)
 starts (c ∷ cs) p h = let digit = (tells_all_ascii_digits.parts c cs p).0 in omega (arith, digit)
 
 -- an amount without a sign begins with a digit
-pub plain_first : (n : ℕ) → n ≤ 10 ^ 17 → 48 ≤ get_or (magnitude_text n) 0 0
+pub plain_first : (n : ℕ) → n ≤ 10 ^ 17 → 48 ≤ get_or (unsigned_cents_text n) 0 0
 plain_first n h =
     let w = whole_only (decimal (n / 100)) (n / 100) (omega arith) refl in
     let first = starts (decimal (n / 100)) w.digits w.some in
     rw (get_or_append_left (decimal (n / 100)) (46 ∷ (48 + n % 100 / 10) ∷ (48 + n % 10) ∷ []) 0 0 w.some) first
 
 -- what is spelled with a minus is an amount below 0
-pub minus_only : (bs : List ℕ) (z : ℤ) → IsAmount z → bs ≡ cents_text z → get_or bs 0 0 ≡ 45
-    → (n : ℕ) × (n ≤ 10 ^ 17) × (0 < n) × (take (length bs - 1) (drop 1 bs) ≡ magnitude_text n)
+pub minus_only : (bs : List ℕ) (z : ℤ) → IsWithinAmountLimit z → bs ≡ cents_text z → get_or bs 0 0 ≡ 45
+    → (n : ℕ) × (n ≤ 10 ^ 17) × (0 < n) × (take (length bs - 1) (drop 1 bs) ≡ unsigned_cents_text n)
 minus_only bs (pos n) h e first =
     let other = plain_first n h in
-    let same : get_or bs 0 0 ≡ get_or (magnitude_text n) 0 0 = ap (λ (l : List ℕ). get_or l 0 0) e in
+    let same : get_or bs 0 0 ≡ get_or (unsigned_cents_text n) 0 0 = ap (λ (l : List ℕ). get_or l 0 0) e in
     absurd (omega arith)
 minus_only bs (negsuc n) h e first =
-    (suc n, h, omega arith, ap (λ (l : List ℕ). take (length l - 1) (drop 1 l)) e ∙ take_all (length (45 ∷ magnitude_text (suc n)) - 1) (magnitude_text (suc n)) (omega arith))
+    (suc n, h, omega arith, ap (λ (l : List ℕ). take (length l - 1) (drop 1 l)) e ∙ take_all (length (45 ∷ unsigned_cents_text (suc n)) - 1) (unsigned_cents_text (suc n)) (omega arith))
 
 -- no two amounts are spelled alike
-pub cents_injective : (y z : ℤ) → IsAmount y → IsAmount z → cents_text y ≡ cents_text z → y ≡ z
+pub cents_injective : (y z : ℤ) → IsWithinAmountLimit y → IsWithinAmountLimit z → cents_text y ≡ cents_text z → y ≡ z
 cents_injective (pos m) (pos n) a b e = ap pos (plain_injective m n a b e)
 cents_injective (pos m) (negsuc n) a b e =
     let first = plain_first m a in
-    let same : get_or (magnitude_text m) 0 0 ≡ 45 = ap (λ (l : List ℕ). get_or l 0 0) e in
+    let same : get_or (unsigned_cents_text m) 0 0 ≡ 45 = ap (λ (l : List ℕ). get_or l 0 0) e in
     absurd (omega arith)
 cents_injective (negsuc m) (pos n) a b e =
     let first = plain_first n b in
-    let same : 45 ≡ get_or (magnitude_text n) 0 0 = ap (λ (l : List ℕ). get_or l 0 0) e in
+    let same : 45 ≡ get_or (unsigned_cents_text n) 0 0 = ap (λ (l : List ℕ). get_or l 0 0) e in
     absurd (omega arith)
 cents_injective (negsuc m) (negsuc n) a b e =
     let same = plain_injective (suc m) (suc n) a b (ap (drop 1) e) in

@@ -3,14 +3,14 @@ use Rattle.std.proofs.Common.{rules, ◌≡◌, ◌/◌, ◌%◌, ◌++◌, ℕ,
 use Rattle.std.specs.Prelude.{suc, ℤ, pos, negsuc, nat_abs}
 use Rattle.std.specs.Fmt.{decimal}
 use Rattle.std.proofs.lemmas.Fmt.{decimal_digit}
-use Rattle.brk_money.specs.Spelling.{Text, magnitude_text, cents_text}
+use Rattle.brk_money.specs.Spelling.{Text, unsigned_cents_text, cents_text}
 use Rattle.std.specs.Int.Signed.{lt_z}
 
 -- the parts of an amount without its sign
 abbrev pub parts : ℕ → Text
 parts n = decimal (n / 100) ++ 46 ∷ (decimal (n % 100 / 10) ++ decimal (n % 10))
 
-magnitude_printed : (n : ℕ) → parts n ≡ magnitude_text n
+magnitude_printed : (n : ℕ) → parts n ≡ unsigned_cents_text n
 magnitude_printed n = rw (decimal_digit (n % 100 / 10) (omega arith), decimal_digit (n % 10) (omega arith)) refl
 
 pub printed_below : (y z : ℤ) (n : ℕ) (sign : Text) → y ≡ z → n ≡ nat_abs y → lt_z y (pos 0) ≡ true → sign ≡ 45 ∷ [] → sign ++ parts n ≡ cents_text z

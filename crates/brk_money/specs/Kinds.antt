@@ -20,77 +20,77 @@ use Rattle.brk_money.specs.declared.refusal.Refusal.{Refusal}
 use Rattle.brk_money.specs.declared.refusal.Refusal.TheVariants.{BadText, BadQty, BadPrice, BadType, TooMany, KeyReused, NoAccount, NoCustomer, NoBroker, NoSecurity, NoTrade, NoTax, WrongStatus, NotPermitted, Exists, Overlap, TaxSum, NoCharge, NoRate, Range, ClockEnd, TooEarly}
 
 -- The side of a trade of this type: buy or sell (TT_IS_SELL).
-abbrev pub side_of : TradeType → Side
-side_of MarketBuy = Buy
-side_of MarketSell = Sell
-side_of StopLoss = Sell
-side_of LimitSell = Sell
-side_of LimitBuy = Buy
+abbrev pub side_of_trade_type : TradeType → Side
+side_of_trade_type MarketBuy = Buy
+side_of_trade_type MarketSell = Sell
+side_of_trade_type StopLoss = Sell
+side_of_trade_type LimitSell = Sell
+side_of_trade_type LimitBuy = Buy
 
 -- True if a trade of this type is executed at the market price (TT_IS_MRKT).
-abbrev pub is_market : TradeType → Bool
-is_market MarketBuy = true
-is_market MarketSell = true
-is_market StopLoss = false
-is_market LimitSell = false
-is_market LimitBuy = false
+abbrev pub is_market_type : TradeType → Bool
+is_market_type MarketBuy = true
+is_market_type MarketSell = true
+is_market_type StopLoss = false
+is_market_type LimitSell = false
+is_market_type LimitBuy = false
 
 -- The code of a type of trade: three letters (TT_ID).
-abbrev pub type_code : TradeType → List ℕ
-type_code MarketBuy = codes "TMB"
-type_code MarketSell = codes "TMS"
-type_code StopLoss = codes "TSL"
-type_code LimitSell = codes "TLS"
-type_code LimitBuy = codes "TLB"
+abbrev pub trade_type_code : TradeType → List ℕ
+trade_type_code MarketBuy = codes "TMB"
+trade_type_code MarketSell = codes "TMS"
+trade_type_code StopLoss = codes "TSL"
+trade_type_code LimitSell = codes "TLS"
+trade_type_code LimitBuy = codes "TLB"
 
 -- The name of a type of trade (TT_NAME).
-abbrev pub type_name : TradeType → List ℕ
-type_name MarketBuy = codes "Market-Buy"
-type_name MarketSell = codes "Market-Sell"
-type_name StopLoss = codes "Stop-Loss"
-type_name LimitSell = codes "Limit-Sell"
-type_name LimitBuy = codes "Limit-Buy"
+abbrev pub trade_type_name : TradeType → List ℕ
+trade_type_name MarketBuy = codes "Market-Buy"
+trade_type_name MarketSell = codes "Market-Sell"
+trade_type_name StopLoss = codes "Stop-Loss"
+trade_type_name LimitSell = codes "Limit-Sell"
+trade_type_name LimitBuy = codes "Limit-Buy"
 
 -- The code of a status: four letters (ST_ID).
-abbrev pub status_code : Status → List ℕ
-status_code Completed = codes "CMPT"
-status_code Active = codes "ACTV"
-status_code Submitted = codes "SBMT"
-status_code Pending = codes "PNDG"
-status_code Canceled = codes "CNCL"
+abbrev pub trade_status_code : Status → List ℕ
+trade_status_code Completed = codes "CMPT"
+trade_status_code Active = codes "ACTV"
+trade_status_code Submitted = codes "SBMT"
+trade_status_code Pending = codes "PNDG"
+trade_status_code Canceled = codes "CNCL"
 
 -- The name of a status (ST_NAME).
-abbrev pub status_name : Status → List ℕ
-status_name Completed = codes "Completed"
-status_name Active = codes "Active"
-status_name Submitted = codes "Submitted"
-status_name Pending = codes "Pending"
-status_name Canceled = codes "Canceled"
+abbrev pub trade_status_name : Status → List ℕ
+trade_status_name Completed = codes "Completed"
+trade_status_name Active = codes "Active"
+trade_status_name Submitted = codes "Submitted"
+trade_status_name Pending = codes "Pending"
+trade_status_name Canceled = codes "Canceled"
 
 -- True if the two trade types are equal.
-abbrev pub same_type : TradeType → TradeType → Bool
-same_type MarketBuy MarketBuy = true
-same_type MarketSell MarketSell = true
-same_type StopLoss StopLoss = true
-same_type LimitSell LimitSell = true
-same_type LimitBuy LimitBuy = true
-same_type _ _ = false
+abbrev pub is_same_trade_type : TradeType → TradeType → Bool
+is_same_trade_type MarketBuy MarketBuy = true
+is_same_trade_type MarketSell MarketSell = true
+is_same_trade_type StopLoss StopLoss = true
+is_same_trade_type LimitSell LimitSell = true
+is_same_trade_type LimitBuy LimitBuy = true
+is_same_trade_type _ _ = false
 
 -- True if the two statuses are equal.
-abbrev pub same_status : Status → Status → Bool
-same_status Completed Completed = true
-same_status Active Active = true
-same_status Submitted Submitted = true
-same_status Pending Pending = true
-same_status Canceled Canceled = true
-same_status _ _ = false
+abbrev pub is_same_trade_status : Status → Status → Bool
+is_same_trade_status Completed Completed = true
+is_same_trade_status Active Active = true
+is_same_trade_status Submitted Submitted = true
+is_same_trade_status Pending Pending = true
+is_same_trade_status Canceled Canceled = true
+is_same_trade_status _ _ = false
 
 -- True if the two sides are equal.
-abbrev pub same_side : Side → Side → Bool
-same_side Buy Buy = true
-same_side Sell Sell = true
-same_side Buy Sell = false
-same_side Sell Buy = false
+abbrev pub is_same_side : Side → Side → Bool
+is_same_side Buy Buy = true
+is_same_side Sell Sell = true
+is_same_side Buy Sell = false
+is_same_side Sell Buy = false
 
 -- The word that a `Range` refusal prints for its limit.
 abbrev pub limit_word : Limit → List ℕ
@@ -129,14 +129,14 @@ refusal_number TooEarly = 22
 
 -- The fields that follow the number of a refusal: the code of the status for `WrongStatus`, the
 -- word of the limit for `Range`, and none for any other.
-abbrev pub refusal_words : Refusal → List (List ℕ)
-refusal_words (WrongStatus status) = status_code status ∷ []
-refusal_words (Range limit) = limit_word limit ∷ []
-refusal_words _ = []
+abbrev pub refusal_detail_fields : Refusal → List (List ℕ)
+refusal_detail_fields (WrongStatus status) = trade_status_code status ∷ []
+refusal_detail_fields (Range limit) = limit_word limit ∷ []
+refusal_detail_fields _ = []
 
--- The fields that are printed for a refusal: its number, followed by its `refusal_words`.
+-- The fields that are printed for a refusal: its number, followed by its `refusal_detail_fields`.
 abbrev pub refusal_fields : Refusal → List (List ℕ)
-refusal_fields refusal = decimal (refusal_number refusal) ∷ refusal_words refusal
+refusal_fields refusal = decimal (refusal_number refusal) ∷ refusal_detail_fields refusal
 
 -- The text that is printed for a refusal: its fields, separated by commas.
 abbrev pub refusal_text : Refusal → List ℕ
@@ -156,8 +156,8 @@ tax_status_number Withheld = 1
 tax_status_number Reported = 2
 
 -- The tax status with the number `n`, or none if `n` is above 2.
-abbrev pub tax_status_of : ℕ → Option TaxStatus
-tax_status_of n = if n == 0 then Some Untaxed else if n == 1 then Some Withheld else if n == 2 then Some Reported else None
+abbrev pub tax_status_with_number : ℕ → Option TaxStatus
+tax_status_with_number n = if n == 0 then Some Untaxed else if n == 1 then Some Withheld else if n == 2 then Some Reported else None
 
 -- The word that represents an audit condition.
 abbrev pub condition_word : Condition → List ℕ

@@ -3,52 +3,52 @@
 use Rattle.std.specs.Prelude.{ℕ, suc, ◌+◌, ◌-◌, ◌*◌, ◌/◌, ◌%◌, ◌≤◌, if◌then◌else◌, List, [], ◌∷◌, ◌++◌, fold, filter, length, take, drop, replicate, ◌==◌, Option, Some, None, ℤ, pos, negsuc, neg_ℤ, nat_le, nat_abs, decimal, bytes_eq, slice_index}
 use Rattle.std.specs.Char.{is_ascii_digit}
 use Rattle.brk_money.specs.declared.cents.TheConstants.Cents
-use Rattle.brk_money.specs.Moments.{Civil, civil_of, day_number}
+use Rattle.brk_money.specs.Moments.{Civil, civil_date_of_day, day_of_civil_date}
 
 -- The type of a text: the list of its bytes.
 abbrev pub Text : Type 0
 Text = List ℕ
 
 -- The value `value` if its canonical text by `spell` equals `text`, otherwise none.
-abbrev pub if_spelled : {A : Type 0} → (A → Text) → A → Text → Option A
-if_spelled spell value text = if bytes_eq (spell value) text then Some value else None
+abbrev pub value_if_canonical : {A : Type 0} → (A → Text) → A → Text → Option A
+value_if_canonical spell value text = if bytes_eq (spell value) text then Some value else None
 
 -- The number whose decimal digits are the ASCII digits of the text; all other bytes are left out.
-abbrev pub digits_value : Text → ℕ
-digits_value text = fold (λ n c. 10 * n + (c - 48)) 0 (filter is_ascii_digit text)
+abbrev pub number_of_digits : Text → ℕ
+number_of_digits text = fold (λ n c. 10 * n + (c - 48)) 0 (filter is_ascii_digit text)
 
 -- The number that the text parses as: decimal digits without a leading zero; none for any other
 -- text.
-abbrev pub number_of : Text → Option ℕ
-number_of text = if_spelled decimal (digits_value text) text
+abbrev pub decimal_number_of_text : Text → Option ℕ
+decimal_number_of_text text = value_if_canonical decimal (number_of_digits text) text
 
 -- The number if there is one and it is at most `limit`, otherwise none.
-abbrev pub at_most : ℕ → Option ℕ → Option ℕ
-at_most limit None = None
-at_most limit (Some n) = if nat_le n limit then Some n else None
+abbrev pub number_within_limit : ℕ → Option ℕ → Option ℕ
+number_within_limit limit None = None
+number_within_limit limit (Some n) = if nat_le n limit then Some n else None
 
 -- The absolute value of the amount, in cents, is at most `Cents.GREATEST`.
-abbrev pub IsAmount : ℤ → Type 0
-IsAmount (pos n) = n ≤ Cents.GREATEST
-IsAmount (negsuc n) = suc n ≤ Cents.GREATEST
+abbrev pub IsWithinAmountLimit : ℤ → Type 0
+IsWithinAmountLimit (pos n) = n ≤ Cents.GREATEST
+IsWithinAmountLimit (negsuc n) = suc n ≤ Cents.GREATEST
 
 -- The text of `n` cents without a sign, such as 12.05: the digits of the whole units, a point and
 -- two digits.
-abbrev pub magnitude_text : ℕ → Text
-magnitude_text n = decimal (n / 100) ++ 46 ∷ (48 + n % 100 / 10) ∷ (48 + n % 10) ∷ []
+abbrev pub unsigned_cents_text : ℕ → Text
+unsigned_cents_text n = decimal (n / 100) ++ 46 ∷ (48 + n % 100 / 10) ∷ (48 + n % 10) ∷ []
 
 -- The canonical text of an amount in cents, such as -12.05.
 abbrev pub cents_text : ℤ → Text
-cents_text (pos n) = magnitude_text n
-cents_text (negsuc n) = 45 ∷ magnitude_text (suc n)
+cents_text (pos n) = unsigned_cents_text n
+cents_text (negsuc n) = 45 ∷ unsigned_cents_text (suc n)
 
 -- The cents whose digits are the ASCII digits of the text, negated if the text begins with a minus.
-abbrev pub cents_value : Text → ℤ
-cents_value text = if slice_index text 0 == 45 then neg_ℤ (pos (digits_value text)) else pos (digits_value text)
+abbrev pub cents_of_digits : Text → ℤ
+cents_of_digits text = if slice_index text 0 == 45 then neg_ℤ (pos (number_of_digits text)) else pos (number_of_digits text)
 
 -- The amount in cents that a text parses as; none if the text is not canonical.
-abbrev pub cents_of : Text → Option ℤ
-cents_of text = if_spelled cents_text (cents_value text) text
+abbrev pub cents_of_text : Text → Option ℤ
+cents_of_text text = value_if_canonical cents_text (cents_of_digits text) text
 
 -- The decimal digits of `n`, with zeros in front up to `places` digits.
 abbrev pub padded_decimal : ℕ → ℕ → Text
@@ -60,30 +60,30 @@ date_text d = padded_decimal 4 d.year ++ 45 ∷ padded_decimal 2 d.month ++ 45 �
 
 -- The ten bytes of the text of the year `y`, the month `m` and the day `d`, such as 2024-03-01,
 -- digit by digit. It serves the contracts of private functions.
-abbrev pub date_digits : ℕ → ℕ → ℕ → Text
-date_digits y m d =
+abbrev pub digits_of_date : ℕ → ℕ → ℕ → Text
+digits_of_date y m d =
     (48 + y / 100 / 10) ∷ (48 + y / 100 % 10) ∷ (48 + y % 100 / 10) ∷ (48 + y % 100 % 10) ∷ 45 ∷ (48 + m / 10) ∷ (48 + m % 10) ∷ 45 ∷ (48 + d / 10)
     ∷ (48 + d % 10) ∷ []
 
 -- The canonical text of a day, such as 2024-03-01.
 abbrev pub day_text : ℕ → Text
-day_text day = date_text (civil_of day)
+day_text day = date_text (civil_date_of_day day)
 
 -- The civil date whose year, month and day are the digits of the text at the places of a canonical
 -- date; whether the calendar has it is not checked.
-abbrev pub civil_value : Text → Civil
-civil_value text = record { year = digits_value (take 4 text); month = digits_value (take 2 (drop 5 text)); day = digits_value (take 2 (drop 8 text)) }
+abbrev pub civil_date_of_digits : Text → Civil
+civil_date_of_digits text = record { year = number_of_digits (take 4 text); month = number_of_digits (take 2 (drop 5 text)); day = number_of_digits (take 2 (drop 8 text)) }
 
 -- The day that a text parses as; none if the text is not canonical.
 abbrev pub day_of_text : Text → Option ℕ
-day_of_text text = if_spelled day_text (day_number (civil_value text)) text
+day_of_text text = value_if_canonical day_text (day_of_civil_date (civil_date_of_digits text)) text
 
 -- The amount if there is one and its absolute value is at most `Cents.GREATEST`, otherwise none.
-abbrev pub within_limit : Option ℤ → Option ℤ
-within_limit None = None
-within_limit (Some z) = if nat_le (nat_abs z) Cents.GREATEST then Some z else None
+abbrev pub amount_within_limit : Option ℤ → Option ℤ
+amount_within_limit None = None
+amount_within_limit (Some z) = if nat_le (nat_abs z) Cents.GREATEST then Some z else None
 
 -- The number that results from reading the digits of a list after the number `n`.
-abbrev pub read_on : ℕ → List ℕ → ℕ
-read_on n [] = n
-read_on n (c ∷ cs) = read_on (n * 10 + (c - 48)) cs
+abbrev pub number_with_more_digits : ℕ → List ℕ → ℕ
+number_with_more_digits n [] = n
+number_with_more_digits n (c ∷ cs) = number_with_more_digits (n * 10 + (c - 48)) cs

@@ -20,7 +20,7 @@ pub fn half_up(n: u128, d: u128) -> u128
 }
 
 // Returns the amount of `cents` cents, which must be within the limit.
-fn natural(cents: u128) -> Cents
+fn cents_of_natural(cents: u128) -> Cents
     requires { cents ≤ Cents.GREATEST }
     ensures { result ≡ pos cents }
 {
@@ -33,7 +33,7 @@ pub fn commission(rate: Rate, qty: Qty, price: Price) -> Cents
     ensures { result ≡ pos (spec.commission rate qty price) }
 {
     let product = u128::from(rate.get()) * u128::from(qty.get()) * u128::from(price.get());
-    natural(half_up(product, 10_000))
+    cents_of_natural(half_up(product, 10_000))
 }
 
 /// Returns the tax on a trade's gain in cents, rounded once, a half up; 0 if the gain is 0 or below
@@ -43,7 +43,7 @@ pub fn tax(gain: Cents, rates: TaxRate) -> Cents
 {
     let gain = gain.get();
     if gain <= 0 {
-        return natural(0);
+        return cents_of_natural(0);
     }
-    natural(half_up(gain as u128 * u128::from(rates.get()), 100_000))
+    cents_of_natural(half_up(gain as u128 * u128::from(rates.get()), 100_000))
 }

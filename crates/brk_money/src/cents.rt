@@ -1,8 +1,8 @@
 ghost use Rattle.std.specs.Prelude.{◌≡◌, ◌≢◌, ◌≤◌, ◌+◌, ◌<◌, ◌^◌, ◌≤ℤ◌, ℕ, ℤ, pos, neg_ℤ, SomeIff, IfSome, IfNone, Some};
 ghost use Rattle.brk_money.specs.declared.cents.TheConstants.Cents;
-ghost use Rattle.brk_money.specs.Spelling.{cents_text, magnitude_text, IsAmount};
+ghost use Rattle.brk_money.specs.Spelling.{cents_text, unsigned_cents_text, IsWithinAmountLimit};
 
-use crate::whole::parse_whole;
+use crate::whole::parse_whole_number;
 use std::marker::Model;
 
 /// An amount in whole cents: -10^17 to 10^17, both included.
@@ -48,9 +48,9 @@ impl Cents {
 // Parses the canonical text of an amount that is not negative, and returns its cents. Returns
 // `None` for any other bytes, and for an amount above the limit.
 #[tactic(auto, using(crate::proofs::Plain::plain_split, crate::proofs::Plain::plain_joined))]
-fn parse_plain(bytes: &[u8]) -> Option<u64>
-    ensures found { IfSome result (λ n. (n ≤ Cents.GREATEST) × (bytes.now ≡ magnitude_text n)) }
-    ensures none { IfNone result ((n : ℕ) → n ≤ Cents.GREATEST → bytes.now ≢ magnitude_text n) }
+fn parse_cents_without_sign(bytes: &[u8]) -> Option<u64>
+    ensures found { IfSome result (λ n. (n ≤ Cents.GREATEST) × (bytes.now ≡ unsigned_cents_text n)) }
+    ensures none { IfNone result ((n : ℕ) → n ≤ Cents.GREATEST → bytes.now ≢ unsigned_cents_text n) }
 {
     if bytes.len() < 3 {
         return None;
@@ -61,7 +61,7 @@ fn parse_plain(bytes: &[u8]) -> Option<u64>
     if rest[0] != b'.' || tens < b'0' || tens > b'9' || ones < b'0' || ones > b'9' {
         return None;
     }
-    let Some(units) = parse_whole(whole, Cents::GREATEST / 100) else {
+    let Some(units) = parse_whole_number(whole, Cents::GREATEST / 100) else {
         return None;
     };
     let n = units * 100 + (tens - b'0') as u64 * 10 + (ones - b'0') as u64;
@@ -76,12 +76,12 @@ fn parse_plain(bytes: &[u8]) -> Option<u64>
 /// `10.0`, and for an amount outside the limits.
 #[tactic(auto, using(crate::proofs::Plain::plain_split))]
 pub fn parse_cents(bytes: &[u8]) -> Option<Cents>
-    ensures found { IfSome result (λ cents. IsAmount cents × (bytes.now ≡ cents_text cents)) }
-    ensures none { IfNone result ((z : ℤ) → IsAmount z → bytes.now ≢ cents_text z) }
+    ensures found { IfSome result (λ cents. IsWithinAmountLimit cents × (bytes.now ≡ cents_text cents)) }
+    ensures none { IfNone result ((z : ℤ) → IsWithinAmountLimit z → bytes.now ≢ cents_text z) }
 {
     match bytes {
         [b'-', rest @ ..] => {
-            let Some(n) = parse_plain(rest) else {
+            let Some(n) = parse_cents_without_sign(rest) else {
                 return None;
             };
             if n == 0 {
@@ -90,7 +90,7 @@ pub fn parse_cents(bytes: &[u8]) -> Option<Cents>
             Some(Cents(-(n as i64)))
         }
         _ => {
-            let Some(n) = parse_plain(bytes) else {
+            let Some(n) = parse_cents_without_sign(bytes) else {
                 return None;
             };
             Some(Cents(n as i64))
@@ -100,6 +100,6 @@ pub fn parse_cents(bytes: &[u8]) -> Option<Cents>
 
 /// Proof-only: does nothing at run time. Proves that two amounts within the limits are equal if
 /// their canonical texts are.
-pub fn one_spelling()
-    ensures { (y z : ℤ) → IsAmount y → IsAmount z → cents_text y ≡ cents_text z → y ≡ z }
+pub fn amounts_have_distinct_texts()
+    ensures { (y z : ℤ) → IsWithinAmountLimit y → IsWithinAmountLimit z → cents_text y ≡ cents_text z → y ≡ z }
 {}

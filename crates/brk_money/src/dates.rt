@@ -1,7 +1,7 @@
 ghost use Rattle.std.specs.Prelude.{◌≡◌, ◌≢◌, ◌++◌, ◌+◌, ◌/◌, ◌%◌, ◌<◌, ◌≤◌, ◌≤ℤ◌, ℕ, pos, unsigned_abs, IfSome, IfNone, OnOk, OnErr, Err};
 ghost use Rattle.jiff.specs.Words.{IsDate, epoch_day};
-ghost use Rattle.brk_money.specs.Moments.{last_day};
-ghost use Rattle.brk_money.specs.Spelling.{date_digits, day_text};
+ghost use Rattle.brk_money.specs.Moments.{greatest_day};
+ghost use Rattle.brk_money.specs.Spelling.{digits_of_date, day_text};
 ghost use Rattle.brk_money.specs.declared.fault.Fault.TheVariants.{Memory};
 
 use crate::day::Day;
@@ -10,7 +10,7 @@ use jiff::ToSpan;
 use jiff::civil::{Date, date};
 
 // Returns the calendar date of a day.
-fn date_of(day: Day) -> Date
+fn date_of_day(day: Day) -> Date
     ensures { epoch_day result ≡ pos day }
 {
     date(1970, 1, 1)
@@ -19,7 +19,7 @@ fn date_of(day: Day) -> Date
 }
 
 // Parses two decimal digits as a number below 100, or returns `None` if a byte is no digit.
-fn two_digits(tens: u8, ones: u8) -> Option<u8>
+fn parse_two_digits(tens: u8, ones: u8) -> Option<u8>
     ensures found { IfSome result (λ n. (n < 100) × (tens ≡ 48 + n / 10) × (ones ≡ 48 + n % 10)) }
     ensures none { IfNone result ((n : ℕ) → n < 100 → tens ≡ 48 + n / 10 → ones ≢ 48 + n % 10) }
 {
@@ -31,7 +31,7 @@ fn two_digits(tens: u8, ones: u8) -> Option<u8>
 
 // Returns the date of a year, a month and a day of the month, or `None` if the calendar has no such
 // date.
-fn calendar_date(year: u16, month: u8, day: u8) -> Option<Date>
+fn date_if_in_calendar(year: u16, month: u8, day: u8) -> Option<Date>
     requires year { year < 10000 }
     requires month { month < 100 }
     requires day { day < 100 }
@@ -47,26 +47,26 @@ fn calendar_date(year: u16, month: u8, day: u8) -> Option<Date>
 // Parses the text of a date: four digits of a year, two of a month and two of a day, with a hyphen
 // between. Returns `None` for any other bytes, and for a date that the calendar does not have.
 #[tactic(auto, using(crate::proofs::DayTexts::spelled, crate::proofs::DayTexts::parts_spelled))]
-fn date_spelled(bytes: &[u8]) -> Option<Date>
-    ensures found { IfSome result (λ date. (pos 0 ≤ℤ date.year) × (bytes.now ≡ date_digits (unsigned_abs date.year) date.month date.day)) }
-    ensures none { IfNone result ((y m d : ℕ) → IsDate (pos y) (pos m) (pos d) → bytes.now ≢ date_digits y m d) }
+fn parse_date(bytes: &[u8]) -> Option<Date>
+    ensures found { IfSome result (λ date. (pos 0 ≤ℤ date.year) × (bytes.now ≡ digits_of_date (unsigned_abs date.year) date.month date.day)) }
+    ensures none { IfNone result ((y m d : ℕ) → IsDate (pos y) (pos m) (pos d) → bytes.now ≢ digits_of_date y m d) }
 {
     if bytes.len() != 10 || bytes[4] != b'-' || bytes[7] != b'-' {
         return None;
     }
-    let Some(century) = two_digits(bytes[0], bytes[1]) else {
+    let Some(century) = parse_two_digits(bytes[0], bytes[1]) else {
         return None;
     };
-    let Some(year) = two_digits(bytes[2], bytes[3]) else {
+    let Some(year) = parse_two_digits(bytes[2], bytes[3]) else {
         return None;
     };
-    let Some(month) = two_digits(bytes[5], bytes[6]) else {
+    let Some(month) = parse_two_digits(bytes[5], bytes[6]) else {
         return None;
     };
-    let Some(day) = two_digits(bytes[8], bytes[9]) else {
+    let Some(day) = parse_two_digits(bytes[8], bytes[9]) else {
         return None;
     };
-    calendar_date(u16::from(century) * 100 + u16::from(year), month, day)
+    date_if_in_calendar(u16::from(century) * 100 + u16::from(year), month, day)
 }
 
 /// Parses the canonical text of a day, such as `2024-03-01`: four digits of a year, two of a month
@@ -74,9 +74,9 @@ fn date_spelled(bytes: &[u8]) -> Option<Date>
 /// bytes.
 pub fn parse_day(bytes: &[u8]) -> Option<Day>
     ensures found { IfSome result (λ day. bytes.now ≡ day_text day) }
-    ensures none { IfNone result ((n : ℕ) → n ≤ last_day → bytes.now ≢ day_text n) }
+    ensures none { IfNone result ((n : ℕ) → n ≤ greatest_day → bytes.now ≢ day_text n) }
 {
-    let Some(date) = date_spelled(bytes) else {
+    let Some(date) = parse_date(bytes) else {
         return None;
     };
     Day::new(date.to_plain().to_unix_epoch_day())
@@ -85,7 +85,7 @@ pub fn parse_day(bytes: &[u8]) -> Option<Day>
 // Returns the ten bytes of the text of a date whose year is not negative.
 fn date_bytes(date: Date) -> [u8; 10]
     requires { pos 0 ≤ℤ date.year }
-    ensures { result ≡ date_digits (unsigned_abs date.year) date.month date.day }
+    ensures { result ≡ digits_of_date (unsigned_abs date.year) date.month date.day }
 {
     let year = date.year() as u16;
     let month = date.month() as u8;
@@ -115,7 +115,7 @@ pub fn write_day(out: &mut Vec<u8>, day: Day) -> Result<(), Fault>
     ensures err { OnErr result (out.new.items ≡ out.old.items) }
     ensures fault { OnErr result (result ≡ Err Memory) }
 {
-    let text = date_bytes(date_of(day));
+    let text = date_bytes(date_of_day(day));
     match out.extend_from_slice(&text) {
         Ok(()) => Ok(()),
         Err(_) => Err(Fault::Memory),
@@ -124,6 +124,6 @@ pub fn write_day(out: &mut Vec<u8>, day: Day) -> Result<(), Fault>
 
 /// Proof-only: does nothing at run time. Proves that two days are equal if their canonical texts
 /// are.
-pub fn one_day_spelling()
-    ensures { (m n : ℕ) → m ≤ last_day → n ≤ last_day → day_text m ≡ day_text n → m ≡ n }
+pub fn days_have_distinct_texts()
+    ensures { (m n : ℕ) → m ≤ greatest_day → n ≤ greatest_day → day_text m ≡ day_text n → m ≡ n }
 {}

@@ -14,7 +14,7 @@ impl Model for Day {
     ghost use Rattle.std.specs.Prelude.{ℕ, pos, ◌≤ℤ◌};
     ghost use Rattle.std.specs.Int.RustNames.{unsigned_abs};
     ghost use Rattle.std.proofs.Common.{arith};
-    ghost use Rattle.brk_money.specs.Moments.{last_day};
+    ghost use Rattle.brk_money.specs.Moments.{greatest_day};
 
     ghost Value = { ℕ };
 
@@ -22,7 +22,7 @@ impl Model for Day {
 
     ghost inverse = { λ n. record { 0 = pos n } };
 
-    ghost invariant = { λ a. (pos 0 ≤ℤ a.0) × (a.0 ≤ℤ pos last_day) };
+    ghost invariant = { λ a. (pos 0 ≤ℤ a.0) × (a.0 ≤ℤ pos greatest_day) };
 }
 
 impl Day {
@@ -32,7 +32,7 @@ impl Day {
     /// Returns the day `days` days after 1970-01-01, or `None` if it is out of range.
     pub fn new(days: i32) -> Option<Day>
         ensures found { IfSome result (λ day. days ≡ pos day) }
-        ensures limits { SomeIff (option_map (λ day. pos day) result) ((pos 0 ≤ℤ days) × (days ≤ℤ pos spec.last_day)) days }
+        ensures limits { SomeIff (option_map (λ day. pos day) result) ((pos 0 ≤ℤ days) × (days ≤ℤ pos spec.greatest_day)) days }
     {
         if 0 <= days && days <= Day::GREATEST {
             Some(Day(days))
@@ -44,14 +44,14 @@ impl Day {
     /// Returns the number of days since 1970-01-01.
     pub fn get(self) -> i32
         ensures value { result ≡ pos self }
-        ensures high { self ≤ spec.last_day }
+        ensures high { self ≤ spec.greatest_day }
     {
         self.0
     }
 
     /// Returns the day `days` days later, or `None` if it is out of range.
-    pub fn later(self, days: u16) -> Option<Day>
-        ensures { SomeIff result (self + days ≤ spec.last_day) (self + days) }
+    pub fn days_later(self, days: u16) -> Option<Day>
+        ensures { SomeIff result (self + days ≤ spec.greatest_day) (self + days) }
     {
         Day::new(self.0 + i32::from(days))
     }

@@ -13,7 +13,7 @@ impl Model for Stamp {
     ghost use Rattle.std.specs.Prelude.{ℕ, pos, ◌≤ℤ◌};
     ghost use Rattle.std.specs.Int.RustNames.{unsigned_abs};
     ghost use Rattle.std.proofs.Common.{arith};
-    ghost use Rattle.brk_money.specs.Moments.{last_stamp};
+    ghost use Rattle.brk_money.specs.Moments.{greatest_stamp};
 
     ghost Value = { ℕ };
 
@@ -21,7 +21,7 @@ impl Model for Stamp {
 
     ghost inverse = { λ n. record { 0 = pos n } };
 
-    ghost invariant = { λ a. (pos 0 ≤ℤ a.0) × (a.0 ≤ℤ pos last_stamp) };
+    ghost invariant = { λ a. (pos 0 ≤ℤ a.0) × (a.0 ≤ℤ pos greatest_stamp) };
 }
 
 impl Stamp {
@@ -31,7 +31,7 @@ impl Stamp {
     /// Returns the stamp of `millis`, or `None` if it is out of range.
     pub fn new(millis: i64) -> Option<Stamp>
         ensures found { IfSome result (λ stamp. millis ≡ pos stamp) }
-        ensures limits { SomeIff (option_map (λ stamp. pos stamp) result) ((pos 0 ≤ℤ millis) × (millis ≤ℤ pos spec.last_stamp)) millis }
+        ensures limits { SomeIff (option_map (λ stamp. pos stamp) result) ((pos 0 ≤ℤ millis) × (millis ≤ℤ pos spec.greatest_stamp)) millis }
     {
         if 0 <= millis && millis <= Stamp::GREATEST {
             Some(Stamp(millis))
@@ -42,9 +42,9 @@ impl Stamp {
 
     /// Returns the stamp of `millis`, or the nearest stamp if it is out of range.
     pub fn nearest(millis: i64) -> Stamp
-        ensures within { pos 0 ≤ℤ millis → millis ≤ℤ pos spec.last_stamp → pos result ≡ millis }
+        ensures within { pos 0 ≤ℤ millis → millis ≤ℤ pos spec.greatest_stamp → pos result ≡ millis }
         ensures below { millis ≤ℤ pos 0 → result ≡ 0 }
-        ensures above { pos spec.last_stamp ≤ℤ millis → result ≡ spec.last_stamp }
+        ensures above { pos spec.greatest_stamp ≤ℤ millis → result ≡ spec.greatest_stamp }
     {
         Stamp(millis.max(0).min(Stamp::GREATEST))
     }
@@ -52,7 +52,7 @@ impl Stamp {
     /// Returns the milliseconds since 1970-01-01 UTC.
     pub fn get(self) -> i64
         ensures value { result ≡ pos self }
-        ensures high { self ≤ spec.last_stamp }
+        ensures high { self ≤ spec.greatest_stamp }
     {
         self.0
     }

@@ -1,5 +1,5 @@
 ghost use Rattle.std.specs.Prelude.{◌≡◌};
-ghost use Rattle.brk_money.specs.Kinds.{status_code, status_name};
+ghost use Rattle.brk_money.specs.Kinds.{trade_status_code, trade_status_name};
 
 /// The status of a trade (ST_ID, Trade-Order, Market-Feed, Trade-Result).
 #[derive(Clone, Copy, Debug, PartialEq, Eq)]
@@ -19,7 +19,7 @@ pub enum Status {
 impl Status {
     /// Returns the four-letter code of the status, as in tables and replies.
     pub fn code(self) -> &'static str
-        ensures { result.now ≡ status_code self }
+        ensures { result.now ≡ trade_status_code self }
     {
         match self {
             Status::Completed => "CMPT",
@@ -32,7 +32,7 @@ impl Status {
 
     /// Returns the name of the status (ST_NAME).
     pub fn name(self) -> &'static str
-        ensures { result.now ≡ status_name self }
+        ensures { result.now ≡ trade_status_name self }
     {
         match self {
             Status::Completed => "Completed",

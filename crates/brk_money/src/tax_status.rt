@@ -1,5 +1,5 @@
 ghost use Rattle.std.specs.Prelude.{◌≡◌};
-ghost use Rattle.brk_money.specs.Kinds.{tax_status_number, tax_status_of};
+ghost use Rattle.brk_money.specs.Kinds.{tax_status_number, tax_status_with_number};
 
 /// The tax status of an account: how its gains are taxed (CA_TAX_ST).
 #[derive(Clone, Copy, Debug, PartialEq, Eq)]
@@ -26,7 +26,7 @@ impl TaxStatus {
 
     /// Returns the status with this number, or `None` if it is above 2.
     pub fn from_number(number: u64) -> Option<TaxStatus>
-        ensures { result ≡ tax_status_of number }
+        ensures { result ≡ tax_status_with_number number }
     {
         match number {
             0 => Some(TaxStatus::Untaxed),

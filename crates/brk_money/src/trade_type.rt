@@ -1,5 +1,5 @@
 ghost use Rattle.std.specs.Prelude.{◌≡◌, ◌↔◌, IsTrue};
-ghost use Rattle.brk_money.specs.Kinds.{is_market, side_of, type_code, type_name};
+ghost use Rattle.brk_money.specs.Kinds.{is_market_type, side_of_trade_type, trade_type_code, trade_type_name};
 ghost use Rattle.brk_money.specs.declared.side.Side.TheVariants.{Sell};
 
 use crate::side::Side;
@@ -17,7 +17,7 @@ pub enum TradeType {
 impl TradeType {
     /// Returns the three-letter code of the type, as in tables and rows.
     pub fn code(self) -> &'static str
-        ensures { result.now ≡ type_code self }
+        ensures { result.now ≡ trade_type_code self }
     {
         match self {
             TradeType::MarketBuy => "TMB",
@@ -30,7 +30,7 @@ impl TradeType {
 
     /// Returns the name of the type (TT_NAME).
     pub fn name(self) -> &'static str
-        ensures { result.now ≡ type_name self }
+        ensures { result.now ≡ trade_type_name self }
     {
         match self {
             TradeType::MarketBuy => "Market-Buy",
@@ -43,7 +43,7 @@ impl TradeType {
 
     /// Returns the side of a trade of this type.
     pub fn side(self) -> Side
-        ensures { result ≡ side_of self }
+        ensures { result ≡ side_of_trade_type self }
     {
         match self {
             TradeType::MarketBuy | TradeType::LimitBuy => Side::Buy,
@@ -53,14 +53,14 @@ impl TradeType {
 
     /// Returns true if a trade of this type sells shares (TT_IS_SELL).
     pub fn is_sell(self) -> bool
-        ensures { IsTrue result ↔ (side_of self ≡ Sell) }
+        ensures { IsTrue result ↔ (side_of_trade_type self ≡ Sell) }
     {
         self.side() == Side::Sell
     }
 
     /// Returns true if a trade of this type is at the market price (TT_IS_MRKT).
     pub fn is_market(self) -> bool
-        ensures { result ≡ is_market self }
+        ensures { result ≡ is_market_type self }
     {
         matches!(self, TradeType::MarketBuy | TradeType::MarketSell)
     }

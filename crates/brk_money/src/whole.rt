@@ -2,15 +2,15 @@ ghost use Rattle.std.specs.Prelude.{◌≡◌, ◌≢◌, ◌+◌, ◌-◌, ◌*
 ghost use Rattle.std.specs.Fmt.{decimal};
 ghost use Rattle.std.specs.Str.{all_ascii_digits};
 ghost use Rattle.brk_money.specs.declared.cents.TheConstants.Cents;
-ghost use Rattle.brk_money.specs.Spelling.{read_on};
+ghost use Rattle.brk_money.specs.Spelling.{number_with_more_digits};
 
 // Parses decimal digits as a number; no bytes parse as 0. Returns `None` if a byte is no digit or
 // the number is above `limit`.
 #[tactic(auto, using(crate::proofs::Digits::read_on_le))]
 fn read_digits(bytes: &[u8], limit: u64) -> Option<u64>
     requires { limit ≤ Cents.GREATEST }
-    ensures found { IfSome result (λ n. (all_ascii_digits bytes.now ≡ true) × (read_on 0 bytes.now ≡ n) × (n ≤ limit)) }
-    ensures none { IfNone result (all_ascii_digits bytes.now ≡ true → limit < read_on 0 bytes.now) }
+    ensures found { IfSome result (λ n. (all_ascii_digits bytes.now ≡ true) × (number_with_more_digits 0 bytes.now ≡ n) × (n ≤ limit)) }
+    ensures none { IfNone result (all_ascii_digits bytes.now ≡ true → limit < number_with_more_digits 0 bytes.now) }
 {
     let mut value: u64 = 0;
     for b in bytes {
@@ -28,7 +28,7 @@ fn read_digits(bytes: &[u8], limit: u64) -> Option<u64>
 /// Parses the canonical text of a whole number: decimal digits without a sign or a leading zero.
 /// Returns `None` for any other bytes, and for a number above `limit`.
 #[tactic(auto, using(crate::proofs::Digits::whole_found, crate::proofs::Digits::whole_only))]
-pub fn parse_whole(bytes: &[u8], limit: u64) -> Option<u64>
+pub fn parse_whole_number(bytes: &[u8], limit: u64) -> Option<u64>
     requires { limit ≤ Cents.GREATEST }
     ensures found { IfSome result (λ n. (n ≤ limit) × (bytes.now ≡ decimal n)) }
     ensures none { IfNone result ((n : ℕ) → n ≤ limit → bytes.now ≢ decimal n) }

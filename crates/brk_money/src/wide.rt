@@ -74,7 +74,12 @@ impl fmt::Display for Wide {
 // Appends the bytes of `first`, `second` and `third`, in this sequence.
 //
 // Fails with `Memory` only; `out` is then unchanged.
-fn append_three(out: &mut Vec<u8>, first: &[u8], second: &[u8], third: &[u8]) -> Result<(), Fault>
+fn append_three_texts(
+    out: &mut Vec<u8>,
+    first: &[u8],
+    second: &[u8],
+    third: &[u8],
+) -> Result<(), Fault>
     ensures ok { OnOk result (out.new.items ≡ out.old.items ++ (first.now ++ (second.now ++ third.now))) }
     ensures err { OnErr result (out.new.items ≡ out.old.items) }
     ensures fault { OnErr result (result ≡ Err Memory) }
@@ -105,8 +110,8 @@ pub fn write_cents(out: &mut Vec<u8>, amount: Wide) -> Result<(), Fault>
     let mut buffer = Buffer::new();
     let whole = buffer.format(cents / 100).as_bytes();
     if amount.0 < 0 {
-        append_three(out, b"-", whole, &tail)
+        append_three_texts(out, b"-", whole, &tail)
     } else {
-        append_three(out, b"", whole, &tail)
+        append_three_texts(out, b"", whole, &tail)
     }
 }

@@ -1,5 +1,5 @@
-ghost use Rattle.brk_model.specs.Parse.{read_cancel};
-ghost use Rattle.brk_ref.specs.Fields.{ParsesAs, texts};
+ghost use Rattle.brk_model.specs.Parse.{read_canceled_trade_id};
+ghost use Rattle.brk_ref.specs.Fields.{ParsesAs, texts_of_fields};
 
 use brk_money::{Id, Refusal};
 use brk_ref::parse_id;
@@ -9,7 +9,7 @@ use brk_ref::parse_id;
 /// Refuses with `BadText` if there is not exactly one field, or if it is not an id. Never
 /// allocates.
 pub fn check_cancel(fields: &[&[u8]]) -> Result<Id, Refusal>
-    ensures { ParsesAs (λ trade. trade) result (read_cancel (texts fields.now)) }
+    ensures { ParsesAs (λ trade. trade) result (read_canceled_trade_id (texts_of_fields fields.now)) }
 {
     let [trade] = fields else {
         return Err(Refusal::BadText);

@@ -1,6 +1,6 @@
-ghost use Rattle.brk_model.specs.Parse.{read_result};
-ghost use Rattle.brk_orders.specs.Records.{result_of};
-ghost use Rattle.brk_ref.specs.Fields.{ParsesAs, texts};
+ghost use Rattle.brk_model.specs.Parse.{read_result_command};
+ghost use Rattle.brk_orders.specs.Records.{completion_command};
+ghost use Rattle.brk_ref.specs.Fields.{ParsesAs, texts_of_fields};
 
 use brk_money::{Id, Price, Refusal};
 use brk_ref::{parse_id, parse_price};
@@ -19,7 +19,7 @@ pub struct Completion {
 /// Refuses with `BadText` (18) if there are not exactly two fields or TRADE is not an id, otherwise
 /// with `BadPrice` (9) if PRICE is not a price. Never allocates.
 pub fn check_result(fields: &[&[u8]]) -> Result<Completion, Refusal>
-    ensures { ParsesAs result_of result (read_result (texts fields.now)) }
+    ensures { ParsesAs completion_command result (read_result_command (texts_of_fields fields.now)) }
 {
     let [trade, price] = fields else {
         return Err(Refusal::BadText);

@@ -1,13 +1,13 @@
 ghost use Rattle.std.specs.Prelude.{◌≡◌, IfOk, OnErr, Err, nat_le, if◌then◌else◌};
 ghost use Rattle.brk_model.specs.Forms as forms;
-ghost use Rattle.brk_model.specs.Forms.{some_of};
+ghost use Rattle.brk_model.specs.Forms.{one_to_twenty_elements};
 ghost use Rattle.brk_model.specs.Parse.{read_feed, read_ticks};
 ghost use Rattle.brk_money.specs.declared.fault.Fault.TheVariants.{Memory};
-ghost use Rattle.brk_orders.specs.Reading.{joined_lists, seen};
-ghost use Rattle.brk_orders.specs.Records.{alone, items_of, ticks_of};
-ghost use Rattle.brk_ref.specs.Fields.{ParsesAs, texts};
+ghost use Rattle.brk_orders.specs.Reading.{appended_parse_results, abstract_parse_result};
+ghost use Rattle.brk_orders.specs.Records.{list_of_one_tick, abstract_ticks_of_vector, abstract_ticks};
+ghost use Rattle.brk_ref.specs.Fields.{ParsesAs, texts_of_fields};
 
-use crate::tick::{Tick, tick_from};
+use crate::tick::{Tick, parse_tick_fields};
 use brk_money::{Planned, Refusal};
 use std::alloc::Global;
 use std::marker::Model;
@@ -36,7 +36,7 @@ impl Feed {
     /// Returns the feed of these ticks. Refuses with `BadText` (18) if there are none, and with
     /// `TooMany` (20) if there are more than 20. Never allocates.
     pub fn new(ticks: Vec<Tick>) -> Result<Feed, Refusal>
-        ensures { ParsesAs ticks_of result (some_of (ticks_of ticks.items)) }
+        ensures { ParsesAs abstract_ticks result (one_to_twenty_elements (abstract_ticks ticks.items)) }
     {
         if ticks.is_empty() {
             return Err(Refusal::BadText);
@@ -57,8 +57,8 @@ impl Feed {
 
 // Returns the rank of a refusal in the sequence of the format checks: texts, quantities, prices,
 // types, and then all others.
-fn form_rank(refusal: Refusal) -> u8
-    ensures { result ≡ forms.form_rank refusal }
+fn rank_of_format_refusal(refusal: Refusal) -> u8
+    ensures { result ≡ forms.format_refusal_rank refusal }
 {
     match refusal {
         Refusal::BadText => 0,
@@ -71,10 +71,10 @@ fn form_rank(refusal: Refusal) -> u8
 
 // Returns the refusal of the earlier one of two format checks, and `one` if both have the same
 // rank.
-fn first_of(one: Refusal, other: Refusal) -> Refusal
-    ensures { result ≡ (if nat_le (forms.form_rank one) (forms.form_rank other) then one else other) }
+fn refusal_of_first_check(one: Refusal, other: Refusal) -> Refusal
+    ensures { result ≡ (if nat_le (forms.format_refusal_rank one) (forms.format_refusal_rank other) then one else other) }
 {
-    if form_rank(one) <= form_rank(other) {
+    if rank_of_format_refusal(one) <= rank_of_format_refusal(other) {
         one
     } else {
         other
@@ -83,8 +83,11 @@ fn first_of(one: Refusal, other: Refusal) -> Refusal
 
 // Appends a parsed tick to parsed ticks. If one of them is refused, returns its refusal, and if
 // both are, that of the earlier format check. Fails with `Memory` only.
-fn with_tick(ticks: Result<Vec<Tick>, Refusal>, tick: Result<Tick, Refusal>) -> Planned<Vec<Tick>>
-    ensures read { IfOk result (λ read. seen items_of read ≡ joined_lists (seen items_of ticks) (seen alone tick)) }
+fn append_parsed_tick(
+    ticks: Result<Vec<Tick>, Refusal>,
+    tick: Result<Tick, Refusal>,
+) -> Planned<Vec<Tick>>
+    ensures read { IfOk result (λ read. abstract_parse_result abstract_ticks_of_vector read ≡ appended_parse_results (abstract_parse_result abstract_ticks_of_vector ticks) (abstract_parse_result list_of_one_tick tick)) }
     ensures fault { OnErr result (result ≡ Err Memory) }
 {
     match (ticks, tick) {
@@ -94,22 +97,22 @@ fn with_tick(ticks: Result<Vec<Tick>, Refusal>, tick: Result<Tick, Refusal>) -> 
         }
         (Ok(_), Err(refusal)) => Ok(Err(refusal)),
         (Err(refusal), Ok(_)) => Ok(Err(refusal)),
-        (Err(one), Err(other)) => Ok(Err(first_of(one, other))),
+        (Err(one), Err(other)) => Ok(Err(refusal_of_first_check(one, other))),
     }
 }
 
 // Parses the fields of ticks, three for each. All fields are checked, and the refusal is that of
 // the first failing format check, of whichever tick. Refuses a number of fields that is not a
 // multiple of three with `BadText`. Fails with `Memory` only.
-fn ticks_from(alloc: Global, fields: &[&[u8]]) -> Planned<Vec<Tick>>
-    ensures read { IfOk result (λ read. ParsesAs items_of read (read_ticks (texts fields.now))) }
+fn parse_ticks(alloc: Global, fields: &[&[u8]]) -> Planned<Vec<Tick>>
+    ensures read { IfOk result (λ read. ParsesAs abstract_ticks_of_vector read (read_ticks (texts_of_fields fields.now))) }
     ensures fault { OnErr result (result ≡ Err Memory) }
 {
     let mut ticks = Ok(Vec::new(alloc));
     let mut rest = fields;
     while let [symbol, price, qty, after @ ..] = rest {
-        let tick = tick_from(alloc, symbol, price, qty)?;
-        ticks = with_tick(ticks, tick)?;
+        let tick = parse_tick_fields(alloc, symbol, price, qty)?;
+        ticks = append_parsed_tick(ticks, tick)?;
         rest = after;
     }
     if !rest.is_empty() {
@@ -124,10 +127,10 @@ fn ticks_from(alloc: Global, fields: &[&[u8]]) -> Planned<Vec<Tick>>
 /// with `BadPrice` (9) for a price, and with `TooMany` (20) for more than 20 ticks. All fields are
 /// checked before the number of ticks; no tick at all is `BadText`.
 pub fn check_feed(alloc: Global, fields: &[&[u8]]) -> Planned<Feed>
-    ensures read { IfOk result (λ read. ParsesAs ticks_of read (read_feed (texts fields.now))) }
+    ensures read { IfOk result (λ read. ParsesAs abstract_ticks read (read_feed (texts_of_fields fields.now))) }
     ensures fault { OnErr result (result ≡ Err Memory) }
 {
-    match ticks_from(alloc, fields)? {
+    match parse_ticks(alloc, fields)? {
         Ok(ticks) => Ok(Feed::new(ticks)),
         Err(refusal) => Ok(Err(refusal)),
     }

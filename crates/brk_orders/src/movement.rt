@@ -1,6 +1,6 @@
-ghost use Rattle.brk_model.specs.Parse.{read_movement};
-ghost use Rattle.brk_orders.specs.Records.{movement_of, moved_by};
-ghost use Rattle.brk_ref.specs.Fields.{ParsesAs, texts};
+ghost use Rattle.brk_model.specs.Parse.{read_movement_command};
+ghost use Rattle.brk_orders.specs.Records.{movement_command, cash_movement_command};
+ghost use Rattle.brk_ref.specs.Fields.{ParsesAs, texts_of_fields};
 
 use brk_money::{Id, Refusal};
 use brk_ref::{MovedAmount, parse_id, parse_moved_amount};
@@ -27,7 +27,7 @@ pub struct Movement {
 /// Refuses with `BadText` if there are not exactly two fields, or if a field is malformed or out of
 /// range. Never allocates.
 pub fn check_move(direction: Direction, fields: &[&[u8]]) -> Result<Movement, Refusal>
-    ensures { ParsesAs movement_of result (read_movement (moved_by direction) (texts fields.now)) }
+    ensures { ParsesAs movement_command result (read_movement_command (cash_movement_command direction) (texts_of_fields fields.now)) }
 {
     let [account, amount] = fields else {
         return Err(Refusal::BadText);

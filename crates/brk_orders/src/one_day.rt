@@ -1,15 +1,15 @@
 ghost use Rattle.std.specs.Prelude.{◌≡◌};
 ghost use Rattle.std.specs.Option.{ok_or};
 ghost use Rattle.brk_model.specs.Forms.{read_day};
-ghost use Rattle.brk_model.specs.Parse.{read_oneday};
+ghost use Rattle.brk_model.specs.Parse.{read_settlement_day};
 ghost use Rattle.brk_money.specs.declared.refusal.Refusal.TheVariants.{BadText};
-ghost use Rattle.brk_ref.specs.Fields.{ParsesAs, texts};
+ghost use Rattle.brk_ref.specs.Fields.{ParsesAs, texts_of_fields};
 
 use brk_money::{Day, Refusal, parse_day};
 
 // Parses a day, YYYY-MM-DD. Returns `None` if the bytes are malformed or the day is not within
 // 1970-01-01 to 9999-12-31.
-fn calendar_day(bytes: &[u8]) -> Option<Day>
+fn parse_calendar_day(bytes: &[u8]) -> Option<Day>
     ensures { ok_or result BadText ≡ read_day bytes.now }
 {
     let Some(day) = parse_day(bytes) else {
@@ -25,12 +25,12 @@ fn calendar_day(bytes: &[u8]) -> Option<Day>
 /// Refuses with `BadText` if there is not exactly one field, or if it is not a day of the calendar.
 /// Never allocates.
 pub fn check_oneday(fields: &[&[u8]]) -> Result<Day, Refusal>
-    ensures { ParsesAs (λ day. day) result (read_oneday (texts fields.now)) }
+    ensures { ParsesAs (λ day. day) result (read_settlement_day (texts_of_fields fields.now)) }
 {
     let [day] = fields else {
         return Err(Refusal::BadText);
     };
-    let Some(day) = calendar_day(day) else {
+    let Some(day) = parse_calendar_day(day) else {
         return Err(Refusal::BadText);
     };
     Ok(day)

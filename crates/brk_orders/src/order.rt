@@ -1,16 +1,16 @@
 ghost use Rattle.std.specs.Prelude.{◌≡◌, IfOk, OnErr, Err, Some, option_map};
 ghost use Rattle.std.specs.Option.{ok_or};
 ghost use Rattle.brk_model.specs.Forms as forms;
-ghost use Rattle.brk_model.specs.Forms.{read_either, read_price};
+ghost use Rattle.brk_model.specs.Forms.{read_word_as_boolean, read_price};
 ghost use Rattle.brk_model.specs.Parse.{read_executor, read_order};
 ghost use Rattle.brk_money.specs.declared.fault.Fault.TheVariants.{Memory};
 ghost use Rattle.brk_money.specs.declared.refusal.Refusal.TheVariants.{BadText};
-ghost use Rattle.brk_orders.specs.Records.{order_of, told_texts};
-ghost use Rattle.brk_ref.specs.Records.{executor_of};
-ghost use Rattle.brk_ref.specs.Fields.{ParsesAs, texts};
+ghost use Rattle.brk_orders.specs.Records.{abstract_order, texts_of_order_fields};
+ghost use Rattle.brk_ref.specs.Records.{abstract_executor};
+ghost use Rattle.brk_ref.specs.Fields.{ParsesAs, texts_of_fields};
 
 use brk_money::{Fault, Id, OrderType, Planned, Price, Qty, Refusal, TradeType};
-use brk_ref::{Executor, Name, Symbol, TaxId, parse_id, parse_price, parse_qty, parse_type};
+use brk_ref::{Executor, Name, Symbol, TaxId, parse_id, parse_price, parse_qty, parse_trade_type};
 use std::alloc::Global;
 
 /// An order, as it is requested (Trade-Order).
@@ -48,8 +48,8 @@ struct Told<'a> {
 
 // Returns true if the bytes are the word `yes`, false if they are the word `no`, and otherwise
 // `None`.
-fn parse_either(yes: &str, no: &str, bytes: &[u8]) -> Option<bool>
-    ensures { ok_or result BadText ≡ read_either yes.now no.now bytes.now }
+fn parse_either_word(yes: &str, no: &str, bytes: &[u8]) -> Option<bool>
+    ensures { ok_or result BadText ≡ read_word_as_boolean yes.now no.now bytes.now }
 {
     if bytes == yes.as_bytes() {
         return Some(true);
@@ -68,7 +68,7 @@ fn parse_executor(
     last_name: &[u8],
     tax_id: &[u8],
 ) -> Result<Option<Executor>, Fault>
-    ensures read { IfOk result (λ executor. ok_or (option_map executor_of executor) BadText ≡ read_executor first_name.now last_name.now tax_id.now) }
+    ensures read { IfOk result (λ executor. ok_or (option_map abstract_executor executor) BadText ≡ read_executor first_name.now last_name.now tax_id.now) }
     ensures fault { OnErr result (result ≡ Err Memory) }
 {
     let Some(first_name) = Name::parse(alloc, first_name)? else {
@@ -89,8 +89,8 @@ fn parse_executor(
 
 // Returns the order type, which has no price. Refuses with `BadPrice` if the text of the price is
 // not empty.
-fn without_price(order_type: OrderType, price: &[u8]) -> Result<OrderType, Refusal>
-    ensures { result ≡ forms.without_price order_type price.now }
+fn order_type_without_price(order_type: OrderType, price: &[u8]) -> Result<OrderType, Refusal>
+    ensures { result ≡ forms.market_order_type order_type price.now }
 {
     if price.is_empty() {
         Ok(order_type)
@@ -100,7 +100,7 @@ fn without_price(order_type: OrderType, price: &[u8]) -> Result<OrderType, Refus
 }
 
 // Parses the price of an order. Refuses with `BadPrice` if the text is malformed or out of range.
-fn named_price(price: &[u8]) -> Result<Price, Refusal>
+fn parse_order_price(price: &[u8]) -> Result<Price, Refusal>
     ensures { result ≡ read_price price.now }
 {
     parse_price(price).ok_or(Refusal::BadPrice)
@@ -108,13 +108,13 @@ fn named_price(price: &[u8]) -> Result<Price, Refusal>
 
 // Returns the refusal of an order with an unknown type: `BadPrice` if the text of the price is
 // malformed and not empty, otherwise `BadType`.
-fn without_type(price: &[u8]) -> Refusal
-    ensures { forms.without_type price.now ≡ Err result }
+fn refusal_of_unknown_type(price: &[u8]) -> Refusal
+    ensures { forms.refusal_of_unknown_type price.now ≡ Err result }
 {
     if price.is_empty() {
         return Refusal::BadType;
     }
-    match named_price(price) {
+    match parse_order_price(price) {
         Ok(_) => Refusal::BadType,
         Err(refusal) => refusal,
     }
@@ -123,22 +123,22 @@ fn without_type(price: &[u8]) -> Refusal
 // Returns the order type of `kind` with its price. Refuses with `BadPrice` if the text of the price
 // does not fit the type, and otherwise with `BadType` if the type is unknown.
 fn order_type_for(kind: Option<TradeType>, price: &[u8]) -> Result<OrderType, Refusal>
-    ensures { result ≡ forms.order_type_for kind price.now }
+    ensures { result ≡ forms.order_type_with_price kind price.now }
 {
     match kind {
-        Some(TradeType::MarketBuy) => without_price(OrderType::MarketBuy, price),
-        Some(TradeType::MarketSell) => without_price(OrderType::MarketSell, price),
-        Some(TradeType::StopLoss) => Ok(OrderType::StopLoss(named_price(price)?)),
-        Some(TradeType::LimitSell) => Ok(OrderType::LimitSell(named_price(price)?)),
-        Some(TradeType::LimitBuy) => Ok(OrderType::LimitBuy(named_price(price)?)),
-        None => Err(without_type(price)),
+        Some(TradeType::MarketBuy) => order_type_without_price(OrderType::MarketBuy, price),
+        Some(TradeType::MarketSell) => order_type_without_price(OrderType::MarketSell, price),
+        Some(TradeType::StopLoss) => Ok(OrderType::StopLoss(parse_order_price(price)?)),
+        Some(TradeType::LimitSell) => Ok(OrderType::LimitSell(parse_order_price(price)?)),
+        Some(TradeType::LimitBuy) => Ok(OrderType::LimitBuy(parse_order_price(price)?)),
+        None => Err(refusal_of_unknown_type(price)),
     }
 }
 
 // Parses the ten fields of an order, or returns the refusal of malformed fields. Fails with
 // `Memory` only.
-fn order_from(alloc: Global, told: Told<'_>) -> Planned<Order>
-    ensures read { IfOk result (λ read. ParsesAs order_of read (read_order (told_texts told.entry))) }
+fn parse_order_fields(alloc: Global, told: Told<'_>) -> Planned<Order>
+    ensures read { IfOk result (λ read. ParsesAs abstract_order read (read_order (texts_of_order_fields told.entry))) }
     ensures fault { OnErr result (result ≡ Err Memory) }
 {
     let Some(account) = parse_id(told.account) else {
@@ -147,10 +147,10 @@ fn order_from(alloc: Global, told: Told<'_>) -> Planned<Order>
     let Some(symbol) = Symbol::parse(alloc, told.symbol)? else {
         return Ok(Err(Refusal::BadText));
     };
-    let Some(is_cash) = parse_either("cash", "margin", told.cash) else {
+    let Some(is_cash) = parse_either_word("cash", "margin", told.cash) else {
         return Ok(Err(Refusal::BadText));
     };
-    let Some(is_lifo) = parse_either("lifo", "fifo", told.end) else {
+    let Some(is_lifo) = parse_either_word("lifo", "fifo", told.end) else {
         return Ok(Err(Refusal::BadText));
     };
     let Some(executor) = parse_executor(alloc, told.first_name, told.last_name, told.tax_id)? else {
@@ -159,7 +159,7 @@ fn order_from(alloc: Global, told: Told<'_>) -> Planned<Order>
     let Some(qty) = parse_qty(told.qty) else {
         return Ok(Err(Refusal::BadQty));
     };
-    let order_type = match order_type_for(parse_type(told.kind), told.price) {
+    let order_type = match order_type_for(parse_trade_type(told.kind), told.price) {
         Ok(order_type) => order_type,
         Err(refusal) => return Ok(Err(refusal)),
     };
@@ -182,7 +182,7 @@ fn order_from(alloc: Global, told: Told<'_>) -> Planned<Order>
 /// `BadQty` (8) for the quantity, with `BadPrice` (9) for the price, and with `BadType` (7) for the
 /// type.
 pub fn check_order(alloc: Global, fields: &[&[u8]]) -> Planned<Order>
-    ensures read { IfOk result (λ read. ParsesAs order_of read (read_order (texts fields.now))) }
+    ensures read { IfOk result (λ read. ParsesAs abstract_order read (read_order (texts_of_fields fields.now))) }
     ensures fault { OnErr result (result ≡ Err Memory) }
 {
     let [
@@ -212,5 +212,5 @@ pub fn check_order(alloc: Global, fields: &[&[u8]]) -> Planned<Order>
         last_name,
         tax_id,
     };
-    order_from(alloc, told)
+    parse_order_fields(alloc, told)
 }

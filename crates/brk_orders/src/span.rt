@@ -3,7 +3,7 @@ ghost use Rattle.std.specs.Option.{ok_or};
 ghost use Rattle.brk_model.specs.Forms.{read_stamp};
 ghost use Rattle.brk_money.specs.declared.refusal.Refusal.TheVariants.{BadText};
 
-use brk_money::{Stamp, parse_whole};
+use brk_money::{Stamp, parse_whole_number};
 
 /// The stamps from `first` to `last`, both included. There are none if `first` is later than
 /// `last`.
@@ -17,7 +17,7 @@ pub struct Span {
 pub fn parse_stamp(bytes: &[u8]) -> Option<Stamp>
     ensures { ok_or result BadText ≡ read_stamp bytes.now }
 {
-    let Some(millis) = parse_whole(bytes, Stamp::GREATEST as u64) else {
+    let Some(millis) = parse_whole_number(bytes, Stamp::GREATEST as u64) else {
         return None;
     };
     Stamp::new(millis as i64)

@@ -1,9 +1,9 @@
 ghost use Rattle.std.specs.Prelude.{◌≡◌, ◌==◌, IfOk, OnErr, Err};
-ghost use Rattle.brk_model.specs.Forms.{distinct_ids, read_each, read_id, read_ids};
+ghost use Rattle.brk_model.specs.Forms.{one_to_twenty_distinct_ids, read_each_text, read_id, read_distinct_ids};
 ghost use Rattle.brk_model.specs.Lists.{all_distinct, contains_number};
 ghost use Rattle.brk_money.specs.declared.fault.Fault.TheVariants.{Memory};
-ghost use Rattle.brk_orders.specs.Records.{ids_in};
-ghost use Rattle.brk_ref.specs.Fields.{ParsesAs, texts};
+ghost use Rattle.brk_orders.specs.Records.{ids_of_vector};
+ghost use Rattle.brk_ref.specs.Fields.{ParsesAs, texts_of_fields};
 
 use brk_money::{Id, Planned, Refusal};
 use brk_ref::parse_id;
@@ -34,7 +34,7 @@ impl TradeIds {
     /// Returns these trades. Refuses with `BadText` (18) if there are none or one is named twice,
     /// and with `TooMany` (20) if there are more than 20. Never allocates.
     pub fn new(ids: Vec<Id>) -> Result<TradeIds, Refusal>
-        ensures { ParsesAs (λ trades. trades) result (distinct_ids ids.items) }
+        ensures { ParsesAs (λ trades. trades) result (one_to_twenty_distinct_ids ids.items) }
     {
         if !are_distinct(&ids) {
             return Err(Refusal::BadText);
@@ -57,7 +57,7 @@ impl TradeIds {
 }
 
 // Returns true if `id` is one of `ids`.
-fn is_among(id: Id, ids: &[Id]) -> bool
+fn is_among_ids(id: Id, ids: &[Id]) -> bool
     ensures { result ≡ contains_number id ids.now }
 {
     ids.iter().any(|other| *other == id)
@@ -68,7 +68,7 @@ fn are_distinct(ids: &[Id]) -> bool
     ensures { result ≡ all_distinct ids.now }
 {
     for i in 0..ids.len() {
-        if is_among(ids[i], &ids[i + 1..]) {
+        if is_among_ids(ids[i], &ids[i + 1..]) {
             return false;
         }
     }
@@ -76,8 +76,8 @@ fn are_distinct(ids: &[Id]) -> bool
 }
 
 // Parses ids of trades. Refuses with `BadText` if a field is malformed. Fails with `Memory` only.
-fn ids_from(alloc: Global, fields: &[&[u8]]) -> Planned<Vec<Id>>
-    ensures read { IfOk result (λ read. ParsesAs ids_in read (read_each read_id (texts fields.now))) }
+fn parse_ids(alloc: Global, fields: &[&[u8]]) -> Planned<Vec<Id>>
+    ensures read { IfOk result (λ read. ParsesAs ids_of_vector read (read_each_text read_id (texts_of_fields fields.now))) }
     ensures fault { OnErr result (result ≡ Err Memory) }
 {
     let mut ids = Vec::new(alloc);
@@ -95,10 +95,10 @@ fn ids_from(alloc: Global, fields: &[&[u8]]) -> Planned<Vec<Id>>
 /// Refuses with `BadText` (18) if a field is malformed, if an id occurs twice, or if there are
 /// none. Otherwise refuses with `TooMany` (20) if there are more than 20.
 pub fn check_ids(alloc: Global, fields: &[&[u8]]) -> Planned<TradeIds>
-    ensures read { IfOk result (λ read. ParsesAs (λ trades. trades) read (read_ids (texts fields.now))) }
+    ensures read { IfOk result (λ read. ParsesAs (λ trades. trades) read (read_distinct_ids (texts_of_fields fields.now))) }
     ensures fault { OnErr result (result ≡ Err Memory) }
 {
-    match ids_from(alloc, fields)? {
+    match parse_ids(alloc, fields)? {
         Ok(ids) => Ok(TradeIds::new(ids)),
         Err(refusal) => Ok(Err(refusal)),
     }

@@ -1,10 +1,10 @@
 ghost use Rattle.std.specs.Prelude.{◌≡◌, IfOk, OnErr, Err};
 ghost use Rattle.brk_model.specs.Commands.{ChangeExecutors};
-ghost use Rattle.brk_model.specs.Forms.{read_ids};
-ghost use Rattle.brk_model.specs.Parse.{read_as, read_upcash, read_uptext};
+ghost use Rattle.brk_model.specs.Forms.{read_distinct_ids};
+ghost use Rattle.brk_model.specs.Parse.{read_and_wrap, read_cash_type_update, read_cash_name_update};
 ghost use Rattle.brk_money.specs.declared.fault.Fault.TheVariants.{Memory};
-ghost use Rattle.brk_orders.specs.Records.{update_of};
-ghost use Rattle.brk_ref.specs.Fields.{ParsesAs, texts};
+ghost use Rattle.brk_orders.specs.Records.{text_update_command};
+ghost use Rattle.brk_ref.specs.Fields.{ParsesAs, texts_of_fields};
 
 use crate::span::{Span, parse_stamp};
 use crate::trade_ids::{TradeIds, check_ids};
@@ -27,7 +27,7 @@ pub enum Update {
 /// Parses an update of executors' names from the fields, 1 to 20 different ids of trades, or
 /// returns the refusal of malformed fields. Fails with `Memory` only.
 pub fn check_upname(alloc: Global, fields: &[&[u8]]) -> Planned<Update>
-    ensures read { IfOk result (λ read. ParsesAs update_of read (read_as ChangeExecutors read_ids (texts fields.now))) }
+    ensures read { IfOk result (λ read. ParsesAs text_update_command read (read_and_wrap ChangeExecutors read_distinct_ids (texts_of_fields fields.now))) }
     ensures fault { OnErr result (result ≡ Err Memory) }
 {
     match check_ids(alloc, fields)? {
@@ -39,7 +39,7 @@ pub fn check_upname(alloc: Global, fields: &[&[u8]]) -> Planned<Update>
 /// Parses an update of cash types from the fields ACCOUNT, FROM and TO. Refuses malformed fields,
 /// or another number of them, with `BadText`. Never allocates.
 pub fn check_upcash(fields: &[&[u8]]) -> Result<Update, Refusal>
-    ensures { ParsesAs update_of result (read_upcash (texts fields.now)) }
+    ensures { ParsesAs text_update_command result (read_cash_type_update (texts_of_fields fields.now)) }
 {
     let [account, first, last] = fields else {
         return Err(Refusal::BadText);
@@ -60,7 +60,7 @@ pub fn check_upcash(fields: &[&[u8]]) -> Result<Update, Refusal>
 /// Parses an update of cash texts from the fields SYMBOL, FROM and TO. Refuses malformed fields, or
 /// another number of them, with `BadText`. Fails with `Memory` only.
 pub fn check_uptext(alloc: Global, fields: &[&[u8]]) -> Planned<Update>
-    ensures read { IfOk result (λ read. ParsesAs update_of read (read_uptext (texts fields.now))) }
+    ensures read { IfOk result (λ read. ParsesAs text_update_command read (read_cash_name_update (texts_of_fields fields.now))) }
     ensures fault { OnErr result (result ≡ Err Memory) }
 {
     let [symbol, first, last] = fields else {

@@ -3,7 +3,7 @@ use Rattle.std.proofs.Common.{◌≡◌, Bool, true, false, List, [], ◌∷◌,
 use Rattle.brk_money.specs.declared.refusal.Limit.TheVariants as limit
 use Rattle.brk_money.specs.declared.refusal.Refusal.{Refusal}
 use Rattle.brk_money.specs.declared.refusal.Refusal.TheVariants.{NoSecurity, Range, ClockEnd}
-use Rattle.brk_model.specs.Tests.{Test, first_refusal}
+use Rattle.brk_model.specs.Tests.{RefusalCheck, first_refusal}
 
 -- the first of two refusals, where there is one
 abbrev pub first_of : Option Refusal → Option Refusal → Option Refusal
@@ -11,7 +11,7 @@ first_of None later = later
 first_of (Some refusal) later = Some refusal
 
 -- the first refusal of tests and more tests is that of the first ones, or else that of the others
-pub first_joined : (ts us : List Test) → first_refusal (ts ++ us) ≡ first_of (first_refusal ts) (first_refusal us)
+pub first_joined : (ts us : List RefusalCheck) → first_refusal (ts ++ us) ≡ first_of (first_refusal ts) (first_refusal us)
 first_joined [] us = refl
 first_joined (t ∷ ts) us = by_test (first_joined ts us) t.0 refl
   where
@@ -21,7 +21,7 @@ first_joined (t ∷ ts) us = by_test (first_joined ts us) t.0 refl
     by_test more false f = rw f more
 
 -- of a feed whose symbols are there, a volume is refused, or else the clock
-pub volume_refused : (unknown beyond : Bool) (clock : Test) → unknown ≡ false → beyond ≡ true
+pub volume_refused : (unknown beyond : Bool) (clock : RefusalCheck) → unknown ≡ false → beyond ≡ true
     → first_refusal ((unknown, NoSecurity) ∷ (beyond, Range limit.Volume) ∷ clock ∷ []) ≡ Some (Range limit.Volume)
 volume_refused unknown beyond clock e f = rw (e, f) refl
 

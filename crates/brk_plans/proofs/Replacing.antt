@@ -7,7 +7,7 @@ use Rattle.std.proofs.lemmas.Bool.{false_from_ne_true}
 use Rattle.std.proofs.lemmas.List.{take-append-drop}
 use Rattle.std.proofs.lemmas.Slice.Eq.{bytes_eq-Decides}
 use Rattle.brk_money.specs.Spelling.{Text}
-use Rattle.brk_model.specs.Lists.{holds_text, replace_from, replace_text}
+use Rattle.brk_model.specs.Lists.{contains_text, skip_and_replace_text, replace_text}
 
 -- a part stands at the front of what begins with it, and of nothing else
 take_part : (part rest : Text) → take (length part) (part ++ rest) ≡ part
@@ -24,15 +24,15 @@ lacks part text h =
     (sym (take-append-drop (length part) text) ∙ ap (λ (front : Text). front ++ drop (length part) text) (sym ((bytes_eq-Decides part (take (length part) text)).0 e))))
 
 -- the part itself is passed over
-passed : (part new rest front : Text) → replace_from (length front) part new (front ++ rest) ≡ replace_from 0 part new rest
+passed : (part new rest front : Text) → skip_and_replace_text (length front) part new (front ++ rest) ≡ skip_and_replace_text 0 part new rest
 passed part new rest [] = refl
 passed part new rest (c ∷ front) = passed part new rest front
 
-at_front : (part new rest : Text) → 1 ≤ length part → replace_from 0 part new (part ++ rest) ≡ new ++ replace_from 0 part new rest
+at_front : (part new rest : Text) → 1 ≤ length part → skip_and_replace_text 0 part new (part ++ rest) ≡ new ++ skip_and_replace_text 0 part new rest
 at_front [] new rest h = absurd (omega (arith, h))
 at_front (c ∷ part) new rest h =
-    ap (λ b. cond b (new ++ replace_from (length (c ∷ part) - 1) (c ∷ part) new (part ++ rest)) (c ∷ replace_from 0 (c ∷ part) new (part ++ rest))) (stands (c ∷ part) rest)
-    ∙ ap (λ (n : ℕ). new ++ replace_from n (c ∷ part) new (part ++ rest)) (one_less (length part))
+    ap (λ b. cond b (new ++ skip_and_replace_text (length (c ∷ part) - 1) (c ∷ part) new (part ++ rest)) (c ∷ skip_and_replace_text 0 (c ∷ part) new (part ++ rest))) (stands (c ∷ part) rest)
+    ∙ ap (λ (n : ℕ). new ++ skip_and_replace_text n (c ∷ part) new (part ++ rest)) (one_less (length part))
     ∙ ap (λ (text : Text). new ++ text) (passed (c ∷ part) new rest part)
   where
     one_less : (n : ℕ) → suc n - 1 ≡ n
@@ -43,42 +43,42 @@ lacks_before : (part text : Text) (c : ℕ) (n : ℕ) → ((i : ℕ) → i < n +
 lacks_before part text c n h i l = h (suc i) (omega arith)
 
 pub replaced_first : (part new before after : Text) → 1 ≤ length part → ((i : ℕ) → i < length before → LacksTextAt part (before ++ part ++ after) i)
-    → replace_from 0 part new (before ++ part ++ after) ≡ before ++ new ++ replace_from 0 part new after
+    → skip_and_replace_text 0 part new (before ++ part ++ after) ≡ before ++ new ++ skip_and_replace_text 0 part new after
 replaced_first part new [] after h l = at_front part new after h
 replaced_first part new (c ∷ before) after h l =
-    ap (λ b. cond b (new ++ replace_from (length part - 1) part new (before ++ part ++ after)) (c ∷ replace_from 0 part new (before ++ part ++ after)))
+    ap (λ b. cond b (new ++ skip_and_replace_text (length part - 1) part new (before ++ part ++ after)) (c ∷ skip_and_replace_text 0 part new (before ++ part ++ after)))
     (lacks part (c ∷ before ++ part ++ after) (l 0 (omega arith)))
     ∙ ap (λ (text : Text). c ∷ text) (replaced_first part new before after h (λ i k. l (suc i) (omega (arith, k))))
 
 -- nothing is replaced where it stands nowhere
-pub replaced_nothing : (part new text : Text) → ((i : ℕ) → i ≤ length text → LacksTextAt part text i) → replace_from 0 part new text ≡ text
+pub replaced_nothing : (part new text : Text) → ((i : ℕ) → i ≤ length text → LacksTextAt part text i) → skip_and_replace_text 0 part new text ≡ text
 replaced_nothing part new [] l = refl
 replaced_nothing part new (c ∷ text) l =
-    ap (λ b. cond b (new ++ replace_from (length part - 1) part new text) (c ∷ replace_from 0 part new text)) (lacks part (c ∷ text) (l 0 (omega arith)))
+    ap (λ b. cond b (new ++ skip_and_replace_text (length part - 1) part new text) (c ∷ skip_and_replace_text 0 part new text)) (lacks part (c ∷ text) (l 0 (omega arith)))
     ∙ ap (λ (rest : Text). c ∷ rest) (replaced_nothing part new text (λ i k. l (suc i) (omega (arith, k))))
 
 -- ---- whether it is there
 
-pub held_nowhere : (part text : Text) → ((i : ℕ) → i ≤ length text → LacksTextAt part text i) → holds_text part text ≡ false
+pub held_nowhere : (part text : Text) → ((i : ℕ) → i ≤ length text → LacksTextAt part text i) → contains_text part text ≡ false
 held_nowhere part [] l = lacks part [] (l 0 (omega arith))
 held_nowhere part (c ∷ text) l =
-    ap (λ b. b || holds_text part text) (lacks part (c ∷ text) (l 0 (omega arith))) ∙ held_nowhere part text (λ i k. l (suc i) (omega (arith, k)))
+    ap (λ b. b || contains_text part text) (lacks part (c ∷ text) (l 0 (omega arith))) ∙ held_nowhere part text (λ i k. l (suc i) (omega (arith, k)))
 
 or_true : (b : Bool) → b || true ≡ true
 or_true true = refl
 or_true false = refl
 
-stands_first : (part text : Text) → starts_with nat_eq text part ≡ true → holds_text part text ≡ true
+stands_first : (part text : Text) → starts_with nat_eq text part ≡ true → contains_text part text ≡ true
 stands_first part [] e = e
-stands_first part (c ∷ text) e = ap (λ b. b || holds_text part text) e
+stands_first part (c ∷ text) e = ap (λ b. b || contains_text part text) e
 
-pub held_at : (part text rest : Text) (i : ℕ) → drop i text ≡ part ++ rest → i ≤ length text → holds_text part text ≡ true
+pub held_at : (part text rest : Text) (i : ℕ) → drop i text ≡ part ++ rest → i ≤ length text → contains_text part text ≡ true
 held_at part text rest zero e l = stands_first part text (ap (λ (t : Text). starts_with nat_eq t part) e ∙ stands part rest)
 held_at part [] rest (suc i) e l = absurd (omega (arith, l))
 held_at part (c ∷ text) rest (suc i) e l =
     ap (λ b. starts_with nat_eq (c ∷ text) part || b) (held_at part text rest i e (omega (arith, l))) ∙ or_true (starts_with nat_eq (c ∷ text) part)
 
-pub held_if_found : (part text : Text) (b : Bool) → MatchBool b (HasMatch (FindsText part) text) (FindsText part text None) → b ≡ holds_text part text
+pub held_if_found : (part text : Text) (b : Bool) → MatchBool b (HasMatch (FindsText part) text) (FindsText part text None) → b ≡ contains_text part text
 held_if_found part text true (i, j, found, l, k) = sym (held_at part text (drop j text) i found.1.split (omega (arith, l, k)))
 held_if_found part text false found = sym (held_nowhere part text found)
 
@@ -99,10 +99,10 @@ one_replaced part new text written rest before after i j h found b a n so_far =
     sym (take-append-drop i rest) ∙ ap (λ (front : Text). front ++ drop i rest) (sym b) ∙ ap (λ (t : Text). before ++ t) (found.1.split ∙ ap (λ (t : Text). part ++ t) (sym a)) ∙ sym (append_assoc before part after) in
     let lacking : (k : ℕ) → k < length before → LacksTextAt part (before ++ part ++ after) k =
     λ k l. let P : Text → Type 0 = λ t. LacksTextAt part t k in subst P cut (found.0 k (omega (arith, l, n))) in
-    so_far ∙ ap (λ (t : Text). written ++ replace_from 0 part new t) cut
+    so_far ∙ ap (λ (t : Text). written ++ skip_and_replace_text 0 part new t) cut
     ∙ ap (λ (t : Text). written ++ t) (replaced_first part new before after h lacking)
-    ∙ sym (append_assoc written (before ++ new) (replace_from 0 part new after))
-    ∙ ap (λ (t : Text). t ++ replace_from 0 part new after) (sym (append_assoc written before new))
+    ∙ sym (append_assoc written (before ++ new) (skip_and_replace_text 0 part new after))
+    ∙ ap (λ (t : Text). t ++ skip_and_replace_text 0 part new after) (sym (append_assoc written before new))
 
 pub all_replaced : (part new text written rest : Text) → FindsText part rest None → IsReplacedSoFar part new text written rest → written ++ rest ≡ replace_text part new text
 unfolding replace_text

@@ -1,13 +1,13 @@
 -- Cancels: the checks of the trade, and the plan of an accepted cancel.
 use Rattle.std.specs.Prelude.{◌≡◌, ℕ, true, not, List, [], ◌∷◌, ◌++◌, Option, Some, None}
-use Rattle.brk_money.specs.Kinds.{same_status}
+use Rattle.brk_money.specs.Kinds.{is_same_trade_status}
 use Rattle.brk_money.specs.Moments.{stamp_after}
 use Rattle.brk_money.specs.declared.refusal.Refusal.TheVariants.{NoTrade, WrongStatus}
 use Rattle.brk_money.specs.declared.status.Status.{Status}
 use Rattle.brk_money.specs.declared.status.Status.TheVariants.{Pending, Canceled}
-use Rattle.brk_model.specs.Tests.{Test, first_refusal}
-use Rattle.brk_plans.specs.Reference.{clock_test}
-use Rattle.brk_plans.specs.Waiting.{left_waiting}
+use Rattle.brk_model.specs.Tests.{RefusalCheck, first_refusal}
+use Rattle.brk_plans.specs.Reference.{later_stamp_check}
+use Rattle.brk_plans.specs.Waiting.{row_changes_ending_pending}
 use Rattle.brk_changes.specs.declared.change.Change.{Change}
 use Rattle.brk_changes.specs.declared.change.Change.TheVariants.{SetLast}
 use Rattle.brk_plans.specs.declared.plan.Plan.{Plan}
@@ -15,21 +15,21 @@ use Rattle.brk_plans.specs.declared.reply.Reply.TheVariants as reply
 
 -- The checks of a cancel against the status of its trade, none if the trade does not exist: the
 -- trade exists and is pending.
-abbrev pub cancel_tests : Option Status → List Test
-cancel_tests None = (true, NoTrade) ∷ []
-cancel_tests (Some status) = (not (same_status status Pending), WrongStatus status) ∷ []
+abbrev pub cancel_checks : Option Status → List RefusalCheck
+cancel_checks None = (true, NoTrade) ∷ []
+cancel_checks (Some status) = (not (is_same_trade_status status Pending), WrongStatus status) ∷ []
 
 -- The row changes of a cancel at `stamp`: those by which `trade` changes from pending to canceled,
 -- and the last stamp.
-abbrev pub cancel_changes : ℕ → ℕ → List Change
-cancel_changes trade stamp = left_waiting trade Canceled stamp ++ SetLast stamp ∷ []
+abbrev pub row_changes_of_cancel : ℕ → ℕ → List Change
+row_changes_of_cancel trade stamp = row_changes_ending_pending trade Canceled stamp ++ SetLast stamp ∷ []
 
 -- `plan` cancels `trade`, whose status is `found`, at the stamp of the command. The trade passes
--- its checks, and a later stamp is left. Its row changes are `cancel_changes`, and its reply has
--- the stamp. `last` is the stamp of the last accepted command, and `now` the clock reading.
-pub record IsCancel (trade : ℕ) (found : Option Status) (last : Option ℕ) (now : ℕ) (plan : Plan) : Type 0 where
+-- its checks, and a later stamp is left. Its row changes are `row_changes_of_cancel`, and its reply
+-- has the stamp. `last` is the stamp of the last accepted command, and `now` the clock reading.
+pub record IsCancelPlan (trade : ℕ) (found : Option Status) (last : Option ℕ) (now : ℕ) (plan : Plan) : Type 0 where
   pub stamp : ℕ
-  pub accepted : first_refusal (cancel_tests found ++ clock_test last now ∷ []) ≡ None
+  pub accepted : first_refusal (cancel_checks found ++ later_stamp_check last now ∷ []) ≡ None
   pub stamped : stamp_after last now ≡ Some stamp
   pub told : plan.reply ≡ reply.Canceled stamp
-  pub changes : plan.changes.items ≡ cancel_changes trade stamp
+  pub changes : plan.changes.items ≡ row_changes_of_cancel trade stamp

@@ -6,69 +6,69 @@ use Rattle.brk_money.specs.declared.refusal.Refusal.TheVariants.{NoAccount, Rang
 use Rattle.brk_money.specs.declared.refusal.Limit.TheVariants as limit
 use Rattle.brk_model.specs.Limits.{greatest_amount}
 use Rattle.brk_model.specs.Tables as tables
-use Rattle.brk_model.specs.Tests.{Test, first_refusal}
+use Rattle.brk_model.specs.Tests.{RefusalCheck, first_refusal}
 use Rattle.brk_orders.specs.declared.movement.Direction.{Direction}
 use Rattle.brk_orders.specs.declared.movement.Direction.TheVariants.{Deposit, Withdrawal}
 use Rattle.brk_orders.specs.declared.movement.Movement.{Movement}
-use Rattle.brk_changes.specs.Rows.{move_row_of}
+use Rattle.brk_changes.specs.Rows.{abstract_move_row}
 use Rattle.brk_changes.specs.declared.change.Change.{Change}
 use Rattle.brk_changes.specs.declared.change.Change.TheVariants as change
 use Rattle.brk_changes.specs.declared.move_row.MoveRow.{MoveRow}
-use Rattle.brk_plans.specs.Reference.{clock_test}
+use Rattle.brk_plans.specs.Reference.{later_stamp_check}
 use Rattle.brk_plans.specs.declared.movement.MoveFound.{MoveFound}
 use Rattle.brk_plans.specs.declared.plan.Plan.{Plan}
 use Rattle.brk_plans.specs.declared.reply.Reply.TheVariants as reply
 
 -- The `amount` of a movement in cents, negated for a withdrawal.
-abbrev pub signed_by : Direction → ℕ → ℤ
-signed_by Deposit amount = pos amount
-signed_by Withdrawal amount = neg_ℤ (pos amount)
+abbrev pub signed_cash_amount : Direction → ℕ → ℤ
+signed_cash_amount Deposit amount = pos amount
+signed_cash_amount Withdrawal amount = neg_ℤ (pos amount)
 
 -- The amount of the movement `m` in cents, negated for a withdrawal.
-abbrev pub signed_amount : Movement → ℤ
-signed_amount m = signed_by m.direction m.amount
+abbrev pub signed_amount_of_movement : Movement → ℤ
+signed_amount_of_movement m = signed_cash_amount m.direction m.amount
 
 -- The text of the cash row of a deposit or of a withdrawal (CM_NAME).
-abbrev pub name_of : Direction → Text
-name_of Deposit = codes "Deposit"
-name_of Withdrawal = codes "Withdrawal"
+abbrev pub cash_text_of_direction : Direction → Text
+cash_text_of_direction Deposit = codes "Deposit"
+cash_text_of_direction Withdrawal = codes "Withdrawal"
 
 -- The balance of the account after the movement `m`, in cents, where a missing account counts as
 -- balance 0.
-abbrev pub moved_balance : Movement → MoveFound → ℤ
-moved_balance m found = unwrap_or found.balance (pos 0) +ℤ signed_amount m
+abbrev pub balance_after_movement : Movement → MoveFound → ℤ
+balance_after_movement m found = unwrap_or found.balance (pos 0) +ℤ signed_amount_of_movement m
 
 -- The checks of the movement `m` against the facts `found`: the account exists, the balance after
 -- it does not exceed the limit, and not all numbers of movements are used.
-abbrev pub move_tests : Movement → MoveFound → List Test
-move_tests m found =
-    (is_none found.balance, NoAccount) ∷ (nat_lt greatest_amount (nat_abs (moved_balance m found)), Range limit.Balance)
+abbrev pub movement_checks : Movement → MoveFound → List RefusalCheck
+movement_checks m found =
+    (is_none found.balance, NoAccount) ∷ (nat_lt greatest_amount (nat_abs (balance_after_movement m found)), Range limit.Balance)
     ∷ (found.has_all_movements, Range limit.Moves) ∷ []
 
 -- The CASH_MOVE row of the movement `m` with the id `number` and the stamp `stamp`. It has no
 -- trade.
-abbrev pub planned_move_row : Movement → (number stamp : ℕ) → tables.MoveRow
-planned_move_row m number stamp = record { id = number; account = m.account; trade = None; stamp = stamp; amount = signed_amount m; name = name_of m.direction }
+abbrev pub cash_row_of_movement : Movement → (number stamp : ℕ) → tables.MoveRow
+cash_row_of_movement m number stamp = record { id = number; account = m.account; trade = None; stamp = stamp; amount = signed_amount_of_movement m; name = cash_text_of_direction m.direction }
 
 -- The row changes of a movement: the cash row `row` is added, the balance of `account` is set to
 -- `balance`, and the last stamp to `stamp`.
-abbrev pub move_changes : ℕ → MoveRow → ℤ → ℕ → List Change
-move_changes account row balance stamp = change.AddMove row ∷ change.SetBalance account balance ∷ change.SetLast stamp ∷ []
+abbrev pub row_changes_of_movement : ℕ → MoveRow → ℤ → ℕ → List Change
+row_changes_of_movement account row balance stamp = change.AddMove row ∷ change.SetBalance account balance ∷ change.SetLast stamp ∷ []
 
 -- `plan` adds the cash row of the movement `m` with the id `number`, sets the balance of its
 -- account to `balance` and the last stamp to `stamp`. Its reply has the stamp, the id and the
 -- balance.
-pub record IsMoved (m : Movement) (number : ℕ) (balance : ℤ) (stamp : ℕ) (plan : Plan) : Type 0 where
+pub record AppliesMovement (m : Movement) (number : ℕ) (balance : ℤ) (stamp : ℕ) (plan : Plan) : Type 0 where
   pub row : MoveRow
-  pub posted : move_row_of row ≡ planned_move_row m number stamp
+  pub posted : abstract_move_row row ≡ cash_row_of_movement m number stamp
   pub told : plan.reply ≡ reply.Moved stamp number balance
-  pub changes : plan.changes.items ≡ move_changes m.account row balance stamp
+  pub changes : plan.changes.items ≡ row_changes_of_movement m.account row balance stamp
 
 -- `plan` applies the movement `m` at the stamp of the command, with the next id of a cash row and
 -- the balance after it. The movement passes its checks against the facts `found`, and a later stamp
 -- is left.
-pub record IsMove (m : Movement) (found : MoveFound) (last : Option ℕ) (now : ℕ) (plan : Plan) : Type 0 where
+pub record IsMovementPlan (m : Movement) (found : MoveFound) (last : Option ℕ) (now : ℕ) (plan : Plan) : Type 0 where
   pub stamp : ℕ
-  pub accepted : first_refusal (move_tests m found ++ clock_test last now ∷ []) ≡ None
+  pub accepted : first_refusal (movement_checks m found ++ later_stamp_check last now ∷ []) ≡ None
   pub stamped : stamp_after last now ≡ Some stamp
-  pub moves : IsMoved m found.next (moved_balance m found) stamp plan
+  pub moves : AppliesMovement m found.next (balance_after_movement m found) stamp plan

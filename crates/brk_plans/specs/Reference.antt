@@ -3,8 +3,8 @@ use Rattle.std.specs.Prelude.{◌≡◌, ℕ, ◌+◌, Bool, true, not, nat_le, 
 use Rattle.brk_money.specs.Moments.{stamp_after}
 use Rattle.brk_money.specs.declared.refusal.Refusal.TheVariants.{BadQty, NoAccount, NoCustomer, NoBroker, NoTax, Overlap, TaxSum, Range, ClockEnd}
 use Rattle.brk_money.specs.declared.refusal.Limit.TheVariants as limit
-use Rattle.brk_model.specs.Limits.{most_accounts, greatest_tax_rate}
-use Rattle.brk_model.specs.Tests.{Test, first_refusal, exists_if}
+use Rattle.brk_model.specs.Limits.{most_accounts_per_customer, greatest_tax_rate}
+use Rattle.brk_model.specs.Tests.{RefusalCheck, first_refusal, duplicate_check}
 use Rattle.brk_ref.specs.declared.band.Band.{Band}
 use Rattle.brk_ref.specs.declared.last_trade.LastTrade.{LastTrade}
 use Rattle.brk_ref.specs.declared.listing.Listing.{Listing}
@@ -18,76 +18,76 @@ use Rattle.brk_plans.specs.declared.reply.Reply.TheVariants.{Booked}
 
 -- The checks of a new account against the facts `found`: its customer and its broker exist, its id
 -- is new, and its customer has fewer accounts than the greatest number.
-abbrev pub account_tests : ReferenceFacts → List Test
-account_tests found =
-    (not found.customer, NoCustomer) ∷ (not found.broker, NoBroker) ∷ exists_if found.same_id ∷ (nat_le most_accounts found.accounts, Range limit.Accounts) ∷ []
+abbrev pub account_checks : ReferenceFacts → List RefusalCheck
+account_checks found =
+    (not found.customer, NoCustomer) ∷ (not found.broker, NoBroker) ∷ duplicate_check found.same_id ∷ (nat_le most_accounts_per_customer found.accounts, Range limit.Accounts) ∷ []
 
 -- The checks of a new permission against the facts `found`: its account exists, and its key is new.
-abbrev pub permission_tests : ReferenceFacts → List Test
-permission_tests found = (not found.account, NoAccount) ∷ exists_if found.same_id ∷ []
+abbrev pub permission_checks : ReferenceFacts → List RefusalCheck
+permission_checks found = (not found.account, NoAccount) ∷ duplicate_check found.same_id ∷ []
 
 -- The checks of a new commission band `band` against the facts `found`: its bounds are not
 -- reversed, and no band shares a quantity with it.
-abbrev pub band_tests : Band → ReferenceFacts → List Test
-band_tests band found = (nat_lt band.to_qty band.from_qty, BadQty) ∷ (found.overlaps, Overlap) ∷ []
+abbrev pub band_checks : Band → ReferenceFacts → List RefusalCheck
+band_checks band found = (nat_lt band.to_qty band.from_qty, BadQty) ∷ (found.overlaps, Overlap) ∷ []
 
 -- True if the sum of a customer's tax rates plus another rate (0 if it is none) exceeds the
 -- greatest rate. If the sum is none, it exceeds the greatest rate itself.
-abbrev pub exceeds_whole : Option ℕ → Option ℕ → Bool
-exceeds_whole None rate = true
-exceeds_whole (Some rates) rate = nat_lt greatest_tax_rate (rates + unwrap_or rate 0)
+abbrev pub exceeds_greatest_tax_rate : Option ℕ → Option ℕ → Bool
+exceeds_greatest_tax_rate None rate = true
+exceeds_greatest_tax_rate (Some rates) rate = nat_lt greatest_tax_rate (rates + unwrap_or rate 0)
 
 -- The checks of a new tax of a customer against the facts `found`: the customer and the tax exist,
 -- the customer does not pay it yet, and the sum of its rates does not exceed the greatest rate.
-abbrev pub customer_tax_tests : ReferenceFacts → List Test
-customer_tax_tests found =
-    (not found.customer, NoCustomer) ∷ (is_none found.rate, NoTax) ∷ exists_if found.same_id ∷ (exceeds_whole found.rates found.rate, TaxSum) ∷ []
+abbrev pub customer_tax_checks : ReferenceFacts → List RefusalCheck
+customer_tax_checks found =
+    (not found.customer, NoCustomer) ∷ (is_none found.rate, NoTax) ∷ duplicate_check found.same_id ∷ (exceeds_greatest_tax_rate found.rates found.rate, TaxSum) ∷ []
 
 -- The checks of a new record of reference data against the facts `found`, by its kind.
-abbrev pub tests_of : Reference → ReferenceFacts → List Test
-tests_of (reference.Broker broker) found = exists_if found.same_id ∷ []
-tests_of (reference.Customer customer) found = exists_if found.same_id ∷ exists_if found.same_tax_id ∷ []
-tests_of (reference.Account account) found = account_tests found
-tests_of (reference.Permission permission) found = permission_tests found
-tests_of (reference.Security listing) found = exists_if found.same_id ∷ []
-tests_of (reference.Charge charge) found = exists_if found.same_id ∷ []
-tests_of (reference.Band band) found = band_tests band found
-tests_of (reference.TaxRate tax) found = exists_if found.same_id ∷ []
-tests_of (reference.CustomerTax pays) found = customer_tax_tests found
+abbrev pub reference_checks : Reference → ReferenceFacts → List RefusalCheck
+reference_checks (reference.Broker broker) found = duplicate_check found.same_id ∷ []
+reference_checks (reference.Customer customer) found = duplicate_check found.same_id ∷ duplicate_check found.same_tax_id ∷ []
+reference_checks (reference.Account account) found = account_checks found
+reference_checks (reference.Permission permission) found = permission_checks found
+reference_checks (reference.Security listing) found = duplicate_check found.same_id ∷ []
+reference_checks (reference.Charge charge) found = duplicate_check found.same_id ∷ []
+reference_checks (reference.Band band) found = band_checks band found
+reference_checks (reference.TaxRate tax) found = duplicate_check found.same_id ∷ []
+reference_checks (reference.CustomerTax pays) found = customer_tax_checks found
 
 -- The check that a stamp after `last` is left for a command at the clock reading `now`.
-abbrev pub clock_test : Option ℕ → ℕ → Test
-clock_test last now = (is_none (stamp_after last now), ClockEnd)
+abbrev pub later_stamp_check : Option ℕ → ℕ → RefusalCheck
+later_stamp_check last now = (is_none (stamp_after last now), ClockEnd)
 
 -- The row change that adds the record, of a listing its security.
-abbrev pub row_added : Reference → Change
-row_added (reference.Broker broker) = change.AddBroker broker
-row_added (reference.Customer customer) = change.AddCustomer customer
-row_added (reference.Account account) = change.AddAccount account
-row_added (reference.Permission permission) = change.AddPermission permission
-row_added (reference.Security listing) = change.AddSecurity listing.security
-row_added (reference.Charge charge) = change.AddCharge charge
-row_added (reference.Band band) = change.AddBand band
-row_added (reference.TaxRate tax) = change.AddTaxRate tax
-row_added (reference.CustomerTax pays) = change.AddCustomerTax pays
+abbrev pub row_change_adding_record : Reference → Change
+row_change_adding_record (reference.Broker broker) = change.AddBroker broker
+row_change_adding_record (reference.Customer customer) = change.AddCustomer customer
+row_change_adding_record (reference.Account account) = change.AddAccount account
+row_change_adding_record (reference.Permission permission) = change.AddPermission permission
+row_change_adding_record (reference.Security listing) = change.AddSecurity listing.security
+row_change_adding_record (reference.Charge charge) = change.AddCharge charge
+row_change_adding_record (reference.Band band) = change.AddBand band
+row_change_adding_record (reference.TaxRate tax) = change.AddTaxRate tax
+row_change_adding_record (reference.CustomerTax pays) = change.AddCustomerTax pays
 
 -- The first LAST_TRADE row of the security of `listing`: its first price, volume 0 and the stamp
 -- `stamp`.
-abbrev pub first_trade : ℕ → Listing → LastTrade
-first_trade stamp listing = record { symbol = listing.security.symbol; stamp = stamp; price = listing.price; volume = 0 }
+abbrev pub first_last_trade_of_listing : ℕ → Listing → LastTrade
+first_last_trade_of_listing stamp listing = record { symbol = listing.security.symbol; stamp = stamp; price = listing.price; volume = 0 }
 
 -- The row changes that add the record at `stamp`: its own row, and of a listing its first
 -- LAST_TRADE row too.
-abbrev pub rows_added : ℕ → Reference → List Change
-rows_added stamp (reference.Security listing) = change.AddSecurity listing.security ∷ change.AddLastTrade (first_trade stamp listing) ∷ []
-rows_added stamp other = row_added other ∷ []
+abbrev pub row_changes_adding_record : ℕ → Reference → List Change
+row_changes_adding_record stamp (reference.Security listing) = change.AddSecurity listing.security ∷ change.AddLastTrade (first_last_trade_of_listing stamp listing) ∷ []
+row_changes_adding_record stamp other = row_change_adding_record other ∷ []
 
 -- `plan` adds the record `reference` at the stamp of the command. The record passes its checks
 -- against the facts `found`, and a later stamp is left. Its row changes are those that add the
 -- record and the last stamp, and its reply has the stamp.
-pub record IsPlanned (reference : Reference) (found : ReferenceFacts) (last : Option ℕ) (now : ℕ) (plan : Plan) : Type 0 where
+pub record IsReferencePlan (reference : Reference) (found : ReferenceFacts) (last : Option ℕ) (now : ℕ) (plan : Plan) : Type 0 where
   pub stamp : ℕ
-  pub accepted : first_refusal (tests_of reference found ++ clock_test last now ∷ []) ≡ None
+  pub accepted : first_refusal (reference_checks reference found ++ later_stamp_check last now ∷ []) ≡ None
   pub stamped : stamp_after last now ≡ Some stamp
   pub told : plan.reply ≡ Booked stamp
-  pub changes : plan.changes.items ≡ rows_added stamp reference ++ change.SetLast stamp ∷ []
+  pub changes : plan.changes.items ≡ row_changes_adding_record stamp reference ++ change.SetLast stamp ∷ []

@@ -7,8 +7,8 @@ use Rattle.brk_plans.specs.declared.reply.Reply as trade
 use Rattle.brk_plans.specs.declared.reply.Reply.TheVariants as reply
 
 -- The model's estimate with the values of the typed estimate `e`.
-abbrev pub estimate_of : Estimate → model.Estimate
-estimate_of e = record {
+abbrev pub abstract_estimate : Estimate → model.Estimate
+abstract_estimate e = record {
   price = e.price;
   buy_value = e.buy_value;
   sell_value = e.sell_value;
@@ -19,8 +19,8 @@ estimate_of e = record {
 }
 
 -- The model's completion with the values of the typed completion `c`.
-abbrev pub completion_of : Completed → model.Completion
-completion_of c = record {
+abbrev pub abstract_completion : Completed → model.Completion
+abstract_completion c = record {
   commission = c.commission;
   tax = c.tax;
   amount = c.amount;
@@ -31,18 +31,18 @@ completion_of c = record {
 }
 
 -- The model's reply with the values of a typed reply.
-abbrev pub reply_of : trade.Reply → Reply
-reply_of (reply.Booked stamp) = Booked stamp
-reply_of (reply.Ordered ordered) = Ordered ordered.stamp ordered.trade ordered.status (estimate_of ordered.estimate)
-reply_of (reply.Ticked stamp triggered) = Ticked stamp triggered.items
-reply_of (reply.Canceled stamp) = CanceledTrade stamp
-reply_of (reply.Completed completed) = CompletedTrade completed.stamp (completion_of completed)
-reply_of (reply.Changed stamp count) = Changed stamp count
-reply_of (reply.Moved stamp number balance) = MovedCash stamp number balance
+abbrev pub abstract_reply : trade.Reply → Reply
+abstract_reply (reply.Booked stamp) = Booked stamp
+abstract_reply (reply.Ordered ordered) = Ordered ordered.stamp ordered.trade ordered.status (abstract_estimate ordered.estimate)
+abstract_reply (reply.Ticked stamp triggered) = Ticked stamp triggered.items
+abstract_reply (reply.Canceled stamp) = CanceledTrade stamp
+abstract_reply (reply.Completed completed) = CompletedTrade completed.stamp (abstract_completion completed)
+abstract_reply (reply.Changed stamp count) = Changed stamp count
+abstract_reply (reply.Moved stamp number balance) = MovedCash stamp number balance
 
 -- The typed estimate with the values of the model's estimate `e`.
-abbrev pub estimate_with : model.Estimate → Estimate
-estimate_with e = record {
+abbrev pub estimate_from_model : model.Estimate → Estimate
+estimate_from_model e = record {
   price = e.price;
   buy_value = e.buy_value;
   sell_value = e.sell_value;

@@ -1,17 +1,17 @@
 -- Text updates: their checks, and the plan of an accepted one.
 use Rattle.std.specs.Prelude.{◌≡◌, ℕ, Bool, is_none, if◌then◌else◌, List, [], ◌∷◌, ◌++◌, length, map, Option, Some, codes, decimal, string_bytes}
-use Rattle.brk_money.specs.Kinds.{type_name}
+use Rattle.brk_money.specs.Kinds.{trade_type_name}
 use Rattle.brk_money.specs.Moments.{stamp_after}
 use Rattle.brk_money.specs.Spelling.{Text}
 use Rattle.brk_money.specs.declared.refusal.Refusal.{Refusal}
 use Rattle.brk_money.specs.declared.refusal.Refusal.TheVariants.{NoAccount, NoSecurity, NoTrade}
 use Rattle.brk_money.specs.declared.trade_type.TradeType.{TradeType}
-use Rattle.brk_model.specs.Lists.{holds_text}
+use Rattle.brk_model.specs.Lists.{contains_text}
 use Rattle.brk_model.specs.Tables.{Tables}
-use Rattle.brk_model.specs.Tests.{Test}
-use Rattle.brk_model.specs.Updates.{changed_executor, other_word}
-use Rattle.brk_changes.specs.Changes.{after_change, with_cash_name, with_cash_type, with_executor, with_last}
-use Rattle.brk_changes.specs.Rows.{cash_type_word}
+use Rattle.brk_model.specs.Tests.{RefusalCheck}
+use Rattle.brk_model.specs.Updates.{updated_executor_name, alternate_word}
+use Rattle.brk_changes.specs.Changes.{tables_after_change, tables_with_cash_text, tables_with_cash_type, tables_with_executor_name, tables_with_last_stamp}
+use Rattle.brk_changes.specs.Rows.{cash_type_text}
 use Rattle.brk_changes.specs.declared.trade_row.TradeRow.{TradeRow}
 use Rattle.brk_orders.specs.declared.update.Update as told
 use Rattle.brk_orders.specs.declared.update.Update.TheVariants as update
@@ -25,67 +25,67 @@ use Rattle.brk_plans.specs.declared.reply.Reply.TheVariants.{Changed}
 -- The new settlement text of a trade whose present one is `word`: of a cash trade (`is_cash`)
 -- `Cash` if it is `Cash Account`, otherwise `Cash Account`; of a margin trade `Margin` if it is
 -- `Margin Account`, otherwise `Margin Account`.
-abbrev pub cash_type_anew : Bool → Text → Text
-cash_type_anew is_cash word =
-    if is_cash then other_word (codes "Cash Account") (codes "Cash") word else other_word (codes "Margin Account") (codes "Margin") word
+abbrev pub other_cash_type_text : Bool → Text → Text
+other_cash_type_text is_cash word =
+    if is_cash then alternate_word (codes "Cash Account") (codes "Cash") word else alternate_word (codes "Margin Account") (codes "Margin") word
 
 -- The cash text of a trade: the name of its type, its quantity, `words`, and `security`, the name
 -- of its security.
-abbrev pub cash_text_with : Text → TradeType → ℕ → Text → Text
-cash_text_with words kind qty security = type_name kind ++ 32 ∷ decimal qty ++ words ++ security
+abbrev pub cash_text_with_words : Text → TradeType → ℕ → Text → Text
+cash_text_with_words words kind qty security = trade_type_name kind ++ 32 ∷ decimal qty ++ words ++ security
 
 -- The new cash text of a trade whose present one is `name`: with " Shares of " if `name` contains "
 -- shares of ", and otherwise with " shares of ".
-abbrev pub text_anew : TradeType → ℕ → Text → Text → Text
-text_anew kind qty security name =
-    if holds_text (codes " shares of ") name then cash_text_with (codes " Shares of ") kind qty security else cash_text_with (codes " shares of ") kind qty security
+abbrev pub toggled_cash_text : TradeType → ℕ → Text → Text → Text
+toggled_cash_text kind qty security name =
+    if contains_text (codes " shares of ") name then cash_text_with_words (codes " Shares of ") kind qty security else cash_text_with_words (codes " shares of ") kind qty security
 
 -- The new cash text of the trade of `p`, with `security`, the name of its security: " shares of "
 -- and " Shares of " alternate.
-abbrev pub cash_name_anew : Text → CashText → Text
-cash_name_anew security p = text_anew p.kind p.qty security (string_bytes p.name)
+abbrev pub toggled_cash_text_of_trade : Text → CashText → Text
+toggled_cash_text_of_trade security p = toggled_cash_text p.kind p.qty security (string_bytes p.name)
 
 -- The refusal of a text update if the trades, the account or the security that it names does not
 -- exist.
-abbrev pub missing : told.Update → Refusal
-missing (update.Executors trades) = NoTrade
-missing (update.CashTypes account span) = NoAccount
-missing (update.CashNames symbol span) = NoSecurity
+abbrev pub missing_record_refusal : told.Update → Refusal
+missing_record_refusal (update.Executors trades) = NoTrade
+missing_record_refusal (update.CashTypes account span) = NoAccount
+missing_record_refusal (update.CashNames symbol span) = NoSecurity
 
 -- The check of the text update `u`: the trades, the account or the security that it names exist, so
 -- that `found` is not none.
-abbrev pub update_tests : told.Update → Option TextUpdate → List Test
-update_tests u found = (is_none found, missing u) ∷ []
+abbrev pub update_checks : told.Update → Option TextUpdate → List RefusalCheck
+update_checks u found = (is_none found, missing_record_refusal u) ∷ []
 
 -- The update of the tables that replaces the executor's name of `trade` by its new one.
-abbrev pub executor_set : TradeRow → Tables → Tables
-executor_set trade = with_executor trade.id (changed_executor (string_bytes trade.executor))
+abbrev pub executor_name_update : TradeRow → Tables → Tables
+executor_name_update trade = tables_with_executor_name trade.id (updated_executor_name (string_bytes trade.executor))
 
 -- The update of the tables that replaces the settlement text of the trade of `s` by its new one.
-abbrev pub cash_type_set : SettlementText → Tables → Tables
-cash_type_set s = with_cash_type s.trade (cash_type_anew s.is_cash (cash_type_word s.cash_type))
+abbrev pub cash_type_update : SettlementText → Tables → Tables
+cash_type_update s = tables_with_cash_type s.trade (other_cash_type_text s.is_cash (cash_type_text s.cash_type))
 
 -- The update of the tables that replaces the cash text of the trade of `p` by its new one, where
 -- `security` is the name of its security.
-abbrev pub cash_name_set : Text → CashText → Tables → Tables
-cash_name_set security p = with_cash_name p.trade (cash_name_anew security p)
+abbrev pub cash_text_update : Text → CashText → Tables → Tables
+cash_text_update security p = tables_with_cash_text p.trade (toggled_cash_text_of_trade security p)
 
 -- The updates of the tables, one for each selected trade, in the sequence of the trades.
-abbrev pub words_set : TextUpdate → List (Tables → Tables)
-words_set (corrected.Executors trades) = map executor_set trades.items
-words_set (corrected.CashTypes settled) = map cash_type_set settled.items
-words_set (corrected.CashNames security paid) = map (cash_name_set security) paid.items
+abbrev pub table_updates_of_texts : TextUpdate → List (Tables → Tables)
+table_updates_of_texts (corrected.Executors trades) = map executor_name_update trades.items
+table_updates_of_texts (corrected.CashTypes settled) = map cash_type_update settled.items
+table_updates_of_texts (corrected.CashNames security paid) = map (cash_text_update security) paid.items
 
 -- The number of trades that a text update selects.
-abbrev pub count_of : TextUpdate → ℕ
-count_of (corrected.Executors trades) = length trades.items
-count_of (corrected.CashTypes settled) = length settled.items
-count_of (corrected.CashNames security paid) = length paid.items
+abbrev pub count_of_updated_trades : TextUpdate → ℕ
+count_of_updated_trades (corrected.Executors trades) = length trades.items
+count_of_updated_trades (corrected.CashTypes settled) = length settled.items
+count_of_updated_trades (corrected.CashNames security paid) = length paid.items
 
 -- `plan` updates one text of each trade of `found` at the stamp of the command and sets the last
 -- stamp. A later stamp is left, and the reply has the stamp and the number of the trades.
-pub record IsUpdate (found : TextUpdate) (last : Option ℕ) (now : ℕ) (plan : Plan) : Type 0 where
+pub record IsUpdatePlan (found : TextUpdate) (last : Option ℕ) (now : ℕ) (plan : Plan) : Type 0 where
   pub stamp : ℕ
   pub stamped : stamp_after last now ≡ Some stamp
-  pub told : plan.reply ≡ Changed stamp (count_of found)
-  pub changes : map after_change plan.changes.items ≡ words_set found ++ with_last stamp ∷ []
+  pub told : plan.reply ≡ Changed stamp (count_of_updated_trades found)
+  pub changes : map tables_after_change plan.changes.items ≡ table_updates_of_texts found ++ tables_with_last_stamp stamp ∷ []

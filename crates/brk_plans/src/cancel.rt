@@ -1,20 +1,20 @@
 ghost use Rattle.std.specs.Prelude.{◌≡◌, ◌∷◌, ◌++◌, [], IfOk, OnErr, Err, MatchResult, Some};
 ghost use Rattle.brk_model.specs.Tests.{first_refusal};
 ghost use Rattle.brk_money.specs.declared.fault.Fault.TheVariants.{Memory};
-ghost use Rattle.brk_plans.specs.Cancel.{IsCancel, cancel_changes, cancel_tests};
-ghost use Rattle.brk_plans.specs.Reference.{clock_test};
+ghost use Rattle.brk_plans.specs.Cancel.{IsCancelPlan, row_changes_of_cancel, cancel_checks};
+ghost use Rattle.brk_plans.specs.Reference.{later_stamp_check};
 
 use crate::plan::Plan;
 use crate::reply::Reply;
-use crate::waiting::leave_waiting;
+use crate::waiting::append_changes_ending_pending;
 use brk_changes::Change;
 use brk_money::{Fault, Id, Planned, Refusal, Stamp, Status, stamp_after};
 use std::alloc::Global;
 
 // Returns the refusal of a cancel of a trade with the status `found`, none if it does not exist:
 // `NoTrade`, or `WrongStatus` if it is not pending. Returns `None` if neither applies.
-fn refusal_of(found: Option<Status>) -> Option<Refusal>
-    ensures { result ≡ first_refusal (cancel_tests found) }
+fn refusal_of_cancel(found: Option<Status>) -> Option<Refusal>
+    ensures { result ≡ first_refusal (cancel_checks found) }
 {
     match found {
         None => Some(Refusal::NoTrade),
@@ -25,12 +25,12 @@ fn refusal_of(found: Option<Status>) -> Option<Refusal>
 
 // Returns the row changes that cancel a trade, and that set the last stamp. Fails with `Memory`
 // only.
-fn changes_of(alloc: Global, trade: Id, stamp: Stamp) -> Result<Vec<Change>, Fault>
-    ensures changes { IfOk result (λ changes. changes.items ≡ cancel_changes trade stamp) }
+fn create_cancel_changes(alloc: Global, trade: Id, stamp: Stamp) -> Result<Vec<Change>, Fault>
+    ensures changes { IfOk result (λ changes. changes.items ≡ row_changes_of_cancel trade stamp) }
     ensures fault { OnErr result (result ≡ Err Memory) }
 {
     let mut changes = Vec::new(alloc);
-    leave_waiting(trade, Status::Canceled, stamp, &mut changes)?;
+    append_changes_ending_pending(trade, Status::Canceled, stamp, &mut changes)?;
     changes.push(Change::SetLast(stamp))?;
     Ok(changes)
 }
@@ -51,17 +51,17 @@ pub fn plan_cancel(
     now: Stamp,
 ) -> Planned<Plan>
     ensures planned { IfOk result (λ planned. MatchResult planned
-        (IsCancel trade found last now)
-        (λ refusal. first_refusal (cancel_tests found ++ clock_test last now ∷ []) ≡ Some refusal)) }
+        (IsCancelPlan trade found last now)
+        (λ refusal. first_refusal (cancel_checks found ++ later_stamp_check last now ∷ []) ≡ Some refusal)) }
     ensures fault { OnErr result (result ≡ Err Memory) }
 {
-    if let Some(refusal) = refusal_of(found) {
+    if let Some(refusal) = refusal_of_cancel(found) {
         return Ok(Err(refusal));
     }
     let Some(stamp) = stamp_after(last, now) else {
         return Ok(Err(Refusal::ClockEnd));
     };
-    let changes = changes_of(alloc, trade, stamp)?;
+    let changes = create_cancel_changes(alloc, trade, stamp)?;
     Ok(Ok(Plan {
         changes,
         reply: Reply::Canceled(stamp),

@@ -6,14 +6,14 @@ ghost use Rattle.brk_money.specs.declared.fault.Fault.TheVariants.{Memory};
 ghost use Rattle.brk_money.specs.declared.refusal.Limit.TheVariants as limit;
 ghost use Rattle.brk_money.specs.declared.refusal.Refusal.TheVariants.{Range};
 ghost use Rattle.brk_plans.specs.Feed as spec;
-ghost use Rattle.brk_plans.specs.Feed.{IsFeed, changes_of_tick, changes_of_ticks, exceeds, feed_tests, held, held_of, ids_of_tick, ids_of_ticks, is_of, last_after, lacks_quote, quotes_after, quotes_after_tick, submitted, triggered_at, waiting_at};
-ghost use Rattle.brk_plans.specs.Reference.{clock_test};
+ghost use Rattle.brk_plans.specs.Feed.{IsFeedPlan, row_changes_of_tick, row_changes_of_ticks, exceeds_volume_limit, feed_checks, states_of_quotes, state_of_quote, trades_triggered_by_tick, trades_triggered_by_ticks, is_state_of_symbol, last_trade_after_tick, lacks_state_of_symbol, states_after_ticks, states_after_tick, row_changes_of_submissions, trades_triggered_at_price, requests_not_triggered_at_price};
+ghost use Rattle.brk_plans.specs.Reference.{later_stamp_check};
 ghost use Rattle.brk_changes.specs.declared.change.Change.TheVariants.{SetLastTrade};
 
 use crate::plan::Plan;
 use crate::quote::Quote;
 use crate::reply::Reply;
-use crate::waiting::leave_waiting;
+use crate::waiting::append_changes_ending_pending;
 use brk_changes::{Change, RequestRow};
 use brk_money::{Fault, Id, Limit, Planned, Price, Refusal, Stamp, Status, TradeType, stamp_after};
 use brk_orders::{Feed, Tick};
@@ -22,8 +22,8 @@ use std::alloc::Global;
 
 /// Returns true if the market price triggers a pending trade of this type and bid (Market-Feed). A
 /// stop loss and a limit buy are triggered at the bid or below, a limit sell at the bid or above.
-pub fn triggers(kind: TradeType, bid: Price, price: Price) -> bool
-    ensures { result ≡ definition.triggers kind bid price }
+pub fn price_triggers_trade(kind: TradeType, bid: Price, price: Price) -> bool
+    ensures { result ≡ definition.is_triggering_price kind bid price }
 {
     match kind {
         TradeType::StopLoss => bid.get() >= price.get(),
@@ -35,30 +35,30 @@ pub fn triggers(kind: TradeType, bid: Price, price: Price) -> bool
 
 // Returns true if the last trade of the quote is of the symbol.
 fn is_quote_of(quote: &Quote, symbol: &Symbol) -> bool
-    ensures { result ≡ is_of symbol.now (held_of quote.now) }
+    ensures { result ≡ is_state_of_symbol symbol.now (state_of_quote quote.now) }
 {
     quote.last.symbol.as_str() == symbol.as_str()
 }
 
 /// Returns true if none of the quotes is of the tick's symbol.
 pub fn has_no_quote(quotes: &[Quote], tick: &Tick) -> bool
-    ensures { result ≡ lacks_quote (held quotes.now) tick.now }
+    ensures { result ≡ lacks_state_of_symbol (states_of_quotes quotes.now) tick.now }
 {
     !quotes.iter().any(|quote| is_quote_of(quote, &tick.symbol))
 }
 
 // Returns true if there is no quote of the symbol of one of the ticks.
-fn has_unknown(quotes: &[Quote], ticks: &[Tick]) -> bool
-    ensures { result ≡ list_any (lacks_quote (held quotes.now)) ticks.now }
+fn has_unknown_symbol(quotes: &[Quote], ticks: &[Tick]) -> bool
+    ensures { result ≡ list_any (lacks_state_of_symbol (states_of_quotes quotes.now)) ticks.now }
 {
     ticks.iter().any(|tick| has_no_quote(quotes, tick))
 }
 
 // Returns the last trade after the tick: its price and stamp are those of the tick, and its volume
 // is greater by its quantity. Refuses with `Range(Volume)` if the volume would exceed its limit.
-fn last_after(stamp: Stamp, tick: &Tick, last: LastTrade) -> Result<LastTrade, Refusal>
-    ensures after { IfOk result (λ after. after ≡ spec.last_after stamp tick.now last) }
-    ensures refusal { IfErr result (λ refusal. (refusal ≡ Range limit.Volume) × (exceeds (record { last = spec.last_after stamp tick.now last; requests = [] }) ≡ true)) }
+fn last_trade_with_tick(stamp: Stamp, tick: &Tick, last: LastTrade) -> Result<LastTrade, Refusal>
+    ensures after { IfOk result (λ after. after ≡ spec.last_trade_after_tick stamp tick.now last) }
+    ensures refusal { IfErr result (λ refusal. (refusal ≡ Range limit.Volume) × (exceeds_volume_limit (record { last = spec.last_trade_after_tick stamp tick.now last; requests = [] }) ≡ true)) }
 {
     let shares = last.volume.get() + u64::from(tick.qty.get());
     let Some(volume) = Volume::new(shares) else {
@@ -73,7 +73,7 @@ fn last_after(stamp: Stamp, tick: &Tick, last: LastTrade) -> Result<LastTrade, R
 }
 
 // Returns the row change that sets the last trade of a symbol. Fails with `Memory` only.
-fn set_to(last: &LastTrade) -> Result<Change, Fault>
+fn change_setting_last_trade(last: &LastTrade) -> Result<Change, Fault>
     ensures change { IfOk result (λ change. change ≡ SetLastTrade last.now) }
     ensures fault { OnErr result (result ≡ Err Memory) }
 {
@@ -87,20 +87,20 @@ fn set_to(last: &LastTrade) -> Result<Change, Fault>
 
 // Appends the row changes by which the trades that the price triggers are submitted, and the ids of
 // these trades. Fails with `Memory` only.
-fn submit_triggered(
+fn append_submission_changes(
     stamp: Stamp,
     price: Price,
     requests: &[RequestRow],
     changes: &mut Vec<Change>,
     ids: &mut Vec<Id>,
 ) -> Result<(), Fault>
-    ensures changes { OnOk result (changes.new.items ≡ changes.old.items ++ submitted stamp (triggered_at price requests.now)) }
-    ensures ids { OnOk result (ids.new.items ≡ ids.old.items ++ triggered_at price requests.now) }
+    ensures changes { OnOk result (changes.new.items ≡ changes.old.items ++ row_changes_of_submissions stamp (trades_triggered_at_price price requests.now)) }
+    ensures ids { OnOk result (ids.new.items ≡ ids.old.items ++ trades_triggered_at_price price requests.now) }
     ensures fault { OnErr result (result ≡ Err Memory) }
 {
     for request in requests {
-        if triggers(request.kind, request.bid, price) {
-            leave_waiting(request.trade, Status::Submitted, stamp, changes)?;
+        if price_triggers_trade(request.kind, request.bid, price) {
+            append_changes_ending_pending(request.trade, Status::Submitted, stamp, changes)?;
             ids.push(request.trade)?;
         }
     }
@@ -108,17 +108,17 @@ fn submit_triggered(
 }
 
 // Returns those of `requests` that the price does not trigger. Fails with `Memory` only.
-fn still_waiting(
+fn requests_not_triggered(
     alloc: Global,
     price: Price,
     requests: Vec<RequestRow>,
 ) -> Result<Vec<RequestRow>, Fault>
-    ensures waiting { IfOk result (λ waiting. waiting.items ≡ waiting_at price requests.items) }
+    ensures waiting { IfOk result (λ waiting. waiting.items ≡ requests_not_triggered_at_price price requests.items) }
     ensures fault { OnErr result (result ≡ Err Memory) }
 {
     let mut waiting = Vec::new(alloc);
     for request in requests {
-        if !triggers(request.kind, request.bid, price) {
+        if !price_triggers_trade(request.kind, request.bid, price) {
             waiting.push(request)?;
         }
     }
@@ -128,7 +128,7 @@ fn still_waiting(
 // Returns the quote after the tick, and appends the row changes and the triggered trades. A quote
 // of another symbol is unchanged. Refuses with `Range(Volume)` if the volume would exceed its
 // limit. Fails with `Memory` only.
-fn take_price(
+fn apply_tick_to_quote(
     alloc: Global,
     stamp: Stamp,
     tick: &Tick,
@@ -136,30 +136,30 @@ fn take_price(
     changes: &mut Vec<Change>,
     ids: &mut Vec<Id>,
 ) -> Planned<Quote>
-    ensures quote { IfOk result (λ taken. IfOk taken (λ after. held_of after ∷ [] ≡ quotes_after_tick stamp (held_of quote ∷ []) tick.now)) }
-    ensures changes { IfOk result (λ taken. IfOk taken (λ _. changes.new.items ≡ changes.old.items ++ changes_of_tick stamp tick.now (held_of quote ∷ []))) }
-    ensures ids { IfOk result (λ taken. IfOk taken (λ _. ids.new.items ≡ ids.old.items ++ ids_of_tick tick.now (held_of quote ∷ []))) }
-    ensures within { IfOk result (λ taken. IfOk taken (λ after. exceeds (held_of after) ≡ false)) }
-    ensures refusal { IfOk result (λ taken. IfErr taken (λ refusal. (refusal ≡ Range limit.Volume) × (list_any exceeds (quotes_after_tick stamp (held_of quote ∷ []) tick.now) ≡ true))) }
+    ensures quote { IfOk result (λ taken. IfOk taken (λ after. state_of_quote after ∷ [] ≡ states_after_tick stamp (state_of_quote quote ∷ []) tick.now)) }
+    ensures changes { IfOk result (λ taken. IfOk taken (λ _. changes.new.items ≡ changes.old.items ++ row_changes_of_tick stamp tick.now (state_of_quote quote ∷ []))) }
+    ensures ids { IfOk result (λ taken. IfOk taken (λ _. ids.new.items ≡ ids.old.items ++ trades_triggered_by_tick tick.now (state_of_quote quote ∷ []))) }
+    ensures within { IfOk result (λ taken. IfOk taken (λ after. exceeds_volume_limit (state_of_quote after) ≡ false)) }
+    ensures refusal { IfOk result (λ taken. IfErr taken (λ refusal. (refusal ≡ Range limit.Volume) × (list_any exceeds_volume_limit (states_after_tick stamp (state_of_quote quote ∷ []) tick.now) ≡ true))) }
     ensures fault { OnErr result (result ≡ Err Memory) }
 {
     if !is_quote_of(&quote, &tick.symbol) {
         return Ok(Ok(quote));
     }
     let Quote { last, requests } = quote;
-    let last = match last_after(stamp, tick, last) {
+    let last = match last_trade_with_tick(stamp, tick, last) {
         Ok(last) => last,
         Err(refusal) => return Ok(Err(refusal)),
     };
-    changes.push(set_to(&last)?)?;
-    submit_triggered(stamp, tick.price, &requests, changes, ids)?;
-    let requests = still_waiting(alloc, tick.price, requests)?;
+    changes.push(change_setting_last_trade(&last)?)?;
+    append_submission_changes(stamp, tick.price, &requests, changes, ids)?;
+    let requests = requests_not_triggered(alloc, tick.price, requests)?;
     Ok(Ok(Quote { last, requests }))
 }
 
 // Returns the quotes after the tick, and appends the row changes and the triggered trades. Refuses
 // with `Range(Volume)` if a volume would exceed its limit. Fails with `Memory` only.
-fn take_tick(
+fn apply_tick_to_quotes(
     alloc: Global,
     stamp: Stamp,
     tick: &Tick,
@@ -167,16 +167,16 @@ fn take_tick(
     changes: &mut Vec<Change>,
     ids: &mut Vec<Id>,
 ) -> Planned<Vec<Quote>>
-    ensures quotes { IfOk result (λ taken. IfOk taken (λ after. held after.items ≡ quotes_after_tick stamp (held quotes.items) tick.now)) }
-    ensures changes { IfOk result (λ taken. IfOk taken (λ _. changes.new.items ≡ changes.old.items ++ changes_of_tick stamp tick.now (held quotes.items))) }
-    ensures ids { IfOk result (λ taken. IfOk taken (λ _. ids.new.items ≡ ids.old.items ++ ids_of_tick tick.now (held quotes.items))) }
-    ensures within { IfOk result (λ taken. IfOk taken (λ after. list_any exceeds (held after.items) ≡ false)) }
-    ensures refusal { IfOk result (λ taken. IfErr taken (λ refusal. (refusal ≡ Range limit.Volume) × (list_any exceeds (quotes_after_tick stamp (held quotes.items) tick.now) ≡ true))) }
+    ensures quotes { IfOk result (λ taken. IfOk taken (λ after. states_of_quotes after.items ≡ states_after_tick stamp (states_of_quotes quotes.items) tick.now)) }
+    ensures changes { IfOk result (λ taken. IfOk taken (λ _. changes.new.items ≡ changes.old.items ++ row_changes_of_tick stamp tick.now (states_of_quotes quotes.items))) }
+    ensures ids { IfOk result (λ taken. IfOk taken (λ _. ids.new.items ≡ ids.old.items ++ trades_triggered_by_tick tick.now (states_of_quotes quotes.items))) }
+    ensures within { IfOk result (λ taken. IfOk taken (λ after. list_any exceeds_volume_limit (states_of_quotes after.items) ≡ false)) }
+    ensures refusal { IfOk result (λ taken. IfErr taken (λ refusal. (refusal ≡ Range limit.Volume) × (list_any exceeds_volume_limit (states_after_tick stamp (states_of_quotes quotes.items) tick.now) ≡ true))) }
     ensures fault { OnErr result (result ≡ Err Memory) }
 {
     let mut after = Vec::new(alloc);
     for quote in quotes {
-        match take_price(alloc, stamp, tick, quote, changes, ids)? {
+        match apply_tick_to_quote(alloc, stamp, tick, quote, changes, ids)? {
             Ok(quote) => after.push(quote)?,
             Err(refusal) => return Ok(Err(refusal)),
         }
@@ -185,8 +185,8 @@ fn take_tick(
 }
 
 // Proof-only: its contract states that no volume exceeds its limit. It only reads the volumes.
-fn tell_limits(quotes: &[Quote])
-    ensures { list_any exceeds (held quotes.now) ≡ false }
+fn state_volume_limits(quotes: &[Quote])
+    ensures { list_any exceeds_volume_limit (states_of_quotes quotes.now) ≡ false }
 {
     for quote in quotes {
         let _volume = quote.last.volume.get();
@@ -195,7 +195,7 @@ fn tell_limits(quotes: &[Quote])
 
 // Appends the row changes and the triggered trades of the ticks, applied in sequence. Refuses with
 // `Range(Volume)` if a volume would exceed its limit. Fails with `Memory` only.
-fn take_ticks(
+fn apply_ticks_to_quotes(
     alloc: Global,
     stamp: Stamp,
     ticks: &[Tick],
@@ -203,16 +203,16 @@ fn take_ticks(
     changes: &mut Vec<Change>,
     ids: &mut Vec<Id>,
 ) -> Planned<()>
-    ensures changes { IfOk result (λ taken. OnOk taken (changes.new.items ≡ changes.old.items ++ changes_of_ticks stamp ticks.now (held quotes.items))) }
-    ensures ids { IfOk result (λ taken. OnOk taken (ids.new.items ≡ ids.old.items ++ ids_of_ticks stamp ticks.now (held quotes.items))) }
-    ensures within { IfOk result (λ taken. OnOk taken (list_any exceeds (quotes_after stamp ticks.now (held quotes.items)) ≡ false)) }
-    ensures refusal { IfOk result (λ taken. IfErr taken (λ refusal. (refusal ≡ Range limit.Volume) × (list_any exceeds (quotes_after stamp ticks.now (held quotes.items)) ≡ true))) }
+    ensures changes { IfOk result (λ taken. OnOk taken (changes.new.items ≡ changes.old.items ++ row_changes_of_ticks stamp ticks.now (states_of_quotes quotes.items))) }
+    ensures ids { IfOk result (λ taken. OnOk taken (ids.new.items ≡ ids.old.items ++ trades_triggered_by_ticks stamp ticks.now (states_of_quotes quotes.items))) }
+    ensures within { IfOk result (λ taken. OnOk taken (list_any exceeds_volume_limit (states_after_ticks stamp ticks.now (states_of_quotes quotes.items)) ≡ false)) }
+    ensures refusal { IfOk result (λ taken. IfErr taken (λ refusal. (refusal ≡ Range limit.Volume) × (list_any exceeds_volume_limit (states_after_ticks stamp ticks.now (states_of_quotes quotes.items)) ≡ true))) }
     ensures fault { OnErr result (result ≡ Err Memory) }
 {
-    tell_limits(&quotes);
+    state_volume_limits(&quotes);
     let mut current = quotes;
     for tick in ticks {
-        current = match take_tick(alloc, stamp, tick, current, changes, ids)? {
+        current = match apply_tick_to_quotes(alloc, stamp, tick, current, changes, ids)? {
             Ok(after) => after,
             Err(refusal) => return Ok(Err(refusal)),
         };
@@ -238,12 +238,12 @@ pub fn plan_feed(
     now: Stamp,
 ) -> Planned<Plan>
     ensures planned { IfOk result (λ planned. MatchResult planned
-        (IsFeed feed.now (held quotes.items) last now)
-        (λ refusal. (stamp : ℕ) → first_refusal (feed_tests stamp feed.now (held quotes.items) ++ clock_test last now ∷ []) ≡ Some refusal)) }
+        (IsFeedPlan feed.now (states_of_quotes quotes.items) last now)
+        (λ refusal. (stamp : ℕ) → first_refusal (feed_checks stamp feed.now (states_of_quotes quotes.items) ++ later_stamp_check last now ∷ []) ≡ Some refusal)) }
     ensures fault { OnErr result (result ≡ Err Memory) }
 {
     let ticks = feed.ticks();
-    if has_unknown(&quotes, ticks) {
+    if has_unknown_symbol(&quotes, ticks) {
         return Ok(Err(Refusal::NoSecurity));
     }
     // The volumes are checked before the clock. The stamp does not affect their check.
@@ -254,7 +254,7 @@ pub fn plan_feed(
         Some(stamp) => stamp,
         None => now,
     };
-    let taken = take_ticks(alloc, at, ticks, quotes, &mut changes, &mut ids)?;
+    let taken = apply_ticks_to_quotes(alloc, at, ticks, quotes, &mut changes, &mut ids)?;
     if let Err(refusal) = taken {
         return Ok(Err(refusal));
     }

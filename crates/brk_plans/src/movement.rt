@@ -1,11 +1,11 @@
 ghost use Rattle.std.specs.Prelude.{◌≡◌, ◌∷◌, ◌++◌, ◌+ℤ◌, [], true, false, nat_abs, nat_lt, IfOk, OnErr, Err, MatchOption, MatchResult, None, Some};
-ghost use Rattle.brk_changes.specs.Rows.{move_row_of};
+ghost use Rattle.brk_changes.specs.Rows.{abstract_move_row};
 ghost use Rattle.brk_model.specs.Limits.{greatest_amount};
 ghost use Rattle.brk_model.specs.Tests.{first_refusal};
 ghost use Rattle.brk_money.specs.declared.fault.Fault.TheVariants.{Memory};
 ghost use Rattle.brk_plans.specs.Movement as spec;
-ghost use Rattle.brk_plans.specs.Movement.{IsMove, IsMoved, move_tests};
-ghost use Rattle.brk_plans.specs.Reference.{clock_test};
+ghost use Rattle.brk_plans.specs.Movement.{IsMovementPlan, AppliesMovement, movement_checks};
+ghost use Rattle.brk_plans.specs.Reference.{later_stamp_check};
 
 use crate::plan::Plan;
 use crate::reply::Reply;
@@ -26,8 +26,8 @@ pub struct MoveFound {
 }
 
 // Returns the amount of the movement in cents, negated for a withdrawal.
-fn signed(movement: &Movement) -> Cents
-    ensures { result ≡ spec.signed_amount movement.now }
+fn signed_movement_amount(movement: &Movement) -> Cents
+    ensures { result ≡ spec.signed_amount_of_movement movement.now }
 {
     let cents = movement.amount.get() as i64;
     let cents = match movement.direction {
@@ -38,8 +38,8 @@ fn signed(movement: &Movement) -> Cents
 }
 
 // Returns the text of the cash row of a deposit or of a withdrawal (CM_NAME).
-fn name_of(direction: Direction) -> &'static str
-    ensures { result.now ≡ spec.name_of direction }
+fn direction_text(direction: Direction) -> &'static str
+    ensures { result.now ≡ spec.cash_text_of_direction direction }
 {
     match direction {
         Direction::Deposit => "Deposit",
@@ -48,7 +48,7 @@ fn name_of(direction: Direction) -> &'static str
 }
 
 /// Returns the sum of `balance` and `amount`, or `None` if it is not within the limit of a balance.
-pub fn added(balance: Cents, amount: Cents) -> Option<Cents>
+pub fn add_within_balance_limit(balance: Cents, amount: Cents) -> Option<Cents>
     ensures { MatchOption result
         (nat_lt greatest_amount (nat_abs (balance +ℤ amount)) ≡ true)
         (λ after. (after ≡ balance +ℤ amount) × (nat_lt greatest_amount (nat_abs (balance +ℤ amount)) ≡ false)) }
@@ -58,15 +58,15 @@ pub fn added(balance: Cents, amount: Cents) -> Option<Cents>
 
 // Returns the balance of the account after the movement, or the first refusal that applies of
 // `NoAccount`, `Range(Balance)` and `Range(Moves)`.
-fn balance_after(movement: &Movement, found: &MoveFound) -> Result<Cents, Refusal>
+fn checked_balance_after_movement(movement: &Movement, found: &MoveFound) -> Result<Cents, Refusal>
     ensures { MatchResult result
-        (λ balance. (first_refusal (move_tests movement.now found.now) ≡ None) × (balance ≡ spec.moved_balance movement.now found.now))
-        (λ refusal. first_refusal (move_tests movement.now found.now) ≡ Some refusal) }
+        (λ balance. (first_refusal (movement_checks movement.now found.now) ≡ None) × (balance ≡ spec.balance_after_movement movement.now found.now))
+        (λ refusal. first_refusal (movement_checks movement.now found.now) ≡ Some refusal) }
 {
     let Some(balance) = found.balance else {
         return Err(Refusal::NoAccount);
     };
-    let Some(balance) = added(balance, signed(movement)) else {
+    let Some(balance) = add_within_balance_limit(balance, signed_movement_amount(movement)) else {
         return Err(Refusal::Range(Limit::Balance));
     };
     if found.has_all_movements {
@@ -76,34 +76,34 @@ fn balance_after(movement: &Movement, found: &MoveFound) -> Result<Cents, Refusa
 }
 
 // Returns the cash row of the movement with this id and stamp. Fails if memory runs out.
-fn move_row(
+fn create_movement_cash_row(
     alloc: Global,
     movement: &Movement,
     number: MoveId,
     stamp: Stamp,
 ) -> Result<MoveRow, AllocError>
-    ensures { IfOk result (λ row. move_row_of row ≡ spec.planned_move_row movement.now number stamp) }
+    ensures { IfOk result (λ row. abstract_move_row row ≡ spec.cash_row_of_movement movement.now number stamp) }
 {
     Ok(MoveRow {
         id: number,
         account: movement.account,
         trade: None,
         stamp,
-        amount: signed(movement),
-        name: String::from_str(alloc, name_of(movement.direction))?,
+        amount: signed_movement_amount(movement),
+        name: String::from_str(alloc, direction_text(movement.direction))?,
     })
 }
 
 // Returns the row changes of a movement: the cash row is added, and the balance of the account and
 // the last stamp are set. Fails with `Memory` only.
-fn changes_of(
+fn create_movement_changes(
     alloc: Global,
     account: Id,
     row: MoveRow,
     balance: Cents,
     stamp: Stamp,
 ) -> Result<Vec<Change>, Fault>
-    ensures changes { IfOk result (λ changes. changes.items ≡ spec.move_changes account row balance stamp) }
+    ensures changes { IfOk result (λ changes. changes.items ≡ spec.row_changes_of_movement account row balance stamp) }
     ensures fault { OnErr result (result ≡ Err Memory) }
 {
     let mut changes = Vec::new(alloc);
@@ -115,18 +115,18 @@ fn changes_of(
 
 // Returns the plan of an accepted movement with this id of its cash row, and this balance after it.
 // Fails with `Memory` only.
-fn plan_of(
+fn create_movement_plan(
     alloc: Global,
     movement: &Movement,
     number: MoveId,
     balance: Cents,
     stamp: Stamp,
 ) -> Result<Plan, Fault>
-    ensures moved { IfOk result (λ plan. IsMoved movement.now number balance stamp plan) }
+    ensures moved { IfOk result (λ plan. AppliesMovement movement.now number balance stamp plan) }
     ensures fault { OnErr result (result ≡ Err Memory) }
 {
-    let row = move_row(alloc, movement, number, stamp)?;
-    let changes = changes_of(alloc, movement.account, row, balance, stamp)?;
+    let row = create_movement_cash_row(alloc, movement, number, stamp)?;
+    let changes = create_movement_changes(alloc, movement.account, row, balance, stamp)?;
     Ok(Plan {
         changes,
         reply: Reply::Moved {
@@ -154,17 +154,17 @@ pub fn plan_move(
     now: Stamp,
 ) -> Planned<Plan>
     ensures planned { IfOk result (λ planned. MatchResult planned
-        (IsMove movement.now found.now last now)
-        (λ refusal. first_refusal (move_tests movement.now found.now ++ clock_test last now ∷ []) ≡ Some refusal)) }
+        (IsMovementPlan movement.now found.now last now)
+        (λ refusal. first_refusal (movement_checks movement.now found.now ++ later_stamp_check last now ∷ []) ≡ Some refusal)) }
     ensures fault { OnErr result (result ≡ Err Memory) }
 {
-    let balance = match balance_after(movement, found) {
+    let balance = match checked_balance_after_movement(movement, found) {
         Ok(balance) => balance,
         Err(refusal) => return Ok(Err(refusal)),
     };
     let Some(stamp) = stamp_after(last, now) else {
         return Ok(Err(Refusal::ClockEnd));
     };
-    let plan = plan_of(alloc, movement, found.next, balance, stamp)?;
+    let plan = create_movement_plan(alloc, movement, found.next, balance, stamp)?;
     Ok(Ok(plan))
 }

@@ -2,7 +2,7 @@ ghost use Rattle.std.specs.Prelude.{◌≡◌, ◌∷◌, [], IfOk, OnErr, Err, 
 ghost use Rattle.brk_changes.specs.declared.change.Change.TheVariants as change;
 ghost use Rattle.brk_model.specs.Tests.{first_refusal};
 ghost use Rattle.brk_money.specs.declared.fault.Fault.TheVariants.{Memory};
-ghost use Rattle.brk_plans.specs.OneDay.{IsOneDay, one_day_tests};
+ghost use Rattle.brk_plans.specs.OneDay.{IsSettlementDayPlan, settlement_day_checks};
 
 use crate::plan::Plan;
 use crate::reply::Reply;
@@ -11,7 +11,11 @@ use brk_money::{Day, Fault, Planned, Refusal, Stamp, day_of, stamp_after};
 use std::alloc::Global;
 
 // Returns the row changes that set the settlement day and the last stamp. Fails with `Memory` only.
-fn changes_of(alloc: Global, day: Day, stamp: Stamp) -> Result<Vec<Change>, Fault>
+fn create_settlement_day_changes(
+    alloc: Global,
+    day: Day,
+    stamp: Stamp,
+) -> Result<Vec<Change>, Fault>
     ensures changes { IfOk result (λ changes. changes.items ≡ change.SetRule day ∷ change.SetLast stamp ∷ []) }
     ensures fault { OnErr result (result ≡ Err Memory) }
 {
@@ -37,8 +41,8 @@ pub fn plan_oneday(
     now: Stamp,
 ) -> Planned<Plan>
     ensures planned { IfOk result (λ planned. MatchResult planned
-        (IsOneDay day rule last now)
-        (λ refusal. first_refusal (one_day_tests day rule last now) ≡ Some refusal)) }
+        (IsSettlementDayPlan day rule last now)
+        (λ refusal. first_refusal (settlement_day_checks day rule last now) ≡ Some refusal)) }
     ensures fault { OnErr result (result ≡ Err Memory) }
 {
     if rule.is_some() {
@@ -50,7 +54,7 @@ pub fn plan_oneday(
     if day.get() <= day_of(stamp).get() {
         return Ok(Err(Refusal::TooEarly));
     }
-    let changes = changes_of(alloc, day, stamp)?;
+    let changes = create_settlement_day_changes(alloc, day, stamp)?;
     Ok(Ok(Plan {
         changes,
         reply: Reply::Booked(stamp),

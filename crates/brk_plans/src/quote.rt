@@ -17,7 +17,7 @@ pub struct Quote {
 
 /// Returns the quote of a last trade and of the requests of each pending type, sorted by trade,
 /// ascending. Fails with `Memory` only.
-pub fn quote_with(
+pub fn create_quote(
     last: LastTrade,
     stop_losses: Vec<RequestRow>,
     limit_sells: Vec<RequestRow>,

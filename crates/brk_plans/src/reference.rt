@@ -4,7 +4,7 @@ ghost use Rattle.brk_money.specs.declared.fault.Fault.TheVariants.{Memory};
 ghost use Rattle.brk_money.specs.declared.refusal.Refusal.TheVariants.{Exists};
 ghost use Rattle.brk_plans.specs.Reference as spec;
 ghost use Rattle.brk_changes.specs.declared.change.Change.TheVariants as change;
-ghost use Rattle.brk_plans.specs.Reference.{IsPlanned, account_tests, band_tests, clock_test, customer_tax_tests, exceeds_whole, permission_tests, row_added, rows_added, tests_of};
+ghost use Rattle.brk_plans.specs.Reference.{IsReferencePlan, account_checks, band_checks, later_stamp_check, customer_tax_checks, exceeds_greatest_tax_rate, permission_checks, row_change_adding_record, row_changes_adding_record, reference_checks};
 
 use crate::plan::Plan;
 use crate::reply::Reply;
@@ -59,23 +59,23 @@ pub struct ReferenceFacts {
 pub const MOST_ACCOUNTS: usize = 10;
 
 // Returns the refusal `Exists` if `found`, otherwise `None`.
-fn exists_if(found: bool) -> Option<Refusal>
+fn exists_refusal_if(found: bool) -> Option<Refusal>
     ensures { result ≡ (if found then Some Exists else None) }
 {
     if found { Some(Refusal::Exists) } else { None }
 }
 
 // Returns the first refusal that applies to the record, by its kind, or `None`.
-fn refusal_of(reference: &Reference, found: ReferenceFacts) -> Option<Refusal>
-    ensures { result ≡ first_refusal (tests_of reference.now found) }
+fn reference_refusal(reference: &Reference, found: ReferenceFacts) -> Option<Refusal>
+    ensures { result ≡ first_refusal (reference_checks reference.now found) }
 {
     match reference {
-        Reference::Broker(_) => exists_if(found.same_id),
-        Reference::Customer(_) => exists_if(found.same_id || found.same_tax_id),
+        Reference::Broker(_) => exists_refusal_if(found.same_id),
+        Reference::Customer(_) => exists_refusal_if(found.same_id || found.same_tax_id),
         Reference::Account(_) => account_refusal(found),
         Reference::Permission(_) => permission_refusal(found),
         Reference::Security(_) | Reference::Charge(_) | Reference::TaxRate(_) => {
-            exists_if(found.same_id)
+            exists_refusal_if(found.same_id)
         }
         Reference::Band(band) => band_refusal(band, found),
         Reference::CustomerTax(_) => customer_tax_refusal(found),
@@ -84,7 +84,7 @@ fn refusal_of(reference: &Reference, found: ReferenceFacts) -> Option<Refusal>
 
 // Returns the first refusal that applies to a new account, or `None`.
 fn account_refusal(found: ReferenceFacts) -> Option<Refusal>
-    ensures { result ≡ first_refusal (account_tests found) }
+    ensures { result ≡ first_refusal (account_checks found) }
 {
     if !found.customer {
         return Some(Refusal::NoCustomer);
@@ -103,17 +103,17 @@ fn account_refusal(found: ReferenceFacts) -> Option<Refusal>
 
 // Returns the first refusal that applies to a new permission, or `None`.
 fn permission_refusal(found: ReferenceFacts) -> Option<Refusal>
-    ensures { result ≡ first_refusal (permission_tests found) }
+    ensures { result ≡ first_refusal (permission_checks found) }
 {
     if !found.account {
         return Some(Refusal::NoAccount);
     }
-    exists_if(found.same_id)
+    exists_refusal_if(found.same_id)
 }
 
 // Returns the first refusal that applies to a new commission band, or `None`.
 fn band_refusal(band: &Band, found: ReferenceFacts) -> Option<Refusal>
-    ensures { result ≡ first_refusal (band_tests band.now found) }
+    ensures { result ≡ first_refusal (band_checks band.now found) }
 {
     if band.to_qty.get() < band.from_qty.get() {
         return Some(Refusal::BadQty);
@@ -126,8 +126,8 @@ fn band_refusal(band: &Band, found: ReferenceFacts) -> Option<Refusal>
 
 // Returns true if the sum of a customer's rates plus another rate exceeds the greatest rate, or if
 // the sum is `None`, which exceeds it itself.
-fn exceeds_whole(rates: Option<TaxRate>, rate: TaxRate) -> bool
-    ensures { result ≡ spec.exceeds_whole rates (Some rate) }
+fn sum_exceeds_greatest_tax_rate(rates: Option<TaxRate>, rate: TaxRate) -> bool
+    ensures { result ≡ spec.exceeds_greatest_tax_rate rates (Some rate) }
 {
     match rates {
         Some(rates) => rates.get() + rate.get() > TaxRate::GREATEST,
@@ -137,7 +137,7 @@ fn exceeds_whole(rates: Option<TaxRate>, rate: TaxRate) -> bool
 
 // Returns the first refusal that applies to a new tax of a customer, or `None`.
 fn customer_tax_refusal(found: ReferenceFacts) -> Option<Refusal>
-    ensures { result ≡ first_refusal (customer_tax_tests found) }
+    ensures { result ≡ first_refusal (customer_tax_checks found) }
 {
     if !found.customer {
         return Some(Refusal::NoCustomer);
@@ -148,15 +148,15 @@ fn customer_tax_refusal(found: ReferenceFacts) -> Option<Refusal>
     if found.same_id {
         return Some(Refusal::Exists);
     }
-    if exceeds_whole(found.rates, rate) {
+    if sum_exceeds_greatest_tax_rate(found.rates, rate) {
         return Some(Refusal::TaxSum);
     }
     None
 }
 
 // Returns the row change that adds the record, of a listing its security. Fails if memory runs out.
-fn added(reference: &Reference) -> Result<Change, AllocError>
-    ensures { IfOk result (λ change. change ≡ row_added reference.now) }
+fn create_change_adding_record(reference: &Reference) -> Result<Change, AllocError>
+    ensures { IfOk result (λ change. change ≡ row_change_adding_record reference.now) }
 {
     match reference {
         Reference::Broker(broker) => Ok(Change::AddBroker(broker.clone()?)),
@@ -173,8 +173,8 @@ fn added(reference: &Reference) -> Result<Change, AllocError>
 
 // Returns the first LAST_TRADE row of a newly listed security: its first price, volume 0 and the
 // stamp. Fails if memory runs out.
-fn first_trade(listing: &Listing, stamp: Stamp) -> Result<LastTrade, AllocError>
-    ensures { IfOk result (λ row. row ≡ spec.first_trade stamp listing.now) }
+fn create_first_last_trade(listing: &Listing, stamp: Stamp) -> Result<LastTrade, AllocError>
+    ensures { IfOk result (λ row. row ≡ spec.first_last_trade_of_listing stamp listing.now) }
 {
     Ok(LastTrade {
         symbol: listing.security.symbol.clone()?,
@@ -186,14 +186,18 @@ fn first_trade(listing: &Listing, stamp: Stamp) -> Result<LastTrade, AllocError>
 
 // Returns the row changes that add the record, of a listing its LAST_TRADE row too, and that set
 // the last stamp. Fails with `Memory` only.
-fn changes_of(alloc: Global, reference: &Reference, stamp: Stamp) -> Result<Vec<Change>, Fault>
-    ensures changes { IfOk result (λ changes. changes.items ≡ rows_added stamp reference.now ++ change.SetLast stamp ∷ []) }
+fn create_reference_changes(
+    alloc: Global,
+    reference: &Reference,
+    stamp: Stamp,
+) -> Result<Vec<Change>, Fault>
+    ensures changes { IfOk result (λ changes. changes.items ≡ row_changes_adding_record stamp reference.now ++ change.SetLast stamp ∷ []) }
     ensures fault { OnErr result (result ≡ Err Memory) }
 {
     let mut changes = Vec::new(alloc);
-    changes.push(added(reference)?)?;
+    changes.push(create_change_adding_record(reference)?)?;
     if let Reference::Security(listing) = reference {
-        changes.push(Change::AddLastTrade(first_trade(listing, stamp)?))?;
+        changes.push(Change::AddLastTrade(create_first_last_trade(listing, stamp)?))?;
     }
     changes.push(Change::SetLast(stamp))?;
     Ok(changes)
@@ -217,17 +221,17 @@ pub fn plan_reference(
     now: Stamp,
 ) -> Planned<Plan>
     ensures planned { IfOk result (λ planned. MatchResult planned
-        (IsPlanned reference.now found last now)
-        (λ refusal. first_refusal (tests_of reference.now found ++ clock_test last now ∷ []) ≡ Some refusal)) }
+        (IsReferencePlan reference.now found last now)
+        (λ refusal. first_refusal (reference_checks reference.now found ++ later_stamp_check last now ∷ []) ≡ Some refusal)) }
     ensures fault { OnErr result (result ≡ Err Memory) }
 {
-    if let Some(refusal) = refusal_of(reference, found) {
+    if let Some(refusal) = reference_refusal(reference, found) {
         return Ok(Err(refusal));
     }
     let Some(stamp) = stamp_after(last, now) else {
         return Ok(Err(Refusal::ClockEnd));
     };
-    let changes = changes_of(alloc, reference, stamp)?;
+    let changes = create_reference_changes(alloc, reference, stamp)?;
     Ok(Ok(Plan {
         changes,
         reply: Reply::Booked(stamp),

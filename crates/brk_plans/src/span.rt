@@ -12,8 +12,8 @@ pub struct Span {
 }
 
 // Returns the span widened to include the price.
-fn widened(span: Span, price: Price) -> Span
-    ensures { result ≡ spec.widened price span }
+fn widen_price_span(span: Span, price: Price) -> Span
+    ensures { result ≡ spec.span_including_price price span }
 {
     let lowest = if price.get() < span.lowest.get() {
         price
@@ -30,8 +30,8 @@ fn widened(span: Span, price: Price) -> Span
 
 /// Returns the lowest and the highest price of the ticks of the first tick's symbol. Ticks of other
 /// symbols do not count.
-pub fn span_of(first: &Tick, others: &[Tick]) -> Span
-    ensures { result ≡ spec.span_of first.now others.now }
+pub fn price_span_of_ticks(first: &Tick, others: &[Tick]) -> Span
+    ensures { result ≡ spec.price_span_of_first_symbol first.now others.now }
 {
     let mut span = Span {
         lowest: first.price,
@@ -39,7 +39,7 @@ pub fn span_of(first: &Tick, others: &[Tick]) -> Span
     };
     for tick in others {
         if tick.symbol.as_str() == first.symbol.as_str() {
-            span = widened(span, tick.price);
+            span = widen_price_span(span, tick.price);
         }
     }
     span

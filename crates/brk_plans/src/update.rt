@@ -1,15 +1,15 @@
 ghost use Rattle.std.specs.Prelude.{◌≡◌, ◌∷◌, ◌++◌, [], IfOk, OnErr, OnOk, Err, MatchResult, MatchOption, Some, map};
 ghost use Rattle.brk_model.specs.Tests.{first_refusal};
 ghost use Rattle.brk_money.specs.declared.fault.Fault.TheVariants.{Memory};
-ghost use Rattle.brk_changes.specs.Changes.{after_change};
-ghost use Rattle.brk_plans.specs.Reference.{clock_test};
+ghost use Rattle.brk_changes.specs.Changes.{tables_after_change};
+ghost use Rattle.brk_plans.specs.Reference.{later_stamp_check};
 ghost use Rattle.brk_plans.specs.Update as spec;
-ghost use Rattle.brk_plans.specs.Update.{IsUpdate, cash_name_set, cash_type_set, count_of, executor_set, update_tests, words_set};
+ghost use Rattle.brk_plans.specs.Update.{IsUpdatePlan, cash_text_update, cash_type_update, count_of_updated_trades, executor_name_update, update_checks, table_updates_of_texts};
 
 use crate::corrected::{CashText, SettlementText, TextUpdate};
 use crate::plan::Plan;
 use crate::reply::Reply;
-use crate::wording::{changed_cash_name, changed_cash_type, changed_executor};
+use crate::wording::{toggle_cash_text, toggle_cash_type, toggle_executor_name};
 use brk_changes::{Change, TradeRow};
 use brk_money::{Fault, Planned, Refusal, Stamp, stamp_after};
 use brk_orders::Update;
@@ -18,8 +18,8 @@ use std::alloc::Global;
 
 // Returns the refusal of a text update if the trades, the account or the security that it names
 // does not exist.
-fn missing(update: &Update) -> Refusal
-    ensures { result ≡ spec.missing update.now }
+fn refusal_of_missing_record(update: &Update) -> Refusal
+    ensures { result ≡ spec.missing_record_refusal update.now }
 {
     match update {
         Update::Executors(_) => Refusal::NoTrade,
@@ -29,11 +29,11 @@ fn missing(update: &Update) -> Refusal
 }
 
 // Returns the row change that sets the new executor's name of a trade. Fails with `Memory` only.
-fn set_executor(alloc: Global, trade: &TradeRow) -> Result<Change, Fault>
-    ensures change { IfOk result (λ change. after_change change ≡ executor_set trade.now) }
+fn create_executor_name_change(alloc: Global, trade: &TradeRow) -> Result<Change, Fault>
+    ensures change { IfOk result (λ change. tables_after_change change ≡ executor_name_update trade.now) }
     ensures fault { OnErr result (result ≡ Err Memory) }
 {
-    let executor = changed_executor(alloc, trade.executor.as_str())?;
+    let executor = toggle_executor_name(alloc, trade.executor.as_str())?;
     Ok(Change::SetExecutor {
         trade: trade.id,
         executor,
@@ -41,21 +41,21 @@ fn set_executor(alloc: Global, trade: &TradeRow) -> Result<Change, Fault>
 }
 
 // Returns the row change that sets the new settlement text of a trade.
-fn set_cash_type(settled: &SettlementText) -> Change
-    ensures { after_change result ≡ cash_type_set settled.now }
+fn create_cash_type_change(settled: &SettlementText) -> Change
+    ensures { tables_after_change result ≡ cash_type_update settled.now }
 {
     Change::SetCashType {
         trade: settled.trade,
-        cash_type: changed_cash_type(settled.is_cash, settled.cash_type),
+        cash_type: toggle_cash_type(settled.is_cash, settled.cash_type),
     }
 }
 
 // Returns the row change that sets the new cash text of a trade. Fails with `Memory` only.
-fn set_cash_name(alloc: Global, security: &Name, paid: &CashText) -> Result<Change, Fault>
-    ensures change { IfOk result (λ change. after_change change ≡ cash_name_set security.now paid.now) }
+fn create_cash_text_change(alloc: Global, security: &Name, paid: &CashText) -> Result<Change, Fault>
+    ensures change { IfOk result (λ change. tables_after_change change ≡ cash_text_update security.now paid.now) }
     ensures fault { OnErr result (result ≡ Err Memory) }
 {
-    let name = changed_cash_name(alloc, paid, security)?;
+    let name = toggle_cash_text(alloc, paid, security)?;
     Ok(Change::SetCashName {
         trade: paid.trade,
         name,
@@ -64,59 +64,63 @@ fn set_cash_name(alloc: Global, security: &Name, paid: &CashText) -> Result<Chan
 
 // Returns the row changes that set the new executors' names of the trades, in sequence. Fails with
 // `Memory` only.
-fn set_executors(alloc: Global, trades: &[TradeRow]) -> Result<Vec<Change>, Fault>
-    ensures changes { IfOk result (λ changes. map after_change changes.items ≡ map executor_set trades.now) }
+fn create_executor_name_changes(alloc: Global, trades: &[TradeRow]) -> Result<Vec<Change>, Fault>
+    ensures changes { IfOk result (λ changes. map tables_after_change changes.items ≡ map executor_name_update trades.now) }
     ensures fault { OnErr result (result ≡ Err Memory) }
 {
     let mut changes = Vec::new(alloc);
     for trade in trades {
-        changes.push(set_executor(alloc, trade)?)?;
+        changes.push(create_executor_name_change(alloc, trade)?)?;
     }
     Ok(changes)
 }
 
 // Returns the row changes that set the new settlement texts of the trades, in sequence. Fails with
 // `Memory` only.
-fn set_cash_types(alloc: Global, settled: &[SettlementText]) -> Result<Vec<Change>, Fault>
-    ensures changes { IfOk result (λ changes. map after_change changes.items ≡ map cash_type_set settled.now) }
+fn create_cash_type_changes(alloc: Global, settled: &[SettlementText]) -> Result<Vec<Change>, Fault>
+    ensures changes { IfOk result (λ changes. map tables_after_change changes.items ≡ map cash_type_update settled.now) }
     ensures fault { OnErr result (result ≡ Err Memory) }
 {
     let mut changes = Vec::new(alloc);
     for one in settled {
-        changes.push(set_cash_type(one))?;
+        changes.push(create_cash_type_change(one))?;
     }
     Ok(changes)
 }
 
 // Returns the row changes that set the new cash texts of the trades, in sequence. Fails with
 // `Memory` only.
-fn set_cash_names(alloc: Global, security: &Name, paid: &[CashText]) -> Result<Vec<Change>, Fault>
-    ensures changes { IfOk result (λ changes. map after_change changes.items ≡ map (cash_name_set security.now) paid.now) }
+fn create_cash_text_changes(
+    alloc: Global,
+    security: &Name,
+    paid: &[CashText],
+) -> Result<Vec<Change>, Fault>
+    ensures changes { IfOk result (λ changes. map tables_after_change changes.items ≡ map (cash_text_update security.now) paid.now) }
     ensures fault { OnErr result (result ≡ Err Memory) }
 {
     let mut changes = Vec::new(alloc);
     for one in paid {
-        changes.push(set_cash_name(alloc, security, one)?)?;
+        changes.push(create_cash_text_change(alloc, security, one)?)?;
     }
     Ok(changes)
 }
 
 // Returns the row changes of a text update, one for each of its trades, in sequence. Fails with
 // `Memory` only.
-fn set_words(alloc: Global, found: &TextUpdate) -> Result<Vec<Change>, Fault>
-    ensures changes { IfOk result (λ changes. map after_change changes.items ≡ words_set found.now) }
+fn create_text_changes(alloc: Global, found: &TextUpdate) -> Result<Vec<Change>, Fault>
+    ensures changes { IfOk result (λ changes. map tables_after_change changes.items ≡ table_updates_of_texts found.now) }
     ensures fault { OnErr result (result ≡ Err Memory) }
 {
     match found {
-        TextUpdate::Executors(trades) => set_executors(alloc, trades),
-        TextUpdate::CashTypes(settled) => set_cash_types(alloc, settled),
-        TextUpdate::CashNames(security, paid) => set_cash_names(alloc, security, paid),
+        TextUpdate::Executors(trades) => create_executor_name_changes(alloc, trades),
+        TextUpdate::CashTypes(settled) => create_cash_type_changes(alloc, settled),
+        TextUpdate::CashNames(security, paid) => create_cash_text_changes(alloc, security, paid),
     }
 }
 
 // Returns the number of trades that a text update selects.
-fn count(found: &TextUpdate) -> usize
-    ensures { result ≡ count_of found.now }
+fn count_updated_trades(found: &TextUpdate) -> usize
+    ensures { result ≡ count_of_updated_trades found.now }
 {
     match found {
         TextUpdate::Executors(trades) => trades.len(),
@@ -141,20 +145,20 @@ pub fn plan_update(
     now: Stamp,
 ) -> Planned<Plan>
     ensures planned { IfOk result (λ planned. MatchResult planned
-        (λ plan. MatchOption found ⊥ (λ found. IsUpdate found last now plan))
-        (λ refusal. first_refusal (update_tests update.now found ++ clock_test last now ∷ []) ≡ Some refusal)) }
+        (λ plan. MatchOption found ⊥ (λ found. IsUpdatePlan found last now plan))
+        (λ refusal. first_refusal (update_checks update.now found ++ later_stamp_check last now ∷ []) ≡ Some refusal)) }
     ensures fault { OnErr result (result ≡ Err Memory) }
 {
     let Some(found) = found else {
-        return Ok(Err(missing(update)));
+        return Ok(Err(refusal_of_missing_record(update)));
     };
     let Some(stamp) = stamp_after(last, now) else {
         return Ok(Err(Refusal::ClockEnd));
     };
-    let mut changes = set_words(alloc, &found)?;
+    let mut changes = create_text_changes(alloc, &found)?;
     changes.push(Change::SetLast(stamp))?;
     Ok(Ok(Plan {
         changes,
-        reply: Reply::Changed(stamp, count(&found)),
+        reply: Reply::Changed(stamp, count_updated_trades(&found)),
     }))
 }

@@ -1,9 +1,9 @@
 //! Text updates: the name of an executor, the settlement text and the cash text of a trade.
 
 ghost use Rattle.std.specs.Prelude.{◌≡◌, ◌≤◌, ◌∷◌, ◌++◌, IfOk, OnOk, codes, decimal, length, string_bytes};
-ghost use Rattle.brk_model.specs.Lists.{holds_text, replace_text};
+ghost use Rattle.brk_model.specs.Lists.{contains_text, replace_text};
 ghost use Rattle.brk_model.specs.Updates as definition;
-ghost use Rattle.brk_changes.specs.Rows.{cash_type_word};
+ghost use Rattle.brk_changes.specs.Rows.{cash_type_text};
 ghost use Rattle.brk_plans.specs.Update as spec;
 
 use crate::corrected::CashText;
@@ -14,7 +14,12 @@ use std::alloc::{AllocError, Global};
 
 // Returns the text with each occurrence of `part`, which is not empty, replaced by `new`, from the
 // left without overlap. Fails if memory runs out.
-fn replaced(alloc: Global, text: &str, part: &str, new: &str) -> Result<String, AllocError>
+fn replace_all_occurrences(
+    alloc: Global,
+    text: &str,
+    part: &str,
+    new: &str,
+) -> Result<String, AllocError>
     requires { 1 ≤ length part.now }
     ensures { IfOk result (λ result. string_bytes result ≡ replace_text part.now new.now text.now) }
 {
@@ -30,29 +35,29 @@ fn replaced(alloc: Global, text: &str, part: &str, new: &str) -> Result<String, 
 }
 
 // Returns true if the text contains `part`.
-fn holds(text: &str, part: &str) -> bool
-    ensures { result ≡ holds_text part.now text.now }
+fn contains_part(text: &str, part: &str) -> bool
+    ensures { result ≡ contains_text part.now text.now }
 {
     text.contains(part)
 }
 
 /// Returns the executor's name with each " X " replaced by a space. If the name has no " X ", each
 /// space is replaced by " X ". Fails if memory runs out.
-pub fn changed_executor(alloc: Global, name: &str) -> Result<String, AllocError>
-    ensures { IfOk result (λ result. string_bytes result ≡ definition.changed_executor name.now) }
+pub fn toggle_executor_name(alloc: Global, name: &str) -> Result<String, AllocError>
+    ensures { IfOk result (λ result. string_bytes result ≡ definition.updated_executor_name name.now) }
 {
-    if holds(name, " X ") {
-        replaced(alloc, name, " X ", " ")
+    if contains_part(name, " X ") {
+        replace_all_occurrences(alloc, name, " X ", " ")
     } else {
-        replaced(alloc, name, " ", " X ")
+        replace_all_occurrences(alloc, name, " ", " X ")
     }
 }
 
 /// Returns the new settlement text: of a cash trade (`is_cash`) `Cash` if the present one is
 /// `CashAccount`, otherwise `CashAccount`; of a margin trade `Margin` if it is `MarginAccount`,
 /// otherwise `MarginAccount`.
-pub fn changed_cash_type(is_cash: bool, cash_type: CashType) -> CashType
-    ensures { cash_type_word result ≡ spec.cash_type_anew is_cash (cash_type_word cash_type) }
+pub fn toggle_cash_type(is_cash: bool, cash_type: CashType) -> CashType
+    ensures { cash_type_text result ≡ spec.other_cash_type_text is_cash (cash_type_text cash_type) }
 {
     match (is_cash, cash_type) {
         (true, CashType::CashAccount) => CashType::Cash,
@@ -63,7 +68,7 @@ pub fn changed_cash_type(is_cash: bool, cash_type: CashType) -> CashType
 }
 
 // Appends a space, the quantity and `words`. Fails if memory runs out.
-fn add_shares(text: &mut String, qty: Qty, words: &str) -> Result<(), AllocError>
+fn append_quantity_and_words(text: &mut String, qty: Qty, words: &str) -> Result<(), AllocError>
     ensures { OnOk result (string_bytes text.new ≡ string_bytes text.old ++ 32 ∷ decimal qty ++ words.now) }
 {
     write!(text, " {}{words}", qty.get())
@@ -71,32 +76,32 @@ fn add_shares(text: &mut String, qty: Qty, words: &str) -> Result<(), AllocError
 
 // Returns the cash text of a trade: the name of its type, its quantity, `words`, and the name of
 // its security. Fails if memory runs out.
-fn cash_text(
+fn format_cash_text(
     alloc: Global,
     paid: &CashText,
     words: &str,
     security: &Name,
 ) -> Result<String, AllocError>
-    ensures { IfOk result (λ text. string_bytes text ≡ spec.cash_text_with words.now paid.now.kind paid.now.qty security.now) }
+    ensures { IfOk result (λ text. string_bytes text ≡ spec.cash_text_with_words words.now paid.now.kind paid.now.qty security.now) }
 {
     let mut text = String::from_str(alloc, paid.kind.name())?;
-    add_shares(&mut text, paid.qty, words)?;
+    append_quantity_and_words(&mut text, paid.qty, words)?;
     text.push_str(security.as_str())?;
     Ok(text)
 }
 
 /// Returns the new cash text of a trade with the name of its security: with " Shares of " if the
 /// present text contains " shares of ", otherwise with " shares of ". Fails if memory runs out.
-pub fn changed_cash_name(
+pub fn toggle_cash_text(
     alloc: Global,
     paid: &CashText,
     security: &Name,
 ) -> Result<String, AllocError>
-    ensures { IfOk result (λ text. string_bytes text ≡ spec.cash_name_anew security.now paid.now) }
+    ensures { IfOk result (λ text. string_bytes text ≡ spec.toggled_cash_text_of_trade security.now paid.now) }
 {
-    if holds(paid.name.as_str(), " shares of ") {
-        cash_text(alloc, paid, " Shares of ", security)
+    if contains_part(paid.name.as_str(), " shares of ") {
+        format_cash_text(alloc, paid, " Shares of ", security)
     } else {
-        cash_text(alloc, paid, " shares of ", security)
+        format_cash_text(alloc, paid, " shares of ", security)
     }
 }

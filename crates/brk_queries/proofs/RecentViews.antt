@@ -3,55 +3,55 @@ use Rattle.std.proofs.Common.{◌≡◌, ℕ, ◌==◌, List, true, false, Some,
 use Rattle.std.specs.Global.{Vec}
 use Rattle.std.specs.Prelude.{flat_map, is_none, option_map}
 use Rattle.brk_money.specs.declared.refusal.Refusal.TheVariants.{NoAccount}
-use Rattle.brk_changes.specs.Rows.{history_row_of, trade_row_of}
+use Rattle.brk_changes.specs.Rows.{abstract_history_row, abstract_trade_row}
 use Rattle.brk_changes.specs.declared.history_row.HistoryRow as read
 use Rattle.brk_changes.specs.declared.trade_row.TradeRow as read_trade
-use Rattle.brk_model.specs.Ask.{view_for, ask, query_tests}
-use Rattle.brk_model.specs.Base.{Base, account_with}
-use Rattle.brk_model.specs.Derived.{postings_of}
-use Rattle.brk_model.specs.Joins.{history_in}
-use Rattle.brk_model.specs.PositionView.{last_ten, recent_view}
+use Rattle.brk_model.specs.Ask.{view_of_base, ask, checks_of_query}
+use Rattle.brk_model.specs.Base.{Base, account_with_id}
+use Rattle.brk_model.specs.Derived.{postings_of_base}
+use Rattle.brk_model.specs.Joins.{history_rows_with_trade_id}
+use Rattle.brk_model.specs.PositionView.{last_ten_trade_rows, recent_trades_view}
 use Rattle.brk_model.specs.Queries.{RecentOf}
 use Rattle.brk_model.specs.Sheets.{sheets}
-use Rattle.brk_model.specs.Tables.{AccountRow, Tables, account_row, tables_of}
-use Rattle.brk_model.specs.Views.{view_of}
+use Rattle.brk_model.specs.Tables.{AccountRow, Tables, account_row, tables_of_base}
+use Rattle.brk_model.specs.Views.{view_of_tables}
 use Rattle.brk_book_theorems.proofs.Reading.{is_none-map, reads_account}
-use Rattle.brk_view.specs.Views.{fields_of}
+use Rattle.brk_view.specs.Views.{records_of_view}
 use Rattle.brk_view.specs.declared.view.View.{View}
 use Rattle.brk_view.specs.declared.view.View.TheVariants as views
 use Rattle.brk_view_theorems.proofs.RecentRows.{same_recent}
-use Rattle.brk_queries.specs.Shows.{Shows}
+use Rattle.brk_queries.specs.Shows.{ShowsQueryResult}
 use Rattle.brk_queries.proofs.Tested.{answered, carried_as, is_missing, is_there, refused}
 
 -- the view is that of these trades and statuses
 abbrev pub IsRecent : List read_trade.TradeRow → List read.HistoryRow → View → Type 0
-IsRecent trades history view = (t : Tables) (account : ℕ) → map trade_row_of trades ≡ last_ten t account
-    → map history_row_of history ≡ flat_map (λ row. history_in t row.id) (last_ten t account) → fields_of view ≡ recent_view t account
+IsRecent trades history view = (t : Tables) (account : ℕ) → map abstract_trade_row trades ≡ last_ten_trade_rows t account
+    → map abstract_history_row history ≡ flat_map (λ row. history_rows_with_trade_id t row.id) (last_ten_trade_rows t account) → records_of_view view ≡ recent_trades_view t account
 
 abbrev pub AreRecent : ℕ → List read_trade.TradeRow → List read.HistoryRow → Tables → Type 0
-AreRecent account trades history t = (map trade_row_of trades ≡ last_ten t account) × (map history_row_of history ≡ flat_map (λ row. history_in t row.id) (last_ten t account))
+AreRecent account trades history t = (map abstract_trade_row trades ≡ last_ten_trade_rows t account) × (map abstract_history_row history ≡ flat_map (λ row. history_rows_with_trade_id t row.id) (last_ten_trade_rows t account))
 
-pub account_missing : (base : Base) (id : ℕ) (t : Tables) → t ≡ sheets base → None ≡ find (λ r. r.id == id) t.accounts → is_none (account_with base id) ≡ true
+pub account_missing : (base : Base) (id : ℕ) (t : Tables) → t ≡ sheets base → None ≡ find (λ r. r.id == id) t.accounts → is_none (account_with_id base id) ≡ true
 account_missing base id t s e =
-    sym (is_none-map (account_row base.accounts (postings_of base)) (account_with base id))
-    ∙ is_missing (option_map (account_row base.accounts (postings_of base)) (account_with base id)) (e ∙ ap (λ x. find (λ r. r.id == id) x.accounts) s ∙ reads_account base id)
+    sym (is_none-map (account_row base.accounts (postings_of_base base)) (account_with_id base id))
+    ∙ is_missing (option_map (account_row base.accounts (postings_of_base base)) (account_with_id base id)) (e ∙ ap (λ x. find (λ r. r.id == id) x.accounts) s ∙ reads_account base id)
 
-pub account_there : (base : Base) (id : ℕ) (a : AccountRow) (t : Tables) → t ≡ sheets base → Some a ≡ find (λ r. r.id == id) t.accounts → is_none (account_with base id) ≡ false
+pub account_there : (base : Base) (id : ℕ) (a : AccountRow) (t : Tables) → t ≡ sheets base → Some a ≡ find (λ r. r.id == id) t.accounts → is_none (account_with_id base id) ≡ false
 account_there base id a t s e =
-    sym (is_none-map (account_row base.accounts (postings_of base)) (account_with base id))
-    ∙ is_there a (option_map (account_row base.accounts (postings_of base)) (account_with base id)) (e ∙ ap (λ x. find (λ r. r.id == id) x.accounts) s ∙ reads_account base id)
+    sym (is_none-map (account_row base.accounts (postings_of_base base)) (account_with_id base id))
+    ∙ is_there a (option_map (account_row base.accounts (postings_of_base base)) (account_with_id base id)) (e ∙ ap (λ x. find (λ r. r.id == id) x.accounts) s ∙ reads_account base id)
 
-pub no_account : (id : ℕ) (t : Tables) → None ≡ find (λ r. r.id == id) t.accounts → Shows (RecentOf id) (Err NoAccount) t
-unfolding ask query_tests
-no_account id t e = (λ base books sound s. refused (is_none (account_with base id)) NoAccount (view_for base (RecentOf id)) (account_missing base id t s e), tt)
+pub no_account : (id : ℕ) (t : Tables) → None ≡ find (λ r. r.id == id) t.accounts → ShowsQueryResult (RecentOf id) (Err NoAccount) t
+unfolding ask checks_of_query
+no_account id t e = (λ base books sound s. refused (is_none (account_with_id base id)) NoAccount (view_of_base base (RecentOf id)) (account_missing base id t s e), tt)
 
 pub recent_seen : (id : ℕ) (a : AccountRow) (trades : Vec read_trade.TradeRow) (history sorted : Vec read.HistoryRow) (view : View) → IsRecent trades.items history.items view
     → view ≡ views.Recent (record { trades = trades; history = sorted })
-    → (t : Tables) → Some a ≡ find (λ r. r.id == id) t.accounts → AreRecent id trades.items history.items t → Shows (RecentOf id) (Ok view) t
-unfolding ask query_tests view_for view_of
+    → (t : Tables) → Some a ≡ find (λ r. r.id == id) t.accounts → AreRecent id trades.items history.items t → ShowsQueryResult (RecentOf id) (Ok view) t
+unfolding ask checks_of_query view_of_base view_of_tables
 recent_seen id a trades history sorted view is shown t e w = (
   λ base books sound s.
-      answered (is_none (account_with base id)) NoAccount (recent_view (tables_of base) id) (account_there base id a t s e)
-      ∙ ap Ok (sym (is t id w.0 w.1 ∙ ap (λ x. recent_view x id) s ∙ same_recent base id books sound)),
+      answered (is_none (account_with_id base id)) NoAccount (recent_trades_view (tables_of_base base) id) (account_there base id a t s e)
+      ∙ ap Ok (sym (is t id w.0 w.1 ∙ ap (λ x. recent_trades_view x id) s ∙ same_recent base id books sound)),
   λ base books sound s. carried_as (RecentOf id) view (views.Recent (record { trades = trades; history = sorted })) t shown w.0,
 )

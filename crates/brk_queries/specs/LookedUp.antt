@@ -5,17 +5,17 @@ use Rattle.brk_model.specs.Sheets.{sheets}
 use Rattle.brk_model.specs.Tables.{Tables, TradeRow}
 use Rattle.brk_invariant_theorems.specs.Sound.{AuditInvariant}
 use Rattle.brk_book_theorems.specs.Books.{BooksInvariant}
-use Rattle.brk_view.specs.Lookup.{looked_up_rows, lookup_rows}
+use Rattle.brk_view.specs.Lookup.{rows_of_looked_up_trade, table_rows_of_trade}
 use Rattle.brk_view.specs.declared.lookups.LookedUp.{LookedUp}
 
 -- The trade that was read, with its settlement, cash row and history, has the rows that the tables
 -- have of the trade `row`. Vacuous if `t` are not the tables of a base that satisfies the books
 -- invariant and the audit invariant.
-abbrev pub IsLookedUp : TradeRow → LookedUp → Tables → Type 0
-IsLookedUp row found t = (base : Base) → BooksInvariant base → AuditInvariant base → t ≡ sheets base → looked_up_rows found ≡ lookup_rows t row
+abbrev pub IsLookupOfTrade : TradeRow → LookedUp → Tables → Type 0
+IsLookupOfTrade row found t = (base : Base) → BooksInvariant base → AuditInvariant base → t ≡ sheets base → rows_of_looked_up_trade found ≡ table_rows_of_trade t row
 
 -- The trades that were read, each with its settlement, cash row and history, have the rows that the
 -- tables have of the trades `rows`, in the order of `rows`. Vacuous if `t` are not the tables of a
 -- base that satisfies the books invariant and the audit invariant.
-abbrev pub AreLookedUp : List TradeRow → List LookedUp → Tables → Type 0
-AreLookedUp rows found t = (base : Base) → BooksInvariant base → AuditInvariant base → t ≡ sheets base → map looked_up_rows found ≡ map (lookup_rows t) rows
+abbrev pub AreLookupsOfTrades : List TradeRow → List LookedUp → Tables → Type 0
+AreLookupsOfTrades rows found t = (base : Base) → BooksInvariant base → AuditInvariant base → t ≡ sheets base → map rows_of_looked_up_trade found ≡ map (table_rows_of_trade t) rows

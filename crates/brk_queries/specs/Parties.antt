@@ -2,14 +2,14 @@
 use Rattle.std.specs.Prelude.{◌≡◌, ◌==◌, Some, find}
 use Rattle.std.specs.Global.{Vec}
 use Rattle.brk_model.specs.Records.{Customer}
-use Rattle.brk_model.specs.StatusView.{name_of_broker}
+use Rattle.brk_model.specs.StatusView.{broker_name_with_id}
 use Rattle.brk_model.specs.Tables.{AccountRow, Tables}
 use Rattle.brk_view.specs.declared.statuses.AccountStatus.{AccountStatus}
 use Rattle.brk_view.specs.declared.statuses.TradeStatus.{TradeStatus}
 
 -- The status has the trades `trades`, the names of the account's customer, who exists in the
 -- tables, and the name of the account's broker.
-abbrev pub ArePartiesOf : AccountRow → Vec TradeStatus → AccountStatus → Tables → Type 0
-ArePartiesOf a trades status t =
+abbrev pub IsStatusWithParties : AccountRow → Vec TradeStatus → AccountStatus → Tables → Type 0
+IsStatusWithParties a trades status t =
     (c : Customer) × (Some c ≡ find (λ c. c.id == a.customer) t.customers) × (status.last_name ≡ c.last_name) × (status.first_name ≡ c.first_name)
-    × (status.broker ≡ name_of_broker t a.broker) × (status.trades ≡ trades)
+    × (status.broker ≡ broker_name_with_id t a.broker) × (status.trades ≡ trades)

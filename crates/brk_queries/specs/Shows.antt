@@ -9,30 +9,30 @@ use Rattle.brk_model.specs.Sheets.{sheets}
 use Rattle.brk_model.specs.Tables.{Tables}
 use Rattle.brk_invariant_theorems.specs.Sound.{AuditInvariant}
 use Rattle.brk_book_theorems.specs.Books.{BooksInvariant}
-use Rattle.brk_view.specs.Carried.{CarriesRows}
-use Rattle.brk_view.specs.Views.{fields_of}
+use Rattle.brk_view.specs.Carried.{HasRowsOfQuery}
+use Rattle.brk_view.specs.Views.{records_of_view}
 use Rattle.brk_view.specs.declared.view.View.{View}
 
 -- The result of the model that the result of a query represents: the records of texts of the view,
 -- or the refusal.
-abbrev pub seen_of : Result View Refusal → Result model.View Refusal
-seen_of (Ok view) = Ok (fields_of view)
-seen_of (Err refusal) = Err refusal
+abbrev pub model_query_result : Result View Refusal → Result model.View Refusal
+model_query_result (Ok view) = Ok (records_of_view view)
+model_query_result (Err refusal) = Err refusal
 
 -- The result of the query equals that of the model: the view as records of texts, or the refusal.
 -- Vacuous if `t` are not the tables of a base that satisfies the books invariant and the audit
 -- invariant.
-abbrev pub ShowsTexts : Query → Result View Refusal → Tables → Type 0
-ShowsTexts query seen t = (base : Base) → BooksInvariant base → AuditInvariant base → t ≡ sheets base → ask base query ≡ seen_of seen
+abbrev pub EqualsViewTexts : Query → Result View Refusal → Tables → Type 0
+EqualsViewTexts query seen t = (base : Base) → BooksInvariant base → AuditInvariant base → t ≡ sheets base → ask base query ≡ model_query_result seen
 
 -- The view has the variant of the query and carries the rows that the query selects from the tables
--- `t` (`CarriesRows`). Vacuous at a refusal, and if `t` are not the tables of a base that satisfies
--- the books invariant and the audit invariant.
-abbrev pub ShowsRows : Query → Result View Refusal → Tables → Type 0
-ShowsRows query seen t = IfOk seen (λ view. (base : Base) → BooksInvariant base → AuditInvariant base → t ≡ sheets base → CarriesRows query view t)
+-- `t` (`HasRowsOfQuery`). Vacuous at a refusal, and if `t` are not the tables of a base that
+-- satisfies the books invariant and the audit invariant.
+abbrev pub CarriesSelectedRows : Query → Result View Refusal → Tables → Type 0
+CarriesSelectedRows query seen t = IfOk seen (λ view. (base : Base) → BooksInvariant base → AuditInvariant base → t ≡ sheets base → HasRowsOfQuery query view t)
 
 -- The result of the query equals that of the model, as texts, and a returned view carries the rows
 -- that the query selects. Vacuous if `t` are not the tables of a base that satisfies the books
 -- invariant and the audit invariant.
-abbrev pub Shows : Query → Result View Refusal → Tables → Type 0
-Shows query seen t = ShowsTexts query seen t × ShowsRows query seen t
+abbrev pub ShowsQueryResult : Query → Result View Refusal → Tables → Type 0
+ShowsQueryResult query seen t = EqualsViewTexts query seen t × CarriesSelectedRows query seen t

@@ -1,9 +1,9 @@
 ghost use Rattle.std.specs.Prelude.{IfErr};
-ghost use Rattle.brk_queries.specs.Heads.{IsHead};
-ghost use Rattle.brk_model.specs.Run.{MayFail};
+ghost use Rattle.brk_queries.specs.Heads.{IsHeadOfAccount};
+ghost use Rattle.brk_model.specs.Run.{IsCallFault};
 ghost use Rattle.brk_store.specs.Holds.{ReadPost};
 
-use brk_decisions::sum_worth;
+use brk_decisions::read_holdings_value;
 use brk_money::{Cents, Fault, Id, Wide};
 use brk_ref::Name;
 use brk_store::Store;
@@ -22,18 +22,18 @@ pub struct Head {
 
 /// Returns the head of an account, or `None` if the account does not exist. Changes nothing. Fails
 /// with `Memory` or `Store` only.
-pub fn find_head<S: Alter>(
+pub fn read_head_of_account<S: Alter>(
     alloc: Global,
     store: &mut Store<S>,
     account: Id,
 ) -> Result<Option<Head>, Fault>
-    ensures read { ReadPost S.Store store.old store.new result (IsHead account) }
-    ensures fault { IfErr result MayFail }
+    ensures read { ReadPost S.Store store.old store.new result (IsHeadOfAccount account) }
+    ensures fault { IfErr result IsCallFault }
 {
     let Some(row) = store.account(account)? else {
         return Ok(None);
     };
-    let holdings = sum_worth(alloc, store, account)?;
+    let holdings = read_holdings_value(alloc, store, account)?;
     Ok(Some(Head {
         name: row.account.name,
         opening: row.account.opening,

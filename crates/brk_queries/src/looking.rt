@@ -1,16 +1,16 @@
 ghost use Rattle.std.specs.Prelude.{IfErr};
-ghost use Rattle.brk_queries.specs.Shows.{Shows};
-ghost use Rattle.brk_model.specs.Run.{MayFail};
+ghost use Rattle.brk_queries.specs.Shows.{ShowsQueryResult};
+ghost use Rattle.brk_model.specs.Run.{IsCallFault};
 ghost use Rattle.brk_store.specs.Holds.{ReadPost};
-ghost use Rattle.brk_view.specs.Queries.{query_of};
+ghost use Rattle.brk_view.specs.Queries.{abstract_query};
 
-use crate::accounts::{see_position, see_position_by_tax_id};
-use crate::lookups::{see_account_trades, see_symbol_trades, see_trades};
-use crate::lots::see_lots;
-use crate::orders::{see_estimate, see_submitted};
-use crate::recents::see_recent;
-use crate::statuses::see_status;
-use crate::volumes::see_volume;
+use crate::accounts::{view_of_position, view_of_position_by_tax_id};
+use crate::lookups::{view_of_account_trades, view_of_symbol_trades, view_of_trades};
+use crate::lots::view_of_touched_lots;
+use crate::orders::{view_of_estimate, view_of_submitted_trades};
+use crate::recents::view_of_recent_trades;
+use crate::statuses::view_of_account_status;
+use crate::volumes::view_of_broker_volumes;
 use brk_money::Planned;
 use brk_store::Store;
 use brk_view::{Query, View};
@@ -21,20 +21,22 @@ use std::alloc::Global;
 ///
 /// Fails with `Memory` or `Store` only. The open database is unchanged, whatever the result.
 pub fn view_of_query<S: Alter>(alloc: Global, store: &mut Store<S>, query: &Query) -> Planned<View>
-    ensures read { ReadPost S.Store store.old store.new result (Shows (query_of query.now)) }
-    ensures fault { IfErr result MayFail }
+    ensures read { ReadPost S.Store store.old store.new result (ShowsQueryResult (abstract_query query.now)) }
+    ensures fault { IfErr result IsCallFault }
 {
     match query {
-        Query::Position(customer) => see_position(alloc, store, *customer),
-        Query::PositionOfTaxId(tax_id) => see_position_by_tax_id(alloc, store, tax_id),
-        Query::Recent(account) => see_recent(alloc, store, *account),
-        Query::Status(account) => see_status(alloc, store, *account),
-        Query::Submitted => see_submitted(alloc, store),
-        Query::Estimate(order) => see_estimate(alloc, store, order),
-        Query::Trades(named) => see_trades(alloc, store, named),
-        Query::AccountTrades { account, span } => see_account_trades(alloc, store, *account, *span),
-        Query::SymbolTrades { symbol, span } => see_symbol_trades(alloc, store, symbol, *span),
-        Query::Lots { account, first } => see_lots(alloc, store, *account, *first),
-        Query::Volume { sector, names } => see_volume(alloc, store, sector, names),
+        Query::Position(customer) => view_of_position(alloc, store, *customer),
+        Query::PositionOfTaxId(tax_id) => view_of_position_by_tax_id(alloc, store, tax_id),
+        Query::Recent(account) => view_of_recent_trades(alloc, store, *account),
+        Query::Status(account) => view_of_account_status(alloc, store, *account),
+        Query::Submitted => view_of_submitted_trades(alloc, store),
+        Query::Estimate(order) => view_of_estimate(alloc, store, order),
+        Query::Trades(named) => view_of_trades(alloc, store, named),
+        Query::AccountTrades { account, span } => view_of_account_trades(
+            alloc, store, *account, *span,
+        ),
+        Query::SymbolTrades { symbol, span } => view_of_symbol_trades(alloc, store, symbol, *span),
+        Query::Lots { account, first } => view_of_touched_lots(alloc, store, *account, *first),
+        Query::Volume { sector, names } => view_of_broker_volumes(alloc, store, sector, names),
     }
 }

@@ -1,56 +1,57 @@
 //! Views of trades that are looked up, with their settlements, cash rows and histories.
 
 ghost use Rattle.std.specs.Prelude.{IfErr, map};
-ghost use Rattle.brk_changes.specs.Rows.{trade_row_of};
-ghost use Rattle.brk_queries.specs.LookedUp.{AreLookedUp, IsLookedUp};
-ghost use Rattle.brk_queries.specs.Shows.{Shows};
+ghost use Rattle.brk_changes.specs.Rows.{abstract_trade_row};
+ghost use Rattle.brk_queries.specs.LookedUp.{AreLookupsOfTrades, IsLookupOfTrade};
+ghost use Rattle.brk_queries.specs.Shows.{ShowsQueryResult};
 ghost use Rattle.brk_model.specs.Queries.{TradesOfAccount, TradesOfSymbol, TradesWith};
-ghost use Rattle.brk_model.specs.Run.{MayFail};
+ghost use Rattle.brk_model.specs.Run.{IsCallFault};
 ghost use Rattle.brk_store.specs.Holds.{ReadPost};
 
-use brk_decisions::find_trades;
+use brk_decisions::read_trades_by_ids;
 use brk_money::{Fault, Id, Planned, Refusal};
 use brk_orders::Span;
 use brk_ref::Symbol;
 use brk_store::Store;
 use brk_trade::TradeRow;
 use brk_view::{
-    LookedUp, NamedTrades, View, looked_up, lookup_account, lookup_ids, lookup_symbol, oldest_first,
+    LookedUp, NamedTrades, View, create_looked_up_trade, lookup_account, lookup_ids, lookup_symbol,
+    sort_trades_oldest_first,
 };
 use sqlite::Alter;
 use std::alloc::Global;
 
 // Returns a trade with its settlement, cash row and history. Changes nothing. Fails with `Memory`
 // or `Store` only.
-fn look_up<S: Alter>(
+fn look_up_trade<S: Alter>(
     alloc: Global,
     store: &mut Store<S>,
     trade: TradeRow,
 ) -> Result<LookedUp, Fault>
-    ensures read { ReadPost S.Store store.old store.new result (IsLookedUp (trade_row_of trade)) }
-    ensures fault { IfErr result MayFail }
+    ensures read { ReadPost S.Store store.old store.new result (IsLookupOfTrade (abstract_trade_row trade)) }
+    ensures fault { IfErr result IsCallFault }
 {
     let settlement = store.settlement(trade.id)?;
     let cash = store.cash_row(trade.id)?;
-    let history = store.history_of(alloc, trade.id)?;
-    looked_up(alloc, trade, settlement, cash, &history)
+    let history = store.history_of_trade(alloc, trade.id)?;
+    create_looked_up_trade(alloc, trade, settlement, cash, &history)
 }
 
 // Returns trades, in their order, each with its settlement, cash row and history. Changes nothing.
 // Fails with `Memory` or `Store` only.
-fn look_up_all<S: Alter>(
+fn look_up_trades<S: Alter>(
     alloc: Global,
     store: &mut Store<S>,
     trades: Vec<TradeRow>,
 ) -> Result<Vec<LookedUp>, Fault>
-    ensures read { ReadPost S.Store store.old store.new result (λ found. AreLookedUp (map trade_row_of trades.items) found.items) }
-    ensures fault { IfErr result MayFail }
+    ensures read { ReadPost S.Store store.old store.new result (λ found. AreLookupsOfTrades (map abstract_trade_row trades.items) found.items) }
+    ensures fault { IfErr result IsCallFault }
 {
     let _last = store.last()?;
     let mut rest = trades;
     let mut found = Vec::new(alloc);
     while let Some(trade) = rest.pop() {
-        let one = look_up(alloc, store, trade)?;
+        let one = look_up_trade(alloc, store, trade)?;
         found.push(one)?;
     }
     found.reverse();
@@ -59,56 +60,56 @@ fn look_up_all<S: Alter>(
 
 // Returns the view of trades by their ids, or refuses with `NoTrade`. Changes nothing. Fails with
 // `Memory` or `Store` only.
-pub(crate) fn see_trades<S: Alter>(
+pub(crate) fn view_of_trades<S: Alter>(
     alloc: Global,
     store: &mut Store<S>,
     trades: &NamedTrades,
 ) -> Planned<View>
-    ensures read { ReadPost S.Store store.old store.new result (Shows (TradesWith trades.now.trades)) }
-    ensures fault { IfErr result MayFail }
+    ensures read { ReadPost S.Store store.old store.new result (ShowsQueryResult (TradesWith trades.now.trades)) }
+    ensures fault { IfErr result IsCallFault }
 {
-    let Some(named) = find_trades(alloc, store, trades.trades.ids())? else {
+    let Some(named) = read_trades_by_ids(alloc, store, trades.trades.ids())? else {
         return Ok(Err(Refusal::NoTrade));
     };
-    let ordered = oldest_first(alloc, named)?;
-    let found = look_up_all(alloc, store, ordered)?;
+    let ordered = sort_trades_oldest_first(alloc, named)?;
+    let found = look_up_trades(alloc, store, ordered)?;
     Ok(Ok(lookup_ids(found)))
 }
 
 // Returns the view of the first trades of an account between two stamps, or refuses with
 // `NoAccount`. Changes nothing. Fails with `Memory` or `Store` only.
-pub(crate) fn see_account_trades<S: Alter>(
+pub(crate) fn view_of_account_trades<S: Alter>(
     alloc: Global,
     store: &mut Store<S>,
     account: Id,
     span: Span,
 ) -> Planned<View>
-    ensures read { ReadPost S.Store store.old store.new result (Shows (TradesOfAccount account span.first span.last)) }
-    ensures fault { IfErr result MayFail }
+    ensures read { ReadPost S.Store store.old store.new result (ShowsQueryResult (TradesOfAccount account span.first span.last)) }
+    ensures fault { IfErr result IsCallFault }
 {
     let Some(_row) = store.account(account)? else {
         return Ok(Err(Refusal::NoAccount));
     };
-    let trades = store.twenty_of_account(alloc, account, span)?;
-    let found = look_up_all(alloc, store, trades)?;
+    let trades = store.twenty_trades_of_account(alloc, account, span)?;
+    let found = look_up_trades(alloc, store, trades)?;
     Ok(Ok(lookup_account(found)))
 }
 
 // Returns the view of the first trades of a symbol between two stamps, or refuses with
 // `NoSecurity`. Changes nothing. Fails with `Memory` or `Store` only.
-pub(crate) fn see_symbol_trades<S: Alter>(
+pub(crate) fn view_of_symbol_trades<S: Alter>(
     alloc: Global,
     store: &mut Store<S>,
     symbol: &Symbol,
     span: Span,
 ) -> Planned<View>
-    ensures read { ReadPost S.Store store.old store.new result (Shows (TradesOfSymbol symbol.now span.first span.last)) }
-    ensures fault { IfErr result MayFail }
+    ensures read { ReadPost S.Store store.old store.new result (ShowsQueryResult (TradesOfSymbol symbol.now span.first span.last)) }
+    ensures fault { IfErr result IsCallFault }
 {
     let Some(_row) = store.security(symbol)? else {
         return Ok(Err(Refusal::NoSecurity));
     };
-    let trades = store.twenty_of_symbol(alloc, symbol, span)?;
-    let found = look_up_all(alloc, store, trades)?;
+    let trades = store.twenty_trades_of_symbol(alloc, symbol, span)?;
+    let found = look_up_trades(alloc, store, trades)?;
     Ok(Ok(lookup_symbol(found)))
 }

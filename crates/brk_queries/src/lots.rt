@@ -1,24 +1,24 @@
 //! The view of the changes of the lots that a trade touched.
 
 ghost use Rattle.std.specs.Prelude.{◌≡◌, ◌==◌, IfErr, filter, map};
-ghost use Rattle.brk_queries.specs.Shows.{Shows};
-ghost use Rattle.brk_queries.specs.Touched.{AreTouched, stamp_of};
+ghost use Rattle.brk_queries.specs.Shows.{ShowsQueryResult};
+ghost use Rattle.brk_queries.specs.Touched.{AreTouchedLotsOf, last_status_stamp};
 ghost use Rattle.brk_model.specs.Queries.{LotsTouched};
-ghost use Rattle.brk_model.specs.Run.{MayFail};
+ghost use Rattle.brk_model.specs.Run.{IsCallFault};
 ghost use Rattle.brk_store.specs.Holds.{ReadPost};
-ghost use Rattle.brk_view.specs.Lots.{touch_in};
+ghost use Rattle.brk_view.specs.Lots.{stamped_lot_change};
 
 use brk_money::{Fault, Id, Planned, Refusal, Stamp};
 use brk_store::Store;
-use brk_view::{LotTouch, TouchedLots, View, keep_first, lookup_lots};
+use brk_view::{LotTouch, TouchedLots, View, lookup_lots, merge_into_first_twenty};
 use sqlite::Alter;
 use std::alloc::Global;
 
 // Returns the stamp of a trade's last status. Changes nothing. Fails with `Memory` or `Store` only;
 // with `Store` also if the trade does not exist.
-fn known_stamp<S: Alter>(store: &mut Store<S>, trade: Id) -> Result<Stamp, Fault>
-    ensures read { ReadPost S.Store store.old store.new result (λ stamp t. stamp ≡ stamp_of t trade) }
-    ensures fault { IfErr result MayFail }
+fn require_trade_stamp<S: Alter>(store: &mut Store<S>, trade: Id) -> Result<Stamp, Fault>
+    ensures read { ReadPost S.Store store.old store.new result (λ stamp t. stamp ≡ last_status_stamp t trade) }
+    ensures fault { IfErr result IsCallFault }
 {
     match store.trade(trade)? {
         Some(row) => Ok(row.stamp),
@@ -28,18 +28,18 @@ fn known_stamp<S: Alter>(store: &mut Store<S>, trade: Id) -> Result<Stamp, Fault
 
 // Returns the changes of a lot, each with the stamp of the trade that made it. Changes nothing.
 // Fails with `Memory` or `Store` only.
-fn touches_of<S: Alter>(
+fn read_changes_of_lot<S: Alter>(
     alloc: Global,
     store: &mut Store<S>,
     lot: Id,
 ) -> Result<Vec<LotTouch>, Fault>
-    ensures read { ReadPost S.Store store.old store.new result (λ touches t. touches.items ≡ map (touch_in t) (filter (λ r. r.lot == lot) t.holding_history)) }
-    ensures fault { IfErr result MayFail }
+    ensures read { ReadPost S.Store store.old store.new result (λ touches t. touches.items ≡ map (stamped_lot_change t) (filter (λ r. r.lot == lot) t.holding_history)) }
+    ensures fault { IfErr result IsCallFault }
 {
-    let rows = store.changes_of(alloc, lot)?;
+    let rows = store.lot_changes_of_lot(alloc, lot)?;
     let mut touches = Vec::new(alloc);
     for row in &rows {
-        let stamp = known_stamp(store, row.trade)?;
+        let stamp = require_trade_stamp(store, row.trade)?;
         touches.push(LotTouch {
             change: *row,
             stamp,
@@ -50,19 +50,19 @@ fn touches_of<S: Alter>(
 
 // Returns the first 20 changes of all lots that a trade touched, sorted as the view shows them.
 // Changes nothing. Fails with `Memory` or `Store` only.
-fn touched_lots<S: Alter>(
+fn read_touched_lots<S: Alter>(
     alloc: Global,
     store: &mut Store<S>,
     trade: Id,
 ) -> Result<TouchedLots, Fault>
-    ensures read { ReadPost S.Store store.old store.new result (AreTouched trade) }
-    ensures fault { IfErr result MayFail }
+    ensures read { ReadPost S.Store store.old store.new result (AreTouchedLotsOf trade) }
+    ensures fault { IfErr result IsCallFault }
 {
-    let mut rest = store.changes_by(alloc, trade)?;
+    let mut rest = store.lot_changes_by_trade(alloc, trade)?;
     let mut kept = Vec::new(alloc);
     while let Some(change) = rest.pop() {
-        let touches = touches_of(alloc, store, change.lot)?;
-        keep_first(&mut kept, touches)?;
+        let touches = read_changes_of_lot(alloc, store, change.lot)?;
+        merge_into_first_twenty(&mut kept, touches)?;
     }
     Ok(TouchedLots {
         trade,
@@ -72,21 +72,21 @@ fn touched_lots<S: Alter>(
 
 // Returns the view of the changes of the lots that the oldest trade of an account at or after a
 // stamp touched, or refuses with `NoAccount`. Changes nothing. Fails with `Memory` or `Store` only.
-pub(crate) fn see_lots<S: Alter>(
+pub(crate) fn view_of_touched_lots<S: Alter>(
     alloc: Global,
     store: &mut Store<S>,
     account: Id,
     first: Stamp,
 ) -> Planned<View>
-    ensures read { ReadPost S.Store store.old store.new result (Shows (LotsTouched account first)) }
-    ensures fault { IfErr result MayFail }
+    ensures read { ReadPost S.Store store.old store.new result (ShowsQueryResult (LotsTouched account first)) }
+    ensures fault { IfErr result IsCallFault }
 {
     let Some(_row) = store.account(account)? else {
         return Ok(Err(Refusal::NoAccount));
     };
-    let Some(trade) = store.first_since(account, first)? else {
+    let Some(trade) = store.first_trade_since(account, first)? else {
         return Ok(Ok(lookup_lots(None)));
     };
-    let lots = touched_lots(alloc, store, trade.id)?;
+    let lots = read_touched_lots(alloc, store, trade.id)?;
     Ok(Ok(lookup_lots(Some(lots))))
 }

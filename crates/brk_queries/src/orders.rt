@@ -1,10 +1,10 @@
 //! The views of submitted trades and of an order's estimate.
 
 ghost use Rattle.std.specs.Prelude.{IfErr};
-ghost use Rattle.brk_queries.specs.Shows.{Shows};
+ghost use Rattle.brk_queries.specs.Shows.{ShowsQueryResult};
 ghost use Rattle.brk_model.specs.Queries.{EstimateOf, SubmittedTrades};
-ghost use Rattle.brk_model.specs.Run.{MayFail};
-ghost use Rattle.brk_orders.specs.Records.{order_of};
+ghost use Rattle.brk_model.specs.Run.{IsCallFault};
+ghost use Rattle.brk_orders.specs.Records.{abstract_order};
 ghost use Rattle.brk_store.specs.Holds.{ReadPost};
 
 use brk_decisions::decide_estimate;
@@ -16,9 +16,12 @@ use sqlite::Alter;
 use std::alloc::Global;
 
 // Returns the view of the submitted trades. Changes nothing. Fails with `Memory` or `Store` only.
-pub(crate) fn see_submitted<S: Alter>(alloc: Global, store: &mut Store<S>) -> Planned<View>
-    ensures read { ReadPost S.Store store.old store.new result (Shows SubmittedTrades) }
-    ensures fault { IfErr result MayFail }
+pub(crate) fn view_of_submitted_trades<S: Alter>(
+    alloc: Global,
+    store: &mut Store<S>,
+) -> Planned<View>
+    ensures read { ReadPost S.Store store.old store.new result (ShowsQueryResult SubmittedTrades) }
+    ensures fault { IfErr result IsCallFault }
 {
     let rows = store.submitted_trades(alloc)?;
     let view = submitted(alloc, &rows)?;
@@ -27,13 +30,13 @@ pub(crate) fn see_submitted<S: Alter>(alloc: Global, store: &mut Store<S>) -> Pl
 
 // Returns the view of an order's estimate, or the refusal. Changes nothing. Fails with `Memory` or
 // `Store` only.
-pub(crate) fn see_estimate<S: Alter>(
+pub(crate) fn view_of_estimate<S: Alter>(
     alloc: Global,
     store: &mut Store<S>,
     order: &Order,
 ) -> Planned<View>
-    ensures read { ReadPost S.Store store.old store.new result (Shows (EstimateOf (order_of order.now))) }
-    ensures fault { IfErr result MayFail }
+    ensures read { ReadPost S.Store store.old store.new result (ShowsQueryResult (EstimateOf (abstract_order order.now))) }
+    ensures fault { IfErr result IsCallFault }
 {
     match decide_estimate(alloc, store, order)? {
         Ok(estimate) => Ok(Ok(View::Estimate(estimate))),

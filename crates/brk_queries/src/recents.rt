@@ -1,12 +1,12 @@
 //! The view of an account's last trades and their statuses.
 
 ghost use Rattle.std.specs.Prelude.{◌≡◌, ◌++◌, IfErr, OnOk, flat_map, map};
-ghost use Rattle.brk_changes.specs.Rows.{history_row_of, trade_row_of};
-ghost use Rattle.brk_queries.specs.Shows.{Shows};
-ghost use Rattle.brk_model.specs.Joins.{history_in};
-ghost use Rattle.brk_model.specs.PositionView.{last_ten};
+ghost use Rattle.brk_changes.specs.Rows.{abstract_history_row, abstract_trade_row};
+ghost use Rattle.brk_queries.specs.Shows.{ShowsQueryResult};
+ghost use Rattle.brk_model.specs.Joins.{history_rows_with_trade_id};
+ghost use Rattle.brk_model.specs.PositionView.{last_ten_trade_rows};
 ghost use Rattle.brk_model.specs.Queries.{RecentOf};
-ghost use Rattle.brk_model.specs.Run.{MayFail};
+ghost use Rattle.brk_model.specs.Run.{IsCallFault};
 ghost use Rattle.brk_store.specs.Holds.{ReadPost};
 
 use brk_money::{Fault, Id, Planned, Refusal};
@@ -17,9 +17,9 @@ use sqlite::Alter;
 use std::alloc::Global;
 
 // Appends statuses to others. Fails with `Memory` or `Store` only.
-fn add_all(history: &mut Vec<HistoryRow>, rows: &[HistoryRow]) -> Result<(), Fault>
+fn append_history(history: &mut Vec<HistoryRow>, rows: &[HistoryRow]) -> Result<(), Fault>
     ensures added { OnOk result (history.new.items ≡ history.old.items ++ rows.now) }
-    ensures fault { IfErr result MayFail }
+    ensures fault { IfErr result IsCallFault }
 {
     for row in rows {
         history.push(*row)?;
@@ -29,39 +29,39 @@ fn add_all(history: &mut Vec<HistoryRow>, rows: &[HistoryRow]) -> Result<(), Fau
 
 // Returns the last trades of an account, the most recent first, and all rows of their history.
 // Changes nothing. Fails with `Memory` or `Store` only.
-fn read_recent<S: Alter>(
+fn read_recent_trades<S: Alter>(
     alloc: Global,
     store: &mut Store<S>,
     account: Id,
 ) -> Result<(Vec<TradeRow>, Vec<HistoryRow>), Fault>
     ensures read { ReadPost S.Store store.old store.new result (λ found t.
-        (map trade_row_of found.0.items ≡ last_ten t account)
-        × (map history_row_of found.1.items ≡ flat_map (λ row. history_in t row.id) (last_ten t account))) }
-    ensures fault { IfErr result MayFail }
+        (map abstract_trade_row found.0.items ≡ last_ten_trade_rows t account)
+        × (map abstract_history_row found.1.items ≡ flat_map (λ row. history_rows_with_trade_id t row.id) (last_ten_trade_rows t account))) }
+    ensures fault { IfErr result IsCallFault }
 {
-    let trades = store.last_ten_of_account(alloc, account)?;
+    let trades = store.last_ten_trades_of_account(alloc, account)?;
     let mut history = Vec::new(alloc);
     for trade in &trades {
-        let rows = store.history_of(alloc, trade.id)?;
-        add_all(&mut history, &rows)?;
+        let rows = store.history_of_trade(alloc, trade.id)?;
+        append_history(&mut history, &rows)?;
     }
     Ok((trades, history))
 }
 
 // Returns the view of an account's last trades and their statuses, or refuses with `NoAccount`.
 // Changes nothing. Fails with `Memory` or `Store` only.
-pub(crate) fn see_recent<S: Alter>(
+pub(crate) fn view_of_recent_trades<S: Alter>(
     alloc: Global,
     store: &mut Store<S>,
     account: Id,
 ) -> Planned<View>
-    ensures read { ReadPost S.Store store.old store.new result (Shows (RecentOf account)) }
-    ensures fault { IfErr result MayFail }
+    ensures read { ReadPost S.Store store.old store.new result (ShowsQueryResult (RecentOf account)) }
+    ensures fault { IfErr result IsCallFault }
 {
     let Some(found) = store.account(account)? else {
         return Ok(Err(Refusal::NoAccount));
     };
-    let (trades, history) = read_recent(alloc, store, account)?;
+    let (trades, history) = read_recent_trades(alloc, store, account)?;
     let view = recent(alloc, trades, history)?;
     Ok(Ok(view))
 }

@@ -1,13 +1,13 @@
 //! The view of the brokers' volumes in a sector.
 
 ghost use Rattle.std.specs.Prelude.{◌≡◌, ◌++◌, ◌∷◌, [], IfErr, bytes_eq, filter, flat_map, map};
-ghost use Rattle.brk_changes.specs.Rows.{request_row_of};
-ghost use Rattle.brk_queries.specs.Shows.{Shows};
-ghost use Rattle.brk_queries.specs.Volumes.{is_in, named_in, volumes_in, with_request};
+ghost use Rattle.brk_changes.specs.Rows.{abstract_request_row};
+ghost use Rattle.brk_queries.specs.Shows.{ShowsQueryResult};
+ghost use Rattle.brk_queries.specs.Volumes.{is_symbol_in_sector, named_brokers_in_sector, sector_volumes, with_request_in_sector};
 ghost use Rattle.brk_model.specs.Queries.{VolumeOf};
-ghost use Rattle.brk_model.specs.Run.{MayFail};
-ghost use Rattle.brk_model.specs.VolumeView.{requests_in};
-ghost use Rattle.brk_ref.specs.Records.{broker_row_of};
+ghost use Rattle.brk_model.specs.Run.{IsCallFault};
+ghost use Rattle.brk_model.specs.VolumeView.{sector_requests_of_broker};
+ghost use Rattle.brk_ref.specs.Records.{abstract_broker_row};
 ghost use Rattle.brk_store.specs.Holds.{ReadPost};
 ghost use Rattle.brk_view.specs.Volume as volume;
 
@@ -15,7 +15,7 @@ use brk_changes::RequestRow;
 use brk_money::{Fault, Id, Planned};
 use brk_ref::{BrokerRow, Name, Symbol};
 use brk_store::Store;
-use brk_view::{BrokerNames, BrokerVolume, View, broker_volume, request_volume};
+use brk_view::{BrokerNames, BrokerVolume, View, broker_volume, total_value_of_requests};
 use sqlite::Alter;
 use std::alloc::Global;
 
@@ -26,8 +26,8 @@ fn is_in_sector<S: Alter>(
     symbol: &Symbol,
     sector: &Name,
 ) -> Result<bool, Fault>
-    ensures read { ReadPost S.Store store.old store.new result (λ is t. is ≡ is_in t sector.now symbol.now) }
-    ensures fault { IfErr result MayFail }
+    ensures read { ReadPost S.Store store.old store.new result (λ is t. is ≡ is_symbol_in_sector t sector.now symbol.now) }
+    ensures fault { IfErr result IsCallFault }
 {
     match store.security(symbol)? {
         Some(security) => Ok(security.sector.as_str() == sector.as_str()),
@@ -36,14 +36,14 @@ fn is_in_sector<S: Alter>(
 }
 
 // Appends a request to others if its security is in a sector. Fails with `Memory` or `Store` only.
-fn keep_in_sector<S: Alter>(
+fn append_if_in_sector<S: Alter>(
     store: &mut Store<S>,
     sector: &Name,
     row: RequestRow,
     found: &mut Vec<RequestRow>,
 ) -> Result<(), Fault>
-    ensures read { ReadPost S.Store store.old store.new result (λ _ t. found.new.items ≡ with_request t sector.now row found.old.items) }
-    ensures fault { IfErr result MayFail }
+    ensures read { ReadPost S.Store store.old store.new result (λ _ t. found.new.items ≡ with_request_in_sector t sector.now row found.old.items) }
+    ensures fault { IfErr result IsCallFault }
 {
     if !is_in_sector(store, &row.symbol, sector)? {
         return Ok(());
@@ -54,19 +54,19 @@ fn keep_in_sector<S: Alter>(
 
 // Returns the requests of a broker in a sector, sorted by trade, ascending. Changes nothing. Fails
 // with `Memory` or `Store` only.
-fn requests_of<S: Alter>(
+fn read_requests_in_sector<S: Alter>(
     alloc: Global,
     store: &mut Store<S>,
     sector: &Name,
     broker: Id,
 ) -> Result<Vec<RequestRow>, Fault>
-    ensures read { ReadPost S.Store store.old store.new result (λ found t. map request_row_of found.items ≡ requests_in t sector.now broker) }
-    ensures fault { IfErr result MayFail }
+    ensures read { ReadPost S.Store store.old store.new result (λ found t. map abstract_request_row found.items ≡ sector_requests_of_broker t sector.now broker) }
+    ensures fault { IfErr result IsCallFault }
 {
     let mut rest = store.requests_of_broker(alloc, broker)?;
     let mut found = Vec::new(alloc);
     while let Some(row) = rest.pop() {
-        keep_in_sector(store, sector, row, &mut found)?;
+        append_if_in_sector(store, sector, row, &mut found)?;
     }
     found.reverse();
     Ok(found)
@@ -74,22 +74,22 @@ fn requests_of<S: Alter>(
 
 // Appends the volume of a broker in a sector, if the broker has a request in it. Fails with
 // `Memory` or `Store` only.
-fn add_volume<S: Alter>(
+fn append_broker_volume<S: Alter>(
     alloc: Global,
     store: &mut Store<S>,
     sector: &Name,
     row: &BrokerRow,
     found: &mut Vec<BrokerVolume>,
 ) -> Result<(), Fault>
-    ensures read { ReadPost S.Store store.old store.new result (λ _ t. found.new.items ≡ found.old.items ++ volumes_in t sector.now (broker_row_of row.now ∷ [])) }
-    ensures fault { IfErr result MayFail }
+    ensures read { ReadPost S.Store store.old store.new result (λ _ t. found.new.items ≡ found.old.items ++ sector_volumes t sector.now (abstract_broker_row row.now ∷ [])) }
+    ensures fault { IfErr result IsCallFault }
 {
-    let requests = requests_of(alloc, store, sector, row.broker.id)?;
+    let requests = read_requests_in_sector(alloc, store, sector, row.broker.id)?;
     if requests.is_empty() {
         return Ok(());
     }
     let name = row.broker.name.clone()?;
-    let volume = request_volume(&requests);
+    let volume = total_value_of_requests(&requests);
     found.push(BrokerVolume {
         broker: row.broker.id,
         name,
@@ -99,55 +99,55 @@ fn add_volume<S: Alter>(
 }
 
 // Appends the volumes in a sector of the brokers with a name. Fails with `Memory` or `Store` only.
-fn add_named<S: Alter>(
+fn append_volumes_of_name<S: Alter>(
     alloc: Global,
     store: &mut Store<S>,
     sector: &Name,
     name: &Name,
     found: &mut Vec<BrokerVolume>,
 ) -> Result<(), Fault>
-    ensures read { ReadPost S.Store store.old store.new result (λ _ t. found.new.items ≡ found.old.items ++ volumes_in t sector.now (filter (λ b. bytes_eq b.name name.now) t.brokers)) }
-    ensures fault { IfErr result MayFail }
+    ensures read { ReadPost S.Store store.old store.new result (λ _ t. found.new.items ≡ found.old.items ++ sector_volumes t sector.now (filter (λ b. bytes_eq b.name name.now) t.brokers)) }
+    ensures fault { IfErr result IsCallFault }
 {
     let rows = store.brokers_named(alloc, name)?;
     for row in &rows {
-        add_volume(alloc, store, sector, row, found)?;
+        append_broker_volume(alloc, store, sector, row, found)?;
     }
     Ok(())
 }
 
 // Returns the volumes in a sector of the brokers with these names, name by name. Changes nothing.
 // Fails with `Memory` or `Store` only.
-fn volumes_of<S: Alter>(
+fn read_broker_volumes<S: Alter>(
     alloc: Global,
     store: &mut Store<S>,
     sector: &Name,
     names: &[Name],
 ) -> Result<Vec<BrokerVolume>, Fault>
-    ensures read { ReadPost S.Store store.old store.new result (λ found t. found.items ≡ map (volume.broker_volume t sector.now) (flat_map (named_in t sector.now) names.now)) }
-    ensures fault { IfErr result MayFail }
+    ensures read { ReadPost S.Store store.old store.new result (λ found t. found.items ≡ map (volume.volume_of_broker_in_sector t sector.now) (flat_map (named_brokers_in_sector t sector.now) names.now)) }
+    ensures fault { IfErr result IsCallFault }
 {
     let _last = store.last()?;
     let mut found = Vec::new(alloc);
     for name in names {
-        add_named(alloc, store, sector, name, &mut found)?;
+        append_volumes_of_name(alloc, store, sector, name, &mut found)?;
     }
     Ok(found)
 }
 
 // Returns the view of the volumes in a sector of the brokers with these names. Changes nothing.
 // Fails with `Memory` or `Store` only.
-pub(crate) fn see_volume<S: Alter>(
+pub(crate) fn view_of_broker_volumes<S: Alter>(
     alloc: Global,
     store: &mut Store<S>,
     sector: &Name,
     names: &BrokerNames,
 ) -> Planned<View>
-    ensures read { ReadPost S.Store store.old store.new result (Shows (VolumeOf sector.now names.now)) }
-    ensures fault { IfErr result MayFail }
+    ensures read { ReadPost S.Store store.old store.new result (ShowsQueryResult (VolumeOf sector.now names.now)) }
+    ensures fault { IfErr result IsCallFault }
 {
     let names = names.names();
-    let found = volumes_of(alloc, store, sector, names)?;
+    let found = read_broker_volumes(alloc, store, sector, names)?;
     let view = broker_volume(alloc, found)?;
     Ok(Ok(view))
 }

@@ -5,60 +5,60 @@ use Rattle.brk_money.specs.declared.refusal.Refusal.{Refusal}
 use Rattle.brk_money.specs.declared.refusal.Refusal.TheVariants.{BadText, BadQty, BadPrice, BadType, TooMany, KeyReused, NoAccount, NoCustomer, NoBroker, NoSecurity, NoTrade, NoTax, WrongStatus, NotPermitted, Exists, Overlap, TaxSum, NoCharge, NoRate, Range, ClockEnd, TooEarly}
 use Rattle.std.proofs.lemmas.Bool.{le-leb}
 use Rattle.std.specs.Option.{option_and_then}
-use Rattle.brk_money.specs.Spelling.{Text, number_of, cents_of}
-use Rattle.brk_money.specs.Kinds.{tax_status_of}
+use Rattle.brk_money.specs.Spelling.{Text, decimal_number_of_text, cents_of_text}
+use Rattle.brk_money.specs.Kinds.{tax_status_with_number}
 use Rattle.brk_model.specs.Limits.{greatest_id, greatest_amount}
-use Rattle.brk_model.specs.Forms.{Read, form_rank, ◌⊛◌, read_if, read_id, read_name, read_tax_status, read_opening, is_name}
+use Rattle.brk_model.specs.Forms.{ReadResult, format_refusal_rank, ◌⊛◌, value_if_valid, read_id, read_name, read_tax_status, read_opening_balance, is_name}
 
 -- a refusal is of text
-pub IsPlain : {A : Type 0} → Read A → Type 0
+pub IsPlain : {A : Type 0} → ReadResult A → Type 0
 IsPlain r = IfErr r (λ refusal. refusal ≡ BadText)
 
-pub plain_if : {A : Type 0} (test : A → Bool) (o : Option A) → IsPlain (read_if test BadText o)
+pub plain_if : {A : Type 0} (test : A → Bool) (o : Option A) → IsPlain (value_if_valid test BadText o)
 unfolding IsPlain
 plain_if test None = refl
 plain_if {A} test (Some x) = by_test (test x)
   where
-    by_test : (b : Bool) → IfErr (let r : Read A = cond b (Ok x) (Err BadText) in r) (λ refusal. refusal ≡ BadText)
+    by_test : (b : Bool) → IfErr (let r : ReadResult A = cond b (Ok x) (Err BadText) in r) (λ refusal. refusal ≡ BadText)
     by_test true = tt
     by_test false = refl
 
 pub plain_id : (text : Text) → IsPlain (read_id text)
-plain_id text = plain_if (λ n. nat_le 1 n && nat_le n greatest_id) (number_of text)
+plain_id text = plain_if (λ n. nat_le 1 n && nat_le n greatest_id) (decimal_number_of_text text)
 
 pub plain_name : (text : Text) → IsPlain (read_name text)
 plain_name text = plain_if is_name (Some text)
 
 pub plain_tax_status : (text : Text) → IsPlain (read_tax_status text)
-plain_tax_status text = plain_if (λ _. true) (option_and_then tax_status_of (number_of text))
+plain_tax_status text = plain_if (λ _. true) (option_and_then tax_status_with_number (decimal_number_of_text text))
 
-pub plain_opening : (text : Text) → IsPlain (read_opening text)
-plain_opening text = plain_if (λ z. nat_le (nat_abs z) greatest_amount) (cents_of text)
+pub plain_opening : (text : Text) → IsPlain (read_opening_balance text)
+plain_opening text = plain_if (λ z. nat_le (nat_abs z) greatest_amount) (cents_of_text text)
 
 -- the first was refused, or the second
-pub refused_first : {A B : Type 0} (f : Read (A → B)) (x : Read A) → f ≡ Err BadText → IsPlain x → f ⊛ x ≡ Err BadText
+pub refused_first : {A B : Type 0} (f : ReadResult (A → B)) (x : ReadResult A) → f ≡ Err BadText → IsPlain x → f ⊛ x ≡ Err BadText
 unfolding IsPlain
 refused_first f (Ok x) e p = rw e refl
 refused_first f (Err s) e p = rw (e, p) refl
 
-pub refused_second : {A B : Type 0} (g : A → B) (x : Read A) → x ≡ Err BadText → Ok g ⊛ x ≡ Err BadText
+pub refused_second : {A B : Type 0} (g : A → B) (x : ReadResult A) → x ≡ Err BadText → Ok g ⊛ x ≡ Err BadText
 refused_second g x e = rw e refl
 
 -- an account of whose fields the first or the second is refused
-pub no_account_id : {A B C D E F G : Type 0} (f : A → B → C → D → E → F → G) (a : Read A) (b : Read B) (c : Read C) (d : Read D) (e : Read E) (o : Read F)
+pub no_account_id : {A B C D E F G : Type 0} (f : A → B → C → D → E → F → G) (a : ReadResult A) (b : ReadResult B) (c : ReadResult C) (d : ReadResult D) (e : ReadResult E) (o : ReadResult F)
     → a ≡ Err BadText → IsPlain b → IsPlain c → IsPlain d → IsPlain e → IsPlain o → Ok f ⊛ a ⊛ b ⊛ c ⊛ d ⊛ e ⊛ o ≡ Err BadText
 no_account_id f a b c d e o h pb pc pd pe po =
     refused_first (Ok f ⊛ a ⊛ b ⊛ c ⊛ d ⊛ e) o (refused_first (Ok f ⊛ a ⊛ b ⊛ c ⊛ d) e (refused_first (Ok f ⊛ a ⊛ b ⊛ c) d
     (refused_first (Ok f ⊛ a ⊛ b) c (refused_first (Ok f ⊛ a) b (refused_second f a h) pb) pc) pd) pe) po
 
-pub no_account_customer : {A B C D E F G : Type 0} (f : A → B → C → D → E → F → G) (a : Read A) (x : A) (b : Read B) (c : Read C) (d : Read D) (e : Read E) (o : Read F)
+pub no_account_customer : {A B C D E F G : Type 0} (f : A → B → C → D → E → F → G) (a : ReadResult A) (x : A) (b : ReadResult B) (c : ReadResult C) (d : ReadResult D) (e : ReadResult E) (o : ReadResult F)
     → a ≡ Ok x → b ≡ Err BadText → IsPlain c → IsPlain d → IsPlain e → IsPlain o → Ok f ⊛ a ⊛ b ⊛ c ⊛ d ⊛ e ⊛ o ≡ Err BadText
 no_account_customer f a x b c d e o g h pc pd pe po =
     refused_first (Ok f ⊛ a ⊛ b ⊛ c ⊛ d ⊛ e) o (refused_first (Ok f ⊛ a ⊛ b ⊛ c ⊛ d) e (refused_first (Ok f ⊛ a ⊛ b ⊛ c) d
     (refused_first (Ok f ⊛ a ⊛ b) c (rw g (refused_second (f x) b h)) pc) pd) pe) po
 
 -- a refusal of text stands before every other one
-least : (r : Refusal) → cond (nat_le (form_rank r) 0) r BadText ≡ BadText
+least : (r : Refusal) → cond (nat_le (format_refusal_rank r) 0) r BadText ≡ BadText
 least BadText = refl
 least BadQty = refl
 least BadPrice = refl
@@ -82,31 +82,31 @@ least (Range x) = refl
 least ClockEnd = refl
 least TooEarly = refl
 
-pub text_left : {A B : Type 0} (f : Read (A → B)) (x : Read A) → f ≡ Err BadText → f ⊛ x ≡ Err BadText
+pub text_left : {A B : Type 0} (f : ReadResult (A → B)) (x : ReadResult A) → f ≡ Err BadText → f ⊛ x ≡ Err BadText
 text_left f (Ok x) e = rw e refl
-text_left f (Err s) e = rw (e, le-leb 0 (form_rank s) (omega arith)) refl
+text_left f (Err s) e = rw (e, le-leb 0 (format_refusal_rank s) (omega arith)) refl
 
-pub text_right : {A B : Type 0} (f : Read (A → B)) (x : Read A) → x ≡ Err BadText → f ⊛ x ≡ Err BadText
+pub text_right : {A B : Type 0} (f : ReadResult (A → B)) (x : ReadResult A) → x ≡ Err BadText → f ⊛ x ≡ Err BadText
 text_right (Ok f) x e = rw e refl
 text_right (Err r) x e = rw (e, least r) refl
 
 -- a charge of whose fields the tier or the amount is refused
-pub no_charge_tier : {A B C D : Type 0} (f : A → B → C → D) (a : Read A) (b : Read B) (c : Read C) → b ≡ Err BadText → Ok f ⊛ a ⊛ b ⊛ c ≡ Err BadText
+pub no_charge_tier : {A B C D : Type 0} (f : A → B → C → D) (a : ReadResult A) (b : ReadResult B) (c : ReadResult C) → b ≡ Err BadText → Ok f ⊛ a ⊛ b ⊛ c ≡ Err BadText
 no_charge_tier f a b c h = text_left (Ok f ⊛ a ⊛ b) c (text_right (Ok f ⊛ a) b h)
 
-pub no_charge_amount : {A B C D : Type 0} (f : A → B → C → D) (a : Read A) (b : Read B) (c : Read C) → c ≡ Err BadText → Ok f ⊛ a ⊛ b ⊛ c ≡ Err BadText
+pub no_charge_amount : {A B C D : Type 0} (f : A → B → C → D) (a : ReadResult A) (b : ReadResult B) (c : ReadResult C) → c ≡ Err BadText → Ok f ⊛ a ⊛ b ⊛ c ≡ Err BadText
 no_charge_amount f a b c h = text_right (Ok f ⊛ a ⊛ b) c h
 
 -- a band of whose fields the tier, the exchange or the rate is refused
-pub no_band_tier : {A B C D E F : Type 0} (f : A → B → C → D → E → F) (a : Read A) (b : Read B) (c : Read C) (d : Read D) (e : Read E)
+pub no_band_tier : {A B C D E F : Type 0} (f : A → B → C → D → E → F) (a : ReadResult A) (b : ReadResult B) (c : ReadResult C) (d : ReadResult D) (e : ReadResult E)
     → a ≡ Err BadText → Ok f ⊛ a ⊛ b ⊛ c ⊛ d ⊛ e ≡ Err BadText
 no_band_tier f a b c d e h =
     text_left (Ok f ⊛ a ⊛ b ⊛ c ⊛ d) e (text_left (Ok f ⊛ a ⊛ b ⊛ c) d (text_left (Ok f ⊛ a ⊛ b) c (text_left (Ok f ⊛ a) b (text_right (Ok f) a h))))
 
-pub no_band_exchange : {A B C D E F : Type 0} (f : A → B → C → D → E → F) (a : Read A) (b : Read B) (c : Read C) (d : Read D) (e : Read E)
+pub no_band_exchange : {A B C D E F : Type 0} (f : A → B → C → D → E → F) (a : ReadResult A) (b : ReadResult B) (c : ReadResult C) (d : ReadResult D) (e : ReadResult E)
     → c ≡ Err BadText → Ok f ⊛ a ⊛ b ⊛ c ⊛ d ⊛ e ≡ Err BadText
 no_band_exchange f a b c d e h = text_left (Ok f ⊛ a ⊛ b ⊛ c ⊛ d) e (text_left (Ok f ⊛ a ⊛ b ⊛ c) d (text_right (Ok f ⊛ a ⊛ b) c h))
 
-pub no_band_rate : {A B C D E F : Type 0} (f : A → B → C → D → E → F) (a : Read A) (b : Read B) (c : Read C) (d : Read D) (e : Read E)
+pub no_band_rate : {A B C D E F : Type 0} (f : A → B → C → D → E → F) (a : ReadResult A) (b : ReadResult B) (c : ReadResult C) (d : ReadResult D) (e : ReadResult E)
     → e ≡ Err BadText → Ok f ⊛ a ⊛ b ⊛ c ⊛ d ⊛ e ≡ Err BadText
 no_band_rate f a b c d e h = text_right (Ok f ⊛ a ⊛ b ⊛ c ⊛ d) e h

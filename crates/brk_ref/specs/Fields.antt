@@ -3,14 +3,14 @@ use Rattle.std.specs.Prelude.{◌≡◌, ℕ, List, map, Result, Ok, Err}
 use Rattle.std.specs.Borrow.{Bor}
 use Rattle.brk_money.specs.Spelling.{Text}
 use Rattle.brk_money.specs.declared.refusal.Refusal.{Refusal}
-use Rattle.brk_model.specs.Forms.{Read}
+use Rattle.brk_model.specs.Forms.{ReadResult}
 
 -- The bytes of each of the borrowed `fields`.
-abbrev pub texts : List (Bor (List ℕ)) → List Text
-texts fields = map (λ (field : Bor (List ℕ)). field.now) fields
+abbrev pub texts_of_fields : List (Bor (List ℕ)) → List Text
+texts_of_fields fields = map (λ (field : Bor (List ℕ)). field.now) fields
 
 -- The result of a parser is the one that the model specifies. `Ok`: `wanted` is the model's value
 -- (`view`) of the parsed record. `Err`: `wanted` is the same refusal.
-abbrev pub ParsesAs : {A B : Type 0} → (A → B) → Result A Refusal → Read B → Type 0
+abbrev pub ParsesAs : {A B : Type 0} → (A → B) → Result A Refusal → ReadResult B → Type 0
 ParsesAs view (Ok x) wanted = wanted ≡ Ok (view x)
 ParsesAs view (Err refusal) wanted = wanted ≡ Err refusal

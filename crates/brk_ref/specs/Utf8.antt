@@ -6,7 +6,7 @@ use Rattle.std.specs.Str.{is_utf8, IsUtf8, IsAscii}
 use Rattle.std.specs.Char.{is_ascii_alphanumeric}
 use Rattle.std.proofs.lemmas.Str.{IsUtf8-from_ascii, IsUtf8-from_is_utf8}
 use Rattle.std.proofs.lemmas.Bool.{leb-true, eqb-true}
-use Rattle.brk_model.specs.Forms.{is_word, is_name, is_tax_id, is_symbol, is_exchange, is_acl, is_batch_name}
+use Rattle.brk_model.specs.Forms.{is_word_up_to_length, is_name, is_tax_id, is_symbol, is_exchange, is_acl, is_batch_name}
 
 -- Each of two checks that pass together passes, and one of two alternatives applies.
 first_of : (a b : Bool) → a && b ≡ true → a ≡ true
@@ -39,7 +39,7 @@ ascii_by test low (c ∷ cs) h zero = low c (first_of (test c) (list_all test cs
 ascii_by test low (c ∷ cs) h (suc i) = ascii_by test low cs (second_of (test c) (list_all test cs) h) i
 
 -- A word is UTF-8 if its check admits only bytes below 128.
-word_utf8 : (most : ℕ) (test : ℕ → Bool) → ((c : ℕ) → test c ≡ true → c < 128) → (text : List ℕ) → is_word most test text ≡ true → IsUtf8 text
+word_utf8 : (most : ℕ) (test : ℕ → Bool) → ((c : ℕ) → test c ≡ true → c < 128) → (text : List ℕ) → is_word_up_to_length most test text ≡ true → IsUtf8 text
 word_utf8 most test low text h = IsUtf8-from_ascii text (ascii_by test low text (second_of _ (list_all test text) h))
 
 -- A name is UTF-8.

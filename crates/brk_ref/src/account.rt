@@ -1,11 +1,11 @@
 ghost use Rattle.std.specs.Prelude.{◌≡◌, ◌∷◌, [], IfOk, OnErr, Err};
 ghost use Rattle.brk_model.specs.Parse.{read_account};
 ghost use Rattle.brk_money.specs.declared.fault.Fault.TheVariants.{Memory};
-ghost use Rattle.brk_ref.specs.Records.{account_of};
-ghost use Rattle.brk_ref.specs.Fields.{ParsesAs, texts};
+ghost use Rattle.brk_ref.specs.Records.{abstract_account};
+ghost use Rattle.brk_ref.specs.Fields.{ParsesAs, texts_of_fields};
 
 use crate::name::Name;
-use crate::numbers::{parse_id, parse_opening, parse_tax_status};
+use crate::numbers::{parse_id, parse_opening_balance, parse_tax_status};
 use brk_money::{Cents, Id, Planned, Refusal, TaxStatus};
 use std::alloc::Global;
 
@@ -30,7 +30,7 @@ pub struct AccountRow {
 
 // Parses the six fields of an account, or returns the refusal of malformed fields. Fails with
 // `Memory` only.
-fn account_from(
+fn parse_account_fields(
     alloc: Global,
     id: &[u8],
     customer: &[u8],
@@ -39,7 +39,7 @@ fn account_from(
     tax_status: &[u8],
     opening: &[u8],
 ) -> Planned<Account>
-    ensures read { IfOk result (λ read. ParsesAs account_of read (read_account (id.now ∷ customer.now ∷ broker.now ∷ name.now ∷ tax_status.now ∷ opening.now ∷ []))) }
+    ensures read { IfOk result (λ read. ParsesAs abstract_account read (read_account (id.now ∷ customer.now ∷ broker.now ∷ name.now ∷ tax_status.now ∷ opening.now ∷ []))) }
     ensures fault { OnErr result (result ≡ Err Memory) }
 {
     let Some(id) = parse_id(id) else {
@@ -57,7 +57,7 @@ fn account_from(
     let Some(tax_status) = parse_tax_status(tax_status) else {
         return Ok(Err(Refusal::BadText));
     };
-    let Some(opening) = parse_opening(opening) else {
+    let Some(opening) = parse_opening_balance(opening) else {
         return Ok(Err(Refusal::BadText));
     };
     Ok(Ok(Account {
@@ -72,30 +72,30 @@ fn account_from(
 
 // Parses the fields of an account, of which `terms` are those after the first three. Refuses
 // malformed fields, and another number of them with `BadText`. Fails with `Memory` only.
-fn account_on(
+fn parse_account_with_terms(
     alloc: Global,
     id: &[u8],
     customer: &[u8],
     broker: &[u8],
     terms: &[&[u8]],
 ) -> Planned<Account>
-    ensures read { IfOk result (λ read. ParsesAs account_of read (read_account (id.now ∷ customer.now ∷ broker.now ∷ texts terms.now))) }
+    ensures read { IfOk result (λ read. ParsesAs abstract_account read (read_account (id.now ∷ customer.now ∷ broker.now ∷ texts_of_fields terms.now))) }
     ensures fault { OnErr result (result ≡ Err Memory) }
 {
     let [name, tax_status, opening] = terms else {
         return Ok(Err(Refusal::BadText));
     };
-    account_from(alloc, id, customer, broker, name, tax_status, opening)
+    parse_account_fields(alloc, id, customer, broker, name, tax_status, opening)
 }
 
 /// Parses the fields ID, CUSTOMER, BROKER, NAME, TAXST and OPENING of an account, or returns the
 /// refusal of malformed fields. Fails with `Memory` only.
 pub fn check_account(alloc: Global, fields: &[&[u8]]) -> Planned<Account>
-    ensures read { IfOk result (λ read. ParsesAs account_of read (read_account (texts fields.now))) }
+    ensures read { IfOk result (λ read. ParsesAs abstract_account read (read_account (texts_of_fields fields.now))) }
     ensures fault { OnErr result (result ≡ Err Memory) }
 {
     let [id, customer, broker, terms @ ..] = fields else {
         return Ok(Err(Refusal::BadText));
     };
-    account_on(alloc, id, customer, broker, terms)
+    parse_account_with_terms(alloc, id, customer, broker, terms)
 }

@@ -9,7 +9,7 @@ use crate::text::{Form, Text};
 pub type Acl = Text<AclForm>;
 
 // Returns true if every byte is the digit 0 or 1.
-fn has_bits_only(text: &[u8]) -> bool
+fn has_zeros_and_ones_only(text: &[u8]) -> bool
     ensures { result ≡ list_all (λ c. (c == 48) || (c == 49)) text.now }
 {
     text.iter().all(|c| *c == b'0' || *c == b'1')
@@ -28,7 +28,7 @@ impl Form for AclForm {
         if text.len() != 4 {
             return false;
         }
-        has_bits_only(text)
+        has_zeros_and_ones_only(text)
     }
 
     ghost is_utf8 = { acl_utf8 };

@@ -1,17 +1,17 @@
 ghost use Rattle.std.specs.Prelude.{◌≡◌, ◌&&◌, ◌∷◌, [], IfOk, OnErr, Err, find, map, nat_le, option_map};
 ghost use Rattle.std.specs.List.{list_any};
 ghost use Rattle.std.specs.Option.{ok_or};
-ghost use Rattle.brk_model.specs.Parse.{read_band, read_bounds};
-ghost use Rattle.brk_model.specs.Tests.{bands_meet};
+ghost use Rattle.brk_model.specs.Parse.{read_commission_band, read_quantity_bounds};
+ghost use Rattle.brk_model.specs.Tests.{bands_overlap};
 ghost use Rattle.brk_money.specs.declared.fault.Fault.TheVariants.{Memory};
 ghost use Rattle.brk_money.specs.declared.refusal.Refusal.TheVariants.{BadQty};
-ghost use Rattle.brk_ref.specs.Records.{band_of};
-ghost use Rattle.brk_ref.specs.Fields.{ParsesAs, texts};
+ghost use Rattle.brk_ref.specs.Records.{abstract_band};
+ghost use Rattle.brk_ref.specs.Fields.{ParsesAs, texts_of_fields};
 
 use crate::exchange::Exchange;
-use crate::numbers::{parse_qty, parse_rate};
+use crate::numbers::{parse_commission_rate, parse_qty};
 use crate::tier::Tier;
-use crate::trade_type::parse_type;
+use crate::trade_type::parse_trade_type;
 use brk_money::{Planned, Qty, Rate, Refusal, TradeType};
 use std::alloc::Global;
 
@@ -29,7 +29,7 @@ pub struct Band {
 
 // Parses two bounds. Returns `None` if one is malformed, or if the first exceeds the second.
 fn parse_bounds(low: &[u8], high: &[u8]) -> Option<(Qty, Qty)>
-    ensures { ok_or result BadQty ≡ read_bounds low.now high.now }
+    ensures { ok_or result BadQty ≡ read_quantity_bounds low.now high.now }
 {
     let Some(low) = parse_qty(low) else {
         return None;
@@ -46,7 +46,7 @@ fn parse_bounds(low: &[u8], high: &[u8]) -> Option<(Qty, Qty)>
 
 // Parses the six fields of a band, or returns the refusal of malformed fields. Fails with `Memory`
 // only.
-fn band_from(
+fn parse_band_fields(
     alloc: Global,
     tier: &[u8],
     kind: &[u8],
@@ -55,7 +55,7 @@ fn band_from(
     high: &[u8],
     rate: &[u8],
 ) -> Planned<Band>
-    ensures read { IfOk result (λ read. ParsesAs band_of read (read_band (tier.now ∷ kind.now ∷ exchange.now ∷ low.now ∷ high.now ∷ rate.now ∷ []))) }
+    ensures read { IfOk result (λ read. ParsesAs abstract_band read (read_commission_band (tier.now ∷ kind.now ∷ exchange.now ∷ low.now ∷ high.now ∷ rate.now ∷ []))) }
     ensures fault { OnErr result (result ≡ Err Memory) }
 {
     let Some(tier) = Tier::parse(tier) else {
@@ -64,13 +64,13 @@ fn band_from(
     let Some(exchange) = Exchange::parse(alloc, exchange)? else {
         return Ok(Err(Refusal::BadText));
     };
-    let Some(rate) = parse_rate(rate) else {
+    let Some(rate) = parse_commission_rate(rate) else {
         return Ok(Err(Refusal::BadText));
     };
     let Some((from_qty, to_qty)) = parse_bounds(low, high) else {
         return Ok(Err(Refusal::BadQty));
     };
-    let Some(kind) = parse_type(kind) else {
+    let Some(kind) = parse_trade_type(kind) else {
         return Ok(Err(Refusal::BadType));
     };
     Ok(Ok(Band {
@@ -85,36 +85,36 @@ fn band_from(
 
 // Parses the fields of a band, of which `terms` are those after the first three. Refuses malformed
 // fields, and another number of them with `BadText`. Fails with `Memory` only.
-fn band_on(
+fn parse_band_with_terms(
     alloc: Global,
     tier: &[u8],
     kind: &[u8],
     exchange: &[u8],
     terms: &[&[u8]],
 ) -> Planned<Band>
-    ensures read { IfOk result (λ read. ParsesAs band_of read (read_band (tier.now ∷ kind.now ∷ exchange.now ∷ texts terms.now))) }
+    ensures read { IfOk result (λ read. ParsesAs abstract_band read (read_commission_band (tier.now ∷ kind.now ∷ exchange.now ∷ texts_of_fields terms.now))) }
     ensures fault { OnErr result (result ≡ Err Memory) }
 {
     let [low, high, rate] = terms else {
         return Ok(Err(Refusal::BadText));
     };
-    band_from(alloc, tier, kind, exchange, low, high, rate)
+    parse_band_fields(alloc, tier, kind, exchange, low, high, rate)
 }
 
 /// Parses the fields TIER, TYPE, EXCHANGE, FROM, TO and RATE of a band, or returns the refusal of
 /// malformed fields. Fails with `Memory` only.
 pub fn check_band(alloc: Global, fields: &[&[u8]]) -> Planned<Band>
-    ensures read { IfOk result (λ read. ParsesAs band_of read (read_band (texts fields.now))) }
+    ensures read { IfOk result (λ read. ParsesAs abstract_band read (read_commission_band (texts_of_fields fields.now))) }
     ensures fault { OnErr result (result ≡ Err Memory) }
 {
     let [tier, kind, exchange, terms @ ..] = fields else {
         return Ok(Err(Refusal::BadText));
     };
-    band_on(alloc, tier, kind, exchange, terms)
+    parse_band_with_terms(alloc, tier, kind, exchange, terms)
 }
 
 // Returns true if the bounds of the band contain the quantity.
-fn holds(band: &Band, qty: Qty) -> bool
+fn bounds_contain_quantity(band: &Band, qty: Qty) -> bool
     ensures { result ≡ nat_le band.now.from_qty qty && nat_le qty band.now.to_qty }
 {
     band.from_qty.get() <= qty.get() && qty.get() <= band.to_qty.get()
@@ -122,8 +122,8 @@ fn holds(band: &Band, qty: Qty) -> bool
 
 /// Returns true if two bands have the same tier, type and exchange, and bounds that share a
 /// quantity.
-pub fn share_quantity(one: &Band, other: &Band) -> bool
-    ensures { result ≡ bands_meet (band_of one.now) (band_of other.now) }
+pub fn bands_share_quantity(one: &Band, other: &Band) -> bool
+    ensures { result ≡ bands_overlap (abstract_band one.now) (abstract_band other.now) }
 {
     one.tier == other.tier
         && one.kind == other.kind
@@ -136,9 +136,9 @@ pub fn share_quantity(one: &Band, other: &Band) -> bool
 ///
 /// The tier, type and exchange of a band are not compared: pass the bands of one combination.
 pub fn band_for(bands: &[Band], qty: Qty) -> Option<Rate>
-    ensures { result ≡ option_map (λ b. b.rate) (find (λ b. nat_le b.from_qty qty && nat_le qty b.to_qty) (map band_of bands.now)) }
+    ensures { result ≡ option_map (λ b. b.rate) (find (λ b. nat_le b.from_qty qty && nat_le qty b.to_qty) (map abstract_band bands.now)) }
 {
-    let Some(band) = bands.iter().find(|band| holds(band, qty)) else {
+    let Some(band) = bands.iter().find(|band| bounds_contain_quantity(band, qty)) else {
         return None;
     };
     Some(band.rate)
@@ -147,7 +147,7 @@ pub fn band_for(bands: &[Band], qty: Qty) -> Option<Rate>
 /// Returns true if `band` shares a quantity with one of `bands` that has its tier, type and
 /// exchange.
 pub fn overlaps(bands: &[Band], band: &Band) -> bool
-    ensures { result ≡ list_any (bands_meet (band_of band.now)) (map band_of bands.now) }
+    ensures { result ≡ list_any (bands_overlap (abstract_band band.now)) (map abstract_band bands.now) }
 {
-    bands.iter().any(|other| share_quantity(band, other))
+    bands.iter().any(|other| bands_share_quantity(band, other))
 }

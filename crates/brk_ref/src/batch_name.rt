@@ -10,7 +10,7 @@ use crate::text::{Form, Text};
 pub type BatchName = Text<BatchNameForm>;
 
 // Returns true if every byte is an ASCII letter, a digit, a point, a hyphen or an underscore.
-fn has_letters_only(text: &[u8]) -> bool
+fn has_batch_name_bytes_only(text: &[u8]) -> bool
     ensures { result ≡ list_all (λ c. is_ascii_alphanumeric c || (c == 46) || (c == 45) || (c == 95)) text.now }
 {
     text.iter().all(|c| c.is_ascii_alphanumeric() || *c == b'.' || *c == b'-' || *c == b'_')
@@ -34,7 +34,7 @@ impl Form for BatchNameForm {
         if text.len() > 40 {
             return false;
         }
-        has_letters_only(text)
+        has_batch_name_bytes_only(text)
     }
 
     ghost is_utf8 = { batch_name_utf8 };

@@ -1,8 +1,8 @@
 ghost use Rattle.std.specs.Prelude.{◌≡◌, IfOk, OnErr, Err};
 ghost use Rattle.brk_model.specs.Parse.{read_broker};
 ghost use Rattle.brk_money.specs.declared.fault.Fault.TheVariants.{Memory};
-ghost use Rattle.brk_ref.specs.Records.{broker_of};
-ghost use Rattle.brk_ref.specs.Fields.{ParsesAs, texts};
+ghost use Rattle.brk_ref.specs.Records.{abstract_broker};
+ghost use Rattle.brk_ref.specs.Fields.{ParsesAs, texts_of_fields};
 
 use crate::name::Name;
 use crate::numbers::parse_id;
@@ -28,7 +28,7 @@ pub struct BrokerRow {
 /// Parses the fields ID and NAME of a broker, or returns the refusal of malformed fields. Fails
 /// with `Memory` only.
 pub fn check_broker(alloc: Global, fields: &[&[u8]]) -> Planned<Broker>
-    ensures read { IfOk result (λ read. ParsesAs broker_of read (read_broker (texts fields.now))) }
+    ensures read { IfOk result (λ read. ParsesAs abstract_broker read (read_broker (texts_of_fields fields.now))) }
     ensures fault { OnErr result (result ≡ Err Memory) }
 {
     let [id, name] = fields else {

@@ -1,12 +1,12 @@
 ghost use Rattle.std.specs.Prelude.{◌∷◌, []};
 ghost use Rattle.brk_model.specs.Parse.{read_charge};
-ghost use Rattle.brk_ref.specs.Records.{charge_of};
-ghost use Rattle.brk_ref.specs.Fields.{ParsesAs, texts};
+ghost use Rattle.brk_ref.specs.Records.{abstract_charge};
+ghost use Rattle.brk_ref.specs.Fields.{ParsesAs, texts_of_fields};
 
 use crate::charge_amount::ChargeAmount;
 use crate::numbers::parse_charge_amount;
 use crate::tier::Tier;
-use crate::trade_type::parse_type;
+use crate::trade_type::parse_trade_type;
 use brk_money::{Refusal, TradeType};
 
 /// The charge for an order of a type by a customer of a tier (a row of CHARGE).
@@ -18,8 +18,8 @@ pub struct Charge {
 }
 
 // Parses the three fields of a charge, or returns the refusal of malformed fields.
-fn charge_from(kind: &[u8], tier: &[u8], amount: &[u8]) -> Result<Charge, Refusal>
-    ensures { ParsesAs charge_of result (read_charge (kind.now ∷ tier.now ∷ amount.now ∷ [])) }
+fn parse_charge_fields(kind: &[u8], tier: &[u8], amount: &[u8]) -> Result<Charge, Refusal>
+    ensures { ParsesAs abstract_charge result (read_charge (kind.now ∷ tier.now ∷ amount.now ∷ [])) }
 {
     let Some(tier) = Tier::parse(tier) else {
         return Err(Refusal::BadText);
@@ -27,7 +27,7 @@ fn charge_from(kind: &[u8], tier: &[u8], amount: &[u8]) -> Result<Charge, Refusa
     let Some(amount) = parse_charge_amount(amount) else {
         return Err(Refusal::BadText);
     };
-    let Some(kind) = parse_type(kind) else {
+    let Some(kind) = parse_trade_type(kind) else {
         return Err(Refusal::BadType);
     };
     Ok(Charge { kind, tier, amount })
@@ -36,10 +36,10 @@ fn charge_from(kind: &[u8], tier: &[u8], amount: &[u8]) -> Result<Charge, Refusa
 /// Parses the fields TYPE, TIER and AMOUNT of a charge, or returns the refusal of malformed fields.
 /// Never allocates.
 pub fn check_charge(fields: &[&[u8]]) -> Result<Charge, Refusal>
-    ensures { ParsesAs charge_of result (read_charge (texts fields.now)) }
+    ensures { ParsesAs abstract_charge result (read_charge (texts_of_fields fields.now)) }
 {
     let [kind, tier, amount] = fields else {
         return Err(Refusal::BadText);
     };
-    charge_from(kind, tier, amount)
+    parse_charge_fields(kind, tier, amount)
 }

@@ -1,8 +1,8 @@
 ghost use Rattle.std.specs.Prelude.{◌≡◌, ◌∷◌, [], IfOk, OnErr, Err};
 ghost use Rattle.brk_model.specs.Parse.{read_customer};
 ghost use Rattle.brk_money.specs.declared.fault.Fault.TheVariants.{Memory};
-ghost use Rattle.brk_ref.specs.Records.{customer_of};
-ghost use Rattle.brk_ref.specs.Fields.{ParsesAs, texts};
+ghost use Rattle.brk_ref.specs.Records.{abstract_customer};
+ghost use Rattle.brk_ref.specs.Fields.{ParsesAs, texts_of_fields};
 
 use crate::name::Name;
 use crate::numbers::parse_id;
@@ -23,7 +23,7 @@ pub struct Customer {
 
 // Parses the five fields of a customer, or returns the refusal of malformed fields. Fails with
 // `Memory` only.
-fn customer_from(
+fn parse_customer_fields(
     alloc: Global,
     id: &[u8],
     tier: &[u8],
@@ -31,7 +31,7 @@ fn customer_from(
     last_name: &[u8],
     first_name: &[u8],
 ) -> Planned<Customer>
-    ensures read { IfOk result (λ read. ParsesAs customer_of read (read_customer (id.now ∷ tier.now ∷ tax_id.now ∷ last_name.now ∷ first_name.now ∷ []))) }
+    ensures read { IfOk result (λ read. ParsesAs abstract_customer read (read_customer (id.now ∷ tier.now ∷ tax_id.now ∷ last_name.now ∷ first_name.now ∷ []))) }
     ensures fault { OnErr result (result ≡ Err Memory) }
 {
     let Some(id) = parse_id(id) else {
@@ -61,11 +61,11 @@ fn customer_from(
 /// Parses the fields ID, TIER, TAXID, LAST and FIRST of a customer, or returns the refusal of
 /// malformed fields. Fails with `Memory` only.
 pub fn check_customer(alloc: Global, fields: &[&[u8]]) -> Planned<Customer>
-    ensures read { IfOk result (λ read. ParsesAs customer_of read (read_customer (texts fields.now))) }
+    ensures read { IfOk result (λ read. ParsesAs abstract_customer read (read_customer (texts_of_fields fields.now))) }
     ensures fault { OnErr result (result ≡ Err Memory) }
 {
     let [id, tier, tax_id, last_name, first_name] = fields else {
         return Ok(Err(Refusal::BadText));
     };
-    customer_from(alloc, id, tier, tax_id, last_name, first_name)
+    parse_customer_fields(alloc, id, tier, tax_id, last_name, first_name)
 }

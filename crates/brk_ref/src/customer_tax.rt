@@ -1,6 +1,6 @@
 ghost use Rattle.brk_model.specs.Parse.{read_customer_tax};
-ghost use Rattle.brk_ref.specs.Records.{customer_tax_of};
-ghost use Rattle.brk_ref.specs.Fields.{ParsesAs, texts};
+ghost use Rattle.brk_ref.specs.Records.{abstract_customer_tax};
+ghost use Rattle.brk_ref.specs.Fields.{ParsesAs, texts_of_fields};
 
 use crate::numbers::parse_id;
 use brk_money::{Id, Refusal};
@@ -15,7 +15,7 @@ pub struct CustomerTax {
 /// Parses the fields CUSTOMER and TAXRATE, or returns the refusal of malformed fields. Never
 /// allocates.
 pub fn check_customer_tax(fields: &[&[u8]]) -> Result<CustomerTax, Refusal>
-    ensures { ParsesAs customer_tax_of result (read_customer_tax (texts fields.now)) }
+    ensures { ParsesAs abstract_customer_tax result (read_customer_tax (texts_of_fields fields.now)) }
 {
     let [customer, tax] = fields else {
         return Err(Refusal::BadText);

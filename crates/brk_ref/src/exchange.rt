@@ -10,7 +10,7 @@ use crate::text::{Form, Text};
 pub type Exchange = Text<ExchangeForm>;
 
 // Returns true if every byte is an ASCII capital letter.
-fn has_letters_only(text: &[u8]) -> bool
+fn has_capital_letters_only(text: &[u8]) -> bool
     ensures { result ≡ list_all (λ c. is_ascii_uppercase c) text.now }
 {
     text.iter().all(|c| c.is_ascii_uppercase())
@@ -33,7 +33,7 @@ impl Form for ExchangeForm {
         if text.len() > 6 {
             return false;
         }
-        has_letters_only(text)
+        has_capital_letters_only(text)
     }
 
     ghost is_utf8 = { exchange_utf8 };

@@ -32,7 +32,7 @@ pub mod volume;
 
 pub use account::{Account, AccountRow, check_account};
 pub use acl::Acl;
-pub use band::{Band, band_for, check_band, overlaps, share_quantity};
+pub use band::{Band, band_for, bands_share_quantity, check_band, overlaps};
 pub use batch_name::BatchName;
 pub use broker::{Broker, BrokerRow, check_broker};
 pub use charge::{Charge, check_charge};
@@ -47,8 +47,8 @@ pub use listing::{Listing, check_security};
 pub use moved_amount::MovedAmount;
 pub use name::Name;
 pub use numbers::{
-    parse_charge_amount, parse_id, parse_moved_amount, parse_opening, parse_price, parse_qty,
-    parse_rate, parse_tax_rate, parse_tax_status,
+    parse_charge_amount, parse_commission_rate, parse_id, parse_moved_amount,
+    parse_opening_balance, parse_price, parse_qty, parse_tax_rate, parse_tax_status,
 };
 pub use permission::{Permission, check_permission};
 pub use row_number::RowNumber;
@@ -59,5 +59,5 @@ pub use tax_id::TaxId;
 pub use taxes::tax_sum;
 pub use text::{Form, Text};
 pub use tier::Tier;
-pub use trade_type::parse_type;
+pub use trade_type::parse_trade_type;
 pub use volume::Volume;

@@ -1,8 +1,8 @@
 ghost use Rattle.std.specs.Prelude.{◌≡◌, ◌∷◌, [], IfOk, OnErr, Err};
-ghost use Rattle.brk_model.specs.Parse.{read_security};
+ghost use Rattle.brk_model.specs.Parse.{read_listing};
 ghost use Rattle.brk_money.specs.declared.fault.Fault.TheVariants.{Memory};
-ghost use Rattle.brk_ref.specs.Records.{listing_of};
-ghost use Rattle.brk_ref.specs.Fields.{ParsesAs, texts};
+ghost use Rattle.brk_ref.specs.Records.{abstract_listing};
+ghost use Rattle.brk_ref.specs.Fields.{ParsesAs, texts_of_fields};
 
 use crate::exchange::Exchange;
 use crate::name::Name;
@@ -21,7 +21,7 @@ pub struct Listing {
 
 // Parses the five fields of a listing, or returns the refusal of malformed fields. Fails with
 // `Memory` only.
-fn listing_from(
+fn parse_listing_fields(
     alloc: Global,
     symbol: &[u8],
     name: &[u8],
@@ -29,7 +29,7 @@ fn listing_from(
     sector: &[u8],
     price: &[u8],
 ) -> Planned<Listing>
-    ensures read { IfOk result (λ read. ParsesAs listing_of read (read_security (symbol.now ∷ name.now ∷ exchange.now ∷ sector.now ∷ price.now ∷ []))) }
+    ensures read { IfOk result (λ read. ParsesAs abstract_listing read (read_listing (symbol.now ∷ name.now ∷ exchange.now ∷ sector.now ∷ price.now ∷ []))) }
     ensures fault { OnErr result (result ≡ Err Memory) }
 {
     let Some(symbol) = Symbol::parse(alloc, symbol)? else {
@@ -59,11 +59,11 @@ fn listing_from(
 /// Parses the fields SYMBOL, NAME, EXCHANGE, SECTOR and PRICE of a listing, or returns the refusal
 /// of malformed fields. Fails with `Memory` only.
 pub fn check_security(alloc: Global, fields: &[&[u8]]) -> Planned<Listing>
-    ensures read { IfOk result (λ read. ParsesAs listing_of read (read_security (texts fields.now))) }
+    ensures read { IfOk result (λ read. ParsesAs abstract_listing read (read_listing (texts_of_fields fields.now))) }
     ensures fault { OnErr result (result ≡ Err Memory) }
 {
     let [symbol, name, exchange, sector, price] = fields else {
         return Ok(Err(Refusal::BadText));
     };
-    listing_from(alloc, symbol, name, exchange, sector, price)
+    parse_listing_fields(alloc, symbol, name, exchange, sector, price)
 }

@@ -10,7 +10,7 @@ use crate::text::{Form, Text};
 pub type Name = Text<NameForm>;
 
 // Returns true if no character of the text is a control character.
-fn has_no_control(text: &str) -> bool
+fn has_no_control_character(text: &str) -> bool
     ensures { result ≡ list_all (λ c. not (is_control c)) (chars text.now) }
 {
     text.chars().all(|c| !c.is_control())
@@ -31,7 +31,7 @@ impl Form for NameForm {
         if text.len() > 60 {
             return false;
         }
-        has_no_control(text)
+        has_no_control_character(text)
     }
 
     ghost is_utf8 = { name_utf8 };

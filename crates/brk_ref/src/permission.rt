@@ -1,8 +1,8 @@
 ghost use Rattle.std.specs.Prelude.{◌≡◌, ◌∷◌, [], IfOk, OnErr, Err};
 ghost use Rattle.brk_model.specs.Parse.{read_permission};
 ghost use Rattle.brk_money.specs.declared.fault.Fault.TheVariants.{Memory};
-ghost use Rattle.brk_ref.specs.Records.{permission_of};
-ghost use Rattle.brk_ref.specs.Fields.{ParsesAs, texts};
+ghost use Rattle.brk_ref.specs.Records.{abstract_permission};
+ghost use Rattle.brk_ref.specs.Fields.{ParsesAs, texts_of_fields};
 
 use crate::acl::Acl;
 use crate::name::Name;
@@ -24,7 +24,7 @@ pub struct Permission {
 
 // Parses the five fields of a permission, or returns the refusal of malformed fields. Fails with
 // `Memory` only.
-fn permission_from(
+fn parse_permission_fields(
     alloc: Global,
     account: &[u8],
     acl: &[u8],
@@ -32,7 +32,7 @@ fn permission_from(
     last_name: &[u8],
     first_name: &[u8],
 ) -> Planned<Permission>
-    ensures read { IfOk result (λ read. ParsesAs permission_of read (read_permission (account.now ∷ acl.now ∷ tax_id.now ∷ last_name.now ∷ first_name.now ∷ []))) }
+    ensures read { IfOk result (λ read. ParsesAs abstract_permission read (read_permission (account.now ∷ acl.now ∷ tax_id.now ∷ last_name.now ∷ first_name.now ∷ []))) }
     ensures fault { OnErr result (result ≡ Err Memory) }
 {
     let Some(account) = parse_id(account) else {
@@ -62,11 +62,11 @@ fn permission_from(
 /// Parses the fields ACCOUNT, ACL, TAXID, LAST and FIRST of a permission, or returns the refusal of
 /// malformed fields. Fails with `Memory` only.
 pub fn check_permission(alloc: Global, fields: &[&[u8]]) -> Planned<Permission>
-    ensures read { IfOk result (λ read. ParsesAs permission_of read (read_permission (texts fields.now))) }
+    ensures read { IfOk result (λ read. ParsesAs abstract_permission read (read_permission (texts_of_fields fields.now))) }
     ensures fault { OnErr result (result ≡ Err Memory) }
 {
     let [account, acl, tax_id, last_name, first_name] = fields else {
         return Ok(Err(Refusal::BadText));
     };
-    permission_from(alloc, account, acl, tax_id, last_name, first_name)
+    parse_permission_fields(alloc, account, acl, tax_id, last_name, first_name)
 }

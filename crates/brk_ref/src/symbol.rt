@@ -10,7 +10,7 @@ use crate::text::{Form, Text};
 pub type Symbol = Text<SymbolForm>;
 
 // Returns true if every byte is an ASCII capital letter, a digit, a point or a hyphen.
-fn has_letters_only(text: &[u8]) -> bool
+fn has_symbol_bytes_only(text: &[u8]) -> bool
     ensures { result ≡ list_all (λ c. is_ascii_uppercase c || is_ascii_digit c || (c == 46) || (c == 45)) text.now }
 {
     text.iter().all(|c| c.is_ascii_uppercase() || c.is_ascii_digit() || *c == b'.' || *c == b'-')
@@ -34,7 +34,7 @@ impl Form for SymbolForm {
         if text.len() > 15 {
             return false;
         }
-        has_letters_only(text)
+        has_symbol_bytes_only(text)
     }
 
     ghost is_utf8 = { symbol_utf8 };

@@ -1,8 +1,8 @@
 ghost use Rattle.std.specs.Prelude.{◌≡◌, IfOk, OnErr, Err};
 ghost use Rattle.brk_model.specs.Parse.{read_tax_rate};
 ghost use Rattle.brk_money.specs.declared.fault.Fault.TheVariants.{Memory};
-ghost use Rattle.brk_ref.specs.Records.{tax_of};
-ghost use Rattle.brk_ref.specs.Fields.{ParsesAs, texts};
+ghost use Rattle.brk_ref.specs.Records.{abstract_tax_rate};
+ghost use Rattle.brk_ref.specs.Fields.{ParsesAs, texts_of_fields};
 
 use crate::name::Name;
 use crate::numbers::{parse_id, parse_tax_rate};
@@ -20,7 +20,7 @@ pub struct Tax {
 /// Parses the fields ID, NAME and RATE of a tax, or returns the refusal of malformed fields. Fails
 /// with `Memory` only.
 pub fn check_tax_rate(alloc: Global, fields: &[&[u8]]) -> Planned<Tax>
-    ensures read { IfOk result (λ read. ParsesAs tax_of read (read_tax_rate (texts fields.now))) }
+    ensures read { IfOk result (λ read. ParsesAs abstract_tax_rate read (read_tax_rate (texts_of_fields fields.now))) }
     ensures fault { OnErr result (result ≡ Err Memory) }
 {
     let [id, name, rate] = fields else {

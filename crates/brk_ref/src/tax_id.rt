@@ -10,7 +10,7 @@ use crate::text::{Form, Text};
 pub type TaxId = Text<TaxIdForm>;
 
 // Returns true if every byte is an ASCII letter, a digit or a hyphen.
-fn has_letters_only(text: &[u8]) -> bool
+fn has_tax_id_bytes_only(text: &[u8]) -> bool
     ensures { result ≡ list_all (λ c. is_ascii_alphanumeric c || (c == 45)) text.now }
 {
     text.iter().all(|c| c.is_ascii_alphanumeric() || *c == b'-')
@@ -33,7 +33,7 @@ impl Form for TaxIdForm {
         if text.len() > 20 {
             return false;
         }
-        has_letters_only(text)
+        has_tax_id_bytes_only(text)
     }
 
     ghost is_utf8 = { tax_id_utf8 };

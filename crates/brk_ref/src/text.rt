@@ -1,7 +1,7 @@
 ghost use Rattle.std.specs.Prelude.{◌≡◌, ℕ, List, Bool, true, IfOk, OnErr, Err, string_bytes};
 ghost use Rattle.std.specs.Option.{ok_or};
 ghost use Rattle.std.specs.Str.{IsUtf8};
-ghost use Rattle.brk_model.specs.Forms.{read_text};
+ghost use Rattle.brk_model.specs.Forms.{read_valid_text};
 ghost use Rattle.brk_money.specs.declared.fault.Fault.TheVariants.{Memory};
 ghost use Rattle.brk_money.specs.declared.refusal.Refusal.TheVariants.{BadText};
 
@@ -38,7 +38,7 @@ impl<F: Form> Model for Text<F> {
 impl<F: Form> Text<F> {
     /// Returns the text, or `None` if it does not have the format.
     pub fn new(text: String) -> Option<Text<F>>
-        ensures { ok_or result BadText ≡ read_text F.form (string_bytes text) }
+        ensures { ok_or result BadText ≡ read_valid_text F.form (string_bytes text) }
     {
         if F::has_form(text.as_str()) {
             Some(Text {
@@ -53,7 +53,7 @@ impl<F: Form> Text<F> {
     /// Copies the bytes as a text. Returns `None` if they do not have the format. Fails with
     /// `Memory` only.
     pub fn parse(alloc: Global, bytes: &[u8]) -> Result<Option<Text<F>>, Fault>
-        ensures read { IfOk result (λ text. ok_or text BadText ≡ read_text F.form bytes.now) }
+        ensures read { IfOk result (λ text. ok_or text BadText ≡ read_valid_text F.form bytes.now) }
         ensures fault { OnErr result (result ≡ Err Memory) }
     {
         let Ok(text) = str::from_utf8(bytes) else {
@@ -77,7 +77,7 @@ impl<F: Form> Text<F> {
     }
 
     /// Proof-only: its contract states that the text has its format. Does nothing at run time.
-    pub fn keeps_form(&self)
+    pub fn state_text_format(&self)
         ensures { F.form self.now ≡ true }
     {
         let _ = &self.text;

@@ -3,7 +3,7 @@ ghost use Rattle.std.specs.Option.{ok_or};
 ghost use Rattle.brk_model.specs.Forms.{read_tier};
 ghost use Rattle.brk_money.specs.declared.refusal.Refusal.TheVariants.{BadText};
 
-use brk_money::parse_whole;
+use brk_money::parse_whole_number;
 use std::marker::Model;
 
 /// A customer's tier (C_TIER), 1 to 3. Charges and commission rates depend on it.
@@ -36,7 +36,7 @@ impl Tier {
     pub fn parse(bytes: &[u8]) -> Option<Tier>
         ensures { ok_or result BadText ≡ read_tier bytes.now }
     {
-        let Some(number) = parse_whole(bytes, 3) else {
+        let Some(number) = parse_whole_number(bytes, 3) else {
             return None;
         };
         Tier::new(number)

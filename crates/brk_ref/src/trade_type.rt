@@ -1,21 +1,21 @@
 ghost use Rattle.std.specs.Prelude.{◌≡◌, bytes_eq};
 ghost use Rattle.std.specs.Option.{ok_or};
-ghost use Rattle.brk_model.specs.Forms.{read_type};
-ghost use Rattle.brk_money.specs.Kinds.{type_code};
+ghost use Rattle.brk_model.specs.Forms.{read_trade_type};
+ghost use Rattle.brk_money.specs.Kinds.{trade_type_code};
 ghost use Rattle.brk_money.specs.declared.refusal.Refusal.TheVariants.{BadType};
 
 use brk_money::TradeType;
 
 // Returns true if the bytes are the code of the type.
 fn is_code_of(kind: TradeType, bytes: &[u8]) -> bool
-    ensures { result ≡ bytes_eq (type_code kind) bytes.now }
+    ensures { result ≡ bytes_eq (trade_type_code kind) bytes.now }
 {
     kind.code().as_bytes() == bytes
 }
 
 /// Parses the code of a trade type. Returns `None` if no type has this code.
-pub fn parse_type(bytes: &[u8]) -> Option<TradeType>
-    ensures { ok_or result BadType ≡ read_type bytes.now }
+pub fn parse_trade_type(bytes: &[u8]) -> Option<TradeType>
+    ensures { ok_or result BadType ≡ read_trade_type bytes.now }
 {
     if is_code_of(TradeType::MarketBuy, bytes) {
         return Some(TradeType::MarketBuy);

@@ -5,17 +5,17 @@ use Rattle.std.specs.Io.KnownBytes.{Appends}
 use Rattle.brk_money.specs.Spelling.{Text}
 use Rattle.brk_money.specs.declared.fault.Fault.{Fault}
 use Rattle.brk_money.specs.declared.fault.Fault.TheVariants as fault
-use Rattle.brk_model.specs.Run.{MayFail}
-use Rattle.brk_model.specs.Statement.{lines_text}
+use Rattle.brk_model.specs.Run.{IsCallFault}
+use Rattle.brk_model.specs.Statement.{text_of_lines}
 use Rattle.brk_model.specs.Tables.{Tables}
-use Rattle.brk_report_lines.specs.Written.{BreaksIn, WritesLines}
+use Rattle.brk_report_lines.specs.Written.{FailsWithinLines, WritesLines}
 use Rattle.brk_report_lines.specs.declared.fault.LinesFault.{LinesFault}
 use Rattle.brk_report_lines.specs.declared.fault.LinesFault.TheVariants.{Desk}
-use Rattle.brk_report.specs.Parts.{WritesDays, days_lines}
+use Rattle.brk_report.specs.Parts.{WritesCashAndClosingLines, cash_and_closing_lines}
 use Rattle.brk_report_lines.proofs.Composed.{appends_none, breaks_before, breaks_behind, then_all}
 
 -- want of memory is a fault that a call may have
-pub wants : {V : Type 0} (r : Result V Fault) → OnErr r (r ≡ Err fault.Memory) → IfErr r MayFail
+pub wants : {V : Type 0} (r : Result V Fault) → OnErr r (r ≡ Err fault.Memory) → IfErr r IsCallFault
 wants (Ok v) h = tt
 wants (Err e) h = inl (let same = h in cc)
 
@@ -24,30 +24,30 @@ pub on_err : {Y : Type 0} (P : LinesFault → Type 0) (outer : Result Y LinesFau
 on_err P (Err out) e is h = subst P (sym is) h
 on_err P (Ok y) e is h = absurd is
 
-pub breaks_as : {Y : Type 0} (lines : List Text) (a b : Option Text) (outer : Result Y LinesFault) (e : LinesFault) → IsErrAnd outer (λ out. out ≡ e) → BreaksIn lines a b e → WritesLines lines a b outer
-breaks_as lines a b (Err out) e is h = subst (BreaksIn lines a b) (sym is) h
+pub breaks_as : {Y : Type 0} (lines : List Text) (a b : Option Text) (outer : Result Y LinesFault) (e : LinesFault) → IsErrAnd outer (λ out. out ≡ e) → FailsWithinLines lines a b e → WritesLines lines a b outer
+breaks_as lines a b (Err out) e is h = subst (FailsWithinLines lines a b) (sym is) h
 breaks_as lines a b (Ok y) e is h = absurd is
 
 -- nothing is written before the line
-pub nothing_yet : (line : Text) (a : Option Text) (e : LinesFault) → e ≡ Desk fault.Store → BreaksIn (line ∷ []) a a e
-nothing_yet line a e is = subst (BreaksIn (line ∷ []) a a) (sym is) (inr refl, ([], line, [], refl, appends_none a))
+pub nothing_yet : (line : Text) (a : Option Text) (e : LinesFault) → e ≡ Desk fault.Store → FailsWithinLines (line ∷ []) a a e
+nothing_yet line a e is = subst (FailsWithinLines (line ∷ []) a a) (sym is) (inr refl, ([], line, [], refl, appends_none a))
 
 -- ---- one line before others
 
-pub line_first : (line : Text) (lines : List Text) (a b : Option Text) (e : LinesFault) → BreaksIn (line ∷ []) a b e → BreaksIn (line ∷ lines) a b e
+pub line_first : (line : Text) (lines : List Text) (a b : Option Text) (e : LinesFault) → FailsWithinLines (line ∷ []) a b e → FailsWithinLines (line ∷ lines) a b e
 line_first line lines a b e h = breaks_before (line ∷ []) lines a b e h
 
-pub line_then : (line : Text) (lines : List Text) (a b c : Option Text) (e : LinesFault) → Appends a b (lines_text (line ∷ [])) → BreaksIn lines b c e → BreaksIn (line ∷ lines) a c e
+pub line_then : (line : Text) (lines : List Text) (a b c : Option Text) (e : LinesFault) → Appends a b (text_of_lines (line ∷ [])) → FailsWithinLines lines b c e → FailsWithinLines (line ∷ lines) a c e
 line_then line lines a b c e h k = breaks_behind (line ∷ []) lines a b c e h k
 
-pub behind : {R : Type 0} (xs ys : List Text) (a b c : Option Text) (r : Result R LinesFault) → Appends a b (lines_text xs) → WritesLines ys b c r → WritesLines (xs ++ ys) a c r
+pub behind : {R : Type 0} (xs ys : List Text) (a b c : Option Text) (r : Result R LinesFault) → Appends a b (text_of_lines xs) → WritesLines ys b c r → WritesLines (xs ++ ys) a c r
 behind xs ys a b c (Ok u) h k = then_all xs ys a b c h k
 behind xs ys a b c (Err e) h k = breaks_behind xs ys a b c e h k
 
-pub none_written : {Y : Type 0} (line : Text) (lines : List Text) (a : Option Text) (outer : Result Y LinesFault) (e : LinesFault) (f : Fault) → IsErrAnd outer (λ out. out ≡ e) → e ≡ Desk f → MayFail f → WritesLines (line ∷ lines) a a outer
-none_written line lines a outer e f is same may = breaks_as (line ∷ lines) a a outer e is (subst (BreaksIn (line ∷ lines) a a) (sym same) (may, ([], line, lines, refl, appends_none a)))
+pub none_written : {Y : Type 0} (line : Text) (lines : List Text) (a : Option Text) (outer : Result Y LinesFault) (e : LinesFault) (f : Fault) → IsErrAnd outer (λ out. out ≡ e) → e ≡ Desk f → IsCallFault f → WritesLines (line ∷ lines) a a outer
+none_written line lines a outer e f is same may = breaks_as (line ∷ lines) a a outer e is (subst (FailsWithinLines (line ∷ lines) a a) (sym same) (may, ([], line, lines, refl, appends_none a)))
 
-pub days_broke : (t : Tables) (account from to : ℕ) (opening : ℤ) (a b : Option Text) (outer : Result ℕ LinesFault) (e : LinesFault) → IsErrAnd outer (λ out. out ≡ e) → BreaksIn (days_lines t account from to opening) a b e
-    → WritesDays t account from to opening a b outer
-days_broke t account from to opening a b (Err out) e is h = subst (BreaksIn (days_lines t account from to opening) a b) (sym is) h
+pub days_broke : (t : Tables) (account from to : ℕ) (opening : ℤ) (a b : Option Text) (outer : Result ℕ LinesFault) (e : LinesFault) → IsErrAnd outer (λ out. out ≡ e) → FailsWithinLines (cash_and_closing_lines t account from to opening) a b e
+    → WritesCashAndClosingLines t account from to opening a b outer
+days_broke t account from to opening a b (Err out) e is h = subst (FailsWithinLines (cash_and_closing_lines t account from to opening) a b) (sym is) h
 days_broke t account from to opening a b (Ok n) e is h = absurd is

@@ -8,49 +8,49 @@ use Rattle.sqlite.specs.Held.{Held, state}
 use Rattle.sqlite.specs.State.{HasCleanDisk}
 use Rattle.brk_money.specs.Spelling.{Text}
 use Rattle.brk_model.specs.Lists.{total_by}
-use Rattle.brk_model.specs.Statement.{lines_text}
+use Rattle.brk_model.specs.Statement.{text_of_lines}
 use Rattle.brk_model.specs.Tables.{Tables}
-use Rattle.brk_store.specs.Holds.{Holds}
+use Rattle.brk_store.specs.Holds.{HoldsRows}
 use Rattle.brk_store.specs.Walked.{WalkPost}
 use Rattle.brk_tables_walks.specs.declared.walking.WalkError.{WalkError}
 use Rattle.brk_tables_walks.specs.declared.walking.WalkError.TheVariants.{Failed, Cause}
-use Rattle.brk_report_lines.specs.Written.{BreaksIn, BreaksOff, ended}
+use Rattle.brk_report_lines.specs.Written.{FailsWithinLines, FailsWithinFirstLines, line_with_line_feed}
 use Rattle.brk_report_lines.specs.declared.fault.LinesFault.{LinesFault}
 use Rattle.brk_report_lines.specs.declared.fault.LinesFault.TheVariants.{Desk, Write}
 use Rattle.brk_report_lines.proofs.Composed.{appends_none, breaks_before, breaks_behind}
 use lib.IntN.{+ℤ_assoc, +ℤ_idr}
-use Rattle.brk_report.specs.Stops.{fault_of}
+use Rattle.brk_report.specs.Stops.{fault_of_walk_error}
 
 map_parts : {X Y : Type 0} (f : X → Y) (xs ys : List X) → map f (xs ++ ys) ≡ map f xs ++ map f ys
 map_parts f [] ys = refl
 map_parts f (x ∷ xs) ys = ap (λ l. f x ∷ l) (map_parts f xs ys)
 
 -- a part that may end with any line is one that may have all its lines written
-weaker : (lines : List Text) (a b : Option Text) (e : LinesFault) → BreaksIn lines a b e → BreaksOff lines a b e
+weaker : (lines : List Text) (a b : Option Text) (e : LinesFault) → FailsWithinLines lines a b e → FailsWithinFirstLines lines a b e
 weaker lines a b (Desk f) h = (h.0, (h.1.0, h.1.1 ∷ h.1.2, h.1.3, h.1.4))
 weaker lines a b Write h = h
 
 module _ {S X M V : Type 0} (g : Ghosts S) (old new : Held S) (of : X → M) (list : Tables → List M) (takes : V → X → V → Type 0) (stops : V → X → LinesFault → V → Type 0) (before after : V)
-    (t : Tables) (clean : HasCleanDisk (state g new)) (holds : Holds g old t) (result : Result (Unit {0}) (WalkError LinesFault)) (walked : WalkPost g old new of list takes stops before after result) where
+    (t : Tables) (clean : HasCleanDisk (state g new)) (holds : HoldsRows g old t) (result : Result (Unit {0}) (WalkError LinesFault)) (walked : WalkPost g old new of list takes stops before after result) where
   -- ---- lines
 
-  module _ (line : M → Text) (contents : V → Option Text) (count : V → ℕ) (writes : (p : V) (x : X) (q : V) → takes p x q → Appends (contents p) (contents q) (ended (line (of x))) × (count q ≡ count p + 1))
-      (breaks : (p : V) (x : X) (e : LinesFault) (q : V) → stops p x e q → BreaksIn (line (of x) ∷ []) (contents p) (contents q) e) where
-    lines_taken : (p : V) (xs : List X) (q : V) → FoldsTo takes p xs q → Appends (contents p) (contents q) (lines_text (map line (map of xs))) × (count q ≡ count p + length (map of xs))
+  module _ (line : M → Text) (contents : V → Option Text) (count : V → ℕ) (writes : (p : V) (x : X) (q : V) → takes p x q → Appends (contents p) (contents q) (line_with_line_feed (line (of x))) × (count q ≡ count p + 1))
+      (breaks : (p : V) (x : X) (e : LinesFault) (q : V) → stops p x e q → FailsWithinLines (line (of x) ∷ []) (contents p) (contents q) e) where
+    lines_taken : (p : V) (xs : List X) (q : V) → FoldsTo takes p xs q → Appends (contents p) (contents q) (text_of_lines (map line (map of xs))) × (count q ≡ count p + length (map of xs))
     lines_taken p [] q h = (subst (λ v. Appends (contents p) (contents v) []) h (appends_none (contents p)), omega (arith, ap count h))
     lines_taken p (x ∷ xs) q h =
         let one = writes p x h.0 h.1 in
         let more = lines_taken h.0 xs q h.2 in
         (Appends-trans _ _ _ _ _ one.0 more.0, omega (arith, one.1, more.1))
 
-    pub written_all : (u : Unit {0}) → result ≡ Ok u → count before ≡ 0 → Appends (contents before) (contents after) (lines_text (map line (list t))) × (count after ≡ length (list t))
+    pub written_all : (u : Unit {0}) → result ≡ Ok u → count before ≡ 0 → Appends (contents before) (contents after) (text_of_lines (map line (list t))) × (count after ≡ length (list t))
     written_all u e none =
         let h = rw e at (walked.all clean) in
         let f = lines_taken before h.0 after h.1 in
         let same : map of h.0 ≡ list t = h.2 t holds in
-        (subst (λ ms. Appends (contents before) (contents after) (lines_text (map line ms))) same f.0, omega (arith, f.1, none, ap length same))
+        (subst (λ ms. Appends (contents before) (contents after) (text_of_lines (map line ms))) same f.0, omega (arith, f.1, none, ap length same))
 
-    pub written_first : (stop : WalkError LinesFault) → result ≡ Err stop → BreaksOff (map line (list t)) (contents before) (contents after) (fault_of stop)
+    pub written_first : (stop : WalkError LinesFault) → result ≡ Err stop → FailsWithinFirstLines (map line (list t)) (contents before) (contents after) (fault_of_walk_error stop)
     written_first (Failed fault) e =
         let h = rw e at (walked.early clean) in
         let b = h.1.2 t holds in
@@ -62,7 +62,7 @@ module _ {S X M V : Type 0} (g : Ghosts S) (old new : Held S) (of : X → M) (li
         let whole = breaks_before (map line (map of h.0) ++ line (of h.1) ∷ []) (map line b.0) _ _ fault one in
         let same : (map line (map of h.0) ++ line (of h.1) ∷ []) ++ map line b.0 ≡ map line (list t) =
         ap (λ l. l ++ map line b.0) (sym (map_parts line (map of h.0) (of h.1 ∷ [])) ∙ ap (map line) (sym (map_parts of h.0 (h.1 ∷ [])))) ∙ sym (map_parts line (map of (h.0 ++ h.1 ∷ [])) b.0) ∙ ap (map line) b.1 in
-        weaker (map line (list t)) (contents before) (contents after) fault (subst (λ ls. BreaksIn ls (contents before) (contents after) fault) same whole)
+        weaker (map line (list t)) (contents before) (contents after) fault (subst (λ ls. FailsWithinLines ls (contents before) (contents after) fault) same whole)
 
   -- ---- sums
 

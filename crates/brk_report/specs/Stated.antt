@@ -6,12 +6,12 @@ use Rattle.sqlite.specs.Held.{Held, state}
 use Rattle.sqlite.specs.State.{HasCleanDisk, Survives}
 use Rattle.brk_money.specs.Spelling.{Text}
 use Rattle.brk_money.specs.declared.fault.Fault.{Fault}
-use Rattle.brk_model.specs.Joins.{account_in}
-use Rattle.brk_model.specs.Run.{MayFail}
-use Rattle.brk_model.specs.Statement.{cash_in, cash_line, cash_total, cash_within, lines_text, lot_line, lots_in, statement, statement_lines}
+use Rattle.brk_model.specs.Joins.{account_row_with_id}
+use Rattle.brk_model.specs.Run.{IsCallFault}
+use Rattle.brk_model.specs.Statement.{cash_move_rows_of_account, text_line_of_cash_row, cash_row_total, cash_move_rows_within_days, text_of_lines, lot_line, lot_rows_of_account, statement, statement_lines}
 use Rattle.brk_model.specs.Tables.{AccountRow, Tables}
-use Rattle.brk_store.specs.Holds.{Holds, IsSame}
-use Rattle.brk_report_lines.specs.Written.{BreaksOff, WroteFirst, WrotePart}
+use Rattle.brk_store.specs.Holds.{HoldsRows, WasOpenAndIsUnchanged}
+use Rattle.brk_report_lines.specs.Written.{FailsWithinFirstLines, WroteWholeLinesNotLast, WroteWholeLinesAndPart}
 use Rattle.brk_report_lines.specs.declared.fault.LinesFault.{LinesFault}
 use Rattle.brk_report_lines.specs.declared.fault.LinesFault.TheVariants as lines
 use Rattle.brk_report_lines.specs.declared.fault.ReportFault.{ReportFault}
@@ -20,63 +20,63 @@ use Rattle.brk_report.specs.declared.visitors.Moved.{Moved}
 
 -- The call from `old` to `new` changes nothing of the desk: its rows and its database are the same,
 -- and a crash exposes no new state.
-pub record Keeps {S : Type 0} (g : Ghosts S) (old new : Held S) : Type 0 where
+pub record PreservesDesk {S : Type 0} (g : Ghosts S) (old new : Held S) : Type 0 where
   -- The store holds the rows that it held.
-  pub kept : (t : Tables) → Holds g old t → Holds g new t
+  pub kept : (t : Tables) → HoldsRows g old t → HoldsRows g new t
   -- The whole database is unchanged, under the disk assumption and if the store is open.
-  pub same : HasCleanDisk (state g new) → IsTrue (state g new).is_open → IsSame (state g old) (state g new)
+  pub same : HasCleanDisk (state g new) → IsTrue (state g new).is_open → WasOpenAndIsUnchanged (state g old) (state g new)
   -- A crash exposes only states that were possible before.
   pub survives : Survives (state g old) (state g new) (λ _. ⊥)
 
 -- Under the disk assumption, `So` holds of the tables that the store held before the call, whatever
 -- they are.
-abbrev pub OverRows : {S : Type 0} → Ghosts S → Held S → Held S → (Tables → Type 0) → Type 0
-OverRows g old new So = HasCleanDisk (state g new) → (t : Tables) → Holds g old t → So t
+abbrev pub HoldsForStoredTables : {S : Type 0} → Ghosts S → Held S → Held S → (Tables → Type 0) → Type 0
+HoldsForStoredTables g old new So = HasCleanDisk (state g new) → (t : Tables) → HoldsRows g old t → So t
 
 -- ---- the parts of a statement
 
 -- `Ok`: the sum is `total`. `Err`: the desk failed with `Memory` or `Store`.
-abbrev pub IsTotal : ℤ → Result ℤ LinesFault → Type 0
-IsTotal total (Ok sum) = sum ≡ total
-IsTotal total (Err e) = (f : Fault) × (e ≡ lines.Desk f) × MayFail f
+abbrev pub IsTotalOrFault : ℤ → Result ℤ LinesFault → Type 0
+IsTotalOrFault total (Ok sum) = sum ≡ total
+IsTotalOrFault total (Err e) = (f : Fault) × (e ≡ lines.Desk f) × IsCallFault f
 
 -- `Ok`: the writer got exactly the lines of the cash rows of `account` from the day `from` to the
 -- day `to`, and the result has their number, and `amount` plus their total. `Err`: writing them
--- failed as `BreaksOff` specifies.
-abbrev pub WritesCash : Tables → ℕ → ℕ → ℕ → ℤ → Option Text → Option Text → Result Moved LinesFault → Type 0
-WritesCash t account from to amount old new (Ok moved) =
-    Appends old new (lines_text (map cash_line (cash_within from to (cash_in t account)))) × (moved.count ≡ length (cash_within from to (cash_in t account)))
-    × (moved.total ≡ amount +ℤ cash_total (cash_within from to (cash_in t account)))
-WritesCash t account from to amount old new (Err e) = BreaksOff (map cash_line (cash_within from to (cash_in t account))) old new e
+-- failed as `FailsWithinFirstLines` specifies.
+abbrev pub WritesCashLines : Tables → ℕ → ℕ → ℕ → ℤ → Option Text → Option Text → Result Moved LinesFault → Type 0
+WritesCashLines t account from to amount old new (Ok moved) =
+    Appends old new (text_of_lines (map text_line_of_cash_row (cash_move_rows_within_days from to (cash_move_rows_of_account t account)))) × (moved.count ≡ length (cash_move_rows_within_days from to (cash_move_rows_of_account t account)))
+    × (moved.total ≡ amount +ℤ cash_row_total (cash_move_rows_within_days from to (cash_move_rows_of_account t account)))
+WritesCashLines t account from to amount old new (Err e) = FailsWithinFirstLines (map text_line_of_cash_row (cash_move_rows_within_days from to (cash_move_rows_of_account t account))) old new e
 
 -- `Ok`: the writer got exactly the lines of the lots of `account`, and the count is their number.
--- `Err`: writing them failed as `BreaksOff` specifies.
-abbrev pub WritesLots : Tables → ℕ → Option Text → Option Text → Result ℕ LinesFault → Type 0
-WritesLots t account old new (Ok count) = Appends old new (lines_text (map lot_line (lots_in t account))) × (count ≡ length (lots_in t account))
-WritesLots t account old new (Err e) = BreaksOff (map lot_line (lots_in t account)) old new e
+-- `Err`: writing them failed as `FailsWithinFirstLines` specifies.
+abbrev pub WritesLotLines : Tables → ℕ → Option Text → Option Text → Result ℕ LinesFault → Type 0
+WritesLotLines t account old new (Ok count) = Appends old new (text_of_lines (map lot_line (lot_rows_of_account t account))) × (count ≡ length (lot_rows_of_account t account))
+WritesLotLines t account old new (Err e) = FailsWithinFirstLines (map lot_line (lot_rows_of_account t account)) old new e
 
 -- ---- the whole
 
 -- The statement of `account` from the day `from` to the day `to` is not refused, and `lines` are
 -- its lines.
-abbrev pub AreLines : Tables → ℕ → ℕ → ℕ → List Text → Type 0
-AreLines t account from to lines = (nat_lt to from ≡ false) × ((a : AccountRow) × (account_in t account ≡ Some a) × (lines ≡ statement_lines t a from to (cash_in t account)))
+abbrev pub AreStatementLines : Tables → ℕ → ℕ → ℕ → List Text → Type 0
+AreStatementLines t account from to lines = (nat_lt to from ≡ false) × ((a : AccountRow) × (account_row_with_id t account ≡ Some a) × (lines ≡ statement_lines t a from to (cash_move_rows_of_account t account)))
 
 -- The result of writing the statement of `account` from the day `from` to the day `to` is as
 -- specified. `Ok`: the writer got exactly its text. `Refused`: the model refuses the statement with
 -- this refusal. `Desk`: the writer got nothing, or whole lines from the first on without the last
 -- one. `Write`: it got whole lines from the first on and a part of the next one.
-abbrev pub States : Tables → ℕ → ℕ → ℕ → Option Text → Option Text → Result (Unit {0}) ReportFault → Type 0
-States t account from to old new (Ok u) = (text : Text) × (statement t account from to ≡ Ok text) × Appends old new text
-States t account from to old new (Err (Refused refusal)) = statement t account from to ≡ Err refusal
-States t account from to old new (Err (Desk fault)) = MayFail fault × (Appends old new [] ⊎ ((lines : List Text) × AreLines t account from to lines × WroteFirst lines old new))
-States t account from to old new (Err Write) = (lines : List Text) × AreLines t account from to lines × WrotePart lines old new
+abbrev pub WritesStatement : Tables → ℕ → ℕ → ℕ → Option Text → Option Text → Result (Unit {0}) ReportFault → Type 0
+WritesStatement t account from to old new (Ok u) = (text : Text) × (statement t account from to ≡ Ok text) × Appends old new text
+WritesStatement t account from to old new (Err (Refused refusal)) = statement t account from to ≡ Err refusal
+WritesStatement t account from to old new (Err (Desk fault)) = IsCallFault fault × (Appends old new [] ⊎ ((lines : List Text) × AreStatementLines t account from to lines × WroteWholeLinesNotLast lines old new))
+WritesStatement t account from to old new (Err Write) = (lines : List Text) × AreStatementLines t account from to lines × WroteWholeLinesAndPart lines old new
 
 -- The postcondition of writing the statement of `account` from the day `from` to the day `to`. The
 -- desk is unchanged.
-pub record IsStated {S : Type 0} (g : Ghosts S) (old new : Held S) (account from to : ℕ) (before after : Option Text) (result : Result (Unit {0}) ReportFault) : Type 0 where
+pub record StatementPost {S : Type 0} (g : Ghosts S) (old new : Held S) (account from to : ℕ) (before after : Option Text) (result : Result (Unit {0}) ReportFault) : Type 0 where
   -- The output is as specified for the rows that the store holds, whatever they are.
-  pub told : OverRows g old new (λ t. States t account from to before after result)
-  pub keeps : Keeps g old new
+  pub told : HoldsForStoredTables g old new (λ t. WritesStatement t account from to before after result)
+  pub keeps : PreservesDesk g old new
   -- Nothing is written if the statement is refused.
   pub unwritten : (refusal : _) → result ≡ Err (Refused refusal) → after ≡ before

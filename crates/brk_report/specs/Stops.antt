@@ -6,6 +6,6 @@ use Rattle.brk_report_lines.specs.declared.fault.LinesFault.TheVariants.{Desk}
 
 -- The fault with which writing lines fails if its walk failed: the fault of the desk, or that of
 -- the visitor.
-abbrev pub fault_of : WalkError LinesFault → LinesFault
-fault_of (Failed fault) = Desk fault
-fault_of (Cause fault) = fault
+abbrev pub fault_of_walk_error : WalkError LinesFault → LinesFault
+fault_of_walk_error (Failed fault) = Desk fault
+fault_of_walk_error (Cause fault) = fault

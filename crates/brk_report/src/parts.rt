@@ -1,21 +1,22 @@
 //! The parts of a statement, each of which ends with a line that no walk writes.
 
-ghost use Rattle.brk_report.specs.Stated.{Keeps, OverRows};
-ghost use Rattle.brk_report.specs.Parts.{WritesDays, held_lines, top_lines};
+ghost use Rattle.brk_report.specs.Stated.{PreservesDesk, HoldsForStoredTables};
+ghost use Rattle.brk_report.specs.Parts.{WritesCashAndClosingLines, lot_and_total_lines, statement_header_lines};
 ghost use Rattle.brk_report_lines.specs.Written.{WritesLines};
 
-use crate::sections::{write_cash, write_lots};
+use crate::sections::{write_cash_lines, write_lot_lines};
 use brk_desk::{Desk, Head};
 use brk_money::{Day, Id, Wide};
 use brk_report_lines::{
-    LinesFault, amount_line, counts_line, days_line, name_line, title_line, write_line,
+    LinesFault, account_name_line, amount_line, first_and_last_day_line, row_counts_line,
+    statement_title_line, write_line,
 };
 use sqlite::Alter;
 use std::alloc::Global;
 use std::io::Write;
 
 /// Writes the first four lines of a statement. Fails with `Desk` or `Write`.
-pub(crate) fn write_top<W: Write>(
+pub(crate) fn write_header_lines<W: Write>(
     alloc: Global,
     account: Id,
     head: &Head,
@@ -24,17 +25,17 @@ pub(crate) fn write_top<W: Write>(
     opening: Wide,
     writer: &mut W,
 ) -> Result<(), LinesFault>
-    ensures { WritesLines (top_lines account head.now.name from to opening) (W.contents writer.old) (W.contents writer.new) result }
+    ensures { WritesLines (statement_header_lines account head.now.name from to opening) (W.contents writer.old) (W.contents writer.new) result }
 {
-    write_line(writer, title_line(alloc, account))?;
-    write_line(writer, name_line(alloc, &head.name))?;
-    write_line(writer, days_line(alloc, from, to))?;
+    write_line(writer, statement_title_line(alloc, account))?;
+    write_line(writer, account_name_line(alloc, &head.name))?;
+    write_line(writer, first_and_last_day_line(alloc, from, to))?;
     write_line(writer, amount_line(alloc, "Opening", opening))
 }
 
 /// Writes a line for each cash row of the days, and the line of the closing amount. Returns the
 /// number of the cash rows. Fails with `Desk` or `Write`.
-pub(crate) fn write_days<W: Write, S: Alter>(
+pub(crate) fn write_cash_and_closing_lines<W: Write, S: Alter>(
     alloc: Global,
     desk: &mut Desk<S>,
     account: Id,
@@ -43,17 +44,17 @@ pub(crate) fn write_days<W: Write, S: Alter>(
     opening: Wide,
     writer: &mut W,
 ) -> Result<u64, LinesFault>
-    ensures keeps { Keeps S.Store desk.old desk.new }
-    ensures written { OverRows S.Store desk.old desk.new (λ t. WritesDays t account from to opening (W.contents writer.old) (W.contents writer.new) result) }
+    ensures keeps { PreservesDesk S.Store desk.old desk.new }
+    ensures written { HoldsForStoredTables S.Store desk.old desk.new (λ t. WritesCashAndClosingLines t account from to opening (W.contents writer.old) (W.contents writer.new) result) }
 {
-    let moved = write_cash(alloc, desk, account, from, to, opening, writer)?;
+    let moved = write_cash_lines(alloc, desk, account, from, to, opening, writer)?;
     write_line(writer, amount_line(alloc, "Closing", moved.total))?;
     Ok(moved.count)
 }
 
 /// Writes a line for each lot, the line of their market value, and the line of the numbers of cash
 /// rows and lots. Fails with `Desk` or `Write`.
-pub(crate) fn write_held<W: Write, S: Alter>(
+pub(crate) fn write_lot_and_total_lines<W: Write, S: Alter>(
     alloc: Global,
     desk: &mut Desk<S>,
     account: Id,
@@ -61,10 +62,10 @@ pub(crate) fn write_held<W: Write, S: Alter>(
     cash: u64,
     writer: &mut W,
 ) -> Result<(), LinesFault>
-    ensures keeps { Keeps S.Store desk.old desk.new }
-    ensures written { OverRows S.Store desk.old desk.new (λ t. WritesLines (held_lines t account holdings cash) (W.contents writer.old) (W.contents writer.new) result) }
+    ensures keeps { PreservesDesk S.Store desk.old desk.new }
+    ensures written { HoldsForStoredTables S.Store desk.old desk.new (λ t. WritesLines (lot_and_total_lines t account holdings cash) (W.contents writer.old) (W.contents writer.new) result) }
 {
-    let lots = write_lots(alloc, desk, account, writer)?;
+    let lots = write_lot_lines(alloc, desk, account, writer)?;
     write_line(writer, amount_line(alloc, "Holdings", holdings))?;
-    write_line(writer, counts_line(alloc, cash, lots))
+    write_line(writer, row_counts_line(alloc, cash, lots))
 }

@@ -1,21 +1,21 @@
 //! The parts of a statement that the desk walks over. None of them changes the desk.
 
 ghost use Rattle.std.specs.Prelude.{◌≡◌, ◌+ℤ◌};
-ghost use Rattle.brk_model.specs.Statement.{cash_before, cash_in, cash_total};
-ghost use Rattle.brk_report.specs.Stated.{IsTotal, Keeps, OverRows, WritesCash, WritesLots};
-ghost use Rattle.brk_report.specs.Stops.{fault_of};
+ghost use Rattle.brk_model.specs.Statement.{cash_move_rows_before_day, cash_move_rows_of_account, cash_row_total};
+ghost use Rattle.brk_report.specs.Stated.{IsTotalOrFault, PreservesDesk, HoldsForStoredTables, WritesCashLines, WritesLotLines};
+ghost use Rattle.brk_report.specs.Stops.{fault_of_walk_error};
 
 use crate::visitors::{CashLines, Lines, Moved, Sum};
 use brk_desk::{Desk, WalkError};
 use brk_money::{Cents, Day, Id, Stamp, Wide};
-use brk_report_lines::{LinesFault, first_stamp, last_stamp, stamp_before};
+use brk_report_lines::{LinesFault, first_stamp_of_day, last_stamp_before_day, last_stamp_of_day};
 use sqlite::Alter;
 use std::alloc::Global;
 use std::io::Write;
 
 // Returns the fault with which writing lines fails if its walk failed.
-fn broken(stop: WalkError<LinesFault>) -> LinesFault
-    ensures { result ≡ fault_of stop }
+fn fault_from_walk_error(stop: WalkError<LinesFault>) -> LinesFault
+    ensures { result ≡ fault_of_walk_error stop }
 {
     match stop {
         WalkError::Failed(fault) => LinesFault::Desk(fault),
@@ -24,16 +24,16 @@ fn broken(stop: WalkError<LinesFault>) -> LinesFault
 }
 
 /// Returns `opening` plus the cash rows of the days before `from`. Fails with `Desk` only.
-pub(crate) fn sum_before<S: Alter>(
+pub(crate) fn balance_before_day<S: Alter>(
     desk: &mut Desk<S>,
     account: Id,
     from: Day,
     opening: Cents,
 ) -> Result<Wide, LinesFault>
-    ensures keeps { Keeps S.Store desk.old desk.new }
-    ensures sum { OverRows S.Store desk.old desk.new (λ t. IsTotal (opening +ℤ cash_total (cash_before from (cash_in t account))) result) }
+    ensures keeps { PreservesDesk S.Store desk.old desk.new }
+    ensures sum { HoldsForStoredTables S.Store desk.old desk.new (λ t. IsTotalOrFault (opening +ℤ cash_row_total (cash_move_rows_before_day from (cash_move_rows_of_account t account))) result) }
 {
-    let Some(last) = stamp_before(from) else {
+    let Some(last) = last_stamp_before_day(from) else {
         return Ok(Wide::from(opening));
     };
     let mut sum = Sum {
@@ -41,13 +41,13 @@ pub(crate) fn sum_before<S: Alter>(
     };
     match desk.visit_cash(account, Stamp::nearest(0), last, &mut sum) {
         Ok(()) => Ok(sum.total),
-        Err(stop) => Err(broken(stop)),
+        Err(stop) => Err(fault_from_walk_error(stop)),
     }
 }
 
 /// Writes a line for each cash row of the days. Returns their number, and `opening` plus their
 /// total. Fails with `Desk` or `Write`.
-pub(crate) fn write_cash<W: Write, S: Alter>(
+pub(crate) fn write_cash_lines<W: Write, S: Alter>(
     alloc: Global,
     desk: &mut Desk<S>,
     account: Id,
@@ -56,8 +56,8 @@ pub(crate) fn write_cash<W: Write, S: Alter>(
     opening: Wide,
     writer: &mut W,
 ) -> Result<Moved, LinesFault>
-    ensures keeps { Keeps S.Store desk.old desk.new }
-    ensures written { OverRows S.Store desk.old desk.new (λ t. WritesCash t account from to opening (W.contents writer.old) (W.contents writer.new) result) }
+    ensures keeps { PreservesDesk S.Store desk.old desk.new }
+    ensures written { HoldsForStoredTables S.Store desk.old desk.new (λ t. WritesCashLines t account from to opening (W.contents writer.old) (W.contents writer.new) result) }
 {
     let mut visitor = CashLines {
         alloc,
@@ -67,22 +67,27 @@ pub(crate) fn write_cash<W: Write, S: Alter>(
             total: opening,
         },
     };
-    match desk.visit_cash(account, first_stamp(from), last_stamp(to), &mut visitor) {
+    match desk.visit_cash(
+        account,
+        first_stamp_of_day(from),
+        last_stamp_of_day(to),
+        &mut visitor,
+    ) {
         Ok(()) => Ok(visitor.moved()),
-        Err(stop) => Err(broken(stop)),
+        Err(stop) => Err(fault_from_walk_error(stop)),
     }
 }
 
 /// Writes a line for each lot of an account, and returns the number of lots. Fails with `Desk` or
 /// `Write`.
-pub(crate) fn write_lots<W: Write, S: Alter>(
+pub(crate) fn write_lot_lines<W: Write, S: Alter>(
     alloc: Global,
     desk: &mut Desk<S>,
     account: Id,
     writer: &mut W,
 ) -> Result<u64, LinesFault>
-    ensures keeps { Keeps S.Store desk.old desk.new }
-    ensures written { OverRows S.Store desk.old desk.new (λ t. WritesLots t account (W.contents writer.old) (W.contents writer.new) result) }
+    ensures keeps { PreservesDesk S.Store desk.old desk.new }
+    ensures written { HoldsForStoredTables S.Store desk.old desk.new (λ t. WritesLotLines t account (W.contents writer.old) (W.contents writer.new) result) }
 {
     let mut lines = Lines {
         alloc,
@@ -91,6 +96,6 @@ pub(crate) fn write_lots<W: Write, S: Alter>(
     };
     match desk.visit_lots(account, &mut lines) {
         Ok(()) => Ok(lines.count),
-        Err(stop) => Err(broken(stop)),
+        Err(stop) => Err(fault_from_walk_error(stop)),
     }
 }

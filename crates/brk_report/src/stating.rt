@@ -1,9 +1,9 @@
-ghost use Rattle.brk_report.specs.Parts.{all_lines};
-ghost use Rattle.brk_report.specs.Stated.{IsStated, Keeps, OverRows};
+ghost use Rattle.brk_report.specs.Parts.{all_statement_lines};
+ghost use Rattle.brk_report.specs.Stated.{StatementPost, PreservesDesk, HoldsForStoredTables};
 ghost use Rattle.brk_report_lines.specs.Written.{WritesLines};
 
-use crate::parts::{write_days, write_held, write_top};
-use crate::sections::sum_before;
+use crate::parts::{write_cash_and_closing_lines, write_header_lines, write_lot_and_total_lines};
+use crate::sections::balance_before_day;
 use brk_desk::{Desk, Head};
 use brk_money::{Day, Id, Refusal};
 use brk_report_lines::{LinesFault, ReportFault};
@@ -12,7 +12,7 @@ use std::alloc::Global;
 use std::io::Write;
 
 // Writes all lines of a statement that is not refused. Fails with `Desk` or `Write`.
-fn write_all<W: Write, S: Alter>(
+fn write_statement_lines<W: Write, S: Alter>(
     alloc: Global,
     desk: &mut Desk<S>,
     account: Id,
@@ -21,13 +21,13 @@ fn write_all<W: Write, S: Alter>(
     to: Day,
     writer: &mut W,
 ) -> Result<(), LinesFault>
-    ensures keeps { Keeps S.Store desk.old desk.new }
-    ensures written { OverRows S.Store desk.old desk.new (λ t. WritesLines (all_lines t account head.now from to) (W.contents writer.old) (W.contents writer.new) result) }
+    ensures keeps { PreservesDesk S.Store desk.old desk.new }
+    ensures written { HoldsForStoredTables S.Store desk.old desk.new (λ t. WritesLines (all_statement_lines t account head.now from to) (W.contents writer.old) (W.contents writer.new) result) }
 {
-    let opening = sum_before(desk, account, from, head.opening)?;
-    write_top(alloc, account, head, from, to, opening, writer)?;
-    let cash = write_days(alloc, desk, account, from, to, opening, writer)?;
-    write_held(alloc, desk, account, head.holdings, cash, writer)
+    let opening = balance_before_day(desk, account, from, head.opening)?;
+    write_header_lines(alloc, account, head, from, to, opening, writer)?;
+    let cash = write_cash_and_closing_lines(alloc, desk, account, from, to, opening, writer)?;
+    write_lot_and_total_lines(alloc, desk, account, head.holdings, cash, writer)
 }
 
 /// Writes the statement of an account for the days `from` to `to`, both included: the opening
@@ -47,7 +47,7 @@ pub fn statement<W: Write, S: Alter>(
     to: Day,
     writer: &mut W,
 ) -> Result<(), ReportFault>
-    ensures stated { IsStated S.Store desk.old desk.new account from to (W.contents writer.old) (W.contents writer.new) result }
+    ensures stated { StatementPost S.Store desk.old desk.new account from to (W.contents writer.old) (W.contents writer.new) result }
 {
     if to.get() < from.get() {
         return Err(ReportFault::Refused(Refusal::BadText));
@@ -57,7 +57,7 @@ pub fn statement<W: Write, S: Alter>(
         Ok(None) => return Err(ReportFault::Refused(Refusal::NoAccount)),
         Err(fault) => return Err(ReportFault::Desk(fault)),
     };
-    match write_all(alloc, desk, account, &head, from, to, writer) {
+    match write_statement_lines(alloc, desk, account, &head, from, to, writer) {
         Ok(()) => Ok(()),
         Err(LinesFault::Desk(fault)) => Err(ReportFault::Desk(fault)),
         Err(LinesFault::Write) => Err(ReportFault::Write),

@@ -2,9 +2,9 @@
 
 ghost use Rattle.std.specs.Prelude.{◌≡◌, ◌+ℤ◌, Err, IfErr, IfOk, OnErr};
 ghost use Rattle.brk_money.specs.Spelling.{Text};
-ghost use Rattle.brk_model.specs.Run.{MayFail};
+ghost use Rattle.brk_model.specs.Run.{IsCallFault};
 ghost use Rattle.brk_money.specs.declared.fault.Fault.TheVariants as fault;
-ghost use Rattle.brk_report_lines.specs.Written.{ended};
+ghost use Rattle.brk_report_lines.specs.Written.{line_with_line_feed};
 ghost use Rattle.brk_report_lines.specs.declared.fault.LinesFault.TheVariants.{Desk};
 
 use brk_changes::{HoldingRow, MoveRow};
@@ -21,15 +21,15 @@ pub trait Line {
 
     /// Returns the line with its line feed. Fails with `Memory` or `Store`.
     fn line(&self, alloc: Global) -> Result<Vec<u8>, Fault>
-        ensures line { IfOk result (λ l. l.items ≡ ended (line self.now)) }
-        ensures fault { IfErr result MayFail };
+        ensures line { IfOk result (λ l. l.items ≡ line_with_line_feed (line self.now)) }
+        ensures fault { IfErr result IsCallFault };
 }
 
 impl Line for HoldingRow {
     ghost use Rattle.brk_model.specs.Statement.{lot_line};
-    ghost use Rattle.brk_changes.specs.Rows.{holding_row_of};
+    ghost use Rattle.brk_changes.specs.Rows.{abstract_holding_row};
 
-    ghost line = { λ r. lot_line (holding_row_of r) };
+    ghost line = { λ r. lot_line (abstract_holding_row r) };
 
     /// Returns the line of the lot with its line feed. Fails with `Memory` or `Store`.
     fn line(&self, alloc: Global) -> Result<Vec<u8>, Fault> {
@@ -38,10 +38,10 @@ impl Line for HoldingRow {
 }
 
 impl Line for MoveRow {
-    ghost use Rattle.brk_model.specs.Statement.{cash_line};
-    ghost use Rattle.brk_changes.specs.Rows.{move_row_of};
+    ghost use Rattle.brk_model.specs.Statement.{text_line_of_cash_row};
+    ghost use Rattle.brk_changes.specs.Rows.{abstract_move_row};
 
-    ghost line = { λ r. cash_line (move_row_of r) };
+    ghost line = { λ r. text_line_of_cash_row (abstract_move_row r) };
 
     /// Returns the line of the cash row with its line feed. Fails with `Memory` or `Store`.
     fn line(&self, alloc: Global) -> Result<Vec<u8>, Fault> {
@@ -50,7 +50,7 @@ impl Line for MoveRow {
 }
 
 // Returns `total` plus `amount`. Fails with `Desk(Store)` if the sum does not fit.
-fn added(total: Wide, amount: Cents) -> Result<Wide, LinesFault>
+fn total_plus_amount(total: Wide, amount: Cents) -> Result<Wide, LinesFault>
     ensures sum { IfOk result (λ sum. sum ≡ total +ℤ amount) }
     ensures fault { OnErr result (result ≡ Err (Desk fault.Store)) }
 {
@@ -82,7 +82,7 @@ impl Visitor<MoveRow, LinesFault> for Sum {
     /// Adds the amount of the cash row to the total. Fails with `Desk(Store)` if the sum does not
     /// fit.
     fn visit(&mut self, item: &MoveRow) -> Result<(), LinesFault> {
-        self.total = added(self.total, item.amount)?;
+        self.total = total_plus_amount(self.total, item.amount)?;
         Ok(())
     }
 
@@ -103,15 +103,15 @@ impl<R: Line, W: Write> Visitor<R, LinesFault> for Lines<'_, W> {
     ghost use Rattle.std.specs.Prelude.{◌≡◌, ◌+◌, [], ◌∷◌, Result, Err, refl};
     ghost use Rattle.std.proofs.Common.{◌∙◌};
     ghost use Rattle.std.specs.Io.KnownBytes.{Appends};
-    ghost use Rattle.brk_report_lines.specs.Written.{BreaksIn, ended};
+    ghost use Rattle.brk_report_lines.specs.Written.{FailsWithinLines, line_with_line_feed};
 
     ghost ready = { λ _. Unit {0} };
 
     ghost leads = { λ p q. q.writer.ghost_name ≡ p.writer.ghost_name };
 
-    ghost takes = { λ p r q. (q.count ≡ p.count + 1) × Appends (W.contents p.writer.now) (W.contents q.writer.now) (ended (R.line r)) };
+    ghost takes = { λ p r q. (q.count ≡ p.count + 1) × Appends (W.contents p.writer.now) (W.contents q.writer.now) (line_with_line_feed (R.line r)) };
 
-    ghost stops = { λ p r e q. BreaksIn (R.line r ∷ []) (W.contents p.writer.now) (W.contents q.writer.now) e };
+    ghost stops = { λ p r e q. FailsWithinLines (R.line r ∷ []) (W.contents p.writer.now) (W.contents q.writer.now) e };
 
     /// Writes the line of the record, and counts it. Fails with `Desk` or `Write`; the count is
     /// then unchanged.
@@ -157,22 +157,22 @@ impl<W: Write> Visitor<MoveRow, LinesFault> for CashLines<'_, W> {
     ghost use Rattle.std.specs.Prelude.{◌≡◌, ◌+◌, ◌+ℤ◌, [], ◌∷◌, refl};
     ghost use Rattle.std.proofs.Common.{◌∙◌};
     ghost use Rattle.std.specs.Io.KnownBytes.{Appends};
-    ghost use Rattle.brk_changes.specs.Rows.{move_row_of};
-    ghost use Rattle.brk_model.specs.Statement.{cash_line};
-    ghost use Rattle.brk_report_lines.specs.Written.{BreaksIn, ended};
+    ghost use Rattle.brk_changes.specs.Rows.{abstract_move_row};
+    ghost use Rattle.brk_model.specs.Statement.{text_line_of_cash_row};
+    ghost use Rattle.brk_report_lines.specs.Written.{FailsWithinLines, line_with_line_feed};
 
     ghost ready = { λ _. Unit {0} };
 
     ghost leads = { λ p q. q.writer.ghost_name ≡ p.writer.ghost_name };
 
-    ghost takes = { λ p r q. (q.moved.total ≡ p.moved.total +ℤ r.amount) × (q.moved.count ≡ p.moved.count + 1) × Appends (W.contents p.writer.now) (W.contents q.writer.now) (ended (cash_line (move_row_of r))) };
+    ghost takes = { λ p r q. (q.moved.total ≡ p.moved.total +ℤ r.amount) × (q.moved.count ≡ p.moved.count + 1) × Appends (W.contents p.writer.now) (W.contents q.writer.now) (line_with_line_feed (text_line_of_cash_row (abstract_move_row r))) };
 
-    ghost stops = { λ p r e q. BreaksIn (cash_line (move_row_of r) ∷ []) (W.contents p.writer.now) (W.contents q.writer.now) e };
+    ghost stops = { λ p r e q. FailsWithinLines (text_line_of_cash_row (abstract_move_row r) ∷ []) (W.contents p.writer.now) (W.contents q.writer.now) e };
 
     /// Writes the line of the cash row, counts it and adds its amount. Fails with `Desk` or
     /// `Write`; the count and the total are then unchanged.
     fn visit(&mut self, item: &MoveRow) -> Result<(), LinesFault> {
-        let total = added(self.moved.total, item.amount)?;
+        let total = total_plus_amount(self.moved.total, item.amount)?;
         let Some(count) = self.moved.count.checked_add(1) else {
             return Err(LinesFault::Desk(Fault::Store));
         };

@@ -4,12 +4,12 @@ use Rattle.std.proofs.lemmas.Bool.Decides.{nat_tests}
 use Rattle.std.proofs.lemmas.List.{append_assoc, take-append-le}
 use Rattle.std.proofs.Math.Seq.{take-append-add}
 use Rattle.brk_money.specs.Spelling.{Text}
-use Rattle.brk_model.specs.Statement.{lines_text}
-use Rattle.brk_report_lines.specs.Written.{ended}
+use Rattle.brk_model.specs.Statement.{text_of_lines}
+use Rattle.brk_report_lines.specs.Written.{line_with_line_feed}
 
 -- the first `k` bytes of lines, which are some of them and a part of the next one
 abbrev pub IsCut : List Text → ℕ → Type 0
-IsCut lines k = (first : List Text) × (next : Text) × (rest : List Text) × (j : ℕ) × (first ++ next ∷ rest ≡ lines) × (take k (lines_text lines) ≡ lines_text first ++ take j (ended next))
+IsCut lines k = (first : List Text) × (next : Text) × (rest : List Text) × (j : ℕ) × (first ++ next ∷ rest ≡ lines) × (take k (text_of_lines lines) ≡ text_of_lines first ++ take j (line_with_line_feed next))
 
 within : (n k : ℕ) → nat_le k n ≡ true → k ≤ n
 within n k h = grind (arith, nat_tests)
@@ -18,17 +18,17 @@ beyond : (n k : ℕ) → nat_le k n ≡ false → k ≡ n + (k - n)
 beyond n k h = grind (arith, nat_tests)
 
 pub cut : (line : Text) (lines : List Text) (k : ℕ) → IsCut (line ∷ lines) k
-cut line [] k = ([], line, [], k, refl, ap (take k) (append-nil (ended line)))
-cut line (l ∷ ls) k = go (cut l ls (k - length (ended line))) (nat_le k (length (ended line))) refl
+cut line [] k = ([], line, [], k, refl, ap (take k) (append-nil (line_with_line_feed line)))
+cut line (l ∷ ls) k = go (cut l ls (k - length (line_with_line_feed line))) (nat_le k (length (line_with_line_feed line))) refl
   where
-    go : IsCut (l ∷ ls) (k - length (ended line)) → (b : Bool) → nat_le k (length (ended line)) ≡ b → IsCut (line ∷ l ∷ ls) k
-    go more true h = ([], line, l ∷ ls, k, refl, take-append-le k (ended line) (lines_text (l ∷ ls)) (within (length (ended line)) k h))
+    go : IsCut (l ∷ ls) (k - length (line_with_line_feed line)) → (b : Bool) → nat_le k (length (line_with_line_feed line)) ≡ b → IsCut (line ∷ l ∷ ls) k
+    go more true h = ([], line, l ∷ ls, k, refl, take-append-le k (line_with_line_feed line) (text_of_lines (l ∷ ls)) (within (length (line_with_line_feed line)) k h))
     go more false h = (
       line ∷ more.0,
       more.1,
       more.2,
       more.3,
       ap (λ (ts : List Text). line ∷ ts) more.4,
-      ap (λ (n : ℕ). take n (ended line ++ lines_text (l ∷ ls))) (beyond (length (ended line)) k h) ∙ take-append-add (ended line) (lines_text (l ∷ ls)) (k - length (ended line))
-          ∙ ap (λ (t : Text). ended line ++ t) more.5 ∙ sym (append_assoc (ended line) (lines_text more.0) (take more.3 (ended more.1))),
+      ap (λ (n : ℕ). take n (line_with_line_feed line ++ text_of_lines (l ∷ ls))) (beyond (length (line_with_line_feed line)) k h) ∙ take-append-add (line_with_line_feed line) (text_of_lines (l ∷ ls)) (k - length (line_with_line_feed line))
+          ∙ ap (λ (t : Text). line_with_line_feed line ++ t) more.5 ∙ sym (append_assoc (line_with_line_feed line) (text_of_lines more.0) (take more.3 (line_with_line_feed more.1))),
     )

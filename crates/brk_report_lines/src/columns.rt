@@ -2,7 +2,7 @@
 
 ghost use Rattle.std.specs.Prelude.{◌≡◌, ◌++◌, ◌≤◌, Err, OnErr, OnOk, replicate};
 ghost use Rattle.brk_money.specs.declared.fault.Fault.TheVariants.{Memory};
-ghost use Rattle.brk_model.specs.Statement.{at_left, at_right};
+ghost use Rattle.brk_model.specs.Statement.{left_aligned_text, right_aligned_text};
 
 use brk_money::Fault;
 
@@ -18,9 +18,9 @@ fn put_spaces(out: &mut Vec<u8>, count: usize) -> Result<(), Fault>
 }
 
 /// Appends a text, left-aligned in `places` places. Fails with `Memory` only.
-pub fn put_left(out: &mut Vec<u8>, places: usize, text: &[u8]) -> Result<(), Fault>
+pub fn put_left_aligned(out: &mut Vec<u8>, places: usize, text: &[u8]) -> Result<(), Fault>
     requires { places ≤ 22 }
-    ensures ok { OnOk result (out.new.items ≡ out.old.items ++ at_left places text.now) }
+    ensures ok { OnOk result (out.new.items ≡ out.old.items ++ left_aligned_text places text.now) }
     ensures fault { OnErr result (result ≡ Err Memory) }
 {
     out.extend_from_slice(text)?;
@@ -28,9 +28,9 @@ pub fn put_left(out: &mut Vec<u8>, places: usize, text: &[u8]) -> Result<(), Fau
 }
 
 /// Appends a text, right-aligned in `places` places. Fails with `Memory` only.
-pub fn put_right(out: &mut Vec<u8>, places: usize, text: &[u8]) -> Result<(), Fault>
+pub fn put_right_aligned(out: &mut Vec<u8>, places: usize, text: &[u8]) -> Result<(), Fault>
     requires { places ≤ 22 }
-    ensures ok { OnOk result (out.new.items ≡ out.old.items ++ at_right places text.now) }
+    ensures ok { OnOk result (out.new.items ≡ out.old.items ++ right_aligned_text places text.now) }
     ensures fault { OnErr result (result ≡ Err Memory) }
 {
     put_spaces(out, places.saturating_sub(text.len()))?;

@@ -8,21 +8,21 @@ use brk_money::{Day, Stamp};
 const DAY: i64 = 86_400_000;
 
 /// Returns the first stamp of a day.
-pub fn first_stamp(day: Day) -> Stamp
+pub fn first_stamp_of_day(day: Day) -> Stamp
     ensures { result ≡ day * 86400000 }
 {
     Stamp::nearest(i64::from(day.get()) * DAY)
 }
 
 /// Returns the last stamp of a day.
-pub fn last_stamp(day: Day) -> Stamp
+pub fn last_stamp_of_day(day: Day) -> Stamp
     ensures { result ≡ day * 86400000 + 86399999 }
 {
     Stamp::nearest(i64::from(day.get()) * DAY + (DAY - 1))
 }
 
 /// Returns the last stamp before a day, or `None` for day 0.
-pub fn stamp_before(day: Day) -> Option<Stamp>
+pub fn last_stamp_before_day(day: Day) -> Option<Stamp>
     ensures { MatchOption result (day ≡ 0) (λ stamp. (0 < day) × (stamp ≡ day * 86400000 - 1)) }
 {
     if day.get() == 0 {

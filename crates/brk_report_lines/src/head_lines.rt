@@ -5,17 +5,17 @@ ghost use Rattle.std.specs.Prelude.{◌≡◌, ◌++◌, Err, IfOk, OnErr, codes
 ghost use Rattle.brk_money.specs.Spelling.{day_text};
 ghost use Rattle.brk_money.specs.declared.fault.Fault.TheVariants.{Memory};
 ghost use Rattle.brk_model.specs.Statement as statement;
-ghost use Rattle.brk_report_lines.specs.Written.{ended};
+ghost use Rattle.brk_report_lines.specs.Written.{line_with_line_feed};
 
-use crate::columns::{put_left, put_right};
+use crate::columns::{put_left_aligned, put_right_aligned};
 use brk_money::{Day, Fault, Id, Wide, write_cents, write_day};
 use brk_ref::Name;
 use itoa::Buffer;
 use std::alloc::Global;
 
 /// Returns the title of a statement, with the id of the account.
-pub fn title_line(alloc: Global, account: Id) -> Result<Vec<u8>, Fault>
-    ensures line { IfOk result (λ line. line.items ≡ ended (codes "Statement of account " ++ decimal account)) }
+pub fn statement_title_line(alloc: Global, account: Id) -> Result<Vec<u8>, Fault>
+    ensures line { IfOk result (λ line. line.items ≡ line_with_line_feed (codes "Statement of account " ++ decimal account)) }
     ensures fault { OnErr result (result ≡ Err Memory) }
 {
     let mut buffer = Buffer::new();
@@ -26,8 +26,8 @@ pub fn title_line(alloc: Global, account: Id) -> Result<Vec<u8>, Fault>
 }
 
 /// Returns the line of the account's name.
-pub fn name_line(alloc: Global, name: &Name) -> Result<Vec<u8>, Fault>
-    ensures line { IfOk result (λ line. line.items ≡ ended name.now) }
+pub fn account_name_line(alloc: Global, name: &Name) -> Result<Vec<u8>, Fault>
+    ensures line { IfOk result (λ line. line.items ≡ line_with_line_feed name.now) }
     ensures fault { OnErr result (result ≡ Err Memory) }
 {
     let mut line = Vec::from_slice(alloc, name.as_str().as_bytes())?;
@@ -36,8 +36,8 @@ pub fn name_line(alloc: Global, name: &Name) -> Result<Vec<u8>, Fault>
 }
 
 /// Returns the line of the first and the last day, both included.
-pub fn days_line(alloc: Global, from: Day, to: Day) -> Result<Vec<u8>, Fault>
-    ensures line { IfOk result (λ line. line.items ≡ ended (codes "From " ++ day_text from ++ codes " to " ++ day_text to)) }
+pub fn first_and_last_day_line(alloc: Global, from: Day, to: Day) -> Result<Vec<u8>, Fault>
+    ensures line { IfOk result (λ line. line.items ≡ line_with_line_feed (codes "From " ++ day_text from ++ codes " to " ++ day_text to)) }
     ensures fault { OnErr result (result ≡ Err Memory) }
 {
     let mut line = Vec::from_slice(alloc, b"From ")?;
@@ -50,22 +50,22 @@ pub fn days_line(alloc: Global, from: Day, to: Day) -> Result<Vec<u8>, Fault>
 
 /// Returns the line of a word, left-aligned in 10 places, and an amount, right-aligned in 22.
 pub fn amount_line(alloc: Global, word: &str, amount: Wide) -> Result<Vec<u8>, Fault>
-    ensures line { IfOk result (λ line. line.items ≡ ended (statement.amount_line word.now amount)) }
+    ensures line { IfOk result (λ line. line.items ≡ line_with_line_feed (statement.amount_line word.now amount)) }
     ensures fault { OnErr result (result ≡ Err Memory) }
 {
     let mut cents = Vec::new(alloc);
     write_cents(&mut cents, amount)?;
     let mut line = Vec::new(alloc);
-    put_left(&mut line, 10, word.as_bytes())?;
+    put_left_aligned(&mut line, 10, word.as_bytes())?;
     line.push(b' ')?;
-    put_right(&mut line, 22, cents.as_slice())?;
+    put_right_aligned(&mut line, 22, cents.as_slice())?;
     line.push(b'\n')?;
     Ok(line)
 }
 
 /// Returns the line of the numbers of cash rows and lots.
-pub fn counts_line(alloc: Global, cash: u64, lots: u64) -> Result<Vec<u8>, Fault>
-    ensures line { IfOk result (λ line. line.items ≡ ended (codes "Cash rows " ++ decimal cash ++ codes ", lots " ++ decimal lots)) }
+pub fn row_counts_line(alloc: Global, cash: u64, lots: u64) -> Result<Vec<u8>, Fault>
+    ensures line { IfOk result (λ line. line.items ≡ line_with_line_feed (codes "Cash rows " ++ decimal cash ++ codes ", lots " ++ decimal lots)) }
     ensures fault { OnErr result (result ≡ Err Memory) }
 {
     let mut buffer = Buffer::new();

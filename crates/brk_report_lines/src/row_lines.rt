@@ -2,11 +2,11 @@
 
 ghost use Rattle.std.specs.Prelude.{◌≡◌, Err, IfOk, OnErr};
 ghost use Rattle.brk_money.specs.declared.fault.Fault.TheVariants.{Memory};
-ghost use Rattle.brk_changes.specs.Rows.{holding_row_of, move_row_of};
+ghost use Rattle.brk_changes.specs.Rows.{abstract_holding_row, abstract_move_row};
 ghost use Rattle.brk_model.specs.Statement as statement;
-ghost use Rattle.brk_report_lines.specs.Written.{ended};
+ghost use Rattle.brk_report_lines.specs.Written.{line_with_line_feed};
 
-use crate::columns::{put_left, put_right};
+use crate::columns::{put_left_aligned, put_right_aligned};
 use brk_changes::{HoldingRow, MoveRow};
 use brk_money::{Fault, Wide, day_of, write_cents, write_day};
 use itoa::Buffer;
@@ -14,7 +14,7 @@ use std::alloc::Global;
 
 /// Returns the line of a cash row: its day, its amount, and its text.
 pub fn cash_line(alloc: Global, row: &MoveRow) -> Result<Vec<u8>, Fault>
-    ensures line { IfOk result (λ line. line.items ≡ ended (statement.cash_line (move_row_of row.now))) }
+    ensures line { IfOk result (λ line. line.items ≡ line_with_line_feed (statement.text_line_of_cash_row (abstract_move_row row.now))) }
     ensures fault { OnErr result (result ≡ Err Memory) }
 {
     let mut cents = Vec::new(alloc);
@@ -22,7 +22,7 @@ pub fn cash_line(alloc: Global, row: &MoveRow) -> Result<Vec<u8>, Fault>
     let mut line = Vec::new(alloc);
     write_day(&mut line, day_of(row.stamp))?;
     line.push(b' ')?;
-    put_right(&mut line, 22, cents.as_slice())?;
+    put_right_aligned(&mut line, 22, cents.as_slice())?;
     line.push(b' ')?;
     line.extend_from_slice(row.name.as_bytes())?;
     line.push(b'\n')?;
@@ -32,7 +32,7 @@ pub fn cash_line(alloc: Global, row: &MoveRow) -> Result<Vec<u8>, Fault>
 /// Returns the line of a lot: its symbol, the trade that opened it, its quantity (below 0 if it was
 /// sold short), and its price.
 pub fn lot_line(alloc: Global, row: &HoldingRow) -> Result<Vec<u8>, Fault>
-    ensures line { IfOk result (λ line. line.items ≡ ended (statement.lot_line (holding_row_of row.now))) }
+    ensures line { IfOk result (λ line. line.items ≡ line_with_line_feed (statement.lot_line (abstract_holding_row row.now))) }
     ensures fault { OnErr result (result ≡ Err Memory) }
 {
     let mut price = Vec::new(alloc);
@@ -40,13 +40,13 @@ pub fn lot_line(alloc: Global, row: &HoldingRow) -> Result<Vec<u8>, Fault>
     let mut trade = Buffer::new();
     let mut qty = Buffer::new();
     let mut line = Vec::new(alloc);
-    put_left(&mut line, 15, row.symbol.as_str().as_bytes())?;
+    put_left_aligned(&mut line, 15, row.symbol.as_str().as_bytes())?;
     line.push(b' ')?;
-    put_right(&mut line, 13, trade.format(row.trade.get()).as_bytes())?;
+    put_right_aligned(&mut line, 13, trade.format(row.trade.get()).as_bytes())?;
     line.push(b' ')?;
-    put_right(&mut line, 11, qty.format(row.qty).as_bytes())?;
+    put_right_aligned(&mut line, 11, qty.format(row.qty).as_bytes())?;
     line.push(b' ')?;
-    put_right(&mut line, 10, price.as_slice())?;
+    put_right_aligned(&mut line, 10, price.as_slice())?;
     line.push(b'\n')?;
     Ok(line)
 }

@@ -16,7 +16,7 @@ use Rattle.sqlite_sql.specs.Term.{Term, eval_all}
 use Rattle.sqlite_sql.specs.Query.{Query, page}
 use Rattle.sqlite_rules.proofs.ListLemmas.{all_has}
 use Rattle.sqlite.specs.Table.{Table}
-use Rattle.brk_sql.specs.Rows.{cells, same_rowid, Rises, TreeHolds, climbs_from}
+use Rattle.brk_sql.specs.Rows.{cells_in_column_order, same_rowid, IsStrictlyAscending, TreeHoldsRecords, is_ascending_from}
 use Rattle.brk_sql.proofs.Decode.{filter_true}
 use Rattle.brk_sql.proofs.Order.{map_on}
 use Rattle.brk_sql.proofs.Pick.{Picks, Keyed, Apart, keyed_permuted, apart_permuted, int_is, sorted_by}
@@ -24,7 +24,7 @@ use Rattle.sqlite_rules.specs.Edit.{id_in}
 use Rattle.sqlite_rules.specs.Lists.{Has}
 use Rattle.sqlite_schema.specs.Rules.{differ}
 use Rattle.sqlite.specs.Effect.{Database, IsDatabase}
-use Rattle.brk_sql.specs.Desk.{Desk, Stands}
+use Rattle.brk_sql.specs.Desk.{Desk, IsTableAt}
 use Rattle.brk_sql.proofs.Order.{ordered, has_permuted, rises_from_sorted}
 use Rattle.brk_sql.proofs.Unique.{unique_rows}
 use Rattle.brk_sql.proofs.Values.{differ_ints}
@@ -41,7 +41,7 @@ below_all : (a b : ℤ) (xs : List ℤ) → int_cmp a b ≡ Less → AllByRecurs
 below_all a b [] low all = tt
 below_all a b (x ∷ xs) low all = (int_cmp_total.trans a b x low all.0, below_all a b xs low all.1)
 
-climbs_above : (last : ℤ) (xs : List ℤ) → climbs_from (Some last) xs ≡ true → AllByRecursion (λ y. int_cmp last y ≡ Less) xs × Rises int_cmp xs
+climbs_above : (last : ℤ) (xs : List ℤ) → is_ascending_from (Some last) xs ≡ true → AllByRecursion (λ y. int_cmp last y ≡ Less) xs × IsStrictlyAscending int_cmp xs
 climbs_above last [] h = (tt, tt)
 climbs_above last (x ∷ xs) h =
     let both = and_parts _ _ h in
@@ -49,11 +49,11 @@ climbs_above last (x ∷ xs) h =
     let first = less _ both.0 in
     ((first, below_all last x xs first more.0), more)
 
-pub climbs_rise : (xs : List ℤ) → climbs_from None xs ≡ true → Rises int_cmp xs
+pub climbs_rise : (xs : List ℤ) → is_ascending_from None xs ≡ true → IsStrictlyAscending int_cmp xs
 climbs_rise [] h = tt
 climbs_rise (x ∷ xs) h = climbs_above x xs h
 
-pub rises_of : {X : Type 0} (f : X → ℤ) (xs : List X) → Rises int_cmp (map f xs) → Rises (λ x y. int_cmp (f x) (f y)) xs
+pub rises_of : {X : Type 0} (f : X → ℤ) (xs : List X) → IsStrictlyAscending int_cmp (map f xs) → IsStrictlyAscending (λ x y. int_cmp (f x) (f y)) xs
 rises_of {X} f [] up = tt
 rises_of {X} f (x ∷ xs) up = (each xs up.0, rises_of f xs up.1)
   where
@@ -73,7 +73,7 @@ same_ints (x ∷ xs) (y ∷ ys) h =
 -- ---- rowids
 
 -- rows whose rowids are numbers that climb
-pub rowids_climb : (rows : List Row) (ids : List ℤ) → map rowid rows ≡ map Int ids → Rises int_cmp ids → Keyed rows × Apart rows
+pub rowids_climb : (rows : List Row) (ids : List ℤ) → map rowid rows ≡ map Int ids → IsStrictlyAscending int_cmp ids → Keyed rows × Apart rows
 unfolding IsDistinct
 rowids_climb [] ids h up = (tt, tt)
 rowids_climb (r ∷ rows) [] h up = absurd (let e = h in cc)
@@ -104,39 +104,39 @@ table_apart (r ∷ rows) up = (each rows up.0, table_apart rows up.1)
 -- ---- the records
 
 module _ {X : Type 0} (table : Table) (encode : X → Row) (cmp : X → X → Ordering) (rows : List Row) (query : Query) (params : Row) (project : List Term) (order : List (Term × Key)) (read : List Row)
-    (p : Picks query params [] project order rows read) (unpaged : (rs : List Row) → page query params rs ≡ rs) (shows : (r : Row) → eval_all project (params ∷ r ∷ []) ≡ cells table r) (xs : List X) (decoded : map encode xs ≡ read) (rising : Rises cmp xs) where
+    (p : Picks query params [] project order rows read) (unpaged : (rs : List Row) → page query params rs ≡ rs) (shows : (r : Row) → eval_all project (params ∷ r ∷ []) ≡ cells_in_column_order table r) (xs : List X) (decoded : map encode xs ≡ read) (rising : IsStrictlyAscending cmp xs) where
   picked_all : IsPermutation rows p.picked
   picked_all = subst (λ l. IsPermutation l p.picked) (filter_true rows) p.same
 
-  picked_are : map encode xs ≡ map (cells table) p.picked
+  picked_are : map encode xs ≡ map (cells_in_column_order table) p.picked
   picked_are = decoded ∙ p.is ∙ unpaged _ ∙ map_on _ _ p.picked (λ r h. shows r)
 
   -- where the rowids are known
-  pub adopted : Keyed rows → Apart rows → TreeHolds table encode cmp xs rows
+  pub adopted : Keyed rows → Apart rows → TreeHoldsRecords table encode cmp xs rows
   adopted keyed apart = record {
     keyed = keyed;
     apart = apart;
     rising = rising;
-    shown = subst (λ l. IsPermutation l (map (cells table) rows)) (sym picked_are) (IsPermutation-map (cells table) p.picked rows (IsPermutation-sym _ _ picked_all));
+    shown = subst (λ l. IsPermutation l (map (cells_in_column_order table) rows)) (sym picked_are) (IsPermutation-map (cells_in_column_order table) p.picked rows (IsPermutation-sym _ _ picked_all));
   }
 
   -- where the key is the rowid, the same read is enough
-  pub adopted_by_rowid : (key : X → ℤ) → ((r : Row) (x : X) → cells table r ≡ encode x → rowid r ≡ Int (key x)) → ((x y : X) → cmp x y ≡ int_cmp (key x) (key y)) → TreeHolds table encode cmp xs rows
+  pub adopted_by_rowid : (key : X → ℤ) → ((r : Row) (x : X) → cells_in_column_order table r ≡ encode x → rowid r ≡ Int (key x)) → ((x y : X) → cmp x y ≡ int_cmp (key x) (key y)) → TreeHoldsRecords table encode cmp xs rows
   adopted_by_rowid key keyed is =
       let ids = rowids p.picked xs (sym picked_are) in
       let both = rowids_climb p.picked (map key xs) ids (ids_rise xs rising) in
       adopted (keyed_permuted p.picked rows (IsPermutation-sym _ _ picked_all) both.0) (apart_permuted p.picked rows (IsPermutation-sym _ _ picked_all) both.1)
     where
-      rowids : (rs : List Row) (ys : List X) → map (cells table) rs ≡ map encode ys → map rowid rs ≡ map Int (map key ys)
+      rowids : (rs : List Row) (ys : List X) → map (cells_in_column_order table) rs ≡ map encode ys → map rowid rs ≡ map Int (map key ys)
       rowids [] [] h = refl
       rowids [] (y ∷ ys) h = absurd (let e = h in cc)
       rowids (r ∷ rs) [] h = absurd (let e = h in cc)
       rowids (r ∷ rs) (y ∷ ys) h =
-          let here : cells table r ≡ encode y = cc in
-          let more : map (cells table) rs ≡ map encode ys = cc in
+          let here : cells_in_column_order table r ≡ encode y = cc in
+          let more : map (cells_in_column_order table) rs ≡ map encode ys = cc in
           ap₂ ◌∷◌ (keyed r y here) (rowids rs ys more)
 
-      ids_rise : (ys : List X) → Rises cmp ys → Rises int_cmp (map key ys)
+      ids_rise : (ys : List X) → IsStrictlyAscending cmp ys → IsStrictlyAscending int_cmp (map key ys)
       ids_rise [] up = tt
       ids_rise (y ∷ ys) up = (each y ys up.0, ids_rise ys up.1)
         where
@@ -147,14 +147,14 @@ module _ {X : Type 0} (table : Table) (encode : X → Row) (cmp : X → X → Or
 -- ---- a table of a sound database, read by its key
 
 module _ {W T : Type 0} (desk : Desk W T) (w : W) (total : IsTotalOrder (desk.order w)) (once : IsRowidKey (desk.shape w) (desk.encode w) (desk.order w) ⊎ IsUniqueKey (desk.shape w) (desk.encode w) (desk.order w))
-    (db : Database) (sound : IsDatabase db) (at tree : ℕ) (h : Stands db.schema (desk.shape w tree) at) (keyed : Keyed (db.trees tree)) (apart : Apart (db.trees tree)) where
+    (db : Database) (sound : IsDatabase db) (at tree : ℕ) (h : IsTableAt db.schema (desk.shape w tree) at) (keyed : Keyed (db.trees tree)) (apart : Apart (db.trees tree)) where
   abbrev rows : List Row
   rows = db.trees tree
 
   same_tree : db.trees (desk.shape w tree).tree ≡ rows
   same_tree = ap db.trees (desk.placed w tree)
 
-  one_key : (r s : Row) → Has rows r → Has rows s → same_rowid r s ≡ false → (x y : desk.Item w) → cells (desk.shape w tree) r ≡ desk.encode w x → cells (desk.shape w tree) s ≡ desk.encode w y → is_eq (desk.order w x y) ≡ false
+  one_key : (r s : Row) → Has rows r → Has rows s → same_rowid r s ≡ false → (x y : desk.Item w) → cells_in_column_order (desk.shape w tree) r ≡ desk.encode w x → cells_in_column_order (desk.shape w tree) s ≡ desk.encode w y → is_eq (desk.order w x y) ≡ false
   one_key r s hr hs other_id x y e f = elim once [
     | inl by_rowid ↦ by_rowid tree r s x y e f ∙ other_id
     | inr by_key ↦
@@ -166,33 +166,33 @@ module _ {W T : Type 0} (desk : Desk W T) (w : W) (total : IsTotalOrder (desk.or
         ∙ unique_rows db at (desk.shape w tree) by_key.key sound h.found (by_key.first tree) s r (subst (λ l. Has l s) (sym same_tree) hs) (subst (λ l. Has l r) (sym same_tree) hr) other
   ]
 
-  untied : (rs : List Row) (ys : List (desk.Item w)) → ((r : Row) → Has rs r → Has rows r) → Apart rs → map (cells (desk.shape w tree)) rs ≡ map (desk.encode w) ys → IsAscending (λ x y. is_eq (desk.order w x y) ≡ false) ys
+  untied : (rs : List Row) (ys : List (desk.Item w)) → ((r : Row) → Has rs r → Has rows r) → Apart rs → map (cells_in_column_order (desk.shape w tree)) rs ≡ map (desk.encode w) ys → IsAscending (λ x y. is_eq (desk.order w x y) ≡ false) ys
   unfolding IsDistinct
   untied [] [] mine others e = tt
   untied [] (y ∷ ys) mine others e = absurd (let k = e in cc)
   untied (r ∷ rs) [] mine others e = absurd (let k = e in cc)
   untied (r ∷ rs) (y ∷ ys) mine others e =
-      let here : cells (desk.shape w tree) r ≡ desk.encode w y = cc in
-      let more : map (cells (desk.shape w tree)) rs ≡ map (desk.encode w) ys = cc in
+      let here : cells_in_column_order (desk.shape w tree) r ≡ desk.encode w y = cc in
+      let more : map (cells_in_column_order (desk.shape w tree)) rs ≡ map (desk.encode w) ys = cc in
       (each r y (mine r (inl refl)) here rs ys (λ s k. mine s (inr k)) others.0 more, untied rs ys (λ s k. mine s (inr k)) others.1 more)
     where
-      each : (r : Row) (x : desk.Item w) → Has rows r → cells (desk.shape w tree) r ≡ desk.encode w x → (rs : List Row) (ys : List (desk.Item w)) → ((s : Row) → Has rs s → Has rows s) → AllByRecursion (λ s. same_rowid r s ≡ false) rs
-          → map (cells (desk.shape w tree)) rs ≡ map (desk.encode w) ys → AllByRecursion (λ y. is_eq (desk.order w x y) ≡ false) ys
+      each : (r : Row) (x : desk.Item w) → Has rows r → cells_in_column_order (desk.shape w tree) r ≡ desk.encode w x → (rs : List Row) (ys : List (desk.Item w)) → ((s : Row) → Has rs s → Has rows s) → AllByRecursion (λ s. same_rowid r s ≡ false) rs
+          → map (cells_in_column_order (desk.shape w tree)) rs ≡ map (desk.encode w) ys → AllByRecursion (λ y. is_eq (desk.order w x y) ≡ false) ys
       each r x hr here [] [] mine low e = tt
       each r x hr here [] (y ∷ ys) mine low e = absurd (let k = e in cc)
       each r x hr here (s ∷ rs) [] mine low e = absurd (let k = e in cc)
       each r x hr here (s ∷ rs) (y ∷ ys) mine low e =
-          let next : cells (desk.shape w tree) s ≡ desk.encode w y = cc in
-          let more : map (cells (desk.shape w tree)) rs ≡ map (desk.encode w) ys = cc in
+          let next : cells_in_column_order (desk.shape w tree) s ≡ desk.encode w y = cc in
+          let more : map (cells_in_column_order (desk.shape w tree)) rs ≡ map (desk.encode w) ys = cc in
           (one_key r s hr (mine s (inl refl)) low.0 x y here next, each r x hr here rs ys (λ t k. mine t (inr k)) low.1 more)
 
   pub adopted_in_order : (query : Query) (params : Row) (project : List Term) (order : List (Term × Key)) (read : List Row) (p : Picks query params [] project order rows read) → ((rs : List Row) → page query params rs ≡ rs)
-      → ((r : Row) → eval_all project (params ∷ r ∷ []) ≡ cells (desk.shape w tree) r)
-      → ((a b : Row) (x y : desk.Item w) → cells (desk.shape w tree) a ≡ desk.encode w x → cells (desk.shape w tree) b ≡ desk.encode w y → sorted_by params order a b ≡ desk.order w x y)
-      → (xs : List (desk.Item w)) → map (desk.encode w) xs ≡ read → TreeHolds (desk.shape w tree) (desk.encode w) (desk.order w) xs rows
+      → ((r : Row) → eval_all project (params ∷ r ∷ []) ≡ cells_in_column_order (desk.shape w tree) r)
+      → ((a b : Row) (x y : desk.Item w) → cells_in_column_order (desk.shape w tree) a ≡ desk.encode w x → cells_in_column_order (desk.shape w tree) b ≡ desk.encode w y → sorted_by params order a b ≡ desk.order w x y)
+      → (xs : List (desk.Item w)) → map (desk.encode w) xs ≡ read → TreeHoldsRecords (desk.shape w tree) (desk.encode w) (desk.order w) xs rows
   adopted_in_order query params project order read p unpaged shows sorts xs decoded =
       let all : IsPermutation rows p.picked = subst (λ l. IsPermutation l p.picked) (filter_true rows) p.same in
-      let are : map (cells (desk.shape w tree)) p.picked ≡ map (desk.encode w) xs = sym (decoded ∙ p.is ∙ unpaged _ ∙ map_on _ _ p.picked (λ r k. shows r)) in
-      let rising = rises_from_sorted total xs (ordered (cells (desk.shape w tree)) (desk.encode w) (sorted_by params order) (desk.order w) sorts p.picked xs are p.sorted)
+      let are : map (cells_in_column_order (desk.shape w tree)) p.picked ≡ map (desk.encode w) xs = sym (decoded ∙ p.is ∙ unpaged _ ∙ map_on _ _ p.picked (λ r k. shows r)) in
+      let rising = rises_from_sorted total xs (ordered (cells_in_column_order (desk.shape w tree)) (desk.encode w) (sorted_by params order) (desk.order w) sorts p.picked xs are p.sorted)
       (untied p.picked xs (λ r k. has_permuted rows p.picked r all k) (apart_permuted rows p.picked all apart) are) in
       adopted (desk.shape w tree) (desk.encode w) (desk.order w) rows query params project order read p unpaged shows xs decoded rising keyed apart

@@ -6,7 +6,7 @@ use Rattle.sqlite_schema.specs.declared.schema.Schema.{Schema}
 use Rattle.sqlite_schema.specs.declared.schema.Table.{Table}
 use Rattle.sqlite_schema.specs.Names.{same_name, table_named, index_named, view_named}
 use Rattle.sqlite_catalog.specs.Change.{created, next_tree, is_used, KeepsRows}
-use Rattle.brk_sql.specs.Desk.{Stands, Makes, is_inert}
+use Rattle.brk_sql.specs.Desk.{IsTableAt, CreatesTableOfShape, has_no_actions}
 use Rattle.std.specs.List.{list_all}
 use Rattle.std.proofs.Common.{append_assoc}
 use Rattle.sqlite_tied.specs.Compute.{everything}
@@ -62,7 +62,7 @@ got_last : {X : Type 0} (xs : List X) (x : X) → slice_get (xs ++ x ∷ []) (le
 got_last [] x = refl
 got_last (y ∷ xs) x = got_last xs x
 
-pub stays : (schema after : Schema) (more : List Table) → after.tables ≡ schema.tables ++ more → (table : Table) (at : ℕ) → Stands schema table at → Stands after table at
+pub stays : (schema after : Schema) (more : List Table) → after.tables ≡ schema.tables ++ more → (table : Table) (at : ℕ) → IsTableAt schema table at → IsTableAt after table at
 stays schema after more is table at h = record {
   named = rw is (position_kept (λ t. same_name t.name table.name) schema.tables more 0 at h.named);
   found = rw is (got_before schema.tables more at table h.found);
@@ -72,7 +72,7 @@ unused : (a : Option ℕ) (b c : Bool) → ((is_some a || b) || c) ≡ false →
 unused None b c h = refl
 unused (Some x) b c h = absurd (cc)
 
-pub comes : (schema after : Schema) (table : Table) → same_name table.name table.name ≡ true → is_used schema table.name ≡ false → after.tables ≡ schema.tables ++ table ∷ [] → Stands after table (length schema.tables)
+pub comes : (schema after : Schema) (table : Table) → same_name table.name table.name ≡ true → is_used schema table.name ≡ false → after.tables ≡ schema.tables ++ table ∷ [] → IsTableAt after table (length schema.tables)
 comes schema after table same free is = record {
   named = rw is (position_new (λ t. same_name t.name table.name) schema.tables table 0 (unused (table_named schema table.name) (is_some (index_named schema table.name)) (is_some (view_named schema table.name)) free) same ∙ ap Some (omega arith));
   found = rw is (got_last schema.tables table);
@@ -108,20 +108,20 @@ all_from P (x ∷ xs) f = (f x (inl refl), all_from P xs (λ y h. f y (inr h)))
 
 -- ---- one table
 
--- what `Makes` says, but that the trees obey the schema
+-- what `CreatesTableOfShape` says, but that the trees obey the schema
 record Comes (old new : Database) (shape : ℕ → Table) : Type 0 where
   tree : ℕ
   at : ℕ
-  stands : Stands new.schema (shape tree) at
+  stands : IsTableAt new.schema (shape tree) at
   empty : new.trees tree ≡ []
-  kept : (table : Table) (place : ℕ) → Stands old.schema table place → Stands new.schema table place
+  kept : (table : Table) (place : ℕ) → IsTableAt old.schema table place → IsTableAt new.schema table place
   rows : AllByRecursion (λ t. new.trees t.tree ≡ old.trees t.tree) old.schema.tables
   apart : AllByRecursion (λ t. t.tree ≢ tree) old.schema.tables
   more : List Table
   tables : new.schema.tables ≡ old.schema.tables ++ more
-  inert : list_all is_inert more ≡ true
+  inert : list_all has_no_actions more ≡ true
 
-obeyed : (old new : Database) (shape : ℕ → Table) → Comes old new shape → IsDatabase new → Makes old new shape
+obeyed : (old new : Database) (shape : ℕ → Table) → Comes old new shape → IsDatabase new → CreatesTableOfShape old new shape
 obeyed old new shape h sound = record {
   tree = h.tree;
   at = h.at;
@@ -137,7 +137,7 @@ obeyed old new shape h sound = record {
 }
 
 -- the text defines this table, at tree 0, and makes it at the next one
-module _ (text : List ℕ) (shape : ℕ → Table) (defined : table_defined_by text ≡ Ok (shape 0)) (moved : (tree : ℕ) → record (shape 0) { tree = tree } ≡ shape tree) (own : same_name (shape 0).name (shape 0).name ≡ true) (still : is_inert (shape 0) ≡ true) where
+module _ (text : List ℕ) (shape : ℕ → Table) (defined : table_defined_by text ≡ Ok (shape 0)) (moved : (tree : ℕ) → record (shape 0) { tree = tree } ≡ shape tree) (own : same_name (shape 0).name (shape 0).name ≡ true) (still : has_no_actions (shape 0) ≡ true) where
   makes_one : (schema after : Schema) (db trees : Trees) → CreatesTable schema text db after trees → Comes (record { schema = schema; trees = db }) (record { schema = after; trees = trees }) shape
   makes_one schema after db trees made =
       let same : made.table ≡ shape 0 = same_value (sym made.defined ∙ defined) in
@@ -147,7 +147,7 @@ module _ (text : List ℕ) (shape : ℕ → Table) (defined : table_defined_by t
       record {
         tree = next_tree schema;
         at = length schema.tables;
-        stands = subst (λ t. Stands after t (length schema.tables)) (moved (next_tree schema)) (comes schema after table own (subst (λ (t : Table). is_used schema t.name ≡ false) same made.free) tables);
+        stands = subst (λ t. IsTableAt after t (length schema.tables)) (moved (next_tree schema)) (comes schema after table own (subst (λ (t : Table). is_used schema t.name ≡ false) same made.free) tables);
         empty = made.empty;
         kept = λ other place h. stays schema after (table ∷ []) tables other place h;
         rows = made.others;
@@ -174,13 +174,13 @@ joined : {X : Type 0} (p : X → Bool) (xs : List X) (x : X) → list_all p xs �
 joined p [] x all one = rw one
 joined p (y ∷ xs) x all one = let both = Rattle.brk_sql.proofs.Effects.split (p y) (list_all p xs) all in rw (both.0, joined p xs x both.1 one)
 
-sequence_idle : (t : Table) → table_defined_by sequence_text ≡ Ok t → is_inert t ≡ true
+sequence_idle : (t : Table) → table_defined_by sequence_text ≡ Ok t → has_no_actions t ≡ true
 unfolding everything
-sequence_idle t h = let e : _ ≡ t = same_value h in subst (λ k. is_inert k ≡ true) e refl
+sequence_idle t h = let e : _ ≡ t = same_value h in subst (λ k. has_no_actions k ≡ true) e refl
 
 -- a second table leaves the first
 makes_more : (text : List ℕ) (shape : ℕ → Table) (placed : (tree : ℕ) → (shape tree).tree ≡ tree) (old mid new : Database) → Comes old mid shape → (table : Table) → mid.schema.tables ≡ old.schema.tables ++ table ∷ []
-    → ((t : Table) → table_defined_by text ≡ Ok t → is_inert t ≡ true) → CreatesTable mid.schema text mid.trees new.schema new.trees → Comes old new shape
+    → ((t : Table) → table_defined_by text ≡ Ok t → has_no_actions t ≡ true) → CreatesTable mid.schema text mid.trees new.schema new.trees → Comes old new shape
 makes_more text shape placed old mid new one table tables idle made =
     let more : new.schema.tables ≡ mid.schema.tables ++ (record made.table { tree = next_tree mid.schema }) ∷ [] = ap (λ (s : Schema). s.tables) made.is in
     record {
@@ -194,13 +194,13 @@ makes_more text shape placed old mid new one table tables idle made =
       apart = one.apart;
       more = one.more ++ (record made.table { tree = next_tree mid.schema }) ∷ [];
       tables = more ∙ ap (λ (l : List Table). l ++ (record made.table { tree = next_tree mid.schema }) ∷ []) one.tables ∙ append_assoc old.schema.tables one.more _;
-      inert = joined is_inert one.more _ one.inert (idle made.table made.defined);
+      inert = joined has_no_actions one.more _ one.inert (idle made.table made.defined);
     }
 
 module _ (text : List ℕ) (shape : ℕ → Table) (defined : table_defined_by text ≡ Ok (shape 0)) (moved : (tree : ℕ) → record (shape 0) { tree = tree } ≡ shape tree) (placed : (tree : ℕ) → (shape tree).tree ≡ tree)
     (own : same_name (shape 0).name (shape 0).name ≡ true) (p : Parsed) (def : CreateTable) (is : first text ≡ Ok p) (statement : p.statement ≡ written.CreateTable def) (untimed : p.formats ≡ []) (whole : slice_range text p.start p.end ≡ text)
-    (table : define.table [] def ≡ Ok (shape 0)) (still : is_inert (shape 0) ≡ true) (fits : (length (shape 0).computed == length (shape 0).stamps.places && not def.resolves) ≡ true) (fresh : def.if_missing ≡ false) where
-  pub makes : (old new : State) (count : ℕ) → Executes text [] old new (Ok count) → Makes old.now new.now shape
+    (table : define.table [] def ≡ Ok (shape 0)) (still : has_no_actions (shape 0) ≡ true) (fits : (length (shape 0).computed == length (shape 0).stamps.places && not def.resolves) ≡ true) (fresh : def.if_missing ≡ false) where
+  pub makes : (old new : State) (count : ℕ) → Executes text [] old new (Ok count) → CreatesTableOfShape old.now new.now shape
   unfolding ExecutesIn
   makes old new count h =
       let known = sym h.1.is in

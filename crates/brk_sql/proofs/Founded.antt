@@ -5,7 +5,7 @@ use Rattle.sqlite_trees.specs.Tree.{Trees}
 use Rattle.sqlite_catalog.specs.Change.{KeepsRows}
 use Rattle.sqlite_schema.specs.declared.schema.Table.{Table}
 use Rattle.sqlite.specs.Effect.{Database, IsDatabase}
-use Rattle.brk_sql.specs.Desk.{Desk, Stands, Makes, MakesEach, is_inert, is_calm_at, IsCalm, Founds}
+use Rattle.brk_sql.specs.Desk.{Desk, IsTableAt, CreatesTableOfShape, CreatesEachTable, has_no_actions, has_no_actions_at, HasNoActionsAt, CreatesTablesWith}
 use Rattle.brk_sql.proofs.Created.{all_at}
 use Rattle.brk_sql.proofs.Effects.{split}
 use Rattle.brk_sql.proofs.Kept.{none_held}
@@ -18,19 +18,19 @@ all_join : {X : Type 0} (p : X → Bool) (xs ys : List X) → list_all p xs ≡ 
 all_join p [] ys a b = b
 all_join p (x ∷ xs) ys a b = let both = split (p x) (list_all p xs) a in rw (both.0, all_join p xs ys both.1 b)
 
-calm_of_inert : (tree : ℕ) (tables : List Table) → list_all is_inert tables ≡ true → list_all (is_calm_at tree) tables ≡ true
+calm_of_inert : (tree : ℕ) (tables : List Table) → list_all has_no_actions tables ≡ true → list_all (has_no_actions_at tree) tables ≡ true
 calm_of_inert tree [] h = refl
-calm_of_inert tree (t ∷ tables) h = let both = split (is_inert t) (list_all is_inert tables) h in rw (both.0, or_true (not (t.tree == tree)), calm_of_inert tree tables both.1)
+calm_of_inert tree (t ∷ tables) h = let both = split (has_no_actions t) (list_all has_no_actions tables) h in rw (both.0, or_true (not (t.tree == tree)), calm_of_inert tree tables both.1)
 
-calm_of_apart : (tables : List Table) (tree : ℕ) → AllByRecursion (λ t. t.tree ≢ tree) tables → list_all (is_calm_at tree) tables ≡ true
+calm_of_apart : (tables : List Table) (tree : ℕ) → AllByRecursion (λ t. t.tree ≢ tree) tables → list_all (has_no_actions_at tree) tables ≡ true
 calm_of_apart [] tree apart = refl
 calm_of_apart (t ∷ tables) tree apart = rw (ne_eqb t.tree tree apart.0, calm_of_apart tables tree apart.1)
 
-pub still_calm : {shape : ℕ → Table} (old new : Database) → Makes old new shape → (tree : ℕ) → IsCalm old.schema tree → IsCalm new.schema tree
-still_calm old new m tree calm = rw (m.tables) (all_join (is_calm_at tree) old.schema.tables m.more calm (calm_of_inert tree m.more m.inert))
+pub still_calm : {shape : ℕ → Table} (old new : Database) → CreatesTableOfShape old new shape → (tree : ℕ) → HasNoActionsAt old.schema tree → HasNoActionsAt new.schema tree
+still_calm old new m tree calm = rw (m.tables) (all_join (has_no_actions_at tree) old.schema.tables m.more calm (calm_of_inert tree m.more m.inert))
 
-pub new_calm : {shape : ℕ → Table} (old new : Database) (m : Makes old new shape) → IsCalm new.schema m.tree
-new_calm old new m = rw (m.tables) (all_join (is_calm_at m.tree) old.schema.tables m.more (calm_of_apart old.schema.tables m.tree m.apart) (calm_of_inert m.tree m.more m.inert))
+pub new_calm : {shape : ℕ → Table} (old new : Database) (m : CreatesTableOfShape old new shape) → HasNoActionsAt new.schema m.tree
+new_calm old new m = rw (m.tables) (all_join (has_no_actions_at m.tree) old.schema.tables m.more (calm_of_apart old.schema.tables m.tree m.apart) (calm_of_inert m.tree m.more m.inert))
 
 pub all_left : {X : Type 0} (P : X → Type 0) (xs ys : List X) → AllByRecursion P (xs ++ ys) → AllByRecursion P xs
 all_left P [] ys all = tt
@@ -52,9 +52,9 @@ chosen (inr b) x y = y
 pub record Part {W T : Type 0} (desk : Desk W T) (In : W → Type 0) (old new : Database) : Type 0 where
   pub tree : W → ℕ
   pub place : W → ℕ
-  pub stands : (w : W) → In w → Stands new.schema (desk.shape w (tree w)) (place w)
+  pub stands : (w : W) → In w → IsTableAt new.schema (desk.shape w (tree w)) (place w)
   pub apart : (v w : W) → In v → In w → tree v ≡ tree w → v ≡ w
-  pub calm : (w : W) → In w → IsCalm new.schema (tree w)
+  pub calm : (w : W) → In w → HasNoActionsAt new.schema (tree w)
   pub empty : (w : W) → In w → new.trees (tree w) ≡ []
   pub more : List Table
   pub tables : new.schema.tables ≡ old.schema.tables ++ more
@@ -76,7 +76,7 @@ module _ {W T : Type 0} (desk : Desk W T) where
     fresh = λ w h. absurd h;
   }
 
-  module _ (In : W → Type 0) (old mid new : Database) (p : Part desk In old mid) (w : W) (is : (v : W) → (v ≡ w) ⊎ (v ≢ w)) (m : Makes mid new (desk.shape w)) where
+  module _ (In : W → Type 0) (old mid new : Database) (p : Part desk In old mid) (w : W) (is : (v : W) → (v ≡ w) ⊎ (v ≢ w)) (m : CreatesTableOfShape mid new (desk.shape w)) where
     found_tree : (v : W) (h : In v) → p.tree v ≢ m.tree
     found_tree v h = subst (λ n. n ≢ m.tree) (desk.placed v (p.tree v)) (all_at (λ t. t.tree ≢ m.tree) mid.schema.tables (p.place v) (desk.shape v (p.tree v)) (p.stands v h).found m.apart)
 
@@ -97,8 +97,8 @@ module _ {W T : Type 0} (desk : Desk W T) where
       fresh = λ v h. freshened v (is v) h;
     }
       where
-        stood : (v : W) (s : (v ≡ w) ⊎ (v ≢ w)) → (v ≡ w) ⊎ In v → Stands new.schema (desk.shape v (chosen s m.tree (p.tree v))) (chosen s m.at (p.place v))
-        stood v (inl e) h = subst (λ u. Stands new.schema (desk.shape u m.tree) m.at) (sym e) m.stands
+        stood : (v : W) (s : (v ≡ w) ⊎ (v ≢ w)) → (v ≡ w) ⊎ In v → IsTableAt new.schema (desk.shape v (chosen s m.tree (p.tree v))) (chosen s m.at (p.place v))
+        stood v (inl e) h = subst (λ u. IsTableAt new.schema (desk.shape u m.tree) m.at) (sym e) m.stands
         stood v (inr ne) (inl e) = absurd (ne e)
         stood v (inr ne) (inr h) = m.kept _ _ (p.stands v h)
 
@@ -112,7 +112,7 @@ module _ {W T : Type 0} (desk : Desk W T) where
         parted v u (inr e) (inr f) (inr h) (inl k) same = absurd (f k)
         parted v u (inr e) (inr f) (inr h) (inr k) same = p.apart v u h k same
 
-        calmed : (v : W) (s : (v ≡ w) ⊎ (v ≢ w)) → (v ≡ w) ⊎ In v → IsCalm new.schema (chosen s m.tree (p.tree v))
+        calmed : (v : W) (s : (v ≡ w) ⊎ (v ≢ w)) → (v ≡ w) ⊎ In v → HasNoActionsAt new.schema (chosen s m.tree (p.tree v))
         calmed v (inl e) h = new_calm mid new m
         calmed v (inr ne) (inl e) = absurd (ne e)
         calmed v (inr ne) (inr h) = still_calm mid new m (p.tree v) (p.calm v h)
@@ -136,12 +136,12 @@ module _ {W T : Type 0} (desk : Desk W T) where
   Among [] In = In
   Among (w ∷ ws) In = Among ws (OrIn w In)
 
-  pub part_each : ((w v : W) → (v ≡ w) ⊎ (v ≢ w)) → (ws : List W) (In : W → Type 0) (old mid new : Database) → Part desk In old mid → MakesEach (map desk.shape ws) mid new → Part desk (Among ws In) old new
+  pub part_each : ((w v : W) → (v ≡ w) ⊎ (v ≢ w)) → (ws : List W) (In : W → Type 0) (old mid new : Database) → Part desk In old mid → CreatesEachTable (map desk.shape ws) mid new → Part desk (Among ws In) old new
   part_each split [] In old mid new p made = subst (Part desk In old) (sym made) p
   part_each split (w ∷ ws) In old mid new p made = part_each split ws (OrIn w In) old made.0 new (part_more In old mid made.0 p w (split w) made.1) made.2
 
   -- all of them are made
-  pub founded : (In : W → Type 0) (old new : Database) → Part desk In old new → IsDatabase new → ((w : W) → In w) → (t : T) → ((w : W) → desk.list w t ≡ []) → Founds desk t old new
+  pub founded : (In : W → Type 0) (old new : Database) → Part desk In old new → IsDatabase new → ((w : W) → In w) → (t : T) → ((w : W) → desk.list w t ≡ []) → CreatesTablesWith desk t old new
   founded In old new p sound all t none = record {
     tree = p.tree;
     tables = record {
@@ -150,16 +150,16 @@ module _ {W T : Type 0} (desk : Desk W T) where
       apart = λ v w. p.apart v w (all v) (all w);
       calm = λ w. p.calm w (all w);
       sound = sound;
-      rows = λ w. subst (λ xs. Rattle.brk_sql.specs.Rows.TreeHolds (desk.shape w (p.tree w)) (desk.encode w) (desk.order w) xs (new.trees (p.tree w))) (sym (none w)) (none_held (desk.shape w (p.tree w)) (desk.encode w) (desk.order w) _ (p.empty w (all w)));
+      rows = λ w. subst (λ xs. Rattle.brk_sql.specs.Rows.TreeHoldsRecords (desk.shape w (p.tree w)) (desk.encode w) (desk.order w) xs (new.trees (p.tree w))) (sym (none w)) (none_held (desk.shape w (p.tree w)) (desk.encode w) (desk.order w) _ (p.empty w (all w)));
     };
     fresh = λ w. p.fresh w (all w);
     others = record { more = p.more; tables = p.tables; rows = p.rows };
   }
 
 -- the trees obey the schema after the last
-pub each_sound : (shapes : List (ℕ → Table)) (old new : Database) → IsDatabase old → MakesEach shapes old new → IsDatabase new
+pub each_sound : (shapes : List (ℕ → Table)) (old new : Database) → IsDatabase old → CreatesEachTable shapes old new → IsDatabase new
 each_sound [] old new sound made = subst IsDatabase (sym made) sound
 each_sound (shape ∷ shapes) old new sound made = each_sound shapes made.0 new made.1.sound made.2
 
-pub first_sound : (shape : ℕ → Table) (shapes : List (ℕ → Table)) (old new : Database) → MakesEach (shape ∷ shapes) old new → IsDatabase new
+pub first_sound : (shape : ℕ → Table) (shapes : List (ℕ → Table)) (old new : Database) → CreatesEachTable (shape ∷ shapes) old new → IsDatabase new
 first_sound shape shapes old new made = each_sound shapes made.0 new made.1.sound made.2

@@ -5,8 +5,8 @@ use Rattle.sqlite_schema.specs.declared.schema.Table.{Table}
 use Rattle.sqlite.specs.Effect.{Database}
 use Rattle.sqlite_rules.specs.Lists.{Has}
 use Rattle.sqlite_rules.proofs.ListLemmas.{all_has, all_from}
-use Rattle.brk_sql.specs.Rows.{TreeHolds}
-use Rattle.brk_sql.specs.Desk.{Desk, Stands, Makes, MakesEach, IsCalm, HasTables, HasSome, KeepsOthers}
+use Rattle.brk_sql.specs.Rows.{TreeHoldsRecords}
+use Rattle.brk_sql.specs.Desk.{Desk, IsTableAt, CreatesTableOfShape, CreatesEachTable, HasNoActionsAt, HasTables, HasSelectedTables, PreservesAllTables}
 use Rattle.brk_sql.proofs.Created.{all_at}
 use Rattle.brk_sql.proofs.Founded.{all_left, still_calm, new_calm, OrIn, Among}
 use Rattle.brk_sql.proofs.Kept.{none_held}
@@ -20,7 +20,7 @@ pub record Grows (old new : Database) : Type 0 where
   pub more : List Table
   pub tables : new.schema.tables ≡ old.schema.tables ++ more
   pub rows : AllByRecursion (λ t. new.trees t.tree ≡ old.trees t.tree) old.schema.tables
-  pub calm : (tree : ℕ) → IsCalm old.schema tree → IsCalm new.schema tree
+  pub calm : (tree : ℕ) → HasNoActionsAt old.schema tree → HasNoActionsAt new.schema tree
 
 pub grows_none : (db : Database) → Grows db db
 grows_none db = record { more = []; tables = sym (append-nil db.schema.tables); rows = all_from _ db.schema.tables (λ t there. refl); calm = λ tree calm. calm }
@@ -35,18 +35,18 @@ grows_then a b c p q = record {
   calm = λ tree calm. q.calm tree (p.calm tree calm);
 }
 
-pub grows_made : {shape : ℕ → Table} (old new : Database) → Makes old new shape → Grows old new
+pub grows_made : {shape : ℕ → Table} (old new : Database) → CreatesTableOfShape old new shape → Grows old new
 grows_made old new m = record { more = m.more; tables = m.tables; rows = m.rows; calm = still_calm old new m }
 
 module _ {W T : Type 0} (desk : Desk W T) (t : T) where
   -- those of Out are there, at the trees where they were, or at trees that no table had
   pub record Grown (In Out : W → Type 0) (tree : W → ℕ) (old new : Database) : Type 0 where
     pub to : W → ℕ
-    pub has : HasSome desk Out t to new
+    pub has : HasSelectedTables desk Out t to new
     pub from : (w : W) → Out w → (In w × (to w ≡ tree w)) ⊎ AllByRecursion (λ k. k.tree ≢ to w) old.schema.tables
     pub grows : Grows old new
 
-  pub grown_none : (In : W → Type 0) (tree : W → ℕ) (db : Database) → HasSome desk In t tree db → Grown In In tree db db
+  pub grown_none : (In : W → Type 0) (tree : W → ℕ) (db : Database) → HasSelectedTables desk In t tree db → Grown In In tree db db
   grown_none In tree db h = record { to = tree; has = h; from = λ w there. inl (there, refl); grows = grows_none db }
 
   pub grown_then : (In Mid Out : W → Type 0) (tree : W → ℕ) (a b c : Database) (p : Grown In Mid tree a b) → Grown Mid Out p.to b c → Grown In Out tree a c
@@ -59,7 +59,7 @@ module _ {W T : Type 0} (desk : Desk W T) (t : T) where
       ]
       back w (inr fresh) = inr (all_left (λ k. k.tree ≢ q.to w) a.schema.tables p.grows.more (subst (AllByRecursion (λ k. k.tree ≢ q.to w)) p.grows.tables fresh))
 
-  module _ (In : W → Type 0) (tree : W → ℕ) (old new : Database) (h : HasSome desk In t tree old) (w : W) (is : (v : W) → (v ≡ w) ⊎ (v ≢ w)) (none : desk.list w t ≡ []) (m : Makes old new (desk.shape w)) where
+  module _ (In : W → Type 0) (tree : W → ℕ) (old new : Database) (h : HasSelectedTables desk In t tree old) (w : W) (is : (v : W) → (v ≡ w) ⊎ (v ≢ w)) (none : desk.list w t ≡ []) (m : CreatesTableOfShape old new (desk.shape w)) where
     found_tree : (v : W) → In v → tree v ≢ m.tree
     found_tree v there = subst (λ n. n ≢ m.tree) (desk.placed v (tree v)) (all_at (λ t. t.tree ≢ m.tree) old.schema.tables (h.place v) (desk.shape v (tree v)) (h.stands v there).found m.apart)
 
@@ -81,8 +81,8 @@ module _ {W T : Type 0} (desk : Desk W T) (t : T) where
       grows = grows_made old new m;
     }
       where
-        stood : (v : W) (s : (v ≡ w) ⊎ (v ≢ w)) → (v ≡ w) ⊎ In v → Stands new.schema (desk.shape v (chosen s m.tree (tree v))) (chosen s m.at (h.place v))
-        stood v (inl e) k = subst (λ u. Stands new.schema (desk.shape u m.tree) m.at) (sym e) m.stands
+        stood : (v : W) (s : (v ≡ w) ⊎ (v ≢ w)) → (v ≡ w) ⊎ In v → IsTableAt new.schema (desk.shape v (chosen s m.tree (tree v))) (chosen s m.at (h.place v))
+        stood v (inl e) k = subst (λ u. IsTableAt new.schema (desk.shape u m.tree) m.at) (sym e) m.stands
         stood v (inr ne) (inl e) = absurd (ne e)
         stood v (inr ne) (inr k) = m.kept _ _ (h.stands v k)
 
@@ -96,26 +96,26 @@ module _ {W T : Type 0} (desk : Desk W T) (t : T) where
         parted v u (inr e) (inr f) (inr j) (inl k) same = absurd (f k)
         parted v u (inr e) (inr f) (inr j) (inr k) same = h.apart v u j k same
 
-        calmed : (v : W) (s : (v ≡ w) ⊎ (v ≢ w)) → (v ≡ w) ⊎ In v → IsCalm new.schema (chosen s m.tree (tree v))
+        calmed : (v : W) (s : (v ≡ w) ⊎ (v ≢ w)) → (v ≡ w) ⊎ In v → HasNoActionsAt new.schema (chosen s m.tree (tree v))
         calmed v (inl e) k = new_calm old new m
         calmed v (inr ne) (inl e) = absurd (ne e)
         calmed v (inr ne) (inr k) = still_calm old new m (tree v) (h.calm v k)
 
         held : (v : W) (s : (v ≡ w) ⊎ (v ≢ w)) → (v ≡ w) ⊎ In v
-            → TreeHolds (desk.shape v (chosen s m.tree (tree v))) (desk.encode v) (desk.order v) (desk.list v t) (new.trees (chosen s m.tree (tree v)))
+            → TreeHoldsRecords (desk.shape v (chosen s m.tree (tree v))) (desk.encode v) (desk.order v) (desk.list v t) (new.trees (chosen s m.tree (tree v)))
         held v (inl e) k =
-            subst (λ u. TreeHolds (desk.shape u m.tree) (desk.encode u) (desk.order u) (desk.list u t) (new.trees m.tree)) (sym e)
-            (subst (λ xs. TreeHolds (desk.shape w m.tree) (desk.encode w) (desk.order w) xs (new.trees m.tree)) (sym none) (none_held (desk.shape w m.tree) (desk.encode w) (desk.order w) (new.trees m.tree) m.empty))
+            subst (λ u. TreeHoldsRecords (desk.shape u m.tree) (desk.encode u) (desk.order u) (desk.list u t) (new.trees m.tree)) (sym e)
+            (subst (λ xs. TreeHoldsRecords (desk.shape w m.tree) (desk.encode w) (desk.order w) xs (new.trees m.tree)) (sym none) (none_held (desk.shape w m.tree) (desk.encode w) (desk.order w) (new.trees m.tree) m.empty))
         held v (inr ne) (inl e) = absurd (ne e)
-        held v (inr ne) (inr k) = subst (TreeHolds (desk.shape v (tree v)) (desk.encode v) (desk.order v) (desk.list v t)) (sym (same_tree v k)) (h.rows v k)
+        held v (inr ne) (inr k) = subst (TreeHoldsRecords (desk.shape v (tree v)) (desk.encode v) (desk.order v) (desk.list v t)) (sym (same_tree v k)) (h.rows v k)
 
         came : (v : W) (s : (v ≡ w) ⊎ (v ≢ w)) → (v ≡ w) ⊎ In v → (In v × (chosen s m.tree (tree v) ≡ tree v)) ⊎ AllByRecursion (λ k. k.tree ≢ chosen s m.tree (tree v)) old.schema.tables
         came v (inl e) k = inr m.apart
         came v (inr ne) (inl e) = absurd (ne e)
         came v (inr ne) (inr k) = inl (k, refl)
 
-  pub grown_each : ((w v : W) → (v ≡ w) ⊎ (v ≢ w)) → (ws : List W) (In : W → Type 0) (tree : W → ℕ) (old new : Database) → HasSome desk In t tree old → AllByRecursion (λ w. desk.list w t ≡ []) ws
-      → MakesEach (map desk.shape ws) old new → Grown In (Among desk ws In) tree old new
+  pub grown_each : ((w v : W) → (v ≡ w) ⊎ (v ≢ w)) → (ws : List W) (In : W → Type 0) (tree : W → ℕ) (old new : Database) → HasSelectedTables desk In t tree old → AllByRecursion (λ w. desk.list w t ≡ []) ws
+      → CreatesEachTable (map desk.shape ws) old new → Grown In (Among desk ws In) tree old new
   grown_each split [] In tree old new h none made = subst (Grown In In tree old) (sym made) (grown_none In tree old h)
   grown_each split (w ∷ ws) In tree old new h none made =
       let one = grown_one In tree old made.0 h w (split w) none.0 made.1 in
@@ -123,7 +123,7 @@ module _ {W T : Type 0} (desk : Desk W T) (t : T) where
       (grown_each split ws (OrIn desk w In) one.to made.0 new one.has none.1 made.2)
 
   -- all of them are there
-  pub all_there : (In : W → Type 0) (tree : W → ℕ) (db : Database) → ((w : W) → In w) → HasSome desk In t tree db → HasTables desk t tree db
+  pub all_there : (In : W → Type 0) (tree : W → ℕ) (db : Database) → ((w : W) → In w) → HasSelectedTables desk In t tree db → HasTables desk t tree db
   all_there In tree db all h = record {
     place = h.place;
     stands = λ w. h.stands w (all w);
@@ -133,7 +133,7 @@ module _ {W T : Type 0} (desk : Desk W T) (t : T) where
     rows = λ w. h.rows w (all w);
   }
 
-  pub some_there : (In : W → Type 0) (tree : W → ℕ) (db : Database) → HasTables desk t tree db → HasSome desk In t tree db
+  pub some_there : (In : W → Type 0) (tree : W → ℕ) (db : Database) → HasTables desk t tree db → HasSelectedTables desk In t tree db
   some_there In tree db h = record {
     place = h.place;
     stands = λ w _. h.stands w;

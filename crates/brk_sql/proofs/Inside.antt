@@ -13,7 +13,7 @@ use Rattle.sqlite.specs.Tree.{Trees}
 use Rattle.sqlite.proofs.Callers.{survives_begin}
 use Rattle.sqlite.proofs.InsideLemmas.{keeps_then}
 use Rattle.sqlite.proofs.StateLemmas.{survives_then}
-use Rattle.brk_sql.specs.Model.{IsStep, Selected}
+use Rattle.brk_sql.specs.Model.{IsTransactionStep, SelectsRows}
 
 pub on_err : {V E : Type 0} (out : Result V E) (P : V → Type 0) → IsErr out → IfOk out P
 on_err (Ok x) P h = absurd (let e = h in cc)
@@ -37,7 +37,7 @@ module _ {S V E : Type 0} (g : Ghosts S) (sql : List ℕ) (params : Row) (old ne
   pub step_ok : (count : ℕ) → ((state g old).in_transaction ≡ false → ⊥)
       → (HasCleanDisk (state g new) → IsTrue (state g old).in_transaction → ExecutesInside 0 sql params (state g old) (state g new) (Ok count))
       → Survives (state g old) (state g new) (λ _. ⊥) → ((v : V) → out ≡ Ok v → Executes sql params (state g old) (state g new) (Ok count) → made v (state g old) (state g new))
-      → IsStep (state g old) (state g new) out made
+      → IsTransactionStep (state g old) (state g new) out made
   step_ok count never runs survives does =
       let on : IsTrue (state g old).in_transaction = elim (cases_Bool (state g old).in_transaction) [ inl e ↦ e | inr e ↦ absurd (never e) ] in
       record {
@@ -53,7 +53,7 @@ module _ {S V E : Type 0} (g : Ghosts S) (sql : List ℕ) (params : Row) (old ne
   -- it was refused, or failed
   pub step_err : (e : Error) → IsErr out → ((state g old).in_transaction ≡ false → new ≡ old)
       → (HasCleanDisk (state g new) → IsTrue (state g old).in_transaction → ExecutesInside 0 sql params (state g old) (state g new) (Err e))
-      → Survives (state g old) (state g new) (λ _. ⊥) → IsStep (state g old) (state g new) out made
+      → Survives (state g old) (state g new) (λ _. ⊥) → IsTransactionStep (state g old) (state g new) out made
   step_err e failed still runs survives = record {
     kept = λ clean. elim (cases_Bool (state g old).in_transaction) [
       | inl on ↦ kept_inside sql params (state g old) (state g new) (Err e) (runs clean on)
@@ -69,7 +69,7 @@ pub clean_before : (a b : State) (P : Trees → Type 0) → Survives a b P → H
 clean_before a b P s clean = omega (arith, s.clean)
 
 pub step_then : {U V E F : Type 0} (a b c : State) (u : U) (r : Result V F) (P : U → State → State → Type 0) (Q R : V → State → State → Type 0)
-    → ((v : V) → P u a b → Q v b c → R v a c) → IsStep {V = U} {E = E} a b (Ok u) P → IsStep b c r Q → IsStep a c r R
+    → ((v : V) → P u a b → Q v b c → R v a c) → IsTransactionStep {V = U} {E = E} a b (Ok u) P → IsTransactionStep b c r Q → IsTransactionStep a c r R
 step_then {U} {V} {E} {F} a b c u r P Q R joins first next = record {
   kept = λ clean. keeps_then a b c (first.kept (clean_before b c (λ _. ⊥) next.survives clean)) (next.kept clean);
   made = λ clean on. go r (first.made (clean_before b c (λ _. ⊥) next.survives clean) on) (next.made clean);
@@ -81,7 +81,7 @@ step_then {U} {V} {E} {F} a b c u r P Q R joins first next = record {
     go (Err e) p q = tt
 
 -- the same step, of which less is told, or of whose answer something was made
-pub step_weaker : {V E : Type 0} (a b : State) (r : Result V E) (P Q : V → State → State → Type 0) → ((v : V) → P v a b → Q v a b) → IsStep a b r P → IsStep a b r Q
+pub step_weaker : {V E : Type 0} (a b : State) (r : Result V E) (P Q : V → State → State → Type 0) → ((v : V) → P v a b → Q v a b) → IsTransactionStep a b r P → IsTransactionStep a b r Q
 step_weaker {V} {E} a b r P Q less step = record { kept = step.kept; made = λ clean on. go r (step.made clean on); survives = step.survives }
   where
     go : (r : Result V E) → IfOk r (λ v. IsTrue b.in_transaction × P v a b) → IfOk r (λ v. IsTrue b.in_transaction × Q v a b)
@@ -89,7 +89,7 @@ step_weaker {V} {E} a b r P Q less step = record { kept = step.kept; made = λ c
     go (Err e) h = tt
 
 pub step_read : {U V E F : Type 0} (a b : State) (u : U) (r : Result V F) (P : U → State → State → Type 0) (Q : V → State → State → Type 0)
-    → ((v : V) → r ≡ Ok v → P u a b → Q v a b) → IsStep {V = U} {E = E} a b (Ok u) P → IsStep a b r Q
+    → ((v : V) → r ≡ Ok v → P u a b → Q v a b) → IsTransactionStep {V = U} {E = E} a b (Ok u) P → IsTransactionStep a b r Q
 step_read {U} {V} {E} {F} a b u r P Q tells step = record { kept = step.kept; made = λ clean on. go r (step.made clean on) tells; survives = step.survives }
   where
     go : (r : Result V F) → IsTrue b.in_transaction × P u a b → ((v : V) → r ≡ Ok v → P u a b → Q v a b) → IfOk r (λ v. IsTrue b.in_transaction × Q v a b)
@@ -99,7 +99,7 @@ step_read {U} {V} {E} {F} a b u r P Q tells step = record { kept = step.kept; ma
 -- ---- a transaction
 
 module _ {S E : Type 0} (g : Ghosts S) (old mid end : Held S) (made : Database → Database → Type 0)
-    (step : IsStep {V = Unit {0}} {E = E} (state g (record old { in_transaction = true })) (state g mid) (Ok tt) (λ _ a b. made a.now b.now))
+    (step : IsTransactionStep {V = Unit {0}} {E = E} (state g (record old { in_transaction = true })) (state g mid) (Ok tt) (λ _ a b. made a.now b.now))
     (late : Survives (state g mid) (state g end) (λ db. db ≡ (state g mid).now.trees)) where
   pub commits_all : {F : Type 0} (r : Result (Unit {0}) F) → HasCleanDisk (state g end)
       → (HasCleanDisk (state g end) → OnOk r (IsTrue (state g mid).in_transaction × Shows (state g mid) (state g end) (state g mid).now (state g mid).now false × KeepsCounts (state g mid) (state g end) × ((state g end).marks ≡ [])))
@@ -133,14 +133,14 @@ bare_failure sql params old new e plain (inr h) = kept_unchanged old new h.5
 
 module _ {V E : Type 0} (sql : List ℕ) (params : Row) (old new : State) (rows_of : V → List Row) (plain : (c : Compiled) → understood old.now.schema sql ≡ Ok c → c.returning ≡ None) (survives : Survives old new (λ _. ⊥)) where
   -- the rows came
-  pub look_ok : (v : V) → (HasCleanDisk new → Shown sql params old new (rows_of v)) → IsStep {V = V} {E = E} old new (Ok v) (λ v. Selected sql params (rows_of v))
+  pub look_ok : (v : V) → (HasCleanDisk new → Shown sql params old new (rows_of v)) → IsTransactionStep {V = V} {E = E} old new (Ok v) (λ v. SelectsRows sql params (rows_of v))
   look_ok v shown = record {
     kept = λ clean. kept_unchanged old new (bare_rows sql params old new (rows_of v) plain (shown clean));
     made = λ clean on. let u = bare_rows sql params old new (rows_of v) plain (shown clean) in (subst IsTrue (sym u.0.mode) on, (shown clean, u.0.now_is, u.0.was_open));
     survives = survives;
   }
 
-  pub look_err : (e : Error) (out : Result V E) → IsErr out → (HasCleanDisk new → FailsToQuery sql params old new e ⊎ IsTooLate sql params old new e) → IsStep old new out (λ v. Selected sql params (rows_of v))
+  pub look_err : (e : Error) (out : Result V E) → IsErr out → (HasCleanDisk new → FailsToQuery sql params old new e ⊎ IsTooLate sql params old new e) → IsTransactionStep old new out (λ v. SelectsRows sql params (rows_of v))
   look_err e out failed fails = record {
     kept = λ clean. bare_failure sql params old new e plain (fails clean);
     made = λ clean on. on_err out _ failed;

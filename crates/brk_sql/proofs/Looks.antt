@@ -23,8 +23,8 @@ use Rattle.sqlite.specs.Listing.{understood, reads_listing, if_select, listing_s
 use Rattle.sqlite.specs.Effect.{Answers}
 use Rattle.sqlite.specs.State.{State, Shown}
 use Rattle.sqlite.proofs.Callers.{IsPlain, command_of, reads_as}
-use Rattle.brk_sql.specs.Rows.{cells}
-use Rattle.brk_sql.specs.Desk.{Desk, Stands, Tells}
+use Rattle.brk_sql.specs.Rows.{cells_in_column_order}
+use Rattle.brk_sql.specs.Desk.{Desk, IsTableAt, TablesSatisfy}
 use Rattle.brk_sql.proofs.Effects.{same_value}
 use Rattle.brk_sql.proofs.Kept.{reads_rising, reads_falling, reads_sorted}
 use Rattle.brk_sql.proofs.Meant.{meant, known, when_understood}
@@ -63,14 +63,14 @@ module _ (text : List ℕ) (p : Parsed) (s : ast.Select) (is : first text ≡ Ok
 -- ---- the records that it shows
 
 module _ {W T : Type 0} (desk : Desk W T) (w : W) (text : List ℕ) (params : Row) (p : Parsed) (terms project : List Term) (order : List (Term × Key)) (paging : Term × Term) (names : List (List ℕ))
-    (either : (schema : Schema) (at tree : ℕ) → Stands schema (desk.shape w tree) at
+    (either : (schema : Schema) (at tree : ℕ) → IsTableAt schema (desk.shape w tree) at
     → (compiled schema text ≡ Ok (meant p [] (Select (record { lets = []; body = selection tree terms project order paging }) names))) ⊎ (compiled schema text ≡ Err Mismatch))
-    (q : desk.Item w → Bool) (same : (tree : ℕ) (r : Row) (x : desk.Item w) → cells (desk.shape w tree) r ≡ desk.encode w x → passes params terms r ≡ q x)
-    (show : desk.Item w → Row) (shows : (tree : ℕ) (r : Row) (x : desk.Item w) → cells (desk.shape w tree) r ≡ desk.encode w x → eval_all project (params ∷ r ∷ []) ≡ show x)
+    (q : desk.Item w → Bool) (same : (tree : ℕ) (r : Row) (x : desk.Item w) → cells_in_column_order (desk.shape w tree) r ≡ desk.encode w x → passes params terms r ≡ q x)
+    (show : desk.Item w → Row) (shows : (tree : ℕ) (r : Row) (x : desk.Item w) → cells_in_column_order (desk.shape w tree) r ≡ desk.encode w x → eval_all project (params ∷ r ∷ []) ≡ show x)
     (C : desk.Item w → desk.Item w → Ordering) (total : IsTotalOrder C)
-    (sorts : (tree : ℕ) (a b : Row) (x y : desk.Item w) → cells (desk.shape w tree) a ≡ desk.encode w x → cells (desk.shape w tree) b ≡ desk.encode w y → sorted_by params order a b ≡ C x y)
+    (sorts : (tree : ℕ) (a b : Row) (x y : desk.Item w) → cells_in_column_order (desk.shape w tree) a ≡ desk.encode w x → cells_in_column_order (desk.shape w tree) b ≡ desk.encode w y → sorted_by params order a b ≡ C x y)
     (old new : State) (rows : List Row) (shown : Shown text params old new rows) where
-  pub answers : (at tree : ℕ) → Stands old.now.schema (desk.shape w tree) at → Answers old.now (record { lets = []; body = selection tree terms project order paging }) params rows
+  pub answers : (at tree : ℕ) → IsTableAt old.now.schema (desk.shape w tree) at → Answers old.now (record { lets = []; body = selection tree terms project order paging }) params rows
   unfolding Shown
   answers at tree h =
       let c = meant p [] (Select (record { lets = []; body = selection tree terms project order paging }) names) in
@@ -81,19 +81,19 @@ module _ {W T : Type 0} (desk : Desk W T) (w : W) (text : List ℕ) (params : Ro
   paged = page (selection 0 terms project order paging) params
 
   -- ORDER BY the key
-  pub tells_rising : ((x y : desk.Item w) → C x y ≡ desk.order w x y) → Tells desk (λ t. rows ≡ paged (map show (filter q (desk.list w t)))) old.now
+  pub tells_rising : ((x y : desk.Item w) → C x y ≡ desk.order w x y) → TablesSatisfy desk (λ t. rows ≡ paged (map show (filter q (desk.list w t)))) old.now
   tells_rising is = λ t tree h.
       reads_rising (desk.shape w (tree w)) (desk.encode w) (desk.order w) (desk.list w t) (old.now.trees (tree w)) (h.rows w) _ params terms project order rows
       (picks Null (tree w) terms project order paging old.now.trees params rows ((answers (h.place w) (tree w) (h.stands w)).answer Null)) q (same (tree w)) show (shows (tree w)) C (sorts (tree w)) total is
 
   -- ORDER BY the key DESC
-  pub tells_falling : ((x y : desk.Item w) → C x y ≡ desk.order w y x) → Tells desk (λ t. rows ≡ paged (map show (reverse (filter q (desk.list w t))))) old.now
+  pub tells_falling : ((x y : desk.Item w) → C x y ≡ desk.order w y x) → TablesSatisfy desk (λ t. rows ≡ paged (map show (reverse (filter q (desk.list w t))))) old.now
   tells_falling is = λ t tree h.
       reads_falling (desk.shape w (tree w)) (desk.encode w) (desk.order w) (desk.list w t) (old.now.trees (tree w)) (h.rows w) _ params terms project order rows
       (picks Null (tree w) terms project order paging old.now.trees params rows ((answers (h.place w) (tree w) (h.stands w)).answer Null)) q (same (tree w)) show (shows (tree w)) C (sorts (tree w)) total is
 
   -- ORDER BY other columns and then the key
-  pub tells_sorted : ((x y : desk.Item w) → is_eq (C x y) ≡ true → is_eq (desk.order w x y) ≡ true) → Tells desk (λ t. rows ≡ paged (map show (sort_by C (filter q (desk.list w t))))) old.now
+  pub tells_sorted : ((x y : desk.Item w) → is_eq (C x y) ≡ true → is_eq (desk.order w x y) ≡ true) → TablesSatisfy desk (λ t. rows ≡ paged (map show (sort_by C (filter q (desk.list w t))))) old.now
   tells_sorted ties = λ t tree h.
       reads_sorted (desk.shape w (tree w)) (desk.encode w) (desk.order w) (desk.list w t) (old.now.trees (tree w)) (h.rows w) _ params terms project order rows
       (picks Null (tree w) terms project order paging old.now.trees params rows ((answers (h.place w) (tree w) (h.stands w)).answer Null)) q (same (tree w)) show (shows (tree w)) C (sorts (tree w)) total ties

@@ -14,7 +14,7 @@ use Rattle.sqlite_rules.proofs.ListLemmas.{all_has, all_from}
 use Rattle.sqlite_keyed.specs.Lists.{insert_sorted, update_where, sort_by}
 use Rattle.sqlite_keyed.proofs.ListLemmas.{all_weaker}
 use Rattle.sqlite_keyed.proofs.SortLemmas.{sorted_is-sort_by}
-use Rattle.brk_sql.specs.Rows.{Rises}
+use Rattle.brk_sql.specs.Rows.{IsStrictlyAscending}
 
 -- ---- permutations of a map
 
@@ -92,11 +92,11 @@ module _ {X : Type 0} {cmp : X → X → Ordering} (total : IsTotalOrder cmp) wh
   all-insert_sorted P new (x ∷ xs) h all =
       elim (is_gt (cmp new x)) as (λ b. AllByRecursion P (cond b (x ∷ insert_sorted cmp new xs) (new ∷ x ∷ xs))) [ true ↦ (all.0, all-insert_sorted P new xs h all.1) | false ↦ (h, all) ]
 
-  pub rises-insert_sorted : (new : X) (xs : List X) → AllByRecursion (λ y. is_eq (cmp new y) ≡ false) xs → Rises cmp xs → Rises cmp (insert_sorted cmp new xs)
+  pub rises-insert_sorted : (new : X) (xs : List X) → AllByRecursion (λ y. is_eq (cmp new y) ≡ false) xs → IsStrictlyAscending cmp xs → IsStrictlyAscending cmp (insert_sorted cmp new xs)
   rises-insert_sorted new [] apart up = (tt, tt)
   rises-insert_sorted new (x ∷ xs) apart up = go (cmp new x) refl (rises-insert_sorted new xs apart.1 up.1)
     where
-      go : (o : Ordering) → cmp new x ≡ o → Rises cmp (insert_sorted cmp new xs) → Rises cmp (cond (is_gt o) (x ∷ insert_sorted cmp new xs) (new ∷ x ∷ xs))
+      go : (o : Ordering) → cmp new x ≡ o → IsStrictlyAscending cmp (insert_sorted cmp new xs) → IsStrictlyAscending cmp (cond (is_gt o) (x ∷ insert_sorted cmp new xs) (new ∷ x ∷ xs))
       go Less e more = ((e, all_weaker _ (λ y. cmp new y ≡ Less) (λ y. total.trans new x y e) xs up.0), up)
       go Equal e more = absurd (true≢false (sym (ap is_eq e) ∙ apart.0))
       go Greater e more = (all-insert_sorted _ new xs (total.antisymm x new ∙ ap ordering_reverse e) up.0, more)
@@ -105,13 +105,13 @@ module _ {X : Type 0} {cmp : X → X → Ordering} (total : IsTotalOrder cmp) wh
   all-sort_by P [] all = tt
   all-sort_by P (x ∷ xs) all = all-insert_sorted P x _ all.0 (all-sort_by P xs all.1)
 
-  rises-sort_by : (xs : List X) → IsAscending (λ x y. is_eq (cmp x y) ≡ false) xs → Rises cmp (sort_by cmp xs)
+  rises-sort_by : (xs : List X) → IsAscending (λ x y. is_eq (cmp x y) ≡ false) xs → IsStrictlyAscending cmp (sort_by cmp xs)
   rises-sort_by [] apart = tt
   rises-sort_by (x ∷ xs) apart = rises-insert_sorted x _ (all-sort_by _ xs apart.0) (rises-sort_by xs apart.1)
 
   -- a sorted list with no ties rises
-  pub rises_from_sorted : (xs : List X) → IsSorted cmp xs → IsAscending (λ x y. is_eq (cmp x y) ≡ false) xs → Rises cmp xs
-  rises_from_sorted xs sorted apart = subst (Rises cmp) (sym (sorted_is-sort_by cmp total xs xs apart (IsPermutation-refl xs) sorted)) (rises-sort_by xs apart)
+  pub rises_from_sorted : (xs : List X) → IsSorted cmp xs → IsAscending (λ x y. is_eq (cmp x y) ≡ false) xs → IsStrictlyAscending cmp xs
+  rises_from_sorted xs sorted apart = subst (IsStrictlyAscending cmp) (sym (sorted_is-sort_by cmp total xs xs apart (IsPermutation-refl xs) sorted)) (rises-sort_by xs apart)
 
 pub IsPermutation-insert_sorted : {X : Type 0} (cmp : X → X → Ordering) (new : X) (xs : List X) → IsPermutation (new ∷ xs) (insert_sorted cmp new xs)
 IsPermutation-insert_sorted cmp new [] = IsPermutation-refl _
@@ -122,7 +122,7 @@ IsPermutation-insert_sorted cmp new (x ∷ xs) =
     ]
 
 -- a change that keeps each key
-pub rises-update_where : {X : Type 0} (cmp : X → X → Ordering) (p : X → Bool) (f : X → X) → ((x y : X) → cmp (f x) y ≡ cmp x y) → ((x y : X) → cmp x (f y) ≡ cmp x y) → (xs : List X) → Rises cmp xs → Rises cmp (update_where p f xs)
+pub rises-update_where : {X : Type 0} (cmp : X → X → Ordering) (p : X → Bool) (f : X → X) → ((x y : X) → cmp (f x) y ≡ cmp x y) → ((x y : X) → cmp x (f y) ≡ cmp x y) → (xs : List X) → IsStrictlyAscending cmp xs → IsStrictlyAscending cmp (update_where p f xs)
 rises-update_where {X} cmp p f left right [] up = tt
 rises-update_where {X} cmp p f left right (x ∷ xs) up = (each x xs up.0, rises-update_where cmp p f left right xs up.1)
   where

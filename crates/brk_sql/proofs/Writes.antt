@@ -33,8 +33,8 @@ use Rattle.sqlite_keyed.specs.Lists.{insert_sorted, update_where, delete_where}
 use Rattle.sqlite.specs.Effect.{Database, IsDatabase, value_rows}
 use Rattle.sqlite.specs.Rows.{stamped}
 use Rattle.sqlite.specs.State.{State, Executes}
-use Rattle.brk_sql.specs.Rows.{cells, same_rowid, TreeHolds}
-use Rattle.brk_sql.specs.Desk.{Desk, Stands, IsCalm, HasTables, SparesStrangers, Turns}
+use Rattle.brk_sql.specs.Rows.{cells_in_column_order, same_rowid, TreeHoldsRecords}
+use Rattle.brk_sql.specs.Desk.{Desk, IsTableAt, HasNoActionsAt, HasTables, PreservesUnrelatedTables, ChangesTablesBy}
 use Rattle.brk_sql.proofs.Effects.{inserted, took, altered}
 use Rattle.brk_sql.proofs.Kept.{held_with, held_without, held_changed, row_of, record_of}
 use Rattle.brk_sql.proofs.Meant.{meant}
@@ -46,13 +46,13 @@ use Rattle.brk_sql.proofs.Values.{differ_ints}
 
 -- the key of a record is the rowid
 abbrev pub IsRowidKey : {X : Type 0} → (ℕ → Table) → (X → Row) → (X → X → Ordering) → Type 0
-IsRowidKey {X} shape encode cmp = (tree : ℕ) (r s : Row) (x y : X) → cells (shape tree) r ≡ encode x → cells (shape tree) s ≡ encode y → is_eq (cmp x y) ≡ same_rowid r s
+IsRowidKey {X} shape encode cmp = (tree : ℕ) (r s : Row) (x y : X) → cells_in_column_order (shape tree) r ≡ encode x → cells_in_column_order (shape tree) s ≡ encode y → is_eq (cmp x y) ≡ same_rowid r s
 
 -- it is what the first UNIQUE names
 pub record IsUniqueKey {X : Type 0} (shape : ℕ → Table) (encode : X → Row) (cmp : X → X → Ordering) : Type 0 where
   pub key : List ℕ
   pub first : (tree : ℕ) → slice_get (shape tree).uniques 0 ≡ Some key
-  pub tied : (tree : ℕ) (r s : Row) (x y : X) → cells (shape tree) r ≡ encode x → cells (shape tree) s ≡ encode y → is_eq (cmp x y) ≡ agree (slice_index_or (shape tree).orders 0 plain) key r key s
+  pub tied : (tree : ℕ) (r s : Row) (x y : X) → cells_in_column_order (shape tree) r ≡ encode x → cells_in_column_order (shape tree) s ≡ encode y → is_eq (cmp x y) ≡ agree (slice_index_or (shape tree).orders 0 plain) key r key s
 
 -- what is to be known of one table of a desk
 pub record Place {W T : Type 0} (desk : Desk W T) (w : W) : Type 0 where
@@ -66,7 +66,7 @@ pub record Place {W T : Type 0} (desk : Desk W T) (w : W) : Type 0 where
 
 -- ---- a record whose key came in is new
 
-module _ {X : Type 0} (table : Table) (encode : X → Row) (cmp : X → X → Ordering) (xs : List X) (rows : List Row) (h : TreeHolds table encode cmp xs rows) (new : Row) (x : X) (e : cells table new ≡ encode x) (free : is_taken rows new ≡ false) where
+module _ {X : Type 0} (table : Table) (encode : X → Row) (cmp : X → X → Ordering) (xs : List X) (rows : List Row) (h : TreeHoldsRecords table encode cmp xs rows) (new : Row) (x : X) (e : cells_in_column_order table new ≡ encode x) (free : is_taken rows new ≡ false) where
   untaken : (rows : List Row) → is_taken rows new ≡ false → (r : Row) → Has rows r → same_rowid new r ≡ false
   untaken [] free r there = absurd there
   untaken (s ∷ rows) free r there = go (same_rowid s new) refl free there (λ off later. untaken rows off r later)
@@ -76,13 +76,13 @@ module _ {X : Type 0} (table : Table) (encode : X → Row) (cmp : X → X → Or
       go false k off (inl same) more = subst (λ z. same_rowid new z ≡ false) (sym same) (same_rowid_sym new s ∙ k)
       go false k off (inr later) more = more off later
 
-  absent_rowid : ((r s : Row) (x y : X) → cells table r ≡ encode x → cells table s ≡ encode y → is_eq (cmp x y) ≡ same_rowid r s) → AllByRecursion (λ y. is_eq (cmp x y) ≡ false) xs
+  absent_rowid : ((r s : Row) (x y : X) → cells_in_column_order table r ≡ encode x → cells_in_column_order table s ≡ encode y → is_eq (cmp x y) ≡ same_rowid r s) → AllByRecursion (λ y. is_eq (cmp x y) ≡ false) xs
   absent_rowid tied =
       all_from _ xs (λ y there.
       let r = row_of table encode cmp xs rows h y there in
       tied new r.0 x y e r.2 ∙ untaken rows free r.0 r.1)
 
-  absent_unique : (order : _) (key : List ℕ) → ((r s : Row) (x y : X) → cells table r ≡ encode x → cells table s ≡ encode y → is_eq (cmp x y) ≡ agree order key r key s)
+  absent_unique : (order : _) (key : List ℕ) → ((r s : Row) (x y : X) → cells_in_column_order table r ≡ encode x → cells_in_column_order table s ≡ encode y → is_eq (cmp x y) ≡ agree order key r key s)
       → ((r s : Row) → Has (put_row new rows) r → Has (put_row new rows) s → differ (rowid s) (rowid r) ≡ true → agree order key s key r ≡ false)
       → IsTrue (is_int (rowid new)) → AllByRecursion (λ y. is_eq (cmp x y) ≡ false) xs
   absent_unique order key tied once whole =
@@ -105,24 +105,24 @@ module _ {W T : Type 0} (desk : Desk W T) (w : W) (place : Place desk w) where
 
   -- what a statement on this table leaves of any other
   abbrev Leaves : (tree : W → ℕ) (old new : Database) → Table → Type 0
-  Leaves tree old new k = k.tree ≢ tree w → IsCalm old.schema k.tree → new.trees k.tree ≡ old.trees k.tree
+  Leaves tree old new k = k.tree ≢ tree w → HasNoActionsAt old.schema k.tree → new.trees k.tree ≡ old.trees k.tree
 
   pub framed : (t : T) (xs : List Item) (tree : W → ℕ) (old new : Database) → HasTables desk t tree old → new.schema ≡ old.schema → ((k : Table) → Has old.schema.tables k → Leaves tree old new k)
-      → TreeHolds (shape (tree w)) (desk.encode w) (desk.order w) xs (new.trees (tree w)) → IsDatabase new → HasTables desk (place.put xs t) tree new × SparesStrangers tree old new
+      → TreeHoldsRecords (shape (tree w)) (desk.encode w) (desk.order w) xs (new.trees (tree w)) → IsDatabase new → HasTables desk (place.put xs t) tree new × PreservesUnrelatedTables tree old new
   framed t xs tree old new h schema leaves this sound =
       let u = place.put xs t in
       let back = sym schema in (
         record {
           place = h.place;
-          stands = λ v. subst (λ s. Stands s (desk.shape v (tree v)) (h.place v)) back (h.stands v);
+          stands = λ v. subst (λ s. IsTableAt s (desk.shape v (tree v)) (h.place v)) back (h.stands v);
           apart = h.apart;
-          calm = λ v. subst (λ s. IsCalm s (tree v)) back (h.calm v);
+          calm = λ v. subst (λ s. HasNoActionsAt s (tree v)) back (h.calm v);
           sound = sound;
           rows = λ v. elim (place.split v) [
-            | inl same ↦ subst (λ v. TreeHolds (desk.shape v (tree v)) (desk.encode v) (desk.order v) (desk.list v u) (new.trees (tree v))) (sym same)
-                (subst (λ ys. TreeHolds (shape (tree w)) (desk.encode w) (desk.order w) ys (new.trees (tree w))) (sym (place.put_this xs t)) this)
-            | inr other ↦ subst (λ ys. TreeHolds (desk.shape v (tree v)) (desk.encode v) (desk.order v) ys (new.trees (tree v))) (sym (place.put_others v other xs t))
-                (subst (TreeHolds (desk.shape v (tree v)) (desk.encode v) (desk.order v) (desk.list v t)) (sym (others v other)) (h.rows v))
+            | inl same ↦ subst (λ v. TreeHoldsRecords (desk.shape v (tree v)) (desk.encode v) (desk.order v) (desk.list v u) (new.trees (tree v))) (sym same)
+                (subst (λ ys. TreeHoldsRecords (shape (tree w)) (desk.encode w) (desk.order w) ys (new.trees (tree w))) (sym (place.put_this xs t)) this)
+            | inr other ↦ subst (λ ys. TreeHoldsRecords (desk.shape v (tree v)) (desk.encode v) (desk.order v) ys (new.trees (tree v))) (sym (place.put_others v other xs t))
+                (subst (TreeHoldsRecords (desk.shape v (tree v)) (desk.encode v) (desk.order v) (desk.list v t)) (sym (others v other)) (h.rows v))
           ];
         },
         record { schema = schema; rows = all_from _ old.schema.tables (λ k there apart calm. leaves k there (apart w) calm) },
@@ -133,7 +133,7 @@ module _ {W T : Type 0} (desk : Desk W T) (w : W) (place : Place desk w) where
           let table = desk.shape v (tree v) in
           let at : table.tree ≡ tree v = desk.placed v (tree v) in
           subst (λ n. new.trees n ≡ old.trees n) at
-          (leaves table (has_got old.schema.tables (h.place v) table (h.stands v).found) (λ same. other (h.apart v w (sym at ∙ same))) (subst (IsCalm old.schema) (sym at) (h.calm v)))
+          (leaves table (has_got old.schema.tables (h.place v) table (h.stands v).found) (λ same. other (h.apart v w (sym at ∙ same))) (subst (HasNoActionsAt old.schema) (sym at) (h.calm v)))
 
   -- ---- a step on this table, and all that it sets off
 
@@ -152,11 +152,11 @@ module _ {W T : Type 0} (desk : Desk W T) (w : W) (place : Place desk w) where
   -- ---- DELETE
 
   module _ (text : List ℕ) (params : Row) (p : Parsed) (terms project : List Term) (q : Item → Bool)
-      (same : (tree : ℕ) (r : Row) (x : Item) → cells (shape tree) r ≡ desk.encode w x → passes params terms r ≡ q x)
+      (same : (tree : ℕ) (r : Row) (x : Item) → cells_in_column_order (shape tree) r ≡ desk.encode w x → passes params terms r ≡ q x)
       (ids : (r : Row) → id_in (rowid (eval_all project (params ∷ r ∷ []))) ≡ id_in (rowid r)) where
-    pub deletes_as : ((schema : Schema) (at tree : ℕ) → Stands schema (shape tree) at
+    pub deletes_as : ((schema : Schema) (at tree : ℕ) → IsTableAt schema (shape tree) at
         → (compiled schema text ≡ Ok (meant p [] (Delete at (record { lets = []; body = selection tree terms project [] whole_page })))) ⊎ (compiled schema text ≡ Err Mismatch))
-        → (old new : State) (count : ℕ) → Executes text params old new (Ok count) → Turns desk (λ t. place.put (delete_where q (desk.list w t)) t) old.now new.now
+        → (old new : State) (count : ℕ) → Executes text params old new (Ok count) → ChangesTablesBy desk (λ t. place.put (delete_where q (desk.list w t)) t) old.now new.now
     deletes_as either old new count ran = λ t tree h.
         let table = shape (tree w) in
         let at = desk.placed w (tree w) in
@@ -171,17 +171,17 @@ module _ {W T : Type 0} (desk : Desk W T) (w : W) (place : Place desk w) where
         let left : without_all (db table.tree) (ids_of it.1.0) ≡ filter (λ r. not (passes params terms r)) rows =
         ap₂ without_all (ap db at) named ∙ remains (passes params terms) rows k.picked held.keyed held.apart k.same in
         framed t _ tree old.now new.now h it.0 (step_leaves t tree old.now new.now h e refl it.1.2)
-        (subst (TreeHolds table (desk.encode w) (desk.order w) (delete_where q (desk.list w t))) (sym (step.0 ∙ left)) (held_without table (desk.encode w) (desk.order w) (passes params terms) q (same (tree w)) (desk.list w t) rows held)) it.2
+        (subst (TreeHoldsRecords table (desk.encode w) (desk.order w) (delete_where q (desk.list w t))) (sym (step.0 ∙ left)) (held_without table (desk.encode w) (desk.order w) (passes params terms) q (same (tree w)) (desk.list w t) rows held)) it.2
 
     -- ---- UPDATE of columns that are no key
 
-    pub updates_as : ((schema : Schema) (at tree : ℕ) → Stands schema (shape tree) at
+    pub updates_as : ((schema : Schema) (at tree : ℕ) → IsTableAt schema (shape tree) at
         → (compiled schema text ≡ Ok (meant p [] (Update at (record { lets = []; body = selection tree terms project [] whole_page })))) ⊎ (compiled schema text ≡ Err Mismatch))
         → (write : Row → Row) (to : Item → Item) → ((x y : Item) → desk.order w (to x) y ≡ desk.order w x y) → ((x y : Item) → desk.order w x (to y) ≡ desk.order w x y)
         → ((r : Row) → rowid (write r) ≡ rowid r)
-        → ((tree : ℕ) (r : Row) (x : Item) → IsTrue (is_int (rowid r)) → cells (shape tree) r ≡ desk.encode w x → cast_row (shape tree) (drop 1 (eval_all project (params ∷ r ∷ []))) ≡ write r)
-        → ((tree : ℕ) (r : Row) (x : Item) → cells (shape tree) r ≡ desk.encode w x → cells (shape tree) (write r) ≡ desk.encode w (to x))
-        → (old new : State) (count : ℕ) → Executes text params old new (Ok count) → Turns desk (λ t. place.put (update_where q to (desk.list w t)) t) old.now new.now
+        → ((tree : ℕ) (r : Row) (x : Item) → IsTrue (is_int (rowid r)) → cells_in_column_order (shape tree) r ≡ desk.encode w x → cast_row (shape tree) (drop 1 (eval_all project (params ∷ r ∷ []))) ≡ write r)
+        → ((tree : ℕ) (r : Row) (x : Item) → cells_in_column_order (shape tree) r ≡ desk.encode w x → cells_in_column_order (shape tree) (write r) ≡ desk.encode w (to x))
+        → (old new : State) (count : ℕ) → Executes text params old new (Ok count) → ChangesTablesBy desk (λ t. place.put (update_where q to (desk.list w t)) t) old.now new.now
     updates_as either write to before after keeps writes shows old new count ran = λ t tree h.
         let table = shape (tree w) in
         let at = desk.placed w (tree w) in
@@ -209,13 +209,13 @@ module _ {W T : Type 0} (desk : Desk W T) (w : W) (place : Place desk w) where
         IsPermutation-trans _ _ _ (IsPermutation-sym _ _ (changed_is test write rows))
         (IsPermutation-trans _ _ _ (IsPermutation-append _ _ _ _ (IsPermutation-map write (filter test rows) k.picked k.same) (IsPermutation-refl (filter (λ r. not (test r)) rows))) (put_all_is (map write k.picked) _ fresh)) in
         framed t _ tree old.now new.now h it.0 (step_leaves t tree old.now new.now h e refl it.1.2)
-        (subst (TreeHolds table (desk.encode w) (desk.order w) (update_where q to (desk.list w t))) (sym those)
+        (subst (TreeHoldsRecords table (desk.encode w) (desk.order w) (update_where q to (desk.list w t))) (sym those)
         (held_changed table (desk.encode w) (desk.order w) test write q to keeps before after (same (tree w)) (shows (tree w)) (desk.list w t) rows _ perm held)) it.2
 
   -- ---- INSERT .. VALUES leaves the other tables, whosever they are
 
   pub inserts_alone : (text : List ℕ) (params : Row) (p : Parsed) (terms : List Term) (width : ℕ)
-      → ((schema : Schema) (at tree : ℕ) → Stands schema (shape tree) at → compiled schema text ≡ Ok (meant p [] (Insert at (Values terms width))))
+      → ((schema : Schema) (at tree : ℕ) → IsTableAt schema (shape tree) at → compiled schema text ≡ Ok (meant p [] (Insert at (Values terms width))))
       → (old new : State) (count : ℕ) → Executes text params old new (Ok count) → (t : T) (tree : W → ℕ) → HasTables desk t tree old.now
       → (new.now.schema ≡ old.now.schema) × AllByRecursion (λ k. k.tree ≢ tree w → new.now.trees k.tree ≡ old.now.trees k.tree) old.now.schema.tables
   inserts_alone text params p terms width is old new count ran t tree h =
@@ -225,10 +225,10 @@ module _ {W T : Type 0} (desk : Desk W T) (w : W) (place : Place desk w) where
   -- ---- INSERT .. VALUES of one row
 
   pub inserts_as : (text : List ℕ) (params : Row) (p : Parsed) (terms : List Term) (width : ℕ) (source : Row) (x : Item)
-      → ((schema : Schema) (at tree : ℕ) → Stands schema (shape tree) at → compiled schema text ≡ Ok (meant p [] (Insert at (Values terms width))))
+      → ((schema : Schema) (at tree : ℕ) → IsTableAt schema (shape tree) at → compiled schema text ≡ Ok (meant p [] (Insert at (Values terms width))))
       → ((tree : ℕ) → value_rows (stamped (shape tree) params) width (length terms / width) terms ≡ source ∷ [])
-      → ((tree : ℕ) (rows : List Row) → cells (shape tree) (with_rowid Chosen rows (cast_row (shape tree) source)) ≡ desk.encode w x)
-      → (old new : State) (count : ℕ) → Executes text params old new (Ok count) → Turns desk (λ t. place.put (insert_sorted (desk.order w) x (desk.list w t)) t) old.now new.now
+      → ((tree : ℕ) (rows : List Row) → cells_in_column_order (shape tree) (with_rowid Chosen rows (cast_row (shape tree) source)) ≡ desk.encode w x)
+      → (old new : State) (count : ℕ) → Executes text params old new (Ok count) → ChangesTablesBy desk (λ t. place.put (insert_sorted (desk.order w) x (desk.list w t)) t) old.now new.now
   inserts_as text params p terms width source x is one shows old new count ran = λ t tree h.
       let table = shape (tree w) in
       let at = desk.placed w (tree w) in
@@ -253,7 +253,7 @@ module _ {W T : Type 0} (desk : Desk W T) (w : W) (place : Place desk w) where
       ] in
       framed t _ tree old.now new.now h it.0
       (λ k there apart calm. all_has (λ k. k.tree ≢ table.tree → new.now.trees k.tree ≡ db k.tree) old.now.schema.tables k a.tables there (λ same. apart (same ∙ at)))
-      (subst (TreeHolds table (desk.encode w) (desk.order w) (insert_sorted (desk.order w) x (desk.list w t))) (sym those)
+      (subst (TreeHoldsRecords table (desk.encode w) (desk.order w) (insert_sorted (desk.order w) x (desk.list w t))) (sym those)
       (held_with table (desk.encode w) (desk.order w) place.total comer x (shows (tree w) rows) whole (desk.list w t) rows free absent held)) it.2
     where
       not_not : (b : Bool) → not b ≡ true → b ≡ false

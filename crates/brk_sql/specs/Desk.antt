@@ -21,35 +21,35 @@ use Rattle.sqlite_resolve.specs.declared.compiled.Compiled.{Compiled}
 use Rattle.sqlite_resolve.specs.declared.error.CompileError.TheVariants.{NoSuchTable}
 use Rattle.sqlite.specs.Listing.{understood}
 use Rattle.sqlite.specs.Steps.{column_names}
-use Rattle.brk_sql.specs.Rows.{TreeHolds}
+use Rattle.brk_sql.specs.Rows.{TreeHoldsRecords}
 
 -- ---- The definition of a table
 
 -- A column of a STRICT table, with this name and of this kind, NOT NULL and without a default.
-abbrev pub of_kind : Kind → List ℕ → Column
-of_kind kind name = record { name = name; kind = kind; is_strict = true; not_null = true; default = Null; collation = Binary }
+abbrev pub not_null_column : Kind → List ℕ → Column
+not_null_column kind name = record { name = name; kind = kind; is_strict = true; not_null = true; default = Null; collation = Binary }
 
 -- A TEXT column, NOT NULL and without a default.
-abbrev pub text : List ℕ → Column
-text = of_kind Text
+abbrev pub text_column : List ℕ → Column
+text_column = not_null_column Text
 
 -- An INTEGER column, NOT NULL and without a default.
-abbrev pub whole : List ℕ → Column
-whole = of_kind Integer
+abbrev pub integer_column : List ℕ → Column
+integer_column = not_null_column Integer
 
 -- An INTEGER column that may be null, without a default.
-abbrev pub perhaps : List ℕ → Column
-perhaps name = record (whole name) { not_null = false }
+abbrev pub nullable_integer_column : List ℕ → Column
+nullable_integer_column name = record (integer_column name) { not_null = false }
 
 -- The foreign key of the column at `place` to the column `column` of the table `parent`, with no
 -- action on delete or update.
-abbrev pub refers : ℕ → List ℕ → List ℕ → Reference
-refers place parent column = record { columns = place ∷ []; parent = parent; parent_columns = column ∷ []; on_delete = NoAction; on_update = NoAction; is_deferred = false }
+abbrev pub foreign_key : ℕ → List ℕ → List ℕ → Reference
+foreign_key place parent column = record { columns = place ∷ []; parent = parent; parent_columns = column ∷ []; on_delete = NoAction; on_update = NoAction; is_deferred = false }
 
 -- A table with this name, tree, columns, keys and foreign keys, and without checks and computed
 -- columns.
-abbrev pub table_of : List ℕ → ℕ → List Column → Option ℕ → List ℕ → List (List ℕ) → List Reference → Table
-table_of name tree columns key primary uniques references = record {
+abbrev pub table_without_checks : List ℕ → ℕ → List Column → Option ℕ → List ℕ → List (List ℕ) → List Reference → Table
+table_without_checks name tree columns key primary uniques references = record {
   name = name;
   tree = tree;
   columns = columns;
@@ -68,7 +68,7 @@ table_of name tree columns key primary uniques references = record {
 
 -- The table `table` is at the position `at` of the schema's list of tables, and its name refers to
 -- it.
-pub record Stands (schema : Schema) (table : Table) (at : ℕ) : Type 0 where
+pub record IsTableAt (schema : Schema) (table : Table) (at : ℕ) : Type 0 where
   pub named : table_named schema table.name ≡ Some at
   pub found : slice_get schema.tables at ≡ Some table
 
@@ -82,45 +82,45 @@ writes_rows SetNull = true
 writes_rows SetDefault = true
 
 -- True if the foreign key, on delete or on update, changes or deletes the rows that refer by it.
-abbrev pub acts : Reference → Bool
-acts ref = writes_rows ref.on_delete || writes_rows ref.on_update
+abbrev pub foreign_key_writes_rows : Reference → Bool
+foreign_key_writes_rows ref = writes_rows ref.on_delete || writes_rows ref.on_update
 
 -- True if the rows of the table are not at `tree`, or if none of its foreign keys changes or
 -- deletes rows.
-abbrev pub is_calm_at : ℕ → Table → Bool
-is_calm_at tree t = not (t.tree == tree) || list_all (λ ref. not (acts ref)) t.references
+abbrev pub has_no_actions_at : ℕ → Table → Bool
+has_no_actions_at tree t = not (t.tree == tree) || list_all (λ ref. not (foreign_key_writes_rows ref)) t.references
 
 -- For each table of the schema whose rows are at `tree`: none of its foreign keys changes or
 -- deletes rows. So no foreign-key action changes the rows at `tree`.
-abbrev pub IsCalm : Schema → ℕ → Type 0
-IsCalm schema tree = list_all (is_calm_at tree) schema.tables ≡ true
+abbrev pub HasNoActionsAt : Schema → ℕ → Type 0
+HasNoActionsAt schema tree = list_all (has_no_actions_at tree) schema.tables ≡ true
 
 -- True if none of the table's foreign keys changes or deletes its rows.
-abbrev pub is_inert : Table → Bool
-is_inert t = list_all (λ ref. not (acts ref)) t.references
+abbrev pub has_no_actions : Table → Bool
+has_no_actions t = list_all (λ ref. not (foreign_key_writes_rows ref)) t.references
 
 -- The database `new` has a table of this shape that `old` did not have, without rows, and all
 -- tables of `old` at their positions with their rows.
-pub record Makes (old new : Database) (shape : ℕ → Table) : Type 0 where
+pub record CreatesTableOfShape (old new : Database) (shape : ℕ → Table) : Type 0 where
   pub tree : ℕ
   pub at : ℕ
-  pub stands : Stands new.schema (shape tree) at
+  pub stands : IsTableAt new.schema (shape tree) at
   pub empty : new.trees tree ≡ []
-  pub kept : (table : Table) (place : ℕ) → Stands old.schema table place → Stands new.schema table place
+  pub kept : (table : Table) (place : ℕ) → IsTableAt old.schema table place → IsTableAt new.schema table place
   pub rows : AllByRecursion (λ t. new.trees t.tree ≡ old.trees t.tree) old.schema.tables
   -- The tree of the new table belonged to no table.
   pub apart : AllByRecursion (λ t. t.tree ≢ tree) old.schema.tables
   -- The added tables, whose foreign keys write no rows.
   pub more : List Table
   pub tables : new.schema.tables ≡ old.schema.tables ++ more
-  pub inert : list_all is_inert more ≡ true
+  pub inert : list_all has_no_actions more ≡ true
   pub sound : IsDatabase new
 
 -- The database `new` is `old` after the tables of these shapes were created, in order, each as
--- `Makes` specifies.
-abbrev pub MakesEach : List (ℕ → Table) → Database → Database → Type 0
-MakesEach [] old new = new ≡ old
-MakesEach (shape ∷ shapes) old new = (mid : Database) × Makes old mid shape × MakesEach shapes mid new
+-- `CreatesTableOfShape` specifies.
+abbrev pub CreatesEachTable : List (ℕ → Table) → Database → Database → Type 0
+CreatesEachTable [] old new = new ≡ old
+CreatesEachTable (shape ∷ shapes) old new = (mid : Database) × CreatesTableOfShape old mid shape × CreatesEachTable shapes mid new
 
 -- ---- All tables of the program
 
@@ -137,63 +137,63 @@ pub record Desk (W T : Type 0) : Type 1 where
 -- may contain other tables.
 pub record HasTables {W T : Type 0} (desk : Desk W T) (t : T) (tree : W → ℕ) (db : Database) : Type 0 where
   pub place : W → ℕ
-  pub stands : (w : W) → Stands db.schema (desk.shape w (tree w)) (place w)
+  pub stands : (w : W) → IsTableAt db.schema (desk.shape w (tree w)) (place w)
   pub apart : (v w : W) → tree v ≡ tree w → v ≡ w
-  pub calm : (w : W) → IsCalm db.schema (tree w)
+  pub calm : (w : W) → HasNoActionsAt db.schema (tree w)
   -- The trees list the schema and obey it, so reopening the database finds the same schema.
   pub sound : IsDatabase db
-  pub rows : (w : W) → TreeHolds (desk.shape w (tree w)) (desk.encode w) (desk.order w) (desk.list w t) (db.trees (tree w))
+  pub rows : (w : W) → TreeHoldsRecords (desk.shape w (tree w)) (desk.encode w) (desk.order w) (desk.list w t) (db.trees (tree w))
 
 -- The database contains those tables of the program that are `In`, at the trees `tree`, with their
 -- records of `t`. It may contain other tables.
-pub record HasSome {W T : Type 0} (desk : Desk W T) (In : W → Type 0) (t : T) (tree : W → ℕ) (db : Database) : Type 0 where
+pub record HasSelectedTables {W T : Type 0} (desk : Desk W T) (In : W → Type 0) (t : T) (tree : W → ℕ) (db : Database) : Type 0 where
   pub place : W → ℕ
-  pub stands : (w : W) → In w → Stands db.schema (desk.shape w (tree w)) (place w)
+  pub stands : (w : W) → In w → IsTableAt db.schema (desk.shape w (tree w)) (place w)
   pub apart : (v w : W) → In v → In w → tree v ≡ tree w → v ≡ w
-  pub calm : (w : W) → In w → IsCalm db.schema (tree w)
+  pub calm : (w : W) → In w → HasNoActionsAt db.schema (tree w)
   pub sound : IsDatabase db
-  pub rows : (w : W) → In w → TreeHolds (desk.shape w (tree w)) (desk.encode w) (desk.order w) (desk.list w t) (db.trees (tree w))
+  pub rows : (w : W) → In w → TreeHoldsRecords (desk.shape w (tree w)) (desk.encode w) (desk.order w) (desk.list w t) (db.trees (tree w))
 
 -- The schema of `new` equals that of `old`. So do the rows of each table that is at none of the
 -- trees `tree`, unless a foreign key of that table changes or deletes its rows.
-pub record SparesStrangers {W : Type 0} (tree : W → ℕ) (old new : Database) : Type 0 where
+pub record PreservesUnrelatedTables {W : Type 0} (tree : W → ℕ) (old new : Database) : Type 0 where
   pub schema : new.schema ≡ old.schema
-  pub rows : AllByRecursion (λ k. ((w : W) → k.tree ≢ tree w) → IsCalm old.schema k.tree → new.trees k.tree ≡ old.trees k.tree) old.schema.tables
+  pub rows : AllByRecursion (λ k. ((w : W) → k.tree ≢ tree w) → HasNoActionsAt old.schema k.tree → new.trees k.tree ≡ old.trees k.tree) old.schema.tables
 
 -- For all records `t` and trees `tree`: if the database `old` contains the tables with the records
 -- `t` at these trees, `new` contains them with the records `f t` at the same trees. Other tables
 -- are unchanged, unless a foreign key of their own writes their rows. Vacuous if `old` does not
 -- contain the tables.
-abbrev pub Turns : {W T : Type 0} → Desk W T → (T → T) → Database → Database → Type 0
-Turns {W} {T} desk f old new = (t : T) (tree : W → ℕ) → HasTables desk t tree old → HasTables desk (f t) tree new × SparesStrangers tree old new
+abbrev pub ChangesTablesBy : {W T : Type 0} → Desk W T → (T → T) → Database → Database → Type 0
+ChangesTablesBy {W} {T} desk f old new = (t : T) (tree : W → ℕ) → HasTables desk t tree old → HasTables desk (f t) tree new × PreservesUnrelatedTables tree old new
 
 -- `P` holds of the records that the database contains in the program's tables. Vacuous if the
 -- database does not contain these tables.
-abbrev pub Tells : {W T : Type 0} → Desk W T → (T → Type 0) → Database → Type 0
-Tells {W} {T} desk P db = (t : T) (tree : W → ℕ) → HasTables desk t tree db → P t
+abbrev pub TablesSatisfy : {W T : Type 0} → Desk W T → (T → Type 0) → Database → Type 0
+TablesSatisfy {W} {T} desk P db = (t : T) (tree : W → ℕ) → HasTables desk t tree db → P t
 
 -- Each table of `old` is in `new`, at the same position and with the same rows. The database `new`
 -- may have more tables.
-pub record KeepsOthers (old new : Database) : Type 0 where
+pub record PreservesAllTables (old new : Database) : Type 0 where
   pub more : List Table
   pub tables : new.schema.tables ≡ old.schema.tables ++ more
   pub rows : AllByRecursion (λ t. new.trees t.tree ≡ old.trees t.tree) old.schema.tables
 
 -- The database `new` contains the program's tables with the records `t`, at trees that belong to no
 -- table of `old`, and all tables of `old` with their rows.
-pub record Founds {W T : Type 0} (desk : Desk W T) (t : T) (old new : Database) : Type 0 where
+pub record CreatesTablesWith {W T : Type 0} (desk : Desk W T) (t : T) (old new : Database) : Type 0 where
   pub tree : W → ℕ
   pub tables : HasTables desk t tree new
   pub fresh : (w : W) → AllByRecursion (λ t. t.tree ≢ tree w) old.schema.tables
-  pub others : KeepsOthers old new
+  pub others : PreservesAllTables old new
 
 -- If the Boolean is true, the statement `text` compiles in the schema. If it is false, `text` does
 -- not compile, because a table that it names does not exist.
-abbrev pub Probes : List ℕ → Bool → Schema → Type 0
-Probes text true schema = (c : Compiled) × (understood schema text ≡ Ok c)
-Probes text false schema = understood schema text ≡ Err NoSuchTable
+abbrev pub MatchesCompilation : List ℕ → Bool → Schema → Type 0
+MatchesCompilation text true schema = (c : Compiled) × (understood schema text ≡ Ok c)
+MatchesCompilation text false schema = understood schema text ≡ Err NoSuchTable
 
 -- The statement `text` compiles in the schema, and `has` is true if and only if the columns of its
 -- result have exactly the names `names`, in order.
-abbrev pub Heads : List ℕ → List (List ℕ) → Bool → Schema → Type 0
-Heads text names has schema = (c : Compiled) × (understood schema text ≡ Ok c) × (IsTrue has ↔ column_names c ≡ names)
+abbrev pub MatchesResultColumns : List ℕ → List (List ℕ) → Bool → Schema → Type 0
+MatchesResultColumns text names has schema = (c : Compiled) × (understood schema text ≡ Ok c) × (IsTrue has ↔ column_names c ≡ names)

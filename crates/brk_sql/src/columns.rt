@@ -2,14 +2,14 @@
 
 ghost use Rattle.std.specs.Prelude.{◌≡◌, ◌↔◌, ℕ, List, IsTrue, map};
 ghost use Rattle.std.specs.Borrow.{Bor};
-ghost use Rattle.brk_sql.specs.Desk.{Heads};
-ghost use Rattle.brk_sql.specs.Model.{Steps};
+ghost use Rattle.brk_sql.specs.Desk.{MatchesResultColumns};
+ghost use Rattle.brk_sql.specs.Model.{IsConnectionStep};
 
 use sqlite::{Alter, Error, Transaction};
 use sqlite_value::value::Bytes;
 
 // Returns true if the columns are exactly `names`, in order.
-fn are_named(columns: &[Bytes], names: &[&str]) -> bool
+fn columns_have_names(columns: &[Bytes], names: &[&str]) -> bool
     ensures { IsTrue result ↔ columns.now ≡ map (λ (name : Bor (List ℕ)). name.now) names.now }
 {
     if columns.len() != names.len() {
@@ -25,14 +25,14 @@ fn are_named(columns: &[Bytes], names: &[&str]) -> bool
 
 /// Returns true if the columns of the statement's result are exactly `names`, in order. If it
 /// returns a value, the database was open and is unchanged. Fails with the error of the database.
-pub fn shows_columns<S: Alter>(
+pub fn statement_has_columns<S: Alter>(
     tx: &mut Transaction<'_, S>,
     text: &str,
     names: &[&str],
 ) -> Result<bool, Error>
     ensures same_reference { tx.new.conn.ghost_name ≡ tx.old.conn.ghost_name }
-    ensures step { Steps S.Store tx.old tx.new result (λ has old new. IsTrue old.is_open × (new.now ≡ old.now) × Heads text.now (map (λ (name : Bor (List ℕ)). name.now) names.now) has old.now.schema) }
+    ensures step { IsConnectionStep S.Store tx.old tx.new result (λ has old new. IsTrue old.is_open × (new.now ≡ old.now) × MatchesResultColumns text.now (map (λ (name : Bor (List ℕ)). name.now) names.now) has old.now.schema) }
 {
     let statement = tx.prepare(text)?;
-    Ok(are_named(statement.column_names(), names))
+    Ok(columns_have_names(statement.column_names(), names))
 }

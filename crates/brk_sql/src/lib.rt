@@ -6,18 +6,18 @@ mod columns;
 ghost use Rattle.std.specs.Prelude.{◌≡◌, IfOk, IsTrue, None, map};
 ghost use Rattle.sqlite_value.specs.declared.value.Value.TheVariants.{Int};
 ghost use Rattle.sqlite_value.specs.Order.{column};
-ghost use Rattle.brk_sql.specs.Rows.{climbs_from};
-ghost use Rattle.brk_sql.specs.Model.{Steps};
-ghost use Rattle.brk_sql.specs.Desk.{Probes};
+ghost use Rattle.brk_sql.specs.Rows.{is_ascending_from};
+ghost use Rattle.brk_sql.specs.Model.{IsConnectionStep};
+ghost use Rattle.brk_sql.specs.Desk.{MatchesCompilation};
 
-pub use columns::shows_columns;
+pub use columns::statement_has_columns;
 use sqlite::{Alter, Error, Row, Transaction};
 use sqlite_resolve::error::CompileError;
 use std::alloc::Global;
 
 /// Returns true if each number is greater than the one before it.
-pub fn climbs(numbers: &[i64]) -> bool
-    ensures { result ≡ climbs_from None numbers.now }
+pub fn numbers_strictly_ascend(numbers: &[i64]) -> bool
+    ensures { result ≡ is_ascending_from None numbers.now }
 {
     let mut last: Option<i64> = None;
     for number in numbers {
@@ -45,9 +45,9 @@ pub fn numbers_in(alloc: Global, rows: &[Row], at: usize) -> Result<Vec<i64>, Er
 
 /// Returns true if the statement compiles, and false if it names a table that does not exist. If it
 /// returns a value, the database was open and is unchanged. Fails with the error of the database.
-pub fn is_understood<S: Alter>(tx: &mut Transaction<'_, S>, text: &str) -> Result<bool, Error>
+pub fn statement_compiles<S: Alter>(tx: &mut Transaction<'_, S>, text: &str) -> Result<bool, Error>
     ensures same_reference { tx.new.conn.ghost_name ≡ tx.old.conn.ghost_name }
-    ensures step { Steps S.Store tx.old tx.new result (λ has old new. IsTrue old.is_open × (new.now ≡ old.now) × Probes text.now has old.now.schema) }
+    ensures step { IsConnectionStep S.Store tx.old tx.new result (λ has old new. IsTrue old.is_open × (new.now ≡ old.now) × MatchesCompilation text.now has old.now.schema) }
 {
     match tx.prepare(text) {
         Ok(_) => Ok(true),

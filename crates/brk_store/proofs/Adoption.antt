@@ -16,34 +16,34 @@ use Rattle.brk_money.specs.declared.fault.Condition.{Condition}
 use Rattle.brk_money.specs.declared.fault.Condition.TheVariants as condition
 use Rattle.brk_money.specs.declared.fault.Fault.{Fault}
 use Rattle.brk_money.specs.declared.fault.Fault.TheVariants.{Store, Damaged}
-use Rattle.brk_model.specs.Adopted.{base_of}
+use Rattle.brk_model.specs.Adopted.{base_of_tables}
 use Rattle.brk_model.specs.Base.{empty_base}
-use Rattle.brk_model.specs.Form.{has_texts}
-use Rattle.brk_model.specs.Upgraded.{upgraded_from}
-use Rattle.brk_model.specs.Run.{MayFail}
+use Rattle.brk_model.specs.Form.{has_utf8_texts}
+use Rattle.brk_model.specs.Upgraded.{tables_upgraded_from_schema}
+use Rattle.brk_model.specs.Run.{IsCallFault}
 use Rattle.brk_model.specs.Schemas.{third_schema}
 use Rattle.brk_model.specs.Sheets.{sheets}
-use Rattle.brk_model.specs.Tables.{Tables, no_rows}
+use Rattle.brk_model.specs.Tables.{Tables, tables_without_rows}
 use Rattle.brk_changes.specs.declared.schema.Schema as known
 use Rattle.brk_changes.specs.declared.schema.Schema.TheVariants.{First, Second, Third}
-use Rattle.brk_changes.specs.Schemas.{schema_of}
-use Rattle.brk_sql.specs.Model.{IsStep}
+use Rattle.brk_changes.specs.Schemas.{abstract_schema}
+use Rattle.brk_sql.specs.Model.{IsTransactionStep}
 use Rattle.brk_sql.proofs.Inside.{clean_before, step_then}
 use Rattle.brk_book_theorems.proofs.Steps.{empty_books, empty_rows}
-use Rattle.brk_audit_theorems.specs.Passing.{Passes}
+use Rattle.brk_audit_theorems.specs.Passing.{PassesAudit}
 use Rattle.brk_audit_theorems.proofs.UpgradedRows.{first_narrower, upgraded_rows, rows_upgraded_from, second_narrower}
 use Rattle.brk_audit_theorems.proofs.Passing.{passing_tables}
 use Rattle.brk_invariant_theorems.proofs.Adopted.{sound_passes}
 use Rattle.brk_invariant_theorems.proofs.SoundSteps.{empty_sound}
-use Rattle.brk_sql.specs.Desk.{IsCalm}
+use Rattle.brk_sql.specs.Desk.{HasNoActionsAt}
 use Rattle.brk_tables_schema.specs.Desk.{Which}
-use Rattle.brk_tables_schema.specs.Made.{HasRows, IsOf}
-use Rattle.brk_tables_upgrade.specs.Upgrade.{KeepsOtherTables, Upgrades}
-use Rattle.brk_tables_scan.specs.Schemas.{HasDesk, IsDefined, IsDefinedAs}
+use Rattle.brk_tables_schema.specs.Made.{HasRows, IsTableOfSchema}
+use Rattle.brk_tables_upgrade.specs.Upgrade.{PreservesTablesOutside, UpgradesTables}
+use Rattle.brk_tables_scan.specs.Schemas.{HasDesk, DeskNamesImplyDefinitions, SchemaNamesImplyDefinitions}
 use Rattle.brk_tables_scan.proofs.Defined.{desk_is_there}
-use Rattle.brk_store.specs.Audited.{AreUpgraded, Answered, Audited, AuditedBy, IsUpgraded, HasThirdIn, AdoptPost, AuditPost, IsDefinedIn, OnAnswer}
-use Rattle.brk_store.specs.AuditResult.{IsResultOfAudit}
-use Rattle.brk_store.specs.Holds.{Holds, IsSame}
+use Rattle.brk_store.specs.Audited.{AreUpgradedTrees, IsAuditOfStoredRows, IsAuditOfDatabase, IsAuditBySchema, UpgradesPassingRows, StoreHasThirdDesk, AdoptPost, AuditPost, StoreNamesImplyDefinitions, OnAuditAnswer}
+use Rattle.brk_store.specs.AuditResult.{IsTrueAuditResult}
+use Rattle.brk_store.specs.Holds.{HoldsRows, WasOpenAndIsUnchanged}
 use Rattle.brk_store.specs.Kept.{kept_none}
 use Rattle.brk_store.specs.declared.examining.AuditResult.{AuditResult}
 use Rattle.brk_store.specs.declared.examining.AuditResult.TheVariants.{Passes as Succeeds, Fails}
@@ -57,13 +57,13 @@ use Rattle.brk_store.proofs.Texts.{upgraded_texts}
 
 -- the rows were examined and upgraded
 abbrev pub Made : known.Schema → Database → Database → Type 0
-Made schema a b = (IsDefined a → (t : Tables) × Answered (schema_of schema) t a None) × Upgrades (schema_of schema) a b
+Made schema a b = (DeskNamesImplyDefinitions a → (t : Tables) × IsAuditOfStoredRows (abstract_schema schema) t a None) × UpgradesTables (abstract_schema schema) a b
 
 -- what was made of rows that passed are the tables of their base
-as_tables : (schema : known.Schema) (t : Tables) → Passes (schema_of schema) t → upgraded_from (schema_of schema) t ≡ sheets (base_of t)
-as_tables schema t passes = let h = rows_upgraded_from (schema_of schema) t passes in h.0 ∙ h.1
+as_tables : (schema : known.Schema) (t : Tables) → PassesAudit (abstract_schema schema) t → tables_upgraded_from_schema (abstract_schema schema) t ≡ sheets (base_of_tables t)
+as_tables schema t passes = let h = rows_upgraded_from (abstract_schema schema) t passes in h.0 ∙ h.1
 
-made_upgraded : (schema : known.Schema) (a b : Database) → Made schema a b → IsDefined a → IsUpgraded a b
+made_upgraded : (schema : known.Schema) (a b : Database) → Made schema a b → DeskNamesImplyDefinitions a → UpgradesPassingRows a b
 made_upgraded schema a b made defined =
     let passing = made.0 defined in
     let has = passing.1.0 in
@@ -71,23 +71,23 @@ made_upgraded schema a b made defined =
     (schema, passing.0, passing.1, subst (λ u. HasRows u b) (as_tables schema passing.0 passing.1.2) (s.tree, s.rows), s.others)
 
 -- where nothing is written each table stands as it did
-strangers_stay : (In : Which → Type 0) (tree : Which → ℕ) (a b : Database) → b ≡ a → KeepsOtherTables In tree a b
+strangers_stay : (In : Which → Type 0) (tree : Which → ℕ) (a b : Database) → b ≡ a → PreservesTablesOutside In tree a b
 strangers_stay In tree a b same =
-    subst (λ d. KeepsOtherTables In tree a d) (sym same) (record { more = []; tables = sym (append-nil a.schema.tables); rows = all_stay (λ k none calm. refl) a.schema.tables })
+    subst (λ d. PreservesTablesOutside In tree a d) (sym same) (record { more = []; tables = sym (append-nil a.schema.tables); rows = all_stay (λ k none calm. refl) a.schema.tables })
   where
-    all_stay : ((k : Table) → ((w : Which) → In w → k.tree ≢ tree w) → IsCalm a.schema k.tree → a.trees k.tree ≡ a.trees k.tree) → (ks : List Table)
-        → AllByRecursion (λ k. ((w : Which) → In w → k.tree ≢ tree w) → IsCalm a.schema k.tree → a.trees k.tree ≡ a.trees k.tree) ks
+    all_stay : ((k : Table) → ((w : Which) → In w → k.tree ≢ tree w) → HasNoActionsAt a.schema k.tree → a.trees k.tree ≡ a.trees k.tree) → (ks : List Table)
+        → AllByRecursion (λ k. ((w : Which) → In w → k.tree ≢ tree w) → HasNoActionsAt a.schema k.tree → a.trees k.tree ≡ a.trees k.tree) ks
     all_stay each [] = tt
     all_stay each (k ∷ ks) = (each k, all_stay each ks)
 
 -- they pass, and their texts can be read
-pub upgraded_pass : (schema : known.Schema) (t : Tables) → Passes (schema_of schema) t → Passes third_schema (sheets (base_of t))
-upgraded_pass First t p = let m = upgraded_rows (schema_of First) t first_narrower p in subst (Passes third_schema) m.tables m.passes
-upgraded_pass Second t p = let m = upgraded_rows (schema_of Second) t second_narrower p in subst (Passes third_schema) m.tables m.passes
-upgraded_pass Third t p = subst (Passes third_schema) (sym (passing_tables third_schema t p)) p
+pub upgraded_pass : (schema : known.Schema) (t : Tables) → PassesAudit (abstract_schema schema) t → PassesAudit third_schema (sheets (base_of_tables t))
+upgraded_pass First t p = let m = upgraded_rows (abstract_schema First) t first_narrower p in subst (PassesAudit third_schema) m.tables m.passes
+upgraded_pass Second t p = let m = upgraded_rows (abstract_schema Second) t second_narrower p in subst (PassesAudit third_schema) m.tables m.passes
+upgraded_pass Third t p = subst (PassesAudit third_schema) (sym (passing_tables third_schema t p)) p
 
-pub upgraded_read : (schema : known.Schema) (t : Tables) → Passes (schema_of schema) t → IsTrue (has_texts t) → IsTrue (has_texts (sheets (base_of t)))
-upgraded_read schema t p texts = subst (λ u. IsTrue (has_texts u)) (rows_upgraded_from (schema_of schema) t p).1 (upgraded_texts t texts)
+pub upgraded_read : (schema : known.Schema) (t : Tables) → PassesAudit (abstract_schema schema) t → IsTrue (has_utf8_texts t) → IsTrue (has_utf8_texts (sheets (base_of_tables t)))
+upgraded_read schema t p texts = subst (λ u. IsTrue (has_utf8_texts u)) (rows_upgraded_from (abstract_schema schema) t p).1 (upgraded_texts t texts)
 
 clean_or_not : (b : Bool) → (doubt b ≡ 0) ⊎ (¬ (doubt b ≡ 0))
 unfolding doubt
@@ -98,23 +98,23 @@ true_or_not : (b : Bool) → (b ≡ true) ⊎ (¬ (b ≡ true))
 true_or_not true = inl refl
 true_or_not false = inr (λ e. cc)
 
-no_rows_pass : Passes third_schema no_rows
-no_rows_pass = subst (Passes third_schema) empty_rows (sound_passes empty_base empty_books empty_sound)
+no_rows_pass : PassesAudit third_schema tables_without_rows
+no_rows_pass = subst (PassesAudit third_schema) empty_rows (sound_passes empty_base empty_books empty_sound)
 
 module _ {S : Type 0} (g : Ghosts S) (new : Held S) where
   -- rows that are held, and pass
   abbrev pub Held_rows : Type 0
-  Held_rows = (t : Tables) × Holds g new t × Passes third_schema t × IsTrue (has_texts t)
+  Held_rows = (t : Tables) × HoldsRows g new t × PassesAudit third_schema t × IsTrue (has_utf8_texts t)
 
-  pub rows_held : (db : Database) → (HasCleanDisk (state g new) → IsTrue (state g new).is_open → IsUpgraded db (state g new).now) → Held_rows
+  pub rows_held : (db : Database) → (HasCleanDisk (state g new) → IsTrue (state g new).is_open → UpgradesPassingRows db (state g new).now) → Held_rows
   rows_held db upgraded = go (clean_or_not (state g new).is_clean) (true_or_not (state g new).is_open)
     where
       go : (HasCleanDisk (state g new)) ⊎ (¬ HasCleanDisk (state g new)) → (IsTrue (state g new).is_open) ⊎ (¬ IsTrue (state g new).is_open) → Held_rows
       go (inl clean) (inl on) =
           let m = upgraded clean on in
-          (sheets (base_of m.1), (λ _ _. m.3), upgraded_pass m.0 m.1 m.2.2, upgraded_read m.0 m.1 m.2.2 m.2.1)
-      go (inl clean) (inr off) = (no_rows, (λ _ on. absurd (off on)), no_rows_pass, refl)
-      go (inr never) o = (no_rows, (λ clean _. absurd (never clean)), no_rows_pass, refl)
+          (sheets (base_of_tables m.1), (λ _ _. m.3), upgraded_pass m.0 m.1 m.2.2, upgraded_read m.0 m.1 m.2.2 m.2.1)
+      go (inl clean) (inr off) = (tables_without_rows, (λ _ on. absurd (off on)), no_rows_pass, refl)
+      go (inr never) o = (tables_without_rows, (λ clean _. absurd (never clean)), no_rows_pass, refl)
 
 -- ---- a connection on which a transaction is open is refused
 
@@ -138,30 +138,30 @@ unadopted g conn = record {
 
 -- ---- the answer over all schemas is that of the third, where its desk is there
 
-audited_third : (db : Database) (answer : Option Condition) → IsDefinedAs third_schema db → HasDesk third_schema db → Audited db answer → AuditedBy third_schema db answer
-audited_third db None defined there h = subst (λ s. AuditedBy (schema_of s) db None) (sym (one_desk Third h.0 h.1.0 db there h.1.1.0)) h.1
+audited_third : (db : Database) (answer : Option Condition) → SchemaNamesImplyDefinitions third_schema db → HasDesk third_schema db → IsAuditOfDatabase db answer → IsAuditBySchema third_schema db answer
+audited_third db None defined there h = subst (λ s. IsAuditBySchema (abstract_schema s) db None) (sym (one_desk Third h.0 h.1.0 db there h.1.1.0)) h.1
 audited_third db (Some condition.NotEmpty) defined there h = h
 audited_third db (Some condition.Schema) defined there h = absurd (h Third there)
-audited_third db (Some condition.Form) defined there h = subst (λ s. AuditedBy (schema_of s) db (Some condition.Form)) (sym (two_desks h.0 db defined there h.1.0)) h.1
-audited_third db (Some c) defined there h = subst (λ s. AuditedBy (schema_of s) db (Some c)) (sym (one_desk Third h.0 h.1.0 db there h.1.1.0)) h.1
+audited_third db (Some condition.Form) defined there h = subst (λ s. IsAuditBySchema (abstract_schema s) db (Some condition.Form)) (sym (two_desks h.0 db defined there h.1.0)) h.1
+audited_third db (Some c) defined there h = subst (λ s. IsAuditBySchema (abstract_schema s) db (Some c)) (sym (one_desk Third h.0 h.1.0 db there h.1.1.0)) h.1
 
 module _ {S : Type 0} (g : Ghosts S) (old first : Held S) (settled : IsTrue (state g old).is_open → (state g old).now ≡ (state g old).committed) where
   -- ---- rolled back, whatever was told: of a desk of the third schema it is an audit
 
-  module _ {V : Type 0} (mid end : Held S) (out : Result V Fault) (Q : V → State → State → Type 0) (step : IsStep (state g (begun old)) (state g mid) out Q) (late : Survives (state g mid) (state g end) (λ _. ⊥))
+  module _ {V : Type 0} (mid end : Held S) (out : Result V Fault) (Q : V → State → State → Type 0) (step : IsTransactionStep (state g (begun old)) (state g mid) out Q) (late : Survives (state g mid) (state g end) (λ _. ⊥))
       (back : HasCleanDisk (state g end) → IsRolledBack (state g mid) (state g end)) where
     passed : Survives (state g old) (state g end) (λ _. ⊥)
     passed = through g old mid end settled out Q step late
 
-    stayed : HasCleanDisk (state g end) → IsTrue (state g end).is_open → IsSame (state g old) (state g end)
+    stayed : HasCleanDisk (state g end) → IsTrue (state g end).is_open → WasOpenAndIsUnchanged (state g old) (state g end)
     stayed = rolled_back g old mid end settled out Q (λ _. ⊥) step back late
 
-    module _ (result : Result (Unit {0}) Fault) (told : HasCleanDisk (state g end) → IsDefinedIn g old → OnAnswer result (Audited (state g old).now)) (opened : HasCleanDisk (state g end) → OnAnswer result (λ _. IsTrue (state g old).is_open)) where
-      as_audit : IsDefinedIn g old → HasThirdIn g old → AuditPost g old end result
+    module _ (result : Result (Unit {0}) Fault) (told : HasCleanDisk (state g end) → StoreNamesImplyDefinitions g old → OnAuditAnswer result (IsAuditOfDatabase (state g old).now)) (opened : HasCleanDisk (state g end) → OnAuditAnswer result (λ _. IsTrue (state g old).is_open)) where
+      as_audit : StoreNamesImplyDefinitions g old → StoreHasThirdDesk g old → AuditPost g old end result
       as_audit defined third = record {
         told = λ clean _.
             let before = clean_before (state g old) (state g end) (λ _. ⊥) passed clean in
-            answer_with result (Audited (state g old).now) (λ _. IsTrue (state g old).is_open) (AuditedBy third_schema (state g old).now)
+            answer_with result (IsAuditOfDatabase (state g old).now) (λ _. IsTrue (state g old).is_open) (IsAuditBySchema third_schema (state g old).now)
             (λ answer h on. audited_third (state g old).now answer (defined before on Third) (third before on) h) (told clean defined) (opened clean);
         opened = opened;
         kept = still_holds g old mid end settled (λ _. ⊥) passed stayed;
@@ -169,10 +169,10 @@ module _ {S : Type 0} (g : Ghosts S) (old first : Held S) (settled : IsTrue (sta
         survives = passed;
       }
 
-      crashes : IsDefinedIn g old → Survives (state g old) (state g end) (AreUpgraded (state g old).now)
+      crashes : StoreNamesImplyDefinitions g old → Survives (state g old) (state g end) (AreUpgradedTrees (state g old).now)
       crashes defined = survives_weaker (state g old) (state g end) _ _ (λ _ db none. absurd none) passed
 
-    none_adopted : (fault : Fault) → (HasCleanDisk (state g end) → IsDefinedIn g old → OnAnswer (Err fault) (Audited (state g old).now)) → (HasCleanDisk (state g end) → OnAnswer (Err fault) (λ _. IsTrue (state g old).is_open))
+    none_adopted : (fault : Fault) → (HasCleanDisk (state g end) → StoreNamesImplyDefinitions g old → OnAuditAnswer (Err fault) (IsAuditOfDatabase (state g old).now)) → (HasCleanDisk (state g end) → OnAuditAnswer (Err fault) (λ _. IsTrue (state g old).is_open))
         → AdoptPost g old end (Err fault)
     none_adopted fault told opened = record {
       told = told;
@@ -185,23 +185,23 @@ module _ {S : Type 0} (g : Ghosts S) (old first : Held S) (settled : IsTrue (sta
       audited = as_audit (Err fault) told opened;
     }
 
-    gave_up : (fault : Fault) → MayFail fault → AdoptPost g old end (Err fault)
-    gave_up fault may = none_adopted fault (λ clean defined. on_fault fault (Audited (state g old).now) may) (λ clean. on_fault fault (λ _. IsTrue (state g old).is_open) may)
+    gave_up : (fault : Fault) → IsCallFault fault → AdoptPost g old end (Err fault)
+    gave_up fault may = none_adopted fault (λ clean defined. on_fault fault (IsAuditOfDatabase (state g old).now) may) (λ clean. on_fault fault (λ _. IsTrue (state g old).is_open) may)
 
   -- the examination gave up
-  pub gives_up : (end : Held S) (fault : Fault) → MayFail fault → IsStep {V = AuditResult} {E = Fault} (state g (begun old)) (state g first) (Err fault) Looked
+  pub gives_up : (end : Held S) (fault : Fault) → IsCallFault fault → IsTransactionStep {V = AuditResult} {E = Fault} (state g (begun old)) (state g first) (Err fault) Looked
       → Survives (state g first) (state g end) (λ _. ⊥) → (HasCleanDisk (state g end) → IsRolledBack (state g first) (state g end)) → AdoptPost g old end (Err fault)
   gives_up end fault may step late back = gave_up first end (Err fault) Looked step late back fault may
 
-  module _ (told : AuditResult) (step : IsStep {V = AuditResult} {E = Fault} (state g (begun old)) (state g first) (Ok told) Looked) where
+  module _ (told : AuditResult) (step : IsTransactionStep {V = AuditResult} {E = Fault} (state g (begun old)) (state g first) (Ok told) Looked) where
     looked : (end : Held S) → Survives (state g first) (state g end) (λ _. ⊥) → HasCleanDisk (state g end) → Looked told (state g (begun old)) (state g first)
     looked end late clean = (step.made (clean_before (state g first) (state g end) (λ _. ⊥) late clean) refl).1
 
     clean_then : (end : Held S) → Survives (state g first) (state g end) (λ _. ⊥) → HasCleanDisk (state g end) → HasCleanDisk (state g old)
     clean_then end late = clean_before (state g old) (state g end) (λ _. ⊥) (through g old first end settled (Ok told) Looked step late)
 
-    told_at : (end : Held S) (one : AuditResult) → told ≡ one → Survives (state g first) (state g end) (λ _. ⊥) → HasCleanDisk (state g end) → IsDefinedIn g old → IsResultOfAudit one (state g old).now
-    told_at end one is late clean defined = let l = looked end late clean in subst (λ e. IsResultOfAudit e (state g old).now) is (l.2 (defined (clean_then end late clean) l.0))
+    told_at : (end : Held S) (one : AuditResult) → told ≡ one → Survives (state g first) (state g end) (λ _. ⊥) → HasCleanDisk (state g end) → StoreNamesImplyDefinitions g old → IsTrueAuditResult one (state g old).now
+    told_at end one is late clean defined = let l = looked end late clean in subst (λ e. IsTrueAuditResult e (state g old).now) is (l.2 (defined (clean_then end late clean) l.0))
 
     -- a condition fails
     pub fails : (end : Held S) (failing : Condition) → told ≡ Fails failing → Survives (state g first) (state g end) (λ _. ⊥) → (HasCleanDisk (state g end) → IsRolledBack (state g first) (state g end)) → AdoptPost g old end (Err (Damaged failing))
@@ -209,7 +209,7 @@ module _ {S : Type 0} (g : Ghosts S) (old first : Held S) (settled : IsTrue (sta
         none_adopted first end (Ok told) Looked step late back (Damaged failing) (told_at end (Fails failing) is late) (λ clean. (looked end late clean).0)
 
     -- a desk of the third schema passes, and is left as it is
-    pub passes : (end : Held S) (schema : known.Schema) → told ≡ Succeeds schema → (schema_of schema).has_rule ≡ true → Survives (state g first) (state g end) (λ _. ⊥) → (HasCleanDisk (state g end) → IsRolledBack (state g first) (state g end))
+    pub passes : (end : Held S) (schema : known.Schema) → told ≡ Succeeds schema → (abstract_schema schema).has_rule ≡ true → Survives (state g first) (state g end) (λ _. ⊥) → (HasCleanDisk (state g end) → IsRolledBack (state g first) (state g end))
         → AdoptPost g old end (Ok tt)
     passes end schema is rule late back = record {
       told = now_told;
@@ -225,41 +225,41 @@ module _ {S : Type 0} (g : Ghosts S) (old first : Held S) (settled : IsTrue (sta
         third : told ≡ Succeeds Third
         third = subst (λ s. told ≡ Succeeds s) (third_has_rule schema rule) is
 
-        now_told : HasCleanDisk (state g end) → IsDefinedIn g old → OnAnswer (Ok tt) (Audited (state g old).now)
+        now_told : HasCleanDisk (state g end) → StoreNamesImplyDefinitions g old → OnAuditAnswer (Ok tt) (IsAuditOfDatabase (state g old).now)
         now_told clean defined = (Third, told_at end (Succeeds Third) third late clean defined)
 
-        was_open : HasCleanDisk (state g end) → OnAnswer (Ok tt) (λ _. IsTrue (state g old).is_open)
+        was_open : HasCleanDisk (state g end) → OnAuditAnswer (Ok tt) (λ _. IsTrue (state g old).is_open)
         was_open clean = (looked end late clean).0
 
-        same_at : HasCleanDisk (state g end) → IsTrue (state g end).is_open → IsSame (state g old) (state g end)
+        same_at : HasCleanDisk (state g end) → IsTrue (state g end).is_open → WasOpenAndIsUnchanged (state g old) (state g end)
         same_at = stayed first end (Ok told) Looked step late back
 
-        there : HasCleanDisk (state g end) → IsTrue (state g end).is_open → IsDefinedIn g old → IsUpgraded (state g old).now (state g end).now
+        there : HasCleanDisk (state g end) → IsTrue (state g end).is_open → StoreNamesImplyDefinitions g old → UpgradesPassingRows (state g old).now (state g end).now
         there clean on defined =
             let p = told_at end (Succeeds Third) third late clean defined in
-            let rows : HasRows (upgraded_from third_schema p.0) (state g end).now = subst (HasRows p.0) (sym (same_at clean on).now) (third_rows p.0 (state g old).now p.1.0) in (
+            let rows : HasRows (tables_upgraded_from_schema third_schema p.0) (state g end).now = subst (HasRows p.0) (sym (same_at clean on).now) (third_rows p.0 (state g old).now p.1.0) in (
               Third,
               p.0,
               p.1,
               subst (λ u. HasRows u (state g end).now) (as_tables Third p.0 p.1.2) rows,
-              strangers_stay (IsOf third_schema) p.1.0.0 (state g old).now (state g end).now (same_at clean on).now,
+              strangers_stay (IsTableOfSchema third_schema) p.1.0.0 (state g old).now (state g end).now (same_at clean on).now,
             )
 
-    module _ (schema : known.Schema) (is : told ≡ Succeeds schema) (older : (schema_of schema).has_rule ≡ false) (mid : Held S) where
+    module _ (schema : known.Schema) (is : told ≡ Succeeds schema) (older : (abstract_schema schema).has_rule ≡ false) (mid : Held S) where
       -- the move gave up
-      pub move_gives_up : (end : Held S) (fault : Fault) → MayFail fault → IsStep {V = Unit {0}} {E = Fault} (state g first) (state g mid) (Err fault) (λ _ a b. Upgrades (schema_of schema) a.now b.now)
+      pub move_gives_up : (end : Held S) (fault : Fault) → IsCallFault fault → IsTransactionStep {V = Unit {0}} {E = Fault} (state g first) (state g mid) (Err fault) (λ _ a b. UpgradesTables (abstract_schema schema) a.now b.now)
           → Survives (state g mid) (state g end) (λ _. ⊥) → (HasCleanDisk (state g end) → IsRolledBack (state g mid) (state g end)) → AdoptPost g old end (Err fault)
       move_gives_up end fault may move late back =
-          gave_up mid end (Err fault) (λ _ a b. Upgrades (schema_of schema) a.now b.now)
-          (step_then (state g (begun old)) (state g first) (state g mid) told (Err fault) Looked (λ _ a b. Upgrades (schema_of schema) a.now b.now) (λ _ a b. Upgrades (schema_of schema) a.now b.now)
-          (λ _ l m. subst (λ d. Upgrades (schema_of schema) d (state g mid).now) l.1 m) step move)
+          gave_up mid end (Err fault) (λ _ a b. UpgradesTables (abstract_schema schema) a.now b.now)
+          (step_then (state g (begun old)) (state g first) (state g mid) told (Err fault) Looked (λ _ a b. UpgradesTables (abstract_schema schema) a.now b.now) (λ _ a b. UpgradesTables (abstract_schema schema) a.now b.now)
+          (λ _ l m. subst (λ d. UpgradesTables (abstract_schema schema) d (state g mid).now) l.1 m) step move)
           late back fault may
 
-      module _ (move : IsStep {V = Unit {0}} {E = Fault} (state g first) (state g mid) (Ok tt) (λ _ a b. Upgrades (schema_of schema) a.now b.now)) (end : Held S) (late : Survives (state g mid) (state g end) (λ db. db ≡ (state g mid).now.trees)) where
-        made : IsStep {V = Unit {0}} {E = Fault} (state g (begun old)) (state g mid) (Ok tt) (λ _ a b. Made schema a.now b.now)
+      module _ (move : IsTransactionStep {V = Unit {0}} {E = Fault} (state g first) (state g mid) (Ok tt) (λ _ a b. UpgradesTables (abstract_schema schema) a.now b.now)) (end : Held S) (late : Survives (state g mid) (state g end) (λ db. db ≡ (state g mid).now.trees)) where
+        made : IsTransactionStep {V = Unit {0}} {E = Fault} (state g (begun old)) (state g mid) (Ok tt) (λ _ a b. Made schema a.now b.now)
         made =
-            step_then (state g (begun old)) (state g first) (state g mid) told (Ok tt) Looked (λ _ a b. Upgrades (schema_of schema) a.now b.now) (λ _ a b. Made schema a.now b.now)
-            (λ _ l m. ((λ defined. subst (λ e. IsResultOfAudit e (state g old).now) is (l.2 defined)), subst (λ d. Upgrades (schema_of schema) d (state g mid).now) l.1 m)) step move
+            step_then (state g (begun old)) (state g first) (state g mid) told (Ok tt) Looked (λ _ a b. UpgradesTables (abstract_schema schema) a.now b.now) (λ _ a b. Made schema a.now b.now)
+            (λ _ l m. ((λ defined. subst (λ e. IsTrueAuditResult e (state g old).now) is (l.2 defined)), subst (λ d. UpgradesTables (abstract_schema schema) d (state g mid).now) l.1 m)) step move
 
         over : Survives (state g old) (state g end) (λ trees. (db : Database) × Made schema (state g old).now db × (trees ≡ db.trees))
         over = whole g old mid end settled (Made schema) made late
@@ -275,14 +275,14 @@ module _ {S : Type 0} (g : Ghosts S) (old first : Held S) (settled : IsTrue (sta
         was_open clean = (looked_at clean).0
 
         -- no desk of the third schema is there
-        never : IsDefinedIn g old → HasThirdIn g old → HasCleanDisk (state g end) → ⊥
+        never : StoreNamesImplyDefinitions g old → StoreHasThirdDesk g old → HasCleanDisk (state g end) → ⊥
         never defined third clean =
             let l = looked_at clean in
             let before = clean_old clean in
-            let p = subst (λ e. IsResultOfAudit e (state g old).now) is (l.2 (defined before l.0)) in
+            let p = subst (λ e. IsTrueAuditResult e (state g old).now) is (l.2 (defined before l.0)) in
             older_has_none schema older (sym (one_desk Third schema p.0 (state g old).now (third before l.0) p.1.0))
 
-        left : IsDefinedIn g old → Survives (state g old) (state g end) (AreUpgraded (state g old).now)
+        left : StoreNamesImplyDefinitions g old → Survives (state g old) (state g end) (AreUpgradedTrees (state g old).now)
         unfolding made_upgraded
         left defined =
             survives_weaker (state g old) (state g end) _ _
@@ -290,7 +290,7 @@ module _ {S : Type 0} (g : Ghosts S) (old first : Held S) (settled : IsTrue (sta
             let m = made_upgraded schema (state g old).now h.0 h.1 (defined (clean_old clean) (was_open clean)) in
             (schema, m.1, older_has_none schema older, m.2, (h.0, m.3, h.2))) over
 
-        nothing : (result : Result (Unit {0}) Fault) → (HasCleanDisk (state g end) → OnAnswer result (λ _. IsTrue (state g old).is_open)) → IsDefinedIn g old → HasThirdIn g old → AuditPost g old end result
+        nothing : (result : Result (Unit {0}) Fault) → (HasCleanDisk (state g end) → OnAuditAnswer result (λ _. IsTrue (state g old).is_open)) → StoreNamesImplyDefinitions g old → StoreHasThirdDesk g old → AuditPost g old end result
         nothing result opened defined third = record {
           told = λ clean known. absurd (never defined third clean);
           opened = opened;
@@ -314,7 +314,7 @@ module _ {S : Type 0} (g : Ghosts S) (old first : Held S) (settled : IsTrue (sta
             ends : (clean : HasCleanDisk (state g end)) → IsTrue (state g old).is_open × IsTrue (state g end).is_open × Made schema (state g old).now (state g end).now × ((state g end).committed ≡ (state g end).now)
             ends = all g old mid end settled (Made schema) made late done
 
-            there : HasCleanDisk (state g end) → IsDefinedIn g old → IsUpgraded (state g old).now (state g end).now
+            there : HasCleanDisk (state g end) → StoreNamesImplyDefinitions g old → UpgradesPassingRows (state g old).now (state g end).now
             there clean defined = made_upgraded schema (state g old).now (state g end).now (ends clean).2 (defined (clean_old clean) (was_open clean))
 
         pub commits_none : (e : Error) → (HasCleanDisk (state g end) → FailsToCommit (state g mid) (state g end) e) → AdoptPost g old end (Err Store)

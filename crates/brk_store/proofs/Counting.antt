@@ -6,7 +6,7 @@ use Rattle.std.proofs.lemmas.List.{reverse-append}
 use Rattle.sqlite.specs.Effect.{Database}
 use Rattle.brk_model.specs.Limits.{greatest_id}
 use Rattle.brk_model.specs.Tables.{MoveRow, Tables}
-use Rattle.brk_book_theorems.specs.TradeReads.{last_move}
+use Rattle.brk_book_theorems.specs.TradeReads.{last_cash_row_number}
 use Rattle.brk_tables_schema.specs.Made.{HasRows}
 use Rattle.brk_store.proofs.WalkedLists.{Climb, moves_climb}
 
@@ -39,7 +39,7 @@ filter_fewer p (x ∷ xs) = go (p x) refl (filter_fewer p xs)
     go false e h = rw e (omega (arith, h))
 
 -- where the next number is below the greatest number of movements, there are fewer
-pub too_few : (t : Tables) (db : Database) (next : ℕ) → HasRows t db → next ≡ last_move t + 1 → next < greatest_id → false ≡ nat_le greatest_id (length (filter (λ r. is_none r.trade) t.moves))
+pub too_few : (t : Tables) (db : Database) (next : ℕ) → HasRows t db → next ≡ last_cash_row_number t + 1 → next < greatest_id → false ≡ nat_le greatest_id (length (filter (λ r. is_none r.trade) t.moves))
 too_few t db next has is low =
     let rows = few t.moves (moves_climb t db has) in
     let moved = filter_fewer (λ (r : MoveRow). is_none r.trade) t.moves in

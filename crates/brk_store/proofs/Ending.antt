@@ -10,24 +10,24 @@ use Rattle.sqlite.specs.declared.error.Error.{Error}
 use Rattle.sqlite.proofs.Callers.{survives_begin}
 use Rattle.sqlite.proofs.StateLemmas.{survives_then, survives_weaker}
 use Rattle.brk_model.specs.Tables.{Tables}
-use Rattle.brk_sql.specs.Desk.{Turns}
-use Rattle.brk_sql.specs.Model.{IsStep, Looks}
+use Rattle.brk_sql.specs.Desk.{ChangesTablesBy}
+use Rattle.brk_sql.specs.Model.{IsTransactionStep, IsUnchangedAndSatisfies}
 use Rattle.brk_sql.proofs.Inside.{clean_before, commits_all, commits_crash, step_then}
 use Rattle.brk_money.specs.declared.fault.Fault.{Fault}
 use Rattle.brk_money.specs.declared.fault.Fault.TheVariants.{Store}
 use Rattle.brk_tables_schema.specs.Desk.{desk}
 use Rattle.brk_tables_schema.specs.Made.{HasRows}
-use Rattle.brk_tables_create.specs.Made.{MakesDesk}
+use Rattle.brk_tables_create.specs.Made.{CreatesDeskTables}
 use Rattle.brk_tables_create.specs.Present.{has_table_of_desk}
-use Rattle.brk_store.specs.Holds.{Holds, IsSame, ReadPost, ApplyPost, CreatePost}
+use Rattle.brk_store.specs.Holds.{HoldsRows, WasOpenAndIsUnchanged, ReadPost, ApplyPost, CreatePost}
 
 abbrev pub begun : {S : Type 0} → Held S → Held S
 begun old = record old { in_transaction = true }
 
 module _ {S : Type 0} (g : Ghosts S) (old mid end : Held S) (settled : IsTrue (state g old).is_open → (state g old).now ≡ (state g old).committed) where
   -- rolled back
-  pub rolled_back : {V E : Type 0} (r : Result V E) (Q : V → State → State → Type 0) (P : Trees → Type 0) → IsStep (state g (begun old)) (state g mid) r Q → (HasCleanDisk (state g end) → IsRolledBack (state g mid) (state g end))
-      → Survives (state g mid) (state g end) P → HasCleanDisk (state g end) → IsTrue (state g end).is_open → IsSame (state g old) (state g end)
+  pub rolled_back : {V E : Type 0} (r : Result V E) (Q : V → State → State → Type 0) (P : Trees → Type 0) → IsTransactionStep (state g (begun old)) (state g mid) r Q → (HasCleanDisk (state g end) → IsRolledBack (state g mid) (state g end))
+      → Survives (state g mid) (state g end) P → HasCleanDisk (state g end) → IsTrue (state g end).is_open → WasOpenAndIsUnchanged (state g old) (state g end)
   rolled_back r Q P step back late clean o =
       let b = back clean in
       let kept = step.kept (clean_before (state g mid) (state g end) P late clean) in
@@ -35,21 +35,21 @@ module _ {S : Type 0} (g : Ghosts S) (old mid end : Held S) (settled : IsTrue (s
       let old_open = kept.was_open mid_open in
       record { now = (b.undone o).0 ∙ kept.committed mid_open ∙ sym (settled old_open); committed = (b.undone o).1 ∙ kept.committed mid_open; was_open = old_open }
 
-  pub still_holds : (P : Trees → Type 0) → Survives (state g old) (state g end) P → (HasCleanDisk (state g end) → IsTrue (state g end).is_open → IsSame (state g old) (state g end)) → (t : Tables) → Holds g old t → Holds g end t
+  pub still_holds : (P : Trees → Type 0) → Survives (state g old) (state g end) P → (HasCleanDisk (state g end) → IsTrue (state g end).is_open → WasOpenAndIsUnchanged (state g old) (state g end)) → (t : Tables) → HoldsRows g old t → HoldsRows g end t
   still_holds P through kept t holds clean o =
       let k = kept clean o in
       subst (HasRows t) (sym k.now) (holds (clean_before (state g old) (state g end) P through clean) k.was_open)
 
-  module _ {V E : Type 0} (r : Result V E) (Q : V → State → State → Type 0) (step : IsStep (state g (begun old)) (state g mid) r Q) (late : Survives (state g mid) (state g end) (λ _. ⊥)) where
+  module _ {V E : Type 0} (r : Result V E) (Q : V → State → State → Type 0) (step : IsTransactionStep (state g (begun old)) (state g mid) r Q) (late : Survives (state g mid) (state g end) (λ _. ⊥)) where
     pub through : Survives (state g old) (state g end) (λ _. ⊥)
     through = survives_then (state g old) (state g mid) (state g end) (λ _. ⊥) (λ _. ⊥) (λ _. ⊥) (λ _ db none. none) (λ _ db none. none) (survives_begin g old (state g mid) (λ _. ⊥) step.survives) late
 
   -- a read, whose transaction is dropped
-  pub is_read : {V E : Type 0} (out : Result V E) (P : V → Tables → Type 0) → IsStep (state g (begun old)) (state g mid) out (λ v. Looks desk (P v)) → Survives (state g mid) (state g end) (λ _. ⊥)
+  pub is_read : {V E : Type 0} (out : Result V E) (P : V → Tables → Type 0) → IsTransactionStep (state g (begun old)) (state g mid) out (λ v. IsUnchangedAndSatisfies desk (P v)) → Survives (state g mid) (state g end) (λ _. ⊥)
       → (HasCleanDisk (state g end) → IsRolledBack (state g mid) (state g end)) → ReadPost g old end out P
   is_read {V} {E} out P step late back =
-      let whole = through out (λ v. Looks desk (P v)) step late in
-      let kept = rolled_back out (λ v. Looks desk (P v)) (λ _. ⊥) step back late in
+      let whole = through out (λ v. IsUnchangedAndSatisfies desk (P v)) step late in
+      let kept = rolled_back out (λ v. IsUnchangedAndSatisfies desk (P v)) (λ _. ⊥) step back late in
       record {
         told = λ clean. tells out (clean_before (state g old) (state g end) (λ _. ⊥) whole clean) (step.made (clean_before (state g mid) (state g end) (λ _. ⊥) late clean) refl);
         opened = λ clean. opens out (step.made (clean_before (state g mid) (state g end) (λ _. ⊥) late clean) refl);
@@ -58,30 +58,30 @@ module _ {S : Type 0} (g : Ghosts S) (old mid end : Held S) (settled : IsTrue (s
         survives = whole;
       }
     where
-      tells : (o : Result V E) → HasCleanDisk (state g old) → IfOk o (λ v. IsTrue (state g mid).in_transaction × Looks desk (P v) (state g (begun old)) (state g mid)) → IfOk o (λ v. (t : Tables) → Holds g old t → P v t)
+      tells : (o : Result V E) → HasCleanDisk (state g old) → IfOk o (λ v. IsTrue (state g mid).in_transaction × IsUnchangedAndSatisfies desk (P v) (state g (begun old)) (state g mid)) → IfOk o (λ v. (t : Tables) → HoldsRows g old t → P v t)
       tells (Ok v) clean h = λ t holds. let has = holds clean h.1.0 in h.1.2 t has.0 has.1
       tells (Err e) clean h = tt
 
-      opens : (o : Result V E) → IfOk o (λ v. IsTrue (state g mid).in_transaction × Looks desk (P v) (state g (begun old)) (state g mid)) → OnOk o (IsTrue (state g old).is_open)
+      opens : (o : Result V E) → IfOk o (λ v. IsTrue (state g mid).in_transaction × IsUnchangedAndSatisfies desk (P v) (state g (begun old)) (state g mid)) → OnOk o (IsTrue (state g old).is_open)
       opens (Ok v) h = h.1.0
       opens (Err e) h = tt
 
 -- a read in a transaction that was begun over a store's connection
 pub is_read_of : {S V E : Type 0} (g : Ghosts S) (old conn first mid end : Held S) (out : Result V E) (P : V → Tables → Type 0) → conn ≡ old → first ≡ begun conn
-    → (IsTrue (state g conn).is_open → (state g conn).now ≡ (state g conn).committed) → IsStep (state g first) (state g mid) out (λ v. Looks desk (P v))
+    → (IsTrue (state g conn).is_open → (state g conn).now ≡ (state g conn).committed) → IsTransactionStep (state g first) (state g mid) out (λ v. IsUnchangedAndSatisfies desk (P v))
     → Survives (state g mid) (state g end) (λ _. ⊥) → (HasCleanDisk (state g end) → IsRolledBack (state g mid) (state g end)) → ReadPost g old end out P
 is_read_of g old conn first mid end out P same first_is settled step late back =
     subst (λ h. ReadPost g h end out P) same
-    (is_read g conn mid end settled out P (subst (λ h. IsStep (state g h) (state g mid) out (λ v. Looks desk (P v))) first_is step) late back)
+    (is_read g conn mid end settled out P (subst (λ h. IsTransactionStep (state g h) (state g mid) out (λ v. IsUnchangedAndSatisfies desk (P v))) first_is step) late back)
 
 -- ---- a look before the changes, which shows that the store is open
 
-module _ {S L E F : Type 0} (g : Ghosts S) (old first mid : Held S) (last : L) (P : L → Tables → Type 0) (look : IsStep {E = E} (state g (begun old)) (state g first) (Ok last) (λ l. Looks desk (P l)))
-    (r : Result (Unit {0}) F) (after : Tables → Tables) (changes : IsStep (state g first) (state g mid) r (λ _ a b. Turns desk after a.now b.now)) where
-  pub after_look : IsStep (state g (begun old)) (state g mid) r (λ _ a b. Turns desk after a.now b.now)
+module _ {S L E F : Type 0} (g : Ghosts S) (old first mid : Held S) (last : L) (P : L → Tables → Type 0) (look : IsTransactionStep {E = E} (state g (begun old)) (state g first) (Ok last) (λ l. IsUnchangedAndSatisfies desk (P l)))
+    (r : Result (Unit {0}) F) (after : Tables → Tables) (changes : IsTransactionStep (state g first) (state g mid) r (λ _ a b. ChangesTablesBy desk after a.now b.now)) where
+  pub after_look : IsTransactionStep (state g (begun old)) (state g mid) r (λ _ a b. ChangesTablesBy desk after a.now b.now)
   after_look =
-      step_then (state g (begun old)) (state g first) (state g mid) last r (λ l. Looks desk (P l)) (λ _ a b. Turns desk after a.now b.now) (λ _ a b. Turns desk after a.now b.now)
-      (λ _ p q. subst (λ d. Turns desk after d (state g mid).now) p.1 q) look changes
+      step_then (state g (begun old)) (state g first) (state g mid) last r (λ l. IsUnchangedAndSatisfies desk (P l)) (λ _ a b. ChangesTablesBy desk after a.now b.now) (λ _ a b. ChangesTablesBy desk after a.now b.now)
+      (λ _ p q. subst (λ d. ChangesTablesBy desk after d (state g mid).now) p.1 q) look changes
 
   pub open_at_look : HasCleanDisk (state g mid) → IsTrue (state g old).is_open
   open_at_look clean = (look.made (clean_before (state g first) (state g mid) (λ _. ⊥) changes.survives clean) refl).1.0
@@ -89,7 +89,7 @@ module _ {S L E F : Type 0} (g : Ghosts S) (old first mid : Held S) (last : L) (
 -- ---- committed, or not
 
 module _ {S : Type 0} (g : Ghosts S) (old mid end : Held S) (settled : IsTrue (state g old).is_open → (state g old).now ≡ (state g old).committed) (made : Database → Database → Type 0)
-    (step : IsStep {V = Unit {0}} {E = Fault} (state g (begun old)) (state g mid) (Ok tt) (λ _ a b. made a.now b.now)) (late : Survives (state g mid) (state g end) (λ db. db ≡ (state g mid).now.trees)) where
+    (step : IsTransactionStep {V = Unit {0}} {E = Fault} (state g (begun old)) (state g mid) (Ok tt) (λ _ a b. made a.now b.now)) (late : Survives (state g mid) (state g end) (λ db. db ≡ (state g mid).now.trees)) where
   pub whole : Survives (state g old) (state g end) (λ trees. (db : Database) × made (state g old).now db × (trees ≡ db.trees))
   whole = commits_crash g old mid end made step late
 
@@ -100,7 +100,7 @@ module _ {S : Type 0} (g : Ghosts S) (old mid end : Held S) (settled : IsTrue (s
     | inr off ↦ absurd (let on = (step.made (clean_before (state g mid) (state g end) _ late clean) refl).0 in let f = off.1 in cc)
   ]
 
-  pub kept_at : (e : Error) → (HasCleanDisk (state g end) → FailsToCommit (state g mid) (state g end) e) → HasCleanDisk (state g end) → IsTrue (state g end).is_open → IsSame (state g old) (state g end)
+  pub kept_at : (e : Error) → (HasCleanDisk (state g end) → FailsToCommit (state g mid) (state g end) e) → HasCleanDisk (state g end) → IsTrue (state g end).is_open → WasOpenAndIsUnchanged (state g old) (state g end)
   kept_at e fails = rolled_back g old mid end settled {V = Unit {0}} {E = Fault} (Ok tt) (λ _ a b. made a.now b.now) _ step (back e fails) late
 
   module _ (done : HasCleanDisk (state g end) → IsTrue (state g mid).in_transaction × Shows (state g mid) (state g end) (state g mid).now (state g mid).now false × KeepsCounts (state g mid) (state g end) × ((state g end).marks ≡ [])) where
@@ -111,7 +111,7 @@ module _ {S : Type 0} (g : Ghosts S) (old mid end : Held S) (settled : IsTrue (s
     leaves_now : ((db : Trees) → IsTrue (state g end).is_open → (state g end).may_leave db → db ≡ (state g end).committed.trees) → HasCleanDisk (state g end) → (db : Trees) → (state g end).may_leave db → db ≡ (state g end).now.trees
     leaves_now law clean db may = let it = all clean in law db it.1 may ∙ ap (λ (d : Database). d.trees) it.3
 
-    pub applies : ((db : Trees) → IsTrue (state g end).is_open → (state g end).may_leave db → db ≡ (state g end).committed.trees) → (after : Tables → Tables) → ((a b : Database) → made a b → Turns desk after a b)
+    pub applies : ((db : Trees) → IsTrue (state g end).is_open → (state g end).may_leave db → db ≡ (state g end).committed.trees) → (after : Tables → Tables) → ((a b : Database) → made a b → ChangesTablesBy desk after a b)
         → ApplyPost {V = Unit {0}} {E = Fault} g old end (Ok tt) after
     applies law after turns = record {
       made = λ t holds clean o.
@@ -129,7 +129,7 @@ module _ {S : Type 0} (g : Ghosts S) (old mid end : Held S) (settled : IsTrue (s
           ((state g end).now, (has.0, (turns _ _ it.2 t has.0 has.1).0), leaves_now law clean trees may);
     }
 
-    pub creates : ((db : Trees) → IsTrue (state g end).is_open → (state g end).may_leave db → db ≡ (state g end).committed.trees) → ((a b : Database) → made a b → (has_table_of_desk a.schema ≡ false) × MakesDesk a b)
+    pub creates : ((db : Trees) → IsTrue (state g end).is_open → (state g end).may_leave db → db ≡ (state g end).committed.trees) → ((a b : Database) → made a b → (has_table_of_desk a.schema ≡ false) × CreatesDeskTables a b)
         → CreatePost g old end (Ok tt)
     creates law tells = record {
       made = λ clean o. (tells _ _ (all clean).2).1.rows;
@@ -145,7 +145,7 @@ module _ {S : Type 0} (g : Ghosts S) (old mid end : Held S) (settled : IsTrue (s
 
   module _ (e : Error) (fails : HasCleanDisk (state g end) → FailsToCommit (state g mid) (state g end) e) where
     -- it was open where the changes began
-    pub applies_none : (HasCleanDisk (state g mid) → IsTrue (state g old).is_open) → (fault : Fault) (after : Tables → Tables) → ((a b : Database) → made a b → Turns desk after a b) → ApplyPost {V = Unit {0}} {E = Fault} g old end (Err fault) after
+    pub applies_none : (HasCleanDisk (state g mid) → IsTrue (state g old).is_open) → (fault : Fault) (after : Tables → Tables) → ((a b : Database) → made a b → ChangesTablesBy desk after a b) → ApplyPost {V = Unit {0}} {E = Fault} g old end (Err fault) after
     applies_none was_open fault after turns = record {
       made = tt;
       opened = λ clean. tt;
@@ -157,7 +157,7 @@ module _ {S : Type 0} (g : Ghosts S) (old mid end : Held S) (settled : IsTrue (s
       durable = λ clean. tt;
     }
 
-    pub commits_none : ((a b : Database) → made a b → (has_table_of_desk a.schema ≡ false) × MakesDesk a b) → CreatePost g old end (Err Store)
+    pub commits_none : ((a b : Database) → made a b → (has_table_of_desk a.schema ≡ false) × CreatesDeskTables a b) → CreatePost g old end (Err Store)
     commits_none tells = record {
       made = tt;
       opened = λ clean. tt;

@@ -6,8 +6,8 @@ use Rattle.sqlite.specs.State.{HasCleanDisk}
 use Rattle.brk_model.specs.Tables.{Tables}
 use Rattle.brk_sql.proofs.Inside.{clean_before}
 use Rattle.brk_tables_schema.specs.Made.{HasRows}
-use Rattle.brk_store.specs.Holds.{Holds, ReadPost}
-use Rattle.brk_store.specs.Kept.{IsKept, clean_at, kept_read, kept_then}
+use Rattle.brk_store.specs.Holds.{HoldsRows, ReadPost}
+use Rattle.brk_store.specs.Kept.{IsUnchangedByReads, clean_at, kept_read, kept_then}
 
 module _ {S : Type 0} (g : Ghosts S) where
   -- what was read tells this too, of rows that a database has
@@ -36,13 +36,13 @@ module _ {S : Type 0} (g : Ghosts S) where
     survives = both.survives;
   }
     where
-      both : IsKept g old end
+      both : IsUnchangedByReads g old end
       both = kept_then old mid end (kept_read old mid (Ok v) P first) (kept_read mid end r Q next)
 
       before : HasCleanDisk (state g end) → HasCleanDisk (state g mid)
       before = clean_at mid end (kept_read mid end r Q next)
 
-      tells : (o : Result W F) → IfOk o (λ answer. (t : Tables) → Holds g mid t → Q answer t) → IfOk o (λ answer. (t : Tables) → Holds g old t → Q answer t)
+      tells : (o : Result W F) → IfOk o (λ answer. (t : Tables) → HoldsRows g mid t → Q answer t) → IfOk o (λ answer. (t : Tables) → HoldsRows g old t → Q answer t)
       tells (Ok answer) h = λ t holds. h t (first.kept t holds)
       tells (Err e) h = tt
 

@@ -5,14 +5,14 @@ use Rattle.std.specs.Str.{is_utf8}
 use Rattle.std.specs.Prelude.{String, nat_lt, string_bytes}
 use Rattle.std.proofs.lemmas.Str.{IsUtf8-string_bytes, is_utf8-from_IsUtf8}
 use Rattle.brk_book_theorems.proofs.LotReading.{All-sort}
-use Rattle.brk_model.specs.Adopted.{posting_of_cash, posting_of_move, postings_in}
-use Rattle.brk_model.specs.Derived.{Posting, in_turn}
-use Rattle.brk_model.specs.Form.{has_texts}
-use Rattle.brk_model.specs.Upgraded.{upgraded}
-use Rattle.brk_model.specs.Tables.{CashRow, MoveRow, Tables, numbered}
+use Rattle.brk_model.specs.Adopted.{posting_of_cash_row, posting_of_move_row, postings_of_tables}
+use Rattle.brk_model.specs.Derived.{Posting, postings_sorted_by_stamp}
+use Rattle.brk_model.specs.Form.{has_utf8_texts}
+use Rattle.brk_model.specs.Upgraded.{tables_after_upgrade}
+use Rattle.brk_model.specs.Tables.{CashRow, MoveRow, Tables, numbered_move_rows}
 use Rattle.brk_ref.specs.declared.key.Kept as kept
-use Rattle.brk_ref.specs.Records.{kept_of}
-use Rattle.brk_changes.specs.Rows.{cash_row_of, move_row_of, trade_row_of}
+use Rattle.brk_ref.specs.Records.{abstract_kept_row}
+use Rattle.brk_changes.specs.Rows.{abstract_cash_row, abstract_move_row, abstract_trade_row}
 use Rattle.brk_changes.specs.Sheets.{tables_in_sheets}
 use Rattle.brk_changes.specs.declared.cash_row.CashRow as cash
 use Rattle.brk_changes.specs.declared.move_row.MoveRow as posted
@@ -29,23 +29,23 @@ and_parts false b h = absurd (let e = h in cc)
 pub text_is_utf8 : {Z : Type 0} (s : String Z) → is_utf8 (string_bytes s) ≡ true
 text_is_utf8 s = is_utf8-from_IsUtf8 (string_bytes s) (IsUtf8-string_bytes s)
 
-kept_texts : (ks : List kept.Kept) → list_all (λ k. is_utf8 k.row_text && is_utf8 k.line) (map kept_of ks) ≡ true
+kept_texts : (ks : List kept.Kept) → list_all (λ k. is_utf8 k.row_text && is_utf8 k.line) (map abstract_kept_row ks) ≡ true
 kept_texts [] = refl
 kept_texts (k ∷ ks) = and_both _ _ (and_both _ _ (text_is_utf8 k.row_text) (text_is_utf8 k.line)) (kept_texts ks)
 
-trade_texts : (rs : List trade.TradeRow) → list_all (λ r. is_utf8 r.executor) (map trade_row_of rs) ≡ true
+trade_texts : (rs : List trade.TradeRow) → list_all (λ r. is_utf8 r.executor) (map abstract_trade_row rs) ≡ true
 trade_texts [] = refl
 trade_texts (r ∷ rs) = and_both _ _ (text_is_utf8 r.executor) (trade_texts rs)
 
-cash_texts : (rs : List cash.CashRow) → list_all (λ r. is_utf8 r.name) (map cash_row_of rs) ≡ true
+cash_texts : (rs : List cash.CashRow) → list_all (λ r. is_utf8 r.name) (map abstract_cash_row rs) ≡ true
 cash_texts [] = refl
 cash_texts (r ∷ rs) = and_both _ _ (text_is_utf8 r.name) (cash_texts rs)
 
-move_texts : (rs : List posted.MoveRow) → list_all (λ r. is_utf8 r.name) (map move_row_of rs) ≡ true
+move_texts : (rs : List posted.MoveRow) → list_all (λ r. is_utf8 r.name) (map abstract_move_row rs) ≡ true
 move_texts [] = refl
 move_texts (r ∷ rs) = and_both _ _ (text_is_utf8 r.name) (move_texts rs)
 
-pub typed_texts : (s : Sheets) → IsTrue (has_texts (tables_in_sheets s))
+pub typed_texts : (s : Sheets) → IsTrue (has_utf8_texts (tables_in_sheets s))
 typed_texts s = and_both _ _ (and_both _ _ (and_both _ _ (kept_texts s.kept.items) (trade_texts s.trades.items)) (cash_texts s.cash.items)) (move_texts s.moves.items)
 
 -- ---- the move keeps them
@@ -69,18 +69,18 @@ mapped f P Q each (x ∷ xs) h = (each x h.0, mapped f P Q each xs h.1)
 abbrev Readable : Posting → Type 0
 Readable p = is_utf8 p.name ≡ true
 
-numbered_texts : (n : ℕ) (ps : List Posting) → AllByRecursion Readable ps → list_all (λ r. is_utf8 r.name) (numbered n ps) ≡ true
+numbered_texts : (n : ℕ) (ps : List Posting) → AllByRecursion Readable ps → list_all (λ r. is_utf8 r.name) (numbered_move_rows n ps) ≡ true
 numbered_texts n [] h = refl
 numbered_texts n (p ∷ ps) h = and_both _ _ h.0 (numbered_texts (n + 1) ps h.1)
 
-pub upgraded_texts : (t : Tables) → IsTrue (has_texts t) → IsTrue (has_texts (upgraded t))
-unfolding upgraded
+pub upgraded_texts : (t : Tables) → IsTrue (has_utf8_texts t) → IsTrue (has_utf8_texts (tables_after_upgrade t))
+unfolding tables_after_upgrade
 upgraded_texts t h =
     let upper = and_parts _ (list_all (λ (r : MoveRow). is_utf8 r.name) t.moves) h in
     let lower = and_parts _ (list_all (λ (r : CashRow). is_utf8 r.name) t.cash) upper.0 in
     and_both _ _ (and_both _ _ lower.0 refl)
-    (numbered_texts 1 (in_turn (postings_in t))
-    (All-sort Readable (λ (a b : Posting). nat_lt a.stamp b.stamp) (postings_in t)
-    (joined Readable (map (posting_of_cash t) t.cash) (map posting_of_move t.moves)
-    (mapped (posting_of_cash t) (λ (r : CashRow). is_utf8 r.name ≡ true) Readable (λ x k. k) t.cash (all_of (λ (r : CashRow). is_utf8 r.name) t.cash lower.1))
-    (mapped posting_of_move (λ (r : MoveRow). is_utf8 r.name ≡ true) Readable (λ x k. k) t.moves (all_of (λ (r : MoveRow). is_utf8 r.name) t.moves upper.1)))))
+    (numbered_texts 1 (postings_sorted_by_stamp (postings_of_tables t))
+    (All-sort Readable (λ (a b : Posting). nat_lt a.stamp b.stamp) (postings_of_tables t)
+    (joined Readable (map (posting_of_cash_row t) t.cash) (map posting_of_move_row t.moves)
+    (mapped (posting_of_cash_row t) (λ (r : CashRow). is_utf8 r.name ≡ true) Readable (λ x k. k) t.cash (all_of (λ (r : CashRow). is_utf8 r.name) t.cash lower.1))
+    (mapped posting_of_move_row (λ (r : MoveRow). is_utf8 r.name ≡ true) Readable (λ x k. k) t.moves (all_of (λ (r : MoveRow). is_utf8 r.name) t.moves upper.1)))))

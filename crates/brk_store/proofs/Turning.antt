@@ -6,33 +6,33 @@ use mathlib.Core.List.{reverse-cons}
 use Rattle.std.proofs.lemmas.List.{map-append, take-append-drop, take_all, drop-drop, append-nil, length-map, length-take}
 use Rattle.sqlite_trees.specs.declared.store.Store.{Ghosts}
 use Rattle.sqlite.specs.Held.{Held}
-use Rattle.brk_lots.specs.Lots.{from_end}
+use Rattle.brk_lots.specs.Lots.{list_in_closing_order}
 use Rattle.brk_lots.specs.declared.lot.Lot.{Lot}
-use Rattle.brk_book_theorems.specs.OrderReads.{lot_in}
+use Rattle.brk_book_theorems.specs.OrderReads.{lot_of_typed_row}
 use Rattle.brk_money.specs.Spelling.{Text}
-use Rattle.brk_store.specs.Holds.{Holds}
+use Rattle.brk_store.specs.Holds.{HoldsRows}
 use Rattle.brk_model.specs.Tables.{Tables, HoldingRow}
-use Rattle.brk_changes.specs.Rows.{holding_row_of}
+use Rattle.brk_changes.specs.Rows.{abstract_holding_row}
 use Rattle.brk_changes.specs.declared.holding_row.HoldingRow as row
-use Rattle.brk_tables_trading.specs.Pages.{on_page, page_size}
-use Rattle.brk_book_theorems.specs.TradeReads.{row_lot}
-use Rattle.brk_store.specs.Pages.{left_of, rows_unread, rows_from}
+use Rattle.brk_tables_trading.specs.Pages.{page_after, page_size}
+use Rattle.brk_book_theorems.specs.TradeReads.{lot_of_row}
+use Rattle.brk_store.specs.Pages.{remaining_page_lots, unread_rows, lot_rows_from_end}
 
-pub page_turned : (rows : List HoldingRow) (read : ℕ) (page : List row.HoldingRow) → map holding_row_of page ≡ on_page read rows
-    → left_of page (nat_lt (length page) page_size) (read + length page) rows ≡ map row_lot (drop read rows)
-page_turned rows read page e = ap (map row_lot) (go (nat_lt (length page) page_size) refl)
+pub page_turned : (rows : List HoldingRow) (read : ℕ) (page : List row.HoldingRow) → map abstract_holding_row page ≡ page_after read rows
+    → remaining_page_lots page (nat_lt (length page) page_size) (read + length page) rows ≡ map lot_of_row (drop read rows)
+page_turned rows read page e = ap (map lot_of_row) (go (nat_lt (length page) page_size) refl)
   where
     k : List HoldingRow
     k = drop read rows
 
     size : length page ≡ min 16 (length k)
-    size = sym (length-map page holding_row_of) ∙ ap length e ∙ length-take 16 k
+    size = sym (length-map page abstract_holding_row) ∙ ap length e ∙ length-take 16 k
 
-    go : (b : Bool) → nat_lt (length page) page_size ≡ b → map holding_row_of page ++ rows_unread b (read + length page) rows ≡ k
-    go true h = append-nil (map holding_row_of page) ∙ e ∙ take_all 16 k (omega (arith, ltb-true (length page) 16 h, size))
+    go : (b : Bool) → nat_lt (length page) page_size ≡ b → map abstract_holding_row page ++ unread_rows b (read + length page) rows ≡ k
+    go true h = append-nil (map abstract_holding_row page) ∙ e ∙ take_all 16 k (omega (arith, ltb-true (length page) 16 h, size))
     go false h =
         let full : length page ≡ 16 = omega (arith, ltb-false (length page) 16 h, size) in
-        ap (λ (n : ℕ). map holding_row_of page ++ drop (read + n) rows) full
+        ap (λ (n : ℕ). map abstract_holding_row page ++ drop (read + n) rows) full
         ∙ ap (λ (l : List HoldingRow). l ++ drop (read + 16) rows) e
         ∙ ap (λ (l : List HoldingRow). take 16 k ++ l) (sym (drop-drop 16 read rows))
         ∙ take-append-drop 16 k
@@ -48,26 +48,26 @@ next_row xs n x e = let f : n + 1 ≡ suc n = omega arith in rw f (after_row xs 
 module _ {S : Type 0} (g : Ghosts S) (held : Held S) (lifo : Bool) (account : ℕ) (symbol : Text) where
   -- these lots are left behind so many
   abbrev pub RestOf : List row.HoldingRow → Bool → ℕ → List Lot → Type 0
-  RestOf pending ended read ls = (t : Tables) × Holds g held t × (ls ≡ left_of pending ended read (rows_from lifo account symbol t))
+  RestOf pending ended read ls = (t : Tables) × HoldsRows g held t × (ls ≡ remaining_page_lots pending ended read (lot_rows_from_end lifo account symbol t))
 
   -- the first lot of a page, and what is left then
-  pub turned : (t : Tables) (holds : Holds g held t) (read read' : ℕ) (page : List row.HoldingRow) (ended : Bool) (first : Option Lot) (ls : List Lot)
-      → map holding_row_of page ≡ on_page read (rows_from lifo account symbol t) → read' ≡ read + length page → ended ≡ nat_lt (length page) page_size → first ≡ option_map lot_in (slice_get page 0)
-      → ls ≡ map row_lot (drop read (rows_from lifo account symbol t))
+  pub turned : (t : Tables) (holds : HoldsRows g held t) (read read' : ℕ) (page : List row.HoldingRow) (ended : Bool) (first : Option Lot) (ls : List Lot)
+      → map abstract_holding_row page ≡ page_after read (lot_rows_from_end lifo account symbol t) → read' ≡ read + length page → ended ≡ nat_lt (length page) page_size → first ≡ option_map lot_of_typed_row (slice_get page 0)
+      → ls ≡ map lot_of_row (drop read (lot_rows_from_end lifo account symbol t))
       → MatchOption first ((ls ≡ []) × RestOf (drop 1 page) ended read' []) (λ lot. (more : List Lot) × (ls ≡ lot ∷ more) × RestOf (drop 1 page) ended read' more)
   turned t holds read read' page ended first ls shown count last is left =
-      let rows = rows_from lifo account symbol t in
-      let whole : ls ≡ left_of page ended read' rows = left ∙ sym (page_turned rows read page shown) ∙ ap (λ b. left_of page b (read + length page) rows) (sym last) ∙ ap (λ n. left_of page ended n rows) (sym count) in
+      let rows = lot_rows_from_end lifo account symbol t in
+      let whole : ls ≡ remaining_page_lots page ended read' rows = left ∙ sym (page_turned rows read page shown) ∙ ap (λ b. remaining_page_lots page b (read + length page) rows) (sym last) ∙ ap (λ n. remaining_page_lots page ended n rows) (sym count) in
       go page is last whole
     where
-      go : (page : List row.HoldingRow) → first ≡ option_map lot_in (slice_get page 0) → ended ≡ nat_lt (length page) page_size → ls ≡ left_of page ended read' (rows_from lifo account symbol t)
+      go : (page : List row.HoldingRow) → first ≡ option_map lot_of_typed_row (slice_get page 0) → ended ≡ nat_lt (length page) page_size → ls ≡ remaining_page_lots page ended read' (lot_rows_from_end lifo account symbol t)
           → MatchOption first ((ls ≡ []) × RestOf (drop 1 page) ended read' []) (λ lot. (more : List Lot) × (ls ≡ lot ∷ more) × RestOf (drop 1 page) ended read' more)
       go [] f l w =
-          let none : left_of [] ended read' (rows_from lifo account symbol t) ≡ [] = ap (λ b. left_of [] b read' (rows_from lifo account symbol t)) l in
+          let none : remaining_page_lots [] ended read' (lot_rows_from_end lifo account symbol t) ≡ [] = ap (λ b. remaining_page_lots [] b read' (lot_rows_from_end lifo account symbol t)) l in
           subst (λ o. MatchOption o ((ls ≡ []) × RestOf [] ended read' []) (λ lot. (more : List Lot) × (ls ≡ lot ∷ more) × RestOf [] ended read' more)) (sym f) (w ∙ none, (t, holds, sym none))
       go (p ∷ ps) f l w =
           subst (λ o. MatchOption o ((ls ≡ []) × RestOf ps ended read' []) (λ lot. (more : List Lot) × (ls ≡ lot ∷ more) × RestOf ps ended read' more)) (sym f)
-          (left_of ps ended read' (rows_from lifo account symbol t), w, (t, holds, refl))
+          (remaining_page_lots ps ended read' (lot_rows_from_end lifo account symbol t), w, (t, holds, refl))
 
 -- ---- from an end
 
@@ -77,6 +77,6 @@ map_turned {X} {Y} f (x ∷ xs) =
     reverse-cons (f x) (map f xs) ∙ ap (λ (l : List Y). l ++ f x ∷ []) (map_turned f xs)
     ∙ sym (map-append f (reverse xs) (x ∷ [])) ∙ ap (map f) (sym (reverse-cons x xs))
 
-pub map_end : {X Y : Type 0} (lifo : Bool) (f : X → Y) (xs : List X) → from_end lifo (map f xs) ≡ map f (from_end lifo xs)
+pub map_end : {X Y : Type 0} (lifo : Bool) (f : X → Y) (xs : List X) → list_in_closing_order lifo (map f xs) ≡ map f (list_in_closing_order lifo xs)
 map_end true f xs = map_turned f xs
 map_end false f xs = refl

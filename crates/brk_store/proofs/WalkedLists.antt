@@ -13,23 +13,23 @@ use Rattle.sqlite_value.proofs.OrderLemmas.{value_cmp-Int}
 use Rattle.sqlite_trees.specs.declared.store.Store.{Ghosts}
 use Rattle.sqlite.specs.Effect.{Database}
 use Rattle.sqlite.specs.Held.{Held, state}
-use Rattle.brk_changes.specs.Rows.{holding_row_of, move_row_of}
+use Rattle.brk_changes.specs.Rows.{abstract_holding_row, abstract_move_row}
 use Rattle.brk_changes.specs.declared.move_row.MoveRow as row
 use Rattle.brk_changes.specs.declared.holding_row.HoldingRow as holding
-use Rattle.brk_model.specs.Keys.{word, by_key, row_before}
-use Rattle.brk_model.specs.Lists.{insert_by, sort_by, text_before}
-use Rattle.brk_model.specs.Statement.{lots_in}
+use Rattle.brk_model.specs.Keys.{word, rows_sorted_by_key, is_row_key_less}
+use Rattle.brk_model.specs.Lists.{insert_by, sort_by, is_text_less}
+use Rattle.brk_model.specs.Statement.{lot_rows_of_account}
 use Rattle.brk_model.specs.Tables.{HoldingRow, MoveRow, Tables}
-use Rattle.brk_sql.specs.Rows.{Rises}
+use Rattle.brk_sql.specs.Rows.{IsStrictlyAscending}
 use Rattle.brk_tables_schema.specs.Desk.{CashMoves, Holdings, order}
 use Rattle.brk_tables_schema.specs.Made.{HasRows}
 use Rattle.brk_book_theorems.proofs.Bools.{same_text, texts_back}
 use Rattle.brk_book_theorems.proofs.LotReading.{All-sort}
 use Rattle.brk_book_theorems.proofs.Order.{by_key-filter, key_total}
-use Rattle.brk_tables_walks.specs.Lists.{cash_between, lots_by_symbol, stamp_key, symbol_key}
-use Rattle.brk_tables_walks.specs.Walks.{Walks}
+use Rattle.brk_tables_walks.specs.Lists.{cash_rows_between, lots_by_symbol, cash_sort_key, lot_sort_key}
+use Rattle.brk_tables_walks.specs.Walks.{TableWalkPost}
 use Rattle.brk_tables_walks.specs.declared.walking.WalkError.{WalkError}
-use Rattle.brk_store.specs.Walked.{WalkPost, cash_of}
+use Rattle.brk_store.specs.Walked.{WalkPost, cash_rows_in_span}
 use Rattle.brk_store.proofs.Walking.{is_walked}
 
 -- ---- rows that stand by a number need no more of it in their order
@@ -71,16 +71,16 @@ alone true b = refl
 alone false true = refl
 alone false false = refl
 
-text_self : (s : List ℕ) → text_before s s ≡ false
+text_self : (s : List ℕ) → is_text_less s s ≡ false
 text_self [] = refl
-text_self (x ∷ s) = self (nat_lt x x) (text_before s s) (grind (arith, nat_tests)) (text_self s)
+text_self (x ∷ s) = self (nat_lt x x) (is_text_less s s) (grind (arith, nat_tests)) (text_self s)
   where
     self : (a b : Bool) → a ≡ false → b ≡ false → a || (not a && b) ≡ false
     self a b g h = rw (g, h) refl
 
-text_total : (s t : List ℕ) → text_before s t ≡ false → text_before t s ≡ false → s ≡ t
+text_total : (s t : List ℕ) → is_text_less s t ≡ false → is_text_less t s ≡ false → s ≡ t
 text_total s t g h =
-    let e : word s ∷ [] ≡ word t ∷ [] = key_total (word s ∷ []) (word t ∷ []) (alone (text_before s t) (text_before t s) ∙ g) (alone (text_before t s) (text_before s t) ∙ h) in cc
+    let e : word s ∷ [] ≡ word t ∷ [] = key_total (word s ∷ []) (word t ∷ []) (alone (is_text_less s t) (is_text_less t s) ∙ g) (alone (is_text_less t s) (is_text_less s t) ∙ h) in cc
 
 -- ---- lots
 
@@ -91,21 +91,21 @@ lots_tie false false e true m p q f g h k = rw (f refl refl) refl
 lots_tie false false e false true p q f g h k = rw (f refl refl) refl
 lots_tie false false e false false p q f g h k = rw (f refl refl, k) (alone false q)
 
-unlike : (s t : List ℕ) → text_before s t ≡ true → bytes_eq s t ≡ false
+unlike : (s t : List ℕ) → is_text_less s t ≡ true → bytes_eq s t ≡ false
 unlike s t a = go (bytes_eq s t) refl
   where
     go : (b : Bool) → bytes_eq s t ≡ b → bytes_eq s t ≡ false
     go false e = e
-    go true e = let same : s ≡ t = same_text s t e in let none : text_before s t ≡ false = subst (λ x. text_before s x ≡ false) same (text_self s) in absurd (let f : true ≡ false = sym a ∙ none in cc)
+    go true e = let same : s ≡ t = same_text s t e in let none : is_text_less s t ≡ false = subst (λ x. is_text_less s x ≡ false) same (text_self s) in absurd (let f : true ≡ false = sym a ∙ none in cc)
 
 not_above : (m n : ℕ) → nat_lt m n ≡ true → nat_lt n m ≡ false
 not_above m n h = grind (arith, nat_tests)
 
-pub lots_same : (account : ℕ) (t : Tables) → Climb (λ r. r.trade) t.holdings → lots_by_symbol account t ≡ lots_in t account
+pub lots_same : (account : ℕ) (t : Tables) → Climb (λ r. r.trade) t.holdings → lots_by_symbol account t ≡ lot_rows_of_account t account
 lots_same account t climb =
-    sort_same (λ (r : HoldingRow). r.trade) (row_before symbol_key) (λ a b. text_before a.symbol b.symbol || (bytes_eq a.symbol b.symbol && nat_lt a.stamp b.stamp))
+    sort_same (λ (r : HoldingRow). r.trade) (is_row_key_less lot_sort_key) (λ a b. is_text_less a.symbol b.symbol || (bytes_eq a.symbol b.symbol && nat_lt a.stamp b.stamp))
     (filter (λ (r : HoldingRow). r.account == account) t.holdings)
-    (λ x y k. lots_tie (text_before y.symbol x.symbol) (text_before x.symbol y.symbol) (bytes_eq y.symbol x.symbol) (nat_lt y.stamp x.stamp) (nat_lt x.stamp y.stamp) (nat_lt y.trade x.trade) (nat_lt x.trade y.trade)
+    (λ x y k. lots_tie (is_text_less y.symbol x.symbol) (is_text_less x.symbol y.symbol) (bytes_eq y.symbol x.symbol) (nat_lt y.stamp x.stamp) (nat_lt x.stamp y.stamp) (nat_lt y.trade x.trade) (nat_lt x.trade y.trade)
     (λ a b. (bytes_eq-Decides y.symbol x.symbol).1 (text_total y.symbol x.symbol a b)) (unlike y.symbol x.symbol) (λ b. texts_back y.symbol x.symbol ∙ unlike x.symbol y.symbol b) (not_above x.trade y.trade k))
     (climb_filter (λ (r : HoldingRow). r.trade) (λ (r : HoldingRow). r.account == account) t.holdings climb)
 
@@ -125,13 +125,13 @@ cash_tie true b p q k = refl
 cash_tie false true p q k = refl
 cash_tie false false p q k = rw k (alone false q)
 
-pub cash_same : (account from to : ℕ) (t : Tables) → Climb (λ r. r.id) t.moves → cash_between account from to t ≡ cash_of account from to t
+pub cash_same : (account from to : ℕ) (t : Tables) → Climb (λ r. r.id) t.moves → cash_rows_between account from to t ≡ cash_rows_in_span account from to t
 cash_same account from to t climb =
     let mine = λ (r : MoveRow). r.account == account in
     let within = λ (r : MoveRow). nat_le from r.stamp && nat_le r.stamp to in
-    ap (by_key stamp_key) (filter_both mine within t.moves)
-    ∙ by_key-filter stamp_key within (filter mine t.moves)
-    ∙ ap (filter within) (sort_same (λ (r : MoveRow). r.id) (row_before stamp_key) (λ a b. nat_lt a.stamp b.stamp) (filter mine t.moves)
+    ap (rows_sorted_by_key cash_sort_key) (filter_both mine within t.moves)
+    ∙ by_key-filter cash_sort_key within (filter mine t.moves)
+    ∙ ap (filter within) (sort_same (λ (r : MoveRow). r.id) (is_row_key_less cash_sort_key) (λ a b. nat_lt a.stamp b.stamp) (filter mine t.moves)
     (λ x y k. cash_tie (nat_lt y.stamp x.stamp) (nat_lt x.stamp y.stamp) (nat_lt y.id x.id) (nat_lt x.id y.id) (not_above x.id y.id k))
     (climb_filter (λ (r : MoveRow). r.id) mine t.moves climb))
 
@@ -146,7 +146,7 @@ less_number m n h = go (nat_lt m n) refl
         let k : ordering_then (int_cmp (pos m) (pos n)) Equal ≡ Less = rw (value_cmp-Int (pos m) (pos n)) at h in
         elim (cases_Bool (nat_lt n m)) [ inl b ↦ absurd (let f = rw (e, b) at k in cc) | inr b ↦ absurd (let f = rw (e, b) at k in cc) ]
 
-climbs : {X : Type 0} (n : X → ℕ) (order : X → X → Ordering) → ((x y : X) → order x y ≡ Less → nat_lt (n x) (n y) ≡ true) → (xs : List X) → Rises order xs → Climb n xs
+climbs : {X : Type 0} (n : X → ℕ) (order : X → X → Ordering) → ((x y : X) → order x y ≡ Less → nat_lt (n x) (n y) ≡ true) → (xs : List X) → IsStrictlyAscending order xs → Climb n xs
 climbs n order less [] h = tt
 climbs n order less (x ∷ xs) h = (All-of (λ y. order x y ≡ Less) (λ y. nat_lt (n x) (n y) ≡ true) xs (λ y k. less x y k) h.0, climbs n order less xs h.1)
 
@@ -159,11 +159,11 @@ moves_climb t db has = climbs (λ (r : MoveRow). r.id) (order CashMoves) (λ x y
 -- ---- walks of a store
 
 pub lots_walked : {S V E : Type 0} (g : Ghosts S) (old new : Held S) (account : ℕ) (takes : V → holding.HoldingRow → V → Type 0) (stops : V → holding.HoldingRow → E → V → Type 0) (before after : V) (result : Result (Unit {0}) (WalkError E))
-    → Walks g old new holding_row_of (lots_by_symbol account) takes stops before after result → WalkPost g old new holding_row_of (λ t. lots_in t account) takes stops before after result
+    → TableWalkPost g old new abstract_holding_row (lots_by_symbol account) takes stops before after result → WalkPost g old new abstract_holding_row (λ t. lot_rows_of_account t account) takes stops before after result
 lots_walked g old new account takes stops before after result w =
-    is_walked g old new holding_row_of (lots_by_symbol account) (λ t. lots_in t account) takes stops before after (λ t has. lots_same account t (holdings_climb t (state g old).now has)) result w
+    is_walked g old new abstract_holding_row (lots_by_symbol account) (λ t. lot_rows_of_account t account) takes stops before after (λ t has. lots_same account t (holdings_climb t (state g old).now has)) result w
 
 pub cash_walked : {S V E : Type 0} (g : Ghosts S) (old new : Held S) (account from to : ℕ) (takes : V → row.MoveRow → V → Type 0) (stops : V → row.MoveRow → E → V → Type 0) (before after : V) (result : Result (Unit {0}) (WalkError E))
-    → Walks g old new move_row_of (cash_between account from to) takes stops before after result → WalkPost g old new move_row_of (cash_of account from to) takes stops before after result
+    → TableWalkPost g old new abstract_move_row (cash_rows_between account from to) takes stops before after result → WalkPost g old new abstract_move_row (cash_rows_in_span account from to) takes stops before after result
 cash_walked g old new account from to takes stops before after result w =
-    is_walked g old new move_row_of (cash_between account from to) (cash_of account from to) takes stops before after (λ t has. cash_same account from to t (moves_climb t (state g old).now has)) result w
+    is_walked g old new abstract_move_row (cash_rows_between account from to) (cash_rows_in_span account from to) takes stops before after (λ t has. cash_same account from to t (moves_climb t (state g old).now has)) result w

@@ -9,85 +9,85 @@ use Rattle.brk_money.specs.declared.fault.Condition.{Condition}
 use Rattle.brk_money.specs.declared.fault.Condition.TheVariants as condition
 use Rattle.brk_money.specs.declared.fault.Fault.{Fault}
 use Rattle.brk_money.specs.declared.fault.Fault.TheVariants.{Memory, Store, Damaged}
-use Rattle.brk_model.specs.Adopted.{base_of}
-use Rattle.brk_model.specs.Audit.{IsAudit}
+use Rattle.brk_model.specs.Adopted.{base_of_tables}
+use Rattle.brk_model.specs.Audit.{IsAuditResult}
 use Rattle.brk_model.specs.Base.{Base}
-use Rattle.brk_model.specs.Form.{has_texts}
+use Rattle.brk_model.specs.Form.{has_utf8_texts}
 use Rattle.brk_model.specs.Schemas.{Schema, third_schema}
 use Rattle.brk_model.specs.Sheets.{sheets}
 use Rattle.brk_model.specs.Tables.{Tables}
 use Rattle.brk_changes.specs.declared.schema.Schema as known
 use Rattle.brk_changes.specs.declared.schema.Schema.TheVariants.{Third}
-use Rattle.brk_changes.specs.Schemas.{schema_of}
-use Rattle.brk_tables_schema.specs.Made.{HasRows, HasRowsIn, IsOf}
-use Rattle.brk_tables_upgrade.specs.Upgrade.{KeepsOtherTables}
-use Rattle.brk_tables_scan.specs.Schemas.{HasDesk, IsDefined, IsDefinedAs}
+use Rattle.brk_changes.specs.Schemas.{abstract_schema}
+use Rattle.brk_tables_schema.specs.Made.{HasRows, HasRowsInSchema, IsTableOfSchema}
+use Rattle.brk_tables_upgrade.specs.Upgrade.{PreservesTablesOutside}
+use Rattle.brk_tables_scan.specs.Schemas.{HasDesk, DeskNamesImplyDefinitions, SchemaNamesImplyDefinitions}
 use Rattle.brk_book_theorems.specs.Books.{BooksInvariant}
-use Rattle.brk_audit_theorems.specs.Passing.{Passes}
+use Rattle.brk_audit_theorems.specs.Passing.{PassesAudit}
 use Rattle.brk_invariant_theorems.specs.Sound.{AuditInvariant}
-use Rattle.brk_store.specs.Holds.{AreTreesOf, Holds, IsSame}
+use Rattle.brk_store.specs.Holds.{AreTreesOfRows, HoldsRows, WasOpenAndIsUnchanged}
 
 -- ---- answers of an audit
 
 -- The database `db` contains the tables of `schema` with the rows `t`, whose texts are UTF-8, and
 -- `answer` is the audit of `t` by the conditions of `schema`: the first condition that fails, or
 -- `None`.
-abbrev pub Answered : Schema → Tables → Database → Option Condition → Type 0
-Answered schema t db answer = HasRowsIn schema t db × IsTrue (has_texts t) × IsAudit schema t answer
+abbrev pub IsAuditOfStoredRows : Schema → Tables → Database → Option Condition → Type 0
+IsAuditOfStoredRows schema t db answer = HasRowsInSchema schema t db × IsTrue (has_utf8_texts t) × IsAuditResult schema t answer
 
 -- `answer` is what an audit of the database `db` by the one schema `schema` returns: the first
 -- condition that fails, or `None` if the rows pass.
-abbrev pub AuditedBy : Schema → Database → Option Condition → Type 0
+abbrev pub IsAuditBySchema : Schema → Database → Option Condition → Type 0
 -- No audit answers `NotEmpty`, which only a creation returns.
-AuditedBy schema db (Some condition.NotEmpty) = ⊥
+IsAuditBySchema schema db (Some condition.NotEmpty) = ⊥
 -- The database has no desk of the schema.
-AuditedBy schema db (Some condition.Schema) = ¬ HasDesk schema db
+IsAuditBySchema schema db (Some condition.Schema) = ¬ HasDesk schema db
 -- The database has a desk of the schema, and the audit of any rows that it has, with texts in
 -- UTF-8, answers `Form`.
-AuditedBy schema db (Some condition.Form) =
-    HasDesk schema db × ((t : Tables) → HasRowsIn schema t db → IsTrue (has_texts t) → IsAudit schema t (Some condition.Form))
+IsAuditBySchema schema db (Some condition.Form) =
+    HasDesk schema db × ((t : Tables) → HasRowsInSchema schema t db → IsTrue (has_utf8_texts t) → IsAuditResult schema t (Some condition.Form))
 -- The answer is the audit of the rows that the database has.
-AuditedBy schema db answer = (t : Tables) × Answered schema t db answer
+IsAuditBySchema schema db answer = (t : Tables) × IsAuditOfStoredRows schema t db answer
 
 -- The database has a desk of the given schema. For `None`: it has a desk of no schema.
-abbrev pub HasDeskOf : Option known.Schema → Database → Type 0
-HasDeskOf (Some schema) db = HasDesk (schema_of schema) db
-HasDeskOf None db = (schema : known.Schema) → ¬ HasDesk (schema_of schema) db
+abbrev pub IsDeskSchema : Option known.Schema → Database → Type 0
+IsDeskSchema (Some schema) db = HasDesk (abstract_schema schema) db
+IsDeskSchema None db = (schema : known.Schema) → ¬ HasDesk (abstract_schema schema) db
 
 -- `answer` is what an audit of the database `db` returns that audits its desk by the conditions of
 -- the desk's own schema. `NotEmpty` is never the answer; `Schema` is the answer if there is no desk
 -- of any schema.
-abbrev pub Audited : Database → Option Condition → Type 0
-Audited db (Some condition.NotEmpty) = ⊥
-Audited db (Some condition.Schema) = HasDeskOf None db
-Audited db answer = (schema : known.Schema) × AuditedBy (schema_of schema) db answer
+abbrev pub IsAuditOfDatabase : Database → Option Condition → Type 0
+IsAuditOfDatabase db (Some condition.NotEmpty) = ⊥
+IsAuditOfDatabase db (Some condition.Schema) = IsDeskSchema None db
+IsAuditOfDatabase db answer = (schema : known.Schema) × IsAuditBySchema (abstract_schema schema) db answer
 
 -- `P` holds of the answer of an audit that returned this result: of `None` at `Ok`, and of the
 -- condition at `Damaged`. Vacuous if the result is `Memory` or `Store`.
-abbrev pub OnAnswer : Result (Unit {0}) Fault → (Option Condition → Type 0) → Type 0
-OnAnswer (Ok x) P = P None
-OnAnswer (Err (Damaged failing)) P = P (Some failing)
-OnAnswer (Err Memory) P = ⊤
-OnAnswer (Err Store) P = ⊤
+abbrev pub OnAuditAnswer : Result (Unit {0}) Fault → (Option Condition → Type 0) → Type 0
+OnAuditAnswer (Ok x) P = P None
+OnAuditAnswer (Err (Damaged failing)) P = P (Some failing)
+OnAuditAnswer (Err Memory) P = ⊤
+OnAuditAnswer (Err Store) P = ⊤
 
 -- ---- premises on the database
 
 -- For each schema: if the current database has all tables of a desk by their names and columns,
--- they are defined as a desk defines them (`IsDefined`). So a database without these tables, an
--- empty one too, satisfies it. Vacuous if the disk assumption fails, or once the database is
--- closed.
-abbrev pub IsDefinedIn : {S : Type 0} → Ghosts S → Held S → Type 0
-IsDefinedIn g held = HasCleanDisk (state g held) → IsTrue (state g held).is_open → IsDefined (state g held).now
+-- they are defined as a desk defines them (`DeskNamesImplyDefinitions`). So a database without
+-- these tables, an empty one too, satisfies it. Vacuous if the disk assumption fails, or once the
+-- database is closed.
+abbrev pub StoreNamesImplyDefinitions : {S : Type 0} → Ghosts S → Held S → Type 0
+StoreNamesImplyDefinitions g held = HasCleanDisk (state g held) → IsTrue (state g held).is_open → DeskNamesImplyDefinitions (state g held).now
 
 -- If the current database has all tables of schema 3 by their names and columns, they are defined
 -- as a desk defines them. Vacuous if the disk assumption fails, or once the database is closed.
-abbrev pub IsThirdDefinedIn : {S : Type 0} → Ghosts S → Held S → Type 0
-IsThirdDefinedIn g held = HasCleanDisk (state g held) → IsTrue (state g held).is_open → IsDefinedAs third_schema (state g held).now
+abbrev pub ThirdNamesImplyDefinitions : {S : Type 0} → Ghosts S → Held S → Type 0
+ThirdNamesImplyDefinitions g held = HasCleanDisk (state g held) → IsTrue (state g held).is_open → SchemaNamesImplyDefinitions third_schema (state g held).now
 
 -- The current database has a desk of schema 3. Vacuous if the disk assumption fails, or once the
 -- database is closed.
-abbrev pub HasThirdIn : {S : Type 0} → Ghosts S → Held S → Type 0
-HasThirdIn g held = HasCleanDisk (state g held) → IsTrue (state g held).is_open → HasDesk third_schema (state g held).now
+abbrev pub StoreHasThirdDesk : {S : Type 0} → Ghosts S → Held S → Type 0
+StoreHasThirdDesk g held = HasCleanDisk (state g held) → IsTrue (state g held).is_open → HasDesk third_schema (state g held).now
 
 -- ---- an audit
 
@@ -95,14 +95,14 @@ HasThirdIn g held = HasCleanDisk (state g held) → IsTrue (state g held).is_ope
 pub record AuditPost {S : Type 0} (g : Ghosts S) (old new : Held S) (result : Result (Unit {0}) Fault) : Type 0 where
   -- `Ok` is returned only if the rows pass, and `Damaged` only with the first condition that fails.
   -- Vacuous if the disk assumption fails after the call, or if the old database does not satisfy
-  -- `IsThirdDefinedIn`.
-  pub told : HasCleanDisk (state g new) → IsThirdDefinedIn g old → OnAnswer result (AuditedBy third_schema (state g old).now)
+  -- `ThirdNamesImplyDefinitions`.
+  pub told : HasCleanDisk (state g new) → ThirdNamesImplyDefinitions g old → OnAuditAnswer result (IsAuditBySchema third_schema (state g old).now)
   -- `Ok` and `Damaged` are returned only if the database was open.
-  pub opened : HasCleanDisk (state g new) → OnAnswer result (λ _. IsTrue (state g old).is_open)
+  pub opened : HasCleanDisk (state g new) → OnAuditAnswer result (λ _. IsTrue (state g old).is_open)
   -- The store holds after the call the rows that it held before, whatever the result.
-  pub kept : (t : Tables) → Holds g old t → Holds g new t
+  pub kept : (t : Tables) → HoldsRows g old t → HoldsRows g new t
   -- If the database is open after the call, it was open before and is unchanged.
-  pub same : HasCleanDisk (state g new) → IsTrue (state g new).is_open → IsSame (state g old) (state g new)
+  pub same : HasCleanDisk (state g new) → IsTrue (state g new).is_open → WasOpenAndIsUnchanged (state g old) (state g new)
   -- A crash exposes only states that a crash before the call could expose.
   pub survives : Survives (state g old) (state g new) (λ _. ⊥)
 
@@ -112,47 +112,47 @@ pub record AuditPost {S : Type 0} (g : Ghosts S) (old new : Held S) (result : Re
 -- contains the tables of schema 3 with the tables of the base that these rows determine. The other
 -- tables of `db` still exist in `after`, with their rows unless a foreign key of their own writes
 -- them.
-abbrev pub IsUpgraded : Database → Database → Type 0
-IsUpgraded db after =
-    (schema : known.Schema) × (t : Tables) × (passed : Answered (schema_of schema) t db None) × HasRows (sheets (base_of t)) after × KeepsOtherTables (IsOf (schema_of schema)) passed.0.0 db after
+abbrev pub UpgradesPassingRows : Database → Database → Type 0
+UpgradesPassingRows db after =
+    (schema : known.Schema) × (t : Tables) × (passed : IsAuditOfStoredRows (abstract_schema schema) t db None) × HasRows (sheets (base_of_tables t)) after × PreservesTablesOutside (IsTableOfSchema (abstract_schema schema)) passed.0.0 db after
 
 -- Rows of an older schema in the database `db` pass the audit of that schema, and `trees` contain
 -- the tables of schema 3 of the base that these rows determine.
-abbrev pub AreUpgraded : Database → Trees → Type 0
-AreUpgraded db trees = (schema : known.Schema) × (t : Tables) × (schema ≢ Third) × Answered (schema_of schema) t db None × AreTreesOf (sheets (base_of t)) trees
+abbrev pub AreUpgradedTrees : Database → Trees → Type 0
+AreUpgradedTrees db trees = (schema : known.Schema) × (t : Tables) × (schema ≢ Third) × IsAuditOfStoredRows (abstract_schema schema) t db None × AreTreesOfRows (sheets (base_of_tables t)) trees
 
 -- The postcondition of an adoption: an audit by the conditions of the schema of the desk that the
 -- database has and, at `Ok`, a store that holds the rows in schema 3. The clauses with the premise
--- `IsDefinedIn` are vacuous for a database whose tables have the names and columns of a desk's, but
--- are not defined as a desk defines them.
+-- `StoreNamesImplyDefinitions` are vacuous for a database whose tables have the names and columns
+-- of a desk's, but are not defined as a desk defines them.
 pub record AdoptPost {S : Type 0} (g : Ghosts S) (old new : Held S) (result : Result (Unit {0}) Fault) : Type 0 where
   -- `Ok` is returned only if the rows pass, and `Damaged` only with the first condition that fails.
   -- Vacuous if the disk assumption fails after the call, or if the old database does not satisfy
-  -- `IsDefinedIn`.
-  pub told : HasCleanDisk (state g new) → IsDefinedIn g old → OnAnswer result (Audited (state g old).now)
+  -- `StoreNamesImplyDefinitions`.
+  pub told : HasCleanDisk (state g new) → StoreNamesImplyDefinitions g old → OnAuditAnswer result (IsAuditOfDatabase (state g old).now)
   -- `Ok` and `Damaged` are returned only if the database was open.
-  pub opened : HasCleanDisk (state g new) → OnAnswer result (λ _. IsTrue (state g old).is_open)
+  pub opened : HasCleanDisk (state g new) → OnAuditAnswer result (λ _. IsTrue (state g old).is_open)
   -- At `Ok` the store holds rows that pass the audit of schema 3, with texts in UTF-8. Vacuous if
-  -- the old database does not satisfy `IsDefinedIn`.
-  pub adopted : IsDefinedIn g old → OnOk result ((t : Tables) × Holds g new t × Passes third_schema t × IsTrue (has_texts t))
+  -- the old database does not satisfy `StoreNamesImplyDefinitions`.
+  pub adopted : StoreNamesImplyDefinitions g old → OnOk result ((t : Tables) × HoldsRows g new t × PassesAudit third_schema t × IsTrue (has_utf8_texts t))
   -- At `Ok` the store has the tables of the base of the old rows, committed, if it is open.
-  pub upgraded : HasCleanDisk (state g new) → IsTrue (state g new).is_open → IsDefinedIn g old → OnOk result (IsUpgraded (state g old).now (state g new).now × ((state g new).committed ≡ (state g new).now))
+  pub upgraded : HasCleanDisk (state g new) → IsTrue (state g new).is_open → StoreNamesImplyDefinitions g old → OnOk result (UpgradesPassingRows (state g old).now (state g new).now × ((state g new).committed ≡ (state g new).now))
   -- At `Ok` the database had a desk of schema 3, or the store is open.
-  pub stays : HasCleanDisk (state g new) → IsDefinedIn g old → OnOk result (HasThirdIn g old ⊎ IsTrue (state g new).is_open)
+  pub stays : HasCleanDisk (state g new) → StoreNamesImplyDefinitions g old → OnOk result (StoreHasThirdDesk g old ⊎ IsTrue (state g new).is_open)
   -- At an error: if the database is open after the call, it was open before and is unchanged.
-  pub same : HasCleanDisk (state g new) → IsTrue (state g new).is_open → OnErr result (IsSame (state g old) (state g new))
+  pub same : HasCleanDisk (state g new) → IsTrue (state g new).is_open → OnErr result (WasOpenAndIsUnchanged (state g old) (state g new))
   -- A crash exposes a state that a crash before the call could expose or, if rows of an older
   -- schema passed, the tables of their base in schema 3.
-  pub survives : IsDefinedIn g old → Survives (state g old) (state g new) (AreUpgraded (state g old).now)
+  pub survives : StoreNamesImplyDefinitions g old → Survives (state g old) (state g new) (AreUpgradedTrees (state g old).now)
   -- If the database had a desk of schema 3, the call satisfies the postcondition of an audit, which
   -- writes nothing.
-  pub audited : IsDefinedIn g old → HasThirdIn g old → AuditPost g old new result
+  pub audited : StoreNamesImplyDefinitions g old → StoreHasThirdDesk g old → AuditPost g old new result
 
 -- The abstraction relation: the store holds the tables of `base`, and `base` satisfies the books
 -- invariant and the audit invariant and has texts in UTF-8. The clause on the rows is vacuous if
 -- the disk assumption fails, or once the store is closed.
 pub record Represents {S : Type 0} (g : Ghosts S) (store : Held S) (base : Base) : Type 0 where
-  pub rows : Holds g store (sheets base)
+  pub rows : HoldsRows g store (sheets base)
   pub books : BooksInvariant base
   pub sound : AuditInvariant base
-  pub texts : IsTrue (has_texts (sheets base))
+  pub texts : IsTrue (has_utf8_texts (sheets base))

@@ -8,28 +8,28 @@ use Rattle.sqlite.specs.State.{State, HasCleanDisk, IsLive, Survives}
 use Rattle.brk_money.specs.declared.fault.Condition.TheVariants.{NotEmpty}
 use Rattle.brk_money.specs.declared.fault.Fault.{Fault}
 use Rattle.brk_money.specs.declared.fault.Fault.TheVariants.{Damaged, Store}
-use Rattle.brk_model.specs.Tables.{Tables, no_rows}
-use Rattle.brk_sql.specs.Desk.{HasTables, KeepsOthers, SparesStrangers}
+use Rattle.brk_model.specs.Tables.{Tables, tables_without_rows}
+use Rattle.brk_sql.specs.Desk.{HasTables, PreservesAllTables, PreservesUnrelatedTables}
 use Rattle.brk_tables_schema.specs.Desk.{Which, desk}
 use Rattle.brk_tables_schema.specs.Made.{HasRows}
 use Rattle.brk_tables_create.specs.Present.{has_table_of_desk}
 
 -- The database of `store` contains all tables of a desk with exactly the rows `t`. Vacuous if the
 -- disk assumption fails (`HasCleanDisk`), or once the store is closed.
-abbrev pub Holds : {S : Type 0} → Ghosts S → Held S → Tables → Type 0
-Holds g store t = HasCleanDisk (state g store) → IsTrue (state g store).is_open → HasRows t (state g store).now
+abbrev pub HoldsRows : {S : Type 0} → Ghosts S → Held S → Tables → Type 0
+HoldsRows g store t = HasCleanDisk (state g store) → IsTrue (state g store).is_open → HasRows t (state g store).now
 
 -- The trees, which are the contents of a database on disk, are those of some database that contains
 -- all tables of a desk with exactly the rows `t` (`HasRows`).
-abbrev pub AreTreesOf : Tables → Trees → Type 0
-AreTreesOf t trees = (db : Database) × HasRows t db × (trees ≡ db.trees)
+abbrev pub AreTreesOfRows : Tables → Trees → Type 0
+AreTreesOfRows t trees = (db : Database) × HasRows t db × (trees ≡ db.trees)
 
 -- Every state of the disk that a crash may expose now satisfies `P`.
-abbrev pub OnlyCrashState : {S : Type 0} → Ghosts S → Held S → (Trees → Type 0) → Type 0
-OnlyCrashState g store P = (trees : Trees) → (state g store).may_leave trees → P trees
+abbrev pub CrashStatesSatisfy : {S : Type 0} → Ghosts S → Held S → (Trees → Type 0) → Type 0
+CrashStatesSatisfy g store P = (trees : Trees) → (state g store).may_leave trees → P trees
 
 -- The database `old` was open, and neither its current nor its committed state differs in `new`.
-pub record IsSame (old new : State) : Type 0 where
+pub record WasOpenAndIsUnchanged (old new : State) : Type 0 where
   pub was_open : IsTrue old.is_open
   pub now : new.now ≡ old.now
   pub committed : new.committed ≡ old.committed
@@ -39,59 +39,59 @@ pub record IsSame (old new : State) : Type 0 where
 pub record ReadPost {S V E : Type 0} (g : Ghosts S) (old new : Held S) (result : Result V E) (Told : V → Tables → Type 0) : Type 0 where
   -- A returned value satisfies `Told` with the rows that the store held. Vacuous if the disk
   -- assumption fails after the call.
-  pub told : HasCleanDisk (state g new) → IfOk result (λ answer. (t : Tables) → Holds g old t → Told answer t)
+  pub told : HasCleanDisk (state g new) → IfOk result (λ answer. (t : Tables) → HoldsRows g old t → Told answer t)
   -- A value is returned only if the store was open.
   pub opened : HasCleanDisk (state g new) → OnOk result (IsTrue (state g old).is_open)
   -- The store holds after the call the rows that it held before, whatever the result.
-  pub kept : (t : Tables) → Holds g old t → Holds g new t
+  pub kept : (t : Tables) → HoldsRows g old t → HoldsRows g new t
   -- If the database is open after the call, it was open before and is unchanged.
-  pub same : HasCleanDisk (state g new) → IsTrue (state g new).is_open → IsSame (state g old) (state g new)
+  pub same : HasCleanDisk (state g new) → IsTrue (state g new).is_open → WasOpenAndIsUnchanged (state g old) (state g new)
   -- A crash exposes only states that a crash before the call could expose.
   pub survives : Survives (state g old) (state g new) (λ _. ⊥)
 
 -- The postcondition of an atomic call that changes the rows `t` to `after t`.
 pub record ApplyPost {S V E : Type 0} (g : Ghosts S) (old new : Held S) (result : Result V E) (after : Tables → Tables) : Type 0 where
   -- At `Ok` the store holds the changed rows.
-  pub made : OnOk result ((t : Tables) → Holds g old t → Holds g new (after t))
+  pub made : OnOk result ((t : Tables) → HoldsRows g old t → HoldsRows g new (after t))
   -- At `Ok` the store was open, is open, and has committed its current state.
   pub opened : HasCleanDisk (state g new) → OnOk result (IsTrue (state g old).is_open × IsTrue (state g new).is_open × ((state g new).committed ≡ (state g new).now))
   -- At `Ok` the database schema is unchanged. The rows of each table that is not the desk's are
   -- unchanged too, unless a foreign key of that table acts on them.
-  pub others : HasCleanDisk (state g new) → OnOk result ((t : Tables) (tree : Which → ℕ) → HasTables desk t tree (state g old).now → SparesStrangers tree (state g old).now (state g new).now)
+  pub others : HasCleanDisk (state g new) → OnOk result ((t : Tables) (tree : Which → ℕ) → HasTables desk t tree (state g old).now → PreservesUnrelatedTables tree (state g old).now (state g new).now)
   -- At an error the store holds the rows that it held before.
-  pub kept : OnErr result ((t : Tables) → Holds g old t → Holds g new t)
+  pub kept : OnErr result ((t : Tables) → HoldsRows g old t → HoldsRows g new t)
   -- At an error: if the database is open after the call, it was open before and is unchanged.
-  pub same : HasCleanDisk (state g new) → IsTrue (state g new).is_open → OnErr result (IsSame (state g old) (state g new))
+  pub same : HasCleanDisk (state g new) → IsTrue (state g new).is_open → OnErr result (WasOpenAndIsUnchanged (state g old) (state g new))
   -- A crash exposes a state that a crash before the call could expose, or the changed rows; the
   -- changed rows only if the store was open.
-  pub survives : Survives (state g old) (state g new) (λ trees. IsTrue (state g old).is_open × ((t : Tables) → HasRows t (state g old).now → AreTreesOf (after t) trees))
+  pub survives : Survives (state g old) (state g new) (λ trees. IsTrue (state g old).is_open × ((t : Tables) → HasRows t (state g old).now → AreTreesOfRows (after t) trees))
   -- At `Ok` a crash exposes only the changed rows.
-  pub durable : HasCleanDisk (state g new) → OnOk result ((t : Tables) → Holds g old t → OnlyCrashState g new (AreTreesOf (after t)))
+  pub durable : HasCleanDisk (state g new) → OnOk result ((t : Tables) → HoldsRows g old t → CrashStatesSatisfy g new (AreTreesOfRows (after t)))
 
 -- The postcondition of the atomic creation of the tables.
 pub record CreatePost {S : Type 0} (g : Ghosts S) (old new : Held S) (result : Result (Unit {0}) Fault) : Type 0 where
   -- At `Ok` the store holds the tables without rows.
-  pub made : OnOk result (Holds g new no_rows)
+  pub made : OnOk result (HoldsRows g new tables_without_rows)
   -- At `Ok` the store was open, is open, and has committed its current state.
   pub opened : HasCleanDisk (state g new) → OnOk result (IsTrue (state g old).is_open × IsTrue (state g new).is_open × ((state g new).committed ≡ (state g new).now))
   -- At `Ok` none of the tables existed.
   pub absent : HasCleanDisk (state g new) → OnOk result (has_table_of_desk (state g old).now.schema ≡ false)
   -- At `Ok` each table that existed still exists, with its rows.
-  pub others : HasCleanDisk (state g new) → OnOk result (KeepsOthers (state g old).now (state g new).now)
+  pub others : HasCleanDisk (state g new) → OnOk result (PreservesAllTables (state g old).now (state g new).now)
   -- The error is `Damaged(NotEmpty)` only if one of the tables existed.
   pub taken : HasCleanDisk (state g new) → result ≡ Err (Damaged NotEmpty) → has_table_of_desk (state g old).now.schema ≡ true
   -- If one of the tables existed, the error is `Damaged(NotEmpty)`, or `Store`.
   pub occupied : HasCleanDisk (state g new) → has_table_of_desk (state g old).now.schema ≡ true
       → (result ≡ Err (Damaged NotEmpty)) ⊎ (result ≡ Err Store)
   -- At an error: if the database is open after the call, it was open before and is unchanged.
-  pub same : HasCleanDisk (state g new) → IsTrue (state g new).is_open → OnErr result (IsSame (state g old) (state g new))
+  pub same : HasCleanDisk (state g new) → IsTrue (state g new).is_open → OnErr result (WasOpenAndIsUnchanged (state g old) (state g new))
   -- A crash exposes a state that a crash before the call could expose, or the tables without rows.
-  pub survives : Survives (state g old) (state g new) (AreTreesOf no_rows)
+  pub survives : Survives (state g old) (state g new) (AreTreesOfRows tables_without_rows)
   -- At `Ok` a crash exposes only the tables without rows.
-  pub durable : HasCleanDisk (state g new) → OnOk result (OnlyCrashState g new (AreTreesOf no_rows))
+  pub durable : HasCleanDisk (state g new) → OnOk result (CrashStatesSatisfy g new (AreTreesOfRows tables_without_rows))
 
 -- The connection was opened over `trees`: under the disk assumption it is live, and its database
 -- has these trees.
-pub record IsOpenedOver {S : Type 0} (g : Ghosts S) (trees : Trees) (conn : Held S) : Type 0 where
+pub record IsOpenedOverTrees {S : Type 0} (g : Ghosts S) (trees : Trees) (conn : Held S) : Type 0 where
   pub live : HasCleanDisk (state g conn) → IsLive (state g conn)
   pub same : HasCleanDisk (state g conn) → (state g conn).now.trees ≡ trees

@@ -7,23 +7,23 @@ use Rattle.sqlite.specs.State.{HasCleanDisk, Survives}
 use Rattle.sqlite.proofs.StateLemmas.{survives_then}
 use Rattle.brk_model.specs.Tables.{Tables}
 use Rattle.brk_sql.proofs.Inside.{clean_before}
-use Rattle.brk_store.specs.Holds.{Holds, ReadPost, IsSame}
+use Rattle.brk_store.specs.Holds.{HoldsRows, ReadPost, WasOpenAndIsUnchanged}
 
 -- The postcondition of any number of reads: the store holds the rows that it held before them; if
 -- the database is open after them, it was open and is unchanged; and a crash exposes only states
 -- that a crash before the reads could expose.
-pub record IsKept {S : Type 0} (g : Ghosts S) (old new : Held S) : Type 0 where
-  pub kept : (t : Tables) → Holds g old t → Holds g new t
-  pub same : HasCleanDisk (state g new) → IsTrue (state g new).is_open → IsSame (state g old) (state g new)
+pub record IsUnchangedByReads {S : Type 0} (g : Ghosts S) (old new : Held S) : Type 0 where
+  pub kept : (t : Tables) → HoldsRows g old t → HoldsRows g new t
+  pub same : HasCleanDisk (state g new) → IsTrue (state g new).is_open → WasOpenAndIsUnchanged (state g old) (state g new)
   pub survives : Survives (state g old) (state g new) (λ _. ⊥)
 
 module _ {S : Type 0} {g : Ghosts S} where
   -- If the disk assumption holds after reads, it held before them.
-  pub clean_at : (old new : Held S) → IsKept g old new → HasCleanDisk (state g new) → HasCleanDisk (state g old)
+  pub clean_at : (old new : Held S) → IsUnchangedByReads g old new → HasCleanDisk (state g new) → HasCleanDisk (state g old)
   clean_at old new k = clean_before (state g old) (state g new) (λ _. ⊥) k.survives
 
-  -- Reads after reads satisfy `IsKept`.
-  pub kept_then : (p q r : Held S) → IsKept g p q → IsKept g q r → IsKept g p r
+  -- Reads after reads satisfy `IsUnchangedByReads`.
+  pub kept_then : (p q r : Held S) → IsUnchangedByReads g p q → IsUnchangedByReads g q r → IsUnchangedByReads g p r
   kept_then p q r a b = record {
     kept = λ t h. b.kept t (a.kept t h);
     same = λ clean o.
@@ -33,12 +33,12 @@ module _ {S : Type 0} {g : Ghosts S} where
     survives = survives_then (state g p) (state g q) (state g r) (λ _. ⊥) (λ _. ⊥) (λ _. ⊥) (λ _ db none. none) (λ _ db none. none) a.survives b.survives;
   }
 
-  -- A call that satisfies `ReadPost` satisfies `IsKept`.
-  pub kept_read : {V E : Type 0} (old new : Held S) (result : _) (Told : _) → ReadPost {V = V} {E = E} g old new result Told → IsKept g old new
+  -- A call that satisfies `ReadPost` satisfies `IsUnchangedByReads`.
+  pub kept_read : {V E : Type 0} (old new : Held S) (result : _) (Told : _) → ReadPost {V = V} {E = E} g old new result Told → IsUnchangedByReads g old new
   kept_read old new result Told r = record { kept = r.kept; same = r.same; survives = r.survives }
 
--- No read at all satisfies `IsKept`.
-pub kept_none : {S : Type 0} {g : Ghosts S} (old : Held S) → IsKept g old old
+-- No read at all satisfies `IsUnchangedByReads`.
+pub kept_none : {S : Type 0} {g : Ghosts S} (old : Held S) → IsUnchangedByReads g old old
 kept_none {S} {g} old = record {
   kept = λ t h. h;
   same = λ clean o. record { was_open = o; now = refl; committed = refl };

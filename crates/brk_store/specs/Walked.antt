@@ -4,58 +4,58 @@ use Rattle.sqlite_trees.specs.declared.store.Store.{Ghosts}
 use Rattle.sqlite.specs.Held.{Held, state}
 use Rattle.sqlite.specs.State.{HasCleanDisk, Survives}
 use Rattle.brk_money.specs.declared.fault.Fault.{Fault}
-use Rattle.brk_model.specs.Statement.{cash_in}
+use Rattle.brk_model.specs.Statement.{cash_move_rows_of_account}
 use Rattle.brk_model.specs.Tables.{Tables, MoveRow}
-use Rattle.brk_tables_walks.specs.Walk.{EndsBy}
-use Rattle.brk_tables_walks.specs.Walks.{BreaksOff, TakesInOrder}
+use Rattle.brk_tables_walks.specs.Walk.{IsWalkError}
+use Rattle.brk_tables_walks.specs.Walks.{StopsBeforeEnd, TakesInOrder}
 use Rattle.brk_tables_walks.specs.declared.walking.WalkError.{WalkError}
 use Rattle.brk_tables_walks.specs.declared.walking.WalkError.TheVariants.{Failed, Cause}
-use Rattle.brk_store.specs.Holds.{Holds, IsSame}
+use Rattle.brk_store.specs.Holds.{HoldsRows, WasOpenAndIsUnchanged}
 
 -- The cash rows of `account` whose stamps are from `from` to `to`, both included, sorted by stamp,
 -- ascending.
-abbrev pub cash_of : ℕ → ℕ → ℕ → Tables → List MoveRow
-cash_of account from to t = filter (λ r. nat_le from r.stamp && nat_le r.stamp to) (cash_in t account)
+abbrev pub cash_rows_in_span : ℕ → ℕ → ℕ → Tables → List MoveRow
+cash_rows_in_span account from to t = filter (λ r. nat_le from r.stamp && nat_le r.stamp to) (cash_move_rows_of_account t account)
 
 -- The records `all` equal the whole `list` of the rows that the store holds.
-abbrev pub AreAllStored : {S M : Type 0} → Ghosts S → Held S → (Tables → List M) → List M → Type 0
-AreAllStored g store list all = (t : Tables) → Holds g store t → all ≡ list t
+abbrev pub IsWholeStoredList : {S M : Type 0} → Ghosts S → Held S → (Tables → List M) → List M → Type 0
+IsWholeStoredList g store list all = (t : Tables) → HoldsRows g store t → all ≡ list t
 
 -- The records `first` are a prefix of the `list` of the rows that the store holds.
-abbrev pub AreFirstStored : {S M : Type 0} → Ghosts S → Held S → (Tables → List M) → List M → Type 0
-AreFirstStored {S} {M} g store list first = (t : Tables) → Holds g store t → (rest : List M) × (first ++ rest ≡ list t)
+abbrev pub IsPrefixOfStoredList : {S M : Type 0} → Ghosts S → Held S → (Tables → List M) → List M → Type 0
+IsPrefixOfStoredList {S} {M} g store list first = (t : Tables) → HoldsRows g store t → (rest : List M) × (first ++ rest ≡ list t)
 
 -- The postcondition of a walk, which passes the records of a list to a visitor, one at a time and
 -- in order, until the visitor stops.
 pub record WalkPost {S X M V E : Type 0} (g : Ghosts S) (old new : Held S) (of : X → M) (list : Tables → List M) (takes : V → X → V → Type 0) (stops : V → X → E → V → Type 0)
     (before after : V) (result : Result (Unit {0}) (WalkError E)) : Type 0 where
   -- At `Ok` the visitor has taken every record.
-  pub all : HasCleanDisk (state g new) → OnOk result (TakesInOrder (AreAllStored g old list) of takes before after)
+  pub all : HasCleanDisk (state g new) → OnOk result (TakesInOrder (IsWholeStoredList g old list) of takes before after)
   -- At a fault the visitor has taken a prefix of the records. At its own error it has taken the
   -- records before the one at which it stopped.
-  pub early : HasCleanDisk (state g new) → IfErr result (BreaksOff (AreFirstStored g old list) of takes stops before after)
+  pub early : HasCleanDisk (state g new) → IfErr result (StopsBeforeEnd (IsPrefixOfStoredList g old list) of takes stops before after)
   -- The error is `Memory` or `Store`, or that of the visitor, whether or not the disk assumption
   -- holds.
-  pub fault : IfErr result (EndsBy stops after)
+  pub fault : IfErr result (IsWalkError stops after)
   -- `Ok` is returned only if the store was open.
   pub opened : HasCleanDisk (state g new) → OnOk result (IsTrue (state g old).is_open)
   -- The store holds the rows that it held, whatever the result.
-  pub kept : (t : Tables) → Holds g old t → Holds g new t
+  pub kept : (t : Tables) → HoldsRows g old t → HoldsRows g new t
   -- If the database is open after the call, it was open before and is unchanged.
-  pub same : HasCleanDisk (state g new) → IsTrue (state g new).is_open → IsSame (state g old) (state g new)
+  pub same : HasCleanDisk (state g new) → IsTrue (state g new).is_open → WasOpenAndIsUnchanged (state g old) (state g new)
   -- A crash exposes only states that a crash before the call could expose.
   pub survives : Survives (state g old) (state g new) (λ _. ⊥)
 
 -- The result of a closure's walk follows from the outcome of the walk: `Ok` from `Ok`, the
 -- closure's own error from `Cause`, and from `Failed` an error that `gives` relates to the fault.
-abbrev pub AnswersAs : {E : Type 0} → (Fault → E → Type 0) → Result (Unit {0}) (WalkError E) → Result (Unit {0}) E → Type 0
-AnswersAs {E} gives (Ok u) result = result ≡ Ok tt
-AnswersAs {E} gives (Err (Cause e)) result = result ≡ Err e
-AnswersAs {E} gives (Err (Failed fault)) result = (e : E) × (result ≡ Err e) × gives fault e
+abbrev pub MatchesWalkResult : {E : Type 0} → (Fault → E → Type 0) → Result (Unit {0}) (WalkError E) → Result (Unit {0}) E → Type 0
+MatchesWalkResult {E} gives (Ok u) result = result ≡ Ok tt
+MatchesWalkResult {E} gives (Err (Cause e)) result = result ≡ Err e
+MatchesWalkResult {E} gives (Err (Failed fault)) result = (e : E) × (result ≡ Err e) × gives fault e
 
 -- The closure was called with the records of the list, in order, one at a time, until it returned
 -- an error or the walk failed. The result is `Ok` after the last record, the closure's error, or an
 -- error that `gives` relates to the fault. All this as `WalkPost` specifies a walk.
-abbrev pub CallsEach : {S X M F E : Type 0} → Ghosts S → Held S → Held S → (X → M) → (Tables → List M) → (F → X → Result (Unit {0}) E → F → Type 0) → (Fault → E → Type 0) → F → Result (Unit {0}) E → Type 0
-CallsEach {S} {X} {M} {F} {E} g old new of list called gives call result =
-    (last : F) × (outcome : Result (Unit {0}) (WalkError E)) × WalkPost g old new of list (λ p x q. called p x (Ok tt) q) (λ p x e q. called p x (Err e) q) call last outcome × AnswersAs gives outcome result
+abbrev pub CallsClosureOnEach : {S X M F E : Type 0} → Ghosts S → Held S → Held S → (X → M) → (Tables → List M) → (F → X → Result (Unit {0}) E → F → Type 0) → (Fault → E → Type 0) → F → Result (Unit {0}) E → Type 0
+CallsClosureOnEach {S} {X} {M} {F} {E} g old new of list called gives call result =
+    (last : F) × (outcome : Result (Unit {0}) (WalkError E)) × WalkPost g old new of list (λ p x q. called p x (Ok tt) q) (λ p x e q. called p x (Err e) q) call last outcome × MatchesWalkResult gives outcome result

@@ -1,66 +1,67 @@
 //! Theorems about the answer of an audit, and about an adopted store.
 
-ghost use Rattle.brk_model.specs.Form.{has_texts};
+ghost use Rattle.brk_model.specs.Form.{has_utf8_texts};
 ghost use Rattle.std.specs.Prelude.{◌≡◌, IsTrue, None, Ok, Option, Result};
 ghost use Rattle.sqlite.specs.Effect.{Database};
 ghost use Rattle.sqlite.specs.Held.{Held, state};
 ghost use Rattle.sqlite.specs.State.{HasCleanDisk};
 ghost use Rattle.brk_money.specs.declared.fault.Condition.{Condition};
 ghost use Rattle.brk_money.specs.declared.fault.Fault.{Fault};
-ghost use Rattle.brk_model.specs.Adopted.{base_of};
-ghost use Rattle.brk_model.specs.Audit.{IsAudit};
+ghost use Rattle.brk_model.specs.Adopted.{base_of_tables};
+ghost use Rattle.brk_model.specs.Audit.{IsAuditResult};
 ghost use Rattle.brk_model.specs.Base.{Base};
 ghost use Rattle.brk_model.specs.Schemas.{third_schema};
 ghost use Rattle.brk_model.specs.Tables.{Tables};
 ghost use Rattle.brk_changes.specs.declared.schema.Schema.{Schema};
-ghost use Rattle.brk_changes.specs.Schemas.{schema_of};
-ghost use Rattle.brk_audit_theorems.specs.Passing.{Passes};
-ghost use Rattle.brk_store.specs.Audited.{Answered, Audited, AuditedBy, HasThirdIn, Represents, AdoptPost, AuditPost, IsDefinedIn, OnAnswer};
-ghost use Rattle.brk_store.specs.Holds.{Holds};
+ghost use Rattle.brk_changes.specs.Schemas.{abstract_schema};
+ghost use Rattle.brk_audit_theorems.specs.Passing.{PassesAudit};
+ghost use Rattle.brk_store.specs.Audited.{IsAuditOfStoredRows, IsAuditOfDatabase, IsAuditBySchema, StoreHasThirdDesk, Represents, AdoptPost, AuditPost, StoreNamesImplyDefinitions, OnAuditAnswer};
+ghost use Rattle.brk_store.specs.Holds.{HoldsRows};
 
 use sqlite::Alter;
 
 /// Proves that at most one answer is that of an audit of a database (`whole`), and at most one that
 /// of an audit by a given schema (`by`).
 pub fn an_audit_has_one_answer()
-    ensures whole { (db : Database) (a b : Option Condition) → Audited db a → Audited db b → a ≡ b }
-    ensures by { (schema : Schema) (db : Database) (a b : Option Condition) → AuditedBy (schema_of schema) db a → AuditedBy (schema_of schema) db b → a ≡ b }
+    ensures whole { (db : Database) (a b : Option Condition) → IsAuditOfDatabase db a → IsAuditOfDatabase db b → a ≡ b }
+    ensures by { (schema : Schema) (db : Database) (a b : Option Condition) → IsAuditBySchema (abstract_schema schema) db a → IsAuditBySchema (abstract_schema schema) db b → a ≡ b }
 {}
 
 /// Proves that a store that holds the tables of schema 3 with any rows satisfies the premise of an
-/// adoption (`IsDefinedIn`) and has a desk of schema 3.
-pub fn a_desk_is_defined<S: Alter>()
-    ensures defined { (held : Held S) (t : Tables) → Holds S.Store held t → IsDefinedIn S.Store held }
-    ensures there { (held : Held S) (t : Tables) → Holds S.Store held t → HasThirdIn S.Store held }
+/// adoption (`StoreNamesImplyDefinitions`) and has a desk of schema 3.
+pub fn stored_rows_imply_definitions<S: Alter>()
+    ensures defined { (held : Held S) (t : Tables) → HoldsRows S.Store held t → StoreNamesImplyDefinitions S.Store held }
+    ensures there { (held : Held S) (t : Tables) → HoldsRows S.Store held t → StoreHasThirdDesk S.Store held }
 {}
 
 /// Proves that an audit of a store that holds rows with texts in UTF-8 returns the audit of these
 /// rows, unless it fails with `Memory` or `Store`, and that it never returns `Damaged` if the store
 /// represents a base. Both under the disk assumption.
-pub fn an_audit_tells_of_the_rows<S: Alter>()
+pub fn audits_return_the_audit_of_rows<S: Alter>()
     ensures rows { (old new : Held S) (result : Result (Unit {0}) Fault) (t : Tables)
-        → AuditPost S.Store old new result → Holds S.Store old t → IsTrue (has_texts t) → HasCleanDisk (state S.Store new) → OnAnswer result (IsAudit third_schema t) }
+        → AuditPost S.Store old new result → HoldsRows S.Store old t → IsTrue (has_utf8_texts t) → HasCleanDisk (state S.Store new) → OnAuditAnswer result (IsAuditResult third_schema t) }
     ensures books { (old new : Held S) (result : Result (Unit {0}) Fault) (base : Base)
-        → AuditPost S.Store old new result → Represents S.Store old base → HasCleanDisk (state S.Store new) → OnAnswer result (λ answer. answer ≡ None) }
+        → AuditPost S.Store old new result → Represents S.Store old base → HasCleanDisk (state S.Store new) → OnAuditAnswer result (λ answer. answer ≡ None) }
 {}
 
 /// Proves that an adoption of a database that holds rows of schema 3 satisfies the postcondition of
 /// an audit: it writes nothing.
 pub fn an_adoption_of_rows_is_an_audit<S: Alter>()
     ensures { (old new : Held S) (result : Result (Unit {0}) Fault) (t : Tables)
-        → AdoptPost S.Store old new result → Holds S.Store old t → AuditPost S.Store old new result }
+        → AdoptPost S.Store old new result → HoldsRows S.Store old t → AuditPost S.Store old new result }
 {}
 
 /// Proves that a store represents the base that its rows determine, if these pass the audit of
 /// schema 3 and their texts are UTF-8 (`rows`).
 ///
-/// `adopted`: a store that was adopted under the premise `IsDefinedIn` represents some base.
+/// `adopted`: a store that was adopted under the premise `StoreNamesImplyDefinitions` represents
+/// some base.
 ///
 /// `found`: if this store is open, under the disk assumption, the base is the one that the rows of
 /// the old database determine, of whichever schema, and these passed their audit.
-pub fn an_adopted_store_holds_its_books<S: Alter>()
-    ensures rows { (store : Held S) (t : Tables) → Holds S.Store store t → Passes third_schema t → IsTrue (has_texts t) → Represents S.Store store (base_of t) }
-    ensures adopted { (old new : Held S) → AdoptPost S.Store old new (Ok tt) → IsDefinedIn S.Store old → (base : Base) × Represents S.Store new base }
-    ensures found { (old new : Held S) → AdoptPost S.Store old new (Ok tt) → IsDefinedIn S.Store old → HasCleanDisk (state S.Store new) → IsTrue (state S.Store new).is_open
-        → (schema : Schema) × (rows : Tables) × Answered (schema_of schema) rows (state S.Store old).now None × Represents S.Store new (base_of rows) }
+pub fn adopted_stores_represent_a_base<S: Alter>()
+    ensures rows { (store : Held S) (t : Tables) → HoldsRows S.Store store t → PassesAudit third_schema t → IsTrue (has_utf8_texts t) → Represents S.Store store (base_of_tables t) }
+    ensures adopted { (old new : Held S) → AdoptPost S.Store old new (Ok tt) → StoreNamesImplyDefinitions S.Store old → (base : Base) × Represents S.Store new base }
+    ensures found { (old new : Held S) → AdoptPost S.Store old new (Ok tt) → StoreNamesImplyDefinitions S.Store old → HasCleanDisk (state S.Store new) → IsTrue (state S.Store new).is_open
+        → (schema : Schema) × (rows : Tables) × IsAuditOfStoredRows (abstract_schema schema) rows (state S.Store old).now None × Represents S.Store new (base_of_tables rows) }
 {}

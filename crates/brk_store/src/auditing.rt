@@ -3,15 +3,15 @@
 ghost use Rattle.std.specs.Prelude.{◌≡◌, ◌≢◌, IfErr, IfOk, IsTrue, Some, false};
 ghost use Rattle.brk_money.specs.declared.fault.Condition.TheVariants.{NotEmpty};
 ghost use Rattle.brk_money.specs.declared.fault.Fault.TheVariants as fault;
-ghost use Rattle.brk_model.specs.Run.{MayFail};
+ghost use Rattle.brk_model.specs.Run.{IsCallFault};
 ghost use Rattle.brk_model.specs.Schemas.{third_schema};
-ghost use Rattle.brk_changes.specs.Schemas.{schema_of};
-ghost use Rattle.brk_sql.specs.Model.{Steps};
-ghost use Rattle.brk_store.specs.Audited.{AuditedBy, AuditPost};
-ghost use Rattle.brk_tables_scan.specs.Schemas.{HasDesk, IsDefinedAs};
+ghost use Rattle.brk_changes.specs.Schemas.{abstract_schema};
+ghost use Rattle.brk_sql.specs.Model.{IsConnectionStep};
+ghost use Rattle.brk_store.specs.Audited.{IsAuditBySchema, AuditPost};
+ghost use Rattle.brk_tables_scan.specs.Schemas.{HasDesk, SchemaNamesImplyDefinitions};
 
 use crate::Store;
-use crate::beginning::begin;
+use crate::beginning::begin_transaction;
 use brk_audit::audit_rows;
 use brk_changes::Schema;
 use brk_money::{Condition, Fault};
@@ -22,15 +22,15 @@ use std::alloc::Global;
 /// Returns the first condition that the rows of a schema fail, or `None` if they pass. Fails with
 /// `Memory` or `Store` only. The result is specified only if the database has a desk of the schema,
 /// defined as a desk defines it.
-pub(crate) fn audit_desk_of<S: Alter>(
+pub(crate) fn audit_rows_of_schema<S: Alter>(
     tx: &mut Transaction<'_, S>,
     alloc: Global,
     schema: Schema,
 ) -> Result<Option<Condition>, Fault>
     ensures same_reference { tx.new.conn.ghost_name ≡ tx.old.conn.ghost_name }
-    ensures step { Steps S.Store tx.old tx.new result (λ answer a b. IsTrue a.is_open × (b.now ≡ a.now) × (IsDefinedAs (schema_of schema) a.now → HasDesk (schema_of schema) a.now → AuditedBy (schema_of schema) a.now answer)) }
+    ensures step { IsConnectionStep S.Store tx.old tx.new result (λ answer a b. IsTrue a.is_open × (b.now ≡ a.now) × (SchemaNamesImplyDefinitions (abstract_schema schema) a.now → HasDesk (abstract_schema schema) a.now → IsAuditBySchema (abstract_schema schema) a.now answer)) }
     ensures condition { IfOk result (λ answer. answer ≢ Some NotEmpty) }
-    ensures fault { IfErr result MayFail }
+    ensures fault { IfErr result IsCallFault }
 {
     match read_sheets(tx, alloc, schema)? {
         None => Ok(Some(Condition::Form)),
@@ -41,19 +41,19 @@ pub(crate) fn audit_desk_of<S: Alter>(
 // Returns the first condition of schema 3 that the database fails, or `None` if it passes. Fails
 // with `Memory` or `Store` only. The result is specified only if tables with the names and columns
 // of schema 3 are defined as a desk defines them.
-fn first_failing<S: Alter>(
+fn first_failing_condition<S: Alter>(
     tx: &mut Transaction<'_, S>,
     alloc: Global,
 ) -> Result<Option<Condition>, Fault>
     ensures same_reference { tx.new.conn.ghost_name ≡ tx.old.conn.ghost_name }
-    ensures step { Steps S.Store tx.old tx.new result (λ answer a b. IsTrue a.is_open × (b.now ≡ a.now) × (IsDefinedAs third_schema a.now → AuditedBy third_schema a.now answer)) }
+    ensures step { IsConnectionStep S.Store tx.old tx.new result (λ answer a b. IsTrue a.is_open × (b.now ≡ a.now) × (SchemaNamesImplyDefinitions third_schema a.now → IsAuditBySchema third_schema a.now answer)) }
     ensures condition { IfOk result (λ answer. answer ≢ Some NotEmpty) }
-    ensures fault { IfErr result MayFail }
+    ensures fault { IfErr result IsCallFault }
 {
     if !has_desk(tx, Schema::Third)? {
         return Ok(Some(Condition::Schema));
     }
-    audit_desk_of(tx, alloc, Schema::Third)
+    audit_rows_of_schema(tx, alloc, Schema::Third)
 }
 
 // Audits the database by the conditions of schema 3 in a transaction, which is rolled back. Fails
@@ -65,8 +65,8 @@ fn audit_desk<S: Alter>(conn: &mut Connection<S>, alloc: Global) -> Result<(), F
     ensures audited { AuditPost S.Store conn.old conn.new result }
     ensures condition { IfErr result (λ f. f ≢ fault.Damaged NotEmpty) }
 {
-    let mut tx = begin(conn);
-    match first_failing(&mut tx, alloc)? {
+    let mut tx = begin_transaction(conn);
+    match first_failing_condition(&mut tx, alloc)? {
         None => Ok(()),
         Some(condition) => Err(Fault::Damaged(condition)),
     }
@@ -82,7 +82,7 @@ impl<S: Alter> Store<S> {
     /// A crash exposes only states that a crash before the call could expose.
     ///
     /// The result is specified only under the premise of `Store::adopt`, for schema 3. Every store
-    /// that holds rows satisfies it (`a_desk_is_defined`).
+    /// that holds rows satisfies it (`stored_rows_imply_definitions`).
     pub fn audit(&mut self, alloc: Global) -> Result<(), Fault>
         ensures audited { AuditPost S.Store self.old self.new result }
         ensures condition { IfErr result (λ f. f ≢ fault.Damaged NotEmpty) }

@@ -7,7 +7,7 @@ use sqlite::{Alter, Connection, Transaction};
 
 /// Begins a transaction on a connection that has none open. The current state of an open database
 /// is then its committed state.
-pub(crate) fn begin<S: Alter>(conn: &mut Connection<S>) -> Transaction<'_, S>
+pub(crate) fn begin_transaction<S: Alter>(conn: &mut Connection<S>) -> Transaction<'_, S>
     requires { conn.old.in_transaction ≡ false }
     ensures same_reference { result.conn.ghost_name ≡ conn.entry.ghost_name }
     ensures begun { result.conn.now ≡ record conn.old { in_transaction = true } }

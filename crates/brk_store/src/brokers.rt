@@ -2,15 +2,15 @@
 //! which is rolled back.
 
 ghost use Rattle.std.specs.Prelude.{◌==◌, IfErr, bytes_eq};
-ghost use Rattle.brk_changes.specs.Rows.{request_row_of};
-ghost use Rattle.brk_model.specs.Run.{MayFail};
-ghost use Rattle.brk_ref.specs.Records.{broker_row_of};
+ghost use Rattle.brk_changes.specs.Rows.{abstract_request_row};
+ghost use Rattle.brk_model.specs.Run.{IsCallFault};
+ghost use Rattle.brk_ref.specs.Records.{abstract_broker_row};
 ghost use Rattle.brk_store.specs.Holds.{ReadPost};
 ghost use Rattle.brk_tables_schema.specs.Desk.{Brokers, Requests};
-ghost use Rattle.brk_tables_schema.specs.Statements.{Listed};
+ghost use Rattle.brk_tables_schema.specs.Statements.{AreMatchingRows};
 
 use crate::Store;
-use crate::beginning::begin;
+use crate::beginning::begin_transaction;
 use brk_changes::RequestRow;
 use brk_money::{Fault, Id};
 use brk_ref::{BrokerRow, Name};
@@ -22,10 +22,10 @@ impl<S: Alter> Store<S> {
     /// Returns the brokers with a name, sorted by id, ascending. Changes nothing. Fails with
     /// `Memory` or `Store`.
     pub fn brokers_named(&mut self, alloc: Global, name: &Name) -> Result<Vec<BrokerRow>, Fault>
-        ensures read { ReadPost S.Store self.old self.new result (Listed Brokers broker_row_of (λ r. bytes_eq r.name name.now)) }
-        ensures fault { IfErr result MayFail }
+        ensures read { ReadPost S.Store self.old self.new result (AreMatchingRows Brokers abstract_broker_row (λ r. bytes_eq r.name name.now)) }
+        ensures fault { IfErr result IsCallFault }
     {
-        let mut tx = begin(&mut self.conn);
+        let mut tx = begin_transaction(&mut self.conn);
         brk_tables_views::brokers_named(&mut tx, alloc, name)
     }
 
@@ -36,10 +36,10 @@ impl<S: Alter> Store<S> {
         alloc: Global,
         broker: Id,
     ) -> Result<Vec<RequestRow>, Fault>
-        ensures read { ReadPost S.Store self.old self.new result (Listed Requests request_row_of (λ r. r.broker == broker)) }
-        ensures fault { IfErr result MayFail }
+        ensures read { ReadPost S.Store self.old self.new result (AreMatchingRows Requests abstract_request_row (λ r. r.broker == broker)) }
+        ensures fault { IfErr result IsCallFault }
     {
-        let mut tx = begin(&mut self.conn);
+        let mut tx = begin_transaction(&mut self.conn);
         brk_tables_views::requests_of_broker(&mut tx, alloc, broker)
     }
 }

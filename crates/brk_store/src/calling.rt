@@ -38,16 +38,16 @@ pub struct LotCalls<F> {
 }
 
 impl<E, F: FnMut(&str, &Lot) -> Result<(), E>> Visitor<HoldingRow, E> for LotCalls<F> {
-    ghost use Rattle.brk_store.specs.Calling.{CalledAtLot};
+    ghost use Rattle.brk_store.specs.Calling.{IsCallWithLot};
     ghost use Rattle.std.specs.Prelude.{Ok, Err};
 
     ghost ready = { λ v. F.IsAlwaysCallable v.call };
 
     ghost leads = { λ _ _. Unit {0} };
 
-    ghost takes = { λ p item q. CalledAtLot F.FnMut p.call item (Ok tt) q.call };
+    ghost takes = { λ p item q. IsCallWithLot F.FnMut p.call item (Ok tt) q.call };
 
-    ghost stops = { λ p item e q. CalledAtLot F.FnMut p.call item (Err e) q.call };
+    ghost stops = { λ p item e q. IsCallWithLot F.FnMut p.call item (Err e) q.call };
 
     fn visit(&mut self, item: &HoldingRow) -> Result<(), E> {
         let lot = Lot {

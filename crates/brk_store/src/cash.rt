@@ -4,15 +4,15 @@
 ghost use Rattle.std.specs.Prelude.{◌≡◌, ◌+◌, Err, OnErr, filter, is_none, length, nat_le, option_map, reverse, slice_get};
 ghost use Rattle.brk_money.specs.declared.fault.Fault.TheVariants as fault;
 ghost use Rattle.brk_model.specs.Limits.{greatest_id};
-ghost use Rattle.brk_model.specs.LookupView.{is_cash_of};
-ghost use Rattle.brk_changes.specs.Rows.{move_row_of};
-ghost use Rattle.brk_book_theorems.specs.TradeReads.{last_move};
+ghost use Rattle.brk_model.specs.LookupView.{is_cash_row_of_trade};
+ghost use Rattle.brk_changes.specs.Rows.{abstract_move_row};
+ghost use Rattle.brk_book_theorems.specs.TradeReads.{last_cash_row_number};
 ghost use Rattle.brk_store.specs.Holds.{ReadPost};
 ghost use Rattle.brk_tables_schema.specs.Desk.{CashMoves};
-ghost use Rattle.brk_tables_schema.specs.Statements.{Found};
+ghost use Rattle.brk_tables_schema.specs.Statements.{IsFirstMatch};
 
 use crate::Store;
-use crate::beginning::begin;
+use crate::beginning::begin_transaction;
 use brk_changes::MoveRow;
 use brk_money::{Day, Fault, Id, MoveId};
 use sqlite::Alter;
@@ -24,48 +24,48 @@ const ALL_MOVEMENTS: u64 = 1_000_000_000_000;
 impl<S: Alter> Store<S> {
     /// Returns the settlement day, the first day whose completions settle after one day, or `None`
     /// if none is set. Changes nothing. Fails with `Store` only.
-    pub fn one_day(&mut self) -> Result<Option<Day>, Fault>
+    pub fn settlement_day(&mut self) -> Result<Option<Day>, Fault>
         ensures read { ReadPost S.Store self.old self.new result (λ day t. day ≡ t.rule) }
         ensures fault { OnErr result (result ≡ Err fault.Store) }
     {
-        let mut tx = begin(&mut self.conn);
-        brk_tables_cash::one_day(&mut tx)
+        let mut tx = begin_transaction(&mut self.conn);
+        brk_tables_cash::settlement_day(&mut tx)
     }
 
     /// Returns the cash row of a trade, or `None` if it has none. Changes nothing. Fails with
     /// `Store` only.
     pub fn cash_row(&mut self, trade: Id) -> Result<Option<MoveRow>, Fault>
-        ensures read { ReadPost S.Store self.old self.new result (Found CashMoves move_row_of (is_cash_of trade)) }
+        ensures read { ReadPost S.Store self.old self.new result (IsFirstMatch CashMoves abstract_move_row (is_cash_row_of_trade trade)) }
         ensures fault { OnErr result (result ≡ Err fault.Store) }
     {
-        let mut tx = begin(&mut self.conn);
-        brk_tables_cash::move_by_trade(&mut tx, trade)
+        let mut tx = begin_transaction(&mut self.conn);
+        brk_tables_cash::cash_row_by_trade(&mut tx, trade)
     }
 
     // Returns the cash row with the greatest number, or `None` if there is none. Changes nothing.
     // Fails with `Store` only.
     fn last_cash_row(&mut self) -> Result<Option<MoveRow>, Fault>
-        ensures read { ReadPost S.Store self.old self.new result (λ o t. option_map move_row_of o ≡ slice_get (reverse t.moves) 0) }
+        ensures read { ReadPost S.Store self.old self.new result (λ o t. option_map abstract_move_row o ≡ slice_get (reverse t.moves) 0) }
         ensures fault { OnErr result (result ≡ Err fault.Store) }
     {
-        let mut tx = begin(&mut self.conn);
+        let mut tx = begin_transaction(&mut self.conn);
         brk_tables_cash::last_move(&mut tx)
     }
 
     // Returns true if there are at least `ALL_MOVEMENTS` deposits and withdrawals. The database
     // steps over the cash rows. Changes nothing. Fails with `Store` only.
-    fn counts_all_movements(&mut self) -> Result<bool, Fault>
+    fn movement_count_is_maximum(&mut self) -> Result<bool, Fault>
         ensures read { ReadPost S.Store self.old self.new result (λ all t. all ≡ nat_le greatest_id (length (filter (λ r. is_none r.trade) t.moves))) }
         ensures fault { OnErr result (result ≡ Err fault.Store) }
     {
-        let mut tx = begin(&mut self.conn);
-        brk_tables_cash::has_all_movements(&mut tx)
+        let mut tx = begin_transaction(&mut self.conn);
+        brk_tables_cash::has_maximum_movements(&mut tx)
     }
 
     /// Returns the number of the next cash row: one more than the greatest, or 1 if there is none.
     /// Changes nothing. Fails with `Store` only, also if the greatest number is taken.
-    pub fn next_move(&mut self) -> Result<MoveId, Fault>
-        ensures read { ReadPost S.Store self.old self.new result (λ next t. next ≡ last_move t + 1) }
+    pub fn next_cash_row_number(&mut self) -> Result<MoveId, Fault>
+        ensures read { ReadPost S.Store self.old self.new result (λ next t. next ≡ last_cash_row_number t + 1) }
         ensures fault { OnErr result (result ≡ Err fault.Store) }
     {
         let number = match self.last_cash_row()? {
@@ -80,15 +80,15 @@ impl<S: Alter> Store<S> {
 
     /// Returns true if there are at least `Id::GREATEST` deposits and withdrawals. Changes nothing.
     /// Fails with `Store` only.
-    pub fn has_all_movements(&mut self) -> Result<bool, Fault>
+    pub fn has_maximum_movements(&mut self) -> Result<bool, Fault>
         ensures read { ReadPost S.Store self.old self.new result (λ all t. all ≡ nat_le greatest_id (length (filter (λ r. is_none r.trade) t.moves))) }
         ensures fault { OnErr result (result ≡ Err fault.Store) }
     {
-        let next = self.next_move()?;
+        let next = self.next_cash_row_number()?;
         // Below this number there cannot be that many, so they are not counted.
         if next.get() < ALL_MOVEMENTS {
             return Ok(false);
         }
-        self.counts_all_movements()
+        self.movement_count_is_maximum()
     }
 }

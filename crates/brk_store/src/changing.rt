@@ -4,10 +4,10 @@ ghost use Rattle.std.specs.Prelude.{◌≡◌, ◌⊎◌, Err, IfErr, OnErr, fal
 ghost use Rattle.brk_money.specs.declared.fault.Condition.TheVariants.{NotEmpty};
 ghost use Rattle.brk_money.specs.declared.fault.Fault.TheVariants as fault;
 ghost use Rattle.sqlite.specs.Held.{state};
-ghost use Rattle.brk_sql.specs.Desk.{Turns};
-ghost use Rattle.brk_sql.specs.Model.{IsStep};
+ghost use Rattle.brk_sql.specs.Desk.{ChangesTablesBy};
+ghost use Rattle.brk_sql.specs.Model.{IsTransactionStep};
 ghost use Rattle.brk_tables_schema.specs.Desk.{desk};
-ghost use Rattle.brk_changes.specs.Changes.{after_change, after_changes};
+ghost use Rattle.brk_changes.specs.Changes.{tables_after_change, tables_after_changes};
 ghost use Rattle.brk_store.specs.Holds.{ApplyPost, CreatePost};
 
 use brk_changes::Change;
@@ -15,9 +15,9 @@ use brk_money::{Condition, Fault};
 use sqlite::{Alter, Connection, Transaction};
 
 // Applies one change to its row in the transaction. Fails with `Store` only.
-fn make<S: Alter>(tx: &mut Transaction<'_, S>, change: &Change) -> Result<(), Fault>
+fn apply_change<S: Alter>(tx: &mut Transaction<'_, S>, change: &Change) -> Result<(), Fault>
     ensures same_reference { tx.new.conn.ghost_name ≡ tx.old.conn.ghost_name }
-    ensures step { IsStep (state S.Store tx.old.conn.now) (state S.Store tx.new.conn.now) result (λ _ a b. Turns desk (after_change change.now) a.now b.now) }
+    ensures step { IsTransactionStep (state S.Store tx.old.conn.now) (state S.Store tx.new.conn.now) result (λ _ a b. ChangesTablesBy desk (tables_after_change change.now) a.now b.now) }
     ensures fault { OnErr result (result ≡ Err fault.Store) }
 {
     match change {
@@ -49,7 +49,7 @@ fn make<S: Alter>(tx: &mut Transaction<'_, S>, change: &Change) -> Result<(), Fa
             tax,
         } => brk_tables_trading::complete_trade(tx, *trade, *stamp, *price, *commission, *tax),
         Change::AddLot(lot) => brk_tables_trading::add_lot(tx, lot),
-        Change::SetLot { trade, qty } => brk_tables_trading::set_lot(tx, *trade, *qty),
+        Change::SetLot { trade, qty } => brk_tables_trading::set_lot_quantity(tx, *trade, *qty),
         Change::RemoveLot(trade) => brk_tables_trading::remove_lot(tx, *trade),
         Change::AddLotChange(made) => brk_tables_trading::add_lot_change(tx, made),
         Change::AddSummary(summary) => brk_tables_trading::add_summary(tx, summary),
@@ -58,7 +58,7 @@ fn make<S: Alter>(tx: &mut Transaction<'_, S>, change: &Change) -> Result<(), Fa
             tx, *account, symbol,
         ),
         Change::AddSettlement(settlement) => brk_tables_trading::add_settlement(tx, settlement),
-        Change::AddMove(posted) => brk_tables_cash::add_move(tx, posted),
+        Change::AddMove(posted) => brk_tables_cash::add_cash_row(tx, posted),
         Change::SetBalance { account, balance } => brk_tables_trading::set_balance(
             tx, *account, *balance,
         ),
@@ -80,37 +80,40 @@ fn make<S: Alter>(tx: &mut Transaction<'_, S>, change: &Change) -> Result<(), Fa
             *trade,
             name.as_str(),
         ),
-        Change::SetRule(day) => brk_tables_cash::set_one_day(tx, *day),
-        Change::Keep(kept) => brk_tables_schema::add_kept(tx, kept),
+        Change::SetRule(day) => brk_tables_cash::set_settlement_day(tx, *day),
+        Change::Keep(kept) => brk_tables_schema::add_kept_row(tx, kept),
         Change::SetLast(stamp) => brk_tables_schema::set_last_stamp(tx, *stamp),
     }
 }
 
 // Applies the changes in order in the transaction. Fails with `Store` only.
-fn make_all<S: Alter>(tx: &mut Transaction<'_, S>, changes: &[Change]) -> Result<(), Fault>
+fn apply_each_change<S: Alter>(tx: &mut Transaction<'_, S>, changes: &[Change]) -> Result<(), Fault>
     ensures same_reference { tx.new.conn.ghost_name ≡ tx.old.conn.ghost_name }
-    ensures step { IsStep (state S.Store tx.old.conn.now) (state S.Store tx.new.conn.now) result (λ _ a b. Turns desk (after_changes changes.now) a.now b.now) }
+    ensures step { IsTransactionStep (state S.Store tx.old.conn.now) (state S.Store tx.new.conn.now) result (λ _ a b. ChangesTablesBy desk (tables_after_changes changes.now) a.now b.now) }
     ensures fault { OnErr result (result ≡ Err fault.Store) }
 {
     for change in changes {
-        make(tx, change)?;
+        apply_change(tx, change)?;
     }
     Ok(())
 }
 
 /// Applies the changes in order in one transaction and commits them, or changes nothing in the open
 /// database. Fails with `Store` only.
-pub(crate) fn apply_all<S: Alter>(conn: &mut Connection<S>, changes: &[Change]) -> Result<(), Fault>
+pub(crate) fn apply_in_transaction<S: Alter>(
+    conn: &mut Connection<S>,
+    changes: &[Change],
+) -> Result<(), Fault>
     requires { conn.old.in_transaction ≡ false }
     ensures mode { conn.new.in_transaction ≡ false }
-    ensures applied { ApplyPost S.Store conn.old conn.new result (after_changes changes.now) }
+    ensures applied { ApplyPost S.Store conn.old conn.new result (tables_after_changes changes.now) }
     ensures fault { OnErr result (result ≡ Err fault.Store) }
 {
     let _settled = conn.is_autocommit();
     let mut tx = conn.transaction();
     // The stamp is known already. That the read succeeds shows that the store is open.
     let _last = brk_tables_schema::last_stamp(&mut tx)?;
-    make_all(&mut tx, changes)?;
+    apply_each_change(&mut tx, changes)?;
     match tx.commit() {
         Ok(()) => Ok(()),
         Err(_) => Err(Fault::Store),
@@ -120,7 +123,7 @@ pub(crate) fn apply_all<S: Alter>(conn: &mut Connection<S>, changes: &[Change]) 
 /// Creates the tables in one transaction and commits them, or changes nothing in the open database.
 /// Fails with `Store`; or with `Damaged(NotEmpty)`, which it returns only if one of the tables
 /// exists.
-pub(crate) fn make_desk<S: Alter>(conn: &mut Connection<S>) -> Result<(), Fault>
+pub(crate) fn create_in_transaction<S: Alter>(conn: &mut Connection<S>) -> Result<(), Fault>
     requires { conn.old.in_transaction ≡ false }
     ensures mode { conn.new.in_transaction ≡ false }
     ensures created { CreatePost S.Store conn.old conn.new result }
@@ -128,10 +131,10 @@ pub(crate) fn make_desk<S: Alter>(conn: &mut Connection<S>) -> Result<(), Fault>
 {
     let _settled = conn.is_autocommit();
     let mut tx = conn.transaction();
-    if brk_tables_create::has_some_table(&mut tx)? {
+    if brk_tables_create::has_some_desk_table(&mut tx)? {
         return Err(Fault::Damaged(Condition::NotEmpty));
     }
-    brk_tables_create::make_tables(&mut tx)?;
+    brk_tables_create::create_tables(&mut tx)?;
     match tx.commit() {
         Ok(()) => Ok(()),
         Err(_) => Err(Fault::Store),

@@ -3,14 +3,14 @@
 ghost use Rattle.std.specs.Prelude.{◌≡◌, ◌≢◌, IfErr, IfOk, IsTrue, Err, OnErr};
 ghost use Rattle.brk_money.specs.declared.fault.Condition.TheVariants.{NotEmpty};
 ghost use Rattle.brk_money.specs.declared.fault.Fault.TheVariants as fault;
-ghost use Rattle.brk_model.specs.Run.{MayFail};
-ghost use Rattle.brk_sql.specs.Model.{Steps};
-ghost use Rattle.brk_store.specs.Audited.{HasDeskOf};
-ghost use Rattle.brk_store.specs.AuditResult.{IsResultOfAudit};
+ghost use Rattle.brk_model.specs.Run.{IsCallFault};
+ghost use Rattle.brk_sql.specs.Model.{IsConnectionStep};
+ghost use Rattle.brk_store.specs.Audited.{IsDeskSchema};
+ghost use Rattle.brk_store.specs.AuditResult.{IsTrueAuditResult};
 ghost use Rattle.brk_store.specs.declared.examining.AuditResult.TheVariants as told;
-ghost use Rattle.brk_tables_scan.specs.Schemas.{IsDefined};
+ghost use Rattle.brk_tables_scan.specs.Schemas.{DeskNamesImplyDefinitions};
 
-use crate::auditing::audit_desk_of;
+use crate::auditing::audit_rows_of_schema;
 use brk_changes::Schema;
 use brk_money::{Condition, Fault};
 use brk_tables_scan::has_desk;
@@ -27,10 +27,10 @@ pub enum AuditResult {
 }
 
 // Returns the schema of the desk in the database, or `None` if it has a desk of no schema. Fails
-// with `Store` only. The result is specified only under the premise `IsDefined`.
+// with `Store` only. The result is specified only under the premise `DeskNamesImplyDefinitions`.
 fn schema_of_desk<S: Alter>(tx: &mut Transaction<'_, S>) -> Result<Option<Schema>, Fault>
     ensures same_reference { tx.new.conn.ghost_name ≡ tx.old.conn.ghost_name }
-    ensures step { Steps S.Store tx.old tx.new result (λ found a b. IsTrue a.is_open × (b.now ≡ a.now) × (IsDefined a.now → HasDeskOf found a.now)) }
+    ensures step { IsConnectionStep S.Store tx.old tx.new result (λ found a b. IsTrue a.is_open × (b.now ≡ a.now) × (DeskNamesImplyDefinitions a.now → IsDeskSchema found a.now)) }
     ensures fault { OnErr result (result ≡ Err fault.Store) }
 {
     if has_desk(tx, Schema::Third)? {
@@ -47,20 +47,20 @@ fn schema_of_desk<S: Alter>(tx: &mut Transaction<'_, S>) -> Result<Option<Schema
 
 /// Audits the desk in the database by the conditions of its own schema and returns the result,
 /// which is `Fails` with the condition `Schema` if there is no desk. Fails with `Memory` or `Store`
-/// only. The result is specified only under the premise `IsDefined`.
+/// only. The result is specified only under the premise `DeskNamesImplyDefinitions`.
 pub(crate) fn audit_by_own_schema<S: Alter>(
     tx: &mut Transaction<'_, S>,
     alloc: Global,
 ) -> Result<AuditResult, Fault>
     ensures same_reference { tx.new.conn.ghost_name ≡ tx.old.conn.ghost_name }
-    ensures step { Steps S.Store tx.old tx.new result (λ examined a b. IsTrue a.is_open × (b.now ≡ a.now) × (IsDefined a.now → IsResultOfAudit examined a.now)) }
+    ensures step { IsConnectionStep S.Store tx.old tx.new result (λ examined a b. IsTrue a.is_open × (b.now ≡ a.now) × (DeskNamesImplyDefinitions a.now → IsTrueAuditResult examined a.now)) }
     ensures condition { IfOk result (λ examined. examined ≢ told.Fails NotEmpty) }
-    ensures fault { IfErr result MayFail }
+    ensures fault { IfErr result IsCallFault }
 {
     let Some(schema) = schema_of_desk(tx)? else {
         return Ok(AuditResult::Fails(Condition::Schema));
     };
-    match audit_desk_of(tx, alloc, schema)? {
+    match audit_rows_of_schema(tx, alloc, schema)? {
         None => Ok(AuditResult::Passes(schema)),
         Some(condition) => Ok(AuditResult::Fails(condition)),
     }

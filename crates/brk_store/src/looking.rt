@@ -2,15 +2,15 @@
 //! rolled back.
 
 ghost use Rattle.std.specs.Prelude.{◌≡◌, ◌==◌, IfErr, map, take};
-ghost use Rattle.brk_changes.specs.Rows.{history_row_of, trade_row_of};
-ghost use Rattle.brk_model.specs.Joins.{recent_first, trades_in};
-ghost use Rattle.brk_model.specs.Run.{MayFail};
+ghost use Rattle.brk_changes.specs.Rows.{abstract_history_row, abstract_trade_row};
+ghost use Rattle.brk_model.specs.Joins.{trade_rows_recent_first, trade_rows_of_account};
+ghost use Rattle.brk_model.specs.Run.{IsCallFault};
 ghost use Rattle.brk_store.specs.Holds.{ReadPost};
 ghost use Rattle.brk_tables_schema.specs.Desk.{TradeHistory};
-ghost use Rattle.brk_tables_schema.specs.Statements.{Listed};
+ghost use Rattle.brk_tables_schema.specs.Statements.{AreMatchingRows};
 
 use crate::Store;
-use crate::beginning::begin;
+use crate::beginning::begin_transaction;
 use brk_changes::{HistoryRow, TradeRow};
 use brk_money::{Fault, Id};
 use sqlite::Alter;
@@ -20,39 +20,39 @@ use std::alloc::Global;
 impl<S: Alter> Store<S> {
     /// Returns the last ten trades of an account, the most recent first. Changes nothing. Fails
     /// with `Memory` or `Store`.
-    pub fn last_ten_of_account(
+    pub fn last_ten_trades_of_account(
         &mut self,
         alloc: Global,
         account: Id,
     ) -> Result<Vec<TradeRow>, Fault>
-        ensures read { ReadPost S.Store self.old self.new result (λ all t. map trade_row_of all.items ≡ take 10 (recent_first (trades_in t account))) }
-        ensures fault { IfErr result MayFail }
+        ensures read { ReadPost S.Store self.old self.new result (λ all t. map abstract_trade_row all.items ≡ take 10 (trade_rows_recent_first (trade_rows_of_account t account))) }
+        ensures fault { IfErr result IsCallFault }
     {
-        let mut tx = begin(&mut self.conn);
-        brk_tables_trading::last_ten_of_account(&mut tx, alloc, account)
+        let mut tx = begin_transaction(&mut self.conn);
+        brk_tables_trading::last_ten_trades_of_account(&mut tx, alloc, account)
     }
 
     /// Returns the last fifty trades of an account, the most recent first. Changes nothing. Fails
     /// with `Memory` or `Store`.
-    pub fn last_fifty_of_account(
+    pub fn last_fifty_trades_of_account(
         &mut self,
         alloc: Global,
         account: Id,
     ) -> Result<Vec<TradeRow>, Fault>
-        ensures read { ReadPost S.Store self.old self.new result (λ all t. map trade_row_of all.items ≡ take 50 (recent_first (trades_in t account))) }
-        ensures fault { IfErr result MayFail }
+        ensures read { ReadPost S.Store self.old self.new result (λ all t. map abstract_trade_row all.items ≡ take 50 (trade_rows_recent_first (trade_rows_of_account t account))) }
+        ensures fault { IfErr result IsCallFault }
     {
-        let mut tx = begin(&mut self.conn);
-        brk_tables_trading::last_fifty_of_account(&mut tx, alloc, account)
+        let mut tx = begin_transaction(&mut self.conn);
+        brk_tables_trading::last_fifty_trades_of_account(&mut tx, alloc, account)
     }
 
     /// Returns the history of a trade, sorted by status code, ascending. Changes nothing. Fails
     /// with `Memory` or `Store`.
-    pub fn history_of(&mut self, alloc: Global, trade: Id) -> Result<Vec<HistoryRow>, Fault>
-        ensures read { ReadPost S.Store self.old self.new result (Listed TradeHistory history_row_of (λ r. r.trade == trade)) }
-        ensures fault { IfErr result MayFail }
+    pub fn history_of_trade(&mut self, alloc: Global, trade: Id) -> Result<Vec<HistoryRow>, Fault>
+        ensures read { ReadPost S.Store self.old self.new result (AreMatchingRows TradeHistory abstract_history_row (λ r. r.trade == trade)) }
+        ensures fault { IfErr result IsCallFault }
     {
-        let mut tx = begin(&mut self.conn);
-        brk_tables_trading::history_of(&mut tx, alloc, trade)
+        let mut tx = begin_transaction(&mut self.conn);
+        brk_tables_trading::history_of_trade(&mut tx, alloc, trade)
     }
 }

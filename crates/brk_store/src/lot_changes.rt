@@ -2,14 +2,14 @@
 //! which is rolled back.
 
 ghost use Rattle.std.specs.Prelude.{◌==◌, IfErr};
-ghost use Rattle.brk_changes.specs.Rows.{lot_change_of};
-ghost use Rattle.brk_model.specs.Run.{MayFail};
+ghost use Rattle.brk_changes.specs.Rows.{abstract_lot_change_row};
+ghost use Rattle.brk_model.specs.Run.{IsCallFault};
 ghost use Rattle.brk_store.specs.Holds.{ReadPost};
 ghost use Rattle.brk_tables_schema.specs.Desk.{HoldingHistory};
-ghost use Rattle.brk_tables_schema.specs.Statements.{Listed};
+ghost use Rattle.brk_tables_schema.specs.Statements.{AreMatchingRows};
 
 use crate::Store;
-use crate::beginning::begin;
+use crate::beginning::begin_transaction;
 use brk_changes::LotChange;
 use brk_money::{Fault, Id};
 use sqlite::Alter;
@@ -19,21 +19,25 @@ use std::alloc::Global;
 impl<S: Alter> Store<S> {
     /// Returns the changes that a trade made to lots, sorted by lot, ascending. Changes nothing.
     /// Fails with `Memory` or `Store`.
-    pub fn changes_by(&mut self, alloc: Global, trade: Id) -> Result<Vec<LotChange>, Fault>
-        ensures read { ReadPost S.Store self.old self.new result (Listed HoldingHistory lot_change_of (λ r. r.trade == trade)) }
-        ensures fault { IfErr result MayFail }
+    pub fn lot_changes_by_trade(
+        &mut self,
+        alloc: Global,
+        trade: Id,
+    ) -> Result<Vec<LotChange>, Fault>
+        ensures read { ReadPost S.Store self.old self.new result (AreMatchingRows HoldingHistory abstract_lot_change_row (λ r. r.trade == trade)) }
+        ensures fault { IfErr result IsCallFault }
     {
-        let mut tx = begin(&mut self.conn);
-        brk_tables_views::changes_by(&mut tx, alloc, trade)
+        let mut tx = begin_transaction(&mut self.conn);
+        brk_tables_views::lot_changes_by_trade(&mut tx, alloc, trade)
     }
 
     /// Returns the changes of the lot that a trade opened, sorted by trade, ascending. Changes
     /// nothing. Fails with `Memory` or `Store`.
-    pub fn changes_of(&mut self, alloc: Global, lot: Id) -> Result<Vec<LotChange>, Fault>
-        ensures read { ReadPost S.Store self.old self.new result (Listed HoldingHistory lot_change_of (λ r. r.lot == lot)) }
-        ensures fault { IfErr result MayFail }
+    pub fn lot_changes_of_lot(&mut self, alloc: Global, lot: Id) -> Result<Vec<LotChange>, Fault>
+        ensures read { ReadPost S.Store self.old self.new result (AreMatchingRows HoldingHistory abstract_lot_change_row (λ r. r.lot == lot)) }
+        ensures fault { IfErr result IsCallFault }
     {
-        let mut tx = begin(&mut self.conn);
-        brk_tables_views::changes_of(&mut tx, alloc, lot)
+        let mut tx = begin_transaction(&mut self.conn);
+        brk_tables_views::lot_changes_of_lot(&mut tx, alloc, lot)
     }
 }

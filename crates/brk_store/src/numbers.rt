@@ -12,7 +12,7 @@ use brk_ref::BrokerRow;
 use sqlite::Alter;
 
 // Returns the totals in a broker's row, or `None` if one of them is out of range.
-fn numbers_in(row: &BrokerRow) -> Option<BrokerNumbers>
+fn totals_in_broker_row(row: &BrokerRow) -> Option<BrokerNumbers>
     ensures { IfSome result (λ numbers. (pos numbers.trades ≡ row.now.trades) × (numbers.commissions ≡ row.now.commissions)) }
 {
     if row.trades < 0 {
@@ -41,7 +41,7 @@ impl<S: Alter> Store<S> {
         let Some(row) = self.broker(broker)? else {
             return Ok(None);
         };
-        match numbers_in(&row) {
+        match totals_in_broker_row(&row) {
             Some(numbers) => Ok(Some(numbers)),
             None => Err(Fault::Store),
         }

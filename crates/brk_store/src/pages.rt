@@ -2,12 +2,12 @@
 
 ghost use Rattle.std.specs.Prelude.{◌≡◌, ◌≢◌, ◌≤◌, ◌+◌, IfErr, IfOk, IsTrue, length, map, pos};
 ghost use Rattle.std.specs.List.{All};
-ghost use Rattle.brk_model.specs.Run.{MayFail};
-ghost use Rattle.brk_changes.specs.Rows.{holding_row_of};
-ghost use Rattle.brk_tables_trading.specs.Pages.{on_page, page_size};
-ghost use Rattle.brk_book_theorems.specs.OrderReads.{lot_in};
+ghost use Rattle.brk_model.specs.Run.{IsCallFault};
+ghost use Rattle.brk_changes.specs.Rows.{abstract_holding_row};
+ghost use Rattle.brk_tables_trading.specs.Pages.{page_after, page_size};
+ghost use Rattle.brk_book_theorems.specs.OrderReads.{lot_of_typed_row};
 ghost use Rattle.brk_store.specs.Holds.{ReadPost};
-ghost use Rattle.brk_store.specs.Pages.{rows_from};
+ghost use Rattle.brk_store.specs.Pages.{lot_rows_from_end};
 
 use crate::Store;
 use brk_changes::HoldingRow;
@@ -77,8 +77,8 @@ fn read_page<S: Alter>(
     lifo: bool,
     skipped: u32,
 ) -> Result<Vec<HoldingRow>, Fault>
-    ensures read { ReadPost S.Store store.old store.new result (λ all t. map holding_row_of all.items ≡ on_page skipped (rows_from lifo account symbol.now t)) }
-    ensures fault { IfErr result MayFail }
+    ensures read { ReadPost S.Store store.old store.new result (λ all t. map abstract_holding_row all.items ≡ page_after skipped (lot_rows_from_end lifo account symbol.now t)) }
+    ensures fault { IfErr result IsCallFault }
 {
     if lifo {
         store.newest_lots(alloc, account, symbol, skipped)
@@ -88,7 +88,7 @@ fn read_page<S: Alter>(
 }
 
 // Returns true only if there are at most 16 rows and each has shares.
-fn is_page(rows: &[HoldingRow]) -> bool
+fn is_valid_page(rows: &[HoldingRow]) -> bool
     ensures { IsTrue result → (length rows.now ≤ page_size) × All (λ r. r.qty ≢ pos 0) rows.now }
 {
     rows.len() <= PAGE_SIZE && rows.iter().all(|row| row.qty != 0)
@@ -97,7 +97,7 @@ fn is_page(rows: &[HoldingRow]) -> bool
 // Returns a page of the lots of an account in a security, as `read_page` does. Changes nothing.
 // Fails with `Memory` or `Store` only; with `Store` also if the page has more than 16 rows, or a
 // lot without shares.
-fn known_page<S: Alter>(
+fn read_valid_page<S: Alter>(
     store: &mut Store<S>,
     alloc: Global,
     account: Id,
@@ -105,13 +105,13 @@ fn known_page<S: Alter>(
     lifo: bool,
     skipped: u32,
 ) -> Result<Vec<HoldingRow>, Fault>
-    ensures read { ReadPost S.Store store.old store.new result (λ all t. map holding_row_of all.items ≡ on_page skipped (rows_from lifo account symbol.now t)) }
+    ensures read { ReadPost S.Store store.old store.new result (λ all t. map abstract_holding_row all.items ≡ page_after skipped (lot_rows_from_end lifo account symbol.now t)) }
     ensures few { IfOk result (λ all. length all.items ≤ page_size) }
     ensures some_shares { IfOk result (λ all. All (λ r. r.qty ≢ pos 0) all.items) }
-    ensures fault { IfErr result MayFail }
+    ensures fault { IfErr result IsCallFault }
 {
     let page = read_page(store, alloc, account, symbol, lifo, skipped)?;
-    if is_page(&page) {
+    if is_valid_page(&page) {
         Ok(page)
     } else {
         Err(Fault::Store)
@@ -119,8 +119,8 @@ fn known_page<S: Alter>(
 }
 
 // Returns the lot in a row of HOLDING.
-fn lot_of(row: &HoldingRow) -> Lot
-    ensures { result ≡ lot_in row.now }
+fn lot_of_holding_row(row: &HoldingRow) -> Lot
+    ensures { result ≡ lot_of_typed_row row.now }
 {
     Lot {
         trade: row.trade,
@@ -132,11 +132,11 @@ fn lot_of(row: &HoldingRow) -> Lot
 
 impl<S: Alter> Store<S> {
     ghost use Rattle.std.specs.Prelude.{◌≡◌};
-    ghost use Rattle.brk_lots.specs.Lots.{from_end};
+    ghost use Rattle.brk_lots.specs.Lots.{list_in_closing_order};
     ghost use Rattle.brk_model.specs.Tables.{Tables};
-    ghost use Rattle.brk_store.specs.Holds.{Holds};
-    ghost use Rattle.brk_store.specs.Resting.{lent, rows_read_by};
-    ghost use Rattle.brk_book_theorems.specs.TradeReads.{position_in};
+    ghost use Rattle.brk_store.specs.Holds.{HoldsRows};
+    ghost use Rattle.brk_store.specs.Resting.{borrowed_store, number_of_rows_read};
+    ghost use Rattle.brk_book_theorems.specs.TradeReads.{position_lots};
 
     /// Returns a source of the lots of an account in a security, the newest first if `lifo`,
     /// otherwise the oldest first. It has read no row yet.
@@ -152,11 +152,11 @@ impl<S: Alter> Store<S> {
         symbol: &'a Symbol,
         lifo: bool,
     ) -> LotPages<'a, S>
-        ensures same_reference { (lent result).ghost_name ≡ self.entry.ghost_name }
-        ensures same { (lent result).now ≡ self.old }
-        ensures remaining { (t : Tables) → Holds S.Store self.old t → ⟦<Pages<'static, S, Page> as LotSource>⟧.remaining result (from_end lifo (position_in t account symbol.now)) }
+        ensures same_reference { (borrowed_store result).ghost_name ≡ self.entry.ghost_name }
+        ensures same { (borrowed_store result).now ≡ self.old }
+        ensures remaining { (t : Tables) → HoldsRows S.Store self.old t → ⟦<Pages<'static, S, Page> as LotSource>⟧.remaining result (list_in_closing_order lifo (position_lots t account symbol.now)) }
         ensures asked { ⟦<Pages<'static, S, Page> as LotSource>⟧.asked result ≡ 0 }
-        ensures unread { rows_read_by result ≡ 0 }
+        ensures unread { number_of_rows_read result ≡ 0 }
     {
         let page = Page {
             rows: Vec::new(alloc),
@@ -181,19 +181,19 @@ impl<S: Alter> Pages<'_, S, Page> {
     ghost use Rattle.sqlite.specs.Held.{state};
     ghost use Rattle.sqlite.specs.State.{HasCleanDisk};
     ghost use Rattle.brk_lots.specs.declared.lot.Lot.{Lot as TheLot};
-    ghost use Rattle.brk_changes.specs.Rows.{holding_row_of};
-    ghost use Rattle.brk_model.specs.Run.{MayFail};
+    ghost use Rattle.brk_changes.specs.Rows.{abstract_holding_row};
+    ghost use Rattle.brk_model.specs.Run.{IsCallFault};
     ghost use Rattle.brk_model.specs.Tables.{Tables};
-    ghost use Rattle.brk_store.specs.Holds.{Holds};
-    ghost use Rattle.brk_store.specs.Kept.{IsKept};
-    ghost use Rattle.brk_store.specs.Pages.{rows_from};
-    ghost use Rattle.brk_store.specs.Resting.{Rests, rows_read_by};
-    ghost use Rattle.brk_tables_trading.specs.Pages.{on_page, page_size};
+    ghost use Rattle.brk_store.specs.Holds.{HoldsRows};
+    ghost use Rattle.brk_store.specs.Kept.{IsUnchangedByReads};
+    ghost use Rattle.brk_store.specs.Pages.{lot_rows_from_end};
+    ghost use Rattle.brk_store.specs.Resting.{AreRemainingLots, number_of_rows_read};
+    ghost use Rattle.brk_tables_trading.specs.Pages.{page_after, page_size};
 
     /// Returns the number of rows that were read: at least the number of lots that were returned,
     /// and at most 15 more.
     pub fn rows_read(&self) -> u64
-        ensures counted { result ≡ rows_read_by self.now }
+        ensures counted { result ≡ number_of_rows_read self.now }
         ensures least { ⟦<Pages<'static, S, Page> as LotSource>⟧.asked self.now ≤ result }
         ensures most { result ≤ ⟦<Pages<'static, S, Page> as LotSource>⟧.asked self.now + 15 }
     {
@@ -203,19 +203,19 @@ impl<S: Alter> Pages<'_, S, Page> {
     // Reads the next page and adds the number of its rows to that of the rows read. Fails with
     // `Memory` or `Store` only; with `Store` also if this number exceeds 32 bits. At an error the
     // number is unchanged.
-    fn next_page(&mut self) -> Result<Vec<HoldingRow>, Fault>
+    fn read_next_page(&mut self) -> Result<Vec<HoldingRow>, Fault>
         ensures same_reference { self.new.store.ghost_name ≡ self.old.store.ghost_name }
         ensures same { self.new ≡ record self.old { store = self.new.store; read = self.new.read } }
-        ensures store { IsKept S.Store self.old.store.now self.new.store.now }
-        ensures told { HasCleanDisk (state S.Store self.new.store.now) → IfOk result (λ page. (t : Tables) → Holds S.Store self.old.store.now t →
-            map holding_row_of page.items ≡ on_page self.old.read (rows_from self.old.lifo self.old.account self.old.symbol.now t)) }
+        ensures store { IsUnchangedByReads S.Store self.old.store.now self.new.store.now }
+        ensures told { HasCleanDisk (state S.Store self.new.store.now) → IfOk result (λ page. (t : Tables) → HoldsRows S.Store self.old.store.now t →
+            map abstract_holding_row page.items ≡ page_after self.old.read (lot_rows_from_end self.old.lifo self.old.account self.old.symbol.now t)) }
         ensures counted { IfOk result (λ page. self.new.read ≡ self.old.read + length page.items) }
         ensures unread { OnErr result (self.new.read ≡ self.old.read) }
         ensures few { IfOk result (λ page. length page.items ≤ page_size) }
         ensures some_shares { IfOk result (λ page. All (λ r. r.qty ≢ pos 0) page.items) }
-        ensures fault { IfErr result MayFail }
+        ensures fault { IfErr result IsCallFault }
     {
-        let page = known_page(
+        let page = read_valid_page(
             self.store,
             self.alloc,
             self.account,
@@ -232,23 +232,23 @@ impl<S: Alter> Pages<'_, S, Page> {
 
     // Reads the next page and returns its first lot, or `None` if no lot remains. Fails with
     // `Memory` or `Store` only; the remaining lots are then unchanged.
-    fn turn(&mut self) -> Result<Option<Lot>, Fault>
+    fn turn_to_next_page(&mut self) -> Result<Option<Lot>, Fault>
         requires { length self.old.page.rows.items ≤ self.old.page.given }
         ensures same_reference { self.new.store.ghost_name ≡ self.old.store.ghost_name }
-        ensures store { IsKept S.Store self.old.store.now self.new.store.now }
-        ensures given { IfOk result (λ given. HasCleanDisk (state S.Store self.new.store.now) → (ls : List TheLot) → Rests S.Store self.old ls →
-            MatchOption given ((ls ≡ []) × Rests S.Store self.new []) (λ lot. (more : List TheLot) × (ls ≡ lot ∷ more) × Rests S.Store self.new more)) }
+        ensures store { IsUnchangedByReads S.Store self.old.store.now self.new.store.now }
+        ensures given { IfOk result (λ given. HasCleanDisk (state S.Store self.new.store.now) → (ls : List TheLot) → AreRemainingLots S.Store self.old ls →
+            MatchOption given ((ls ≡ []) × AreRemainingLots S.Store self.new []) (λ lot. (more : List TheLot) × (ls ≡ lot ∷ more) × AreRemainingLots S.Store self.new more)) }
         ensures some_shares { IfOk result (λ given. IfSome given (λ lot. lot.qty ≢ pos 0)) }
-        ensures kept { IfErr result (λ _. (ls : List TheLot) → Rests S.Store self.old ls → Rests S.Store self.new ls) }
+        ensures kept { IfErr result (λ _. (ls : List TheLot) → AreRemainingLots S.Store self.old ls → AreRemainingLots S.Store self.new ls) }
         ensures asked { self.new.read - (length self.new.page.rows.items - self.new.page.given) ≤ self.old.read + 1 }
-        ensures fault { IfErr result MayFail }
+        ensures fault { IfErr result IsCallFault }
     {
         if self.ended {
             return Ok(None);
         }
-        let page = self.next_page()?;
+        let page = self.read_next_page()?;
         let first = match page.first() {
-            Some(row) => Some(lot_of(row)),
+            Some(row) => Some(lot_of_holding_row(row)),
             None => None,
         };
         self.ended = page.len() < PAGE_SIZE;
@@ -265,30 +265,30 @@ impl<S: Alter> LotSource for Pages<'_, S, Page> {
     ghost use Rattle.std.proofs.Common.{◌∙◌};
     ghost use Rattle.sqlite.specs.Held.{state};
     ghost use Rattle.sqlite.specs.State.{HasCleanDisk};
-    ghost use Rattle.brk_model.specs.Run.{MayFail};
-    ghost use Rattle.brk_store.specs.Kept.{IsKept, clean_at, kept_none, kept_then};
-    ghost use Rattle.brk_store.specs.Resting.{Rests};
+    ghost use Rattle.brk_model.specs.Run.{IsCallFault};
+    ghost use Rattle.brk_store.specs.Kept.{IsUnchangedByReads, clean_at, kept_none, kept_then};
+    ghost use Rattle.brk_store.specs.Resting.{AreRemainingLots};
 
-    ghost remaining = { λ p ls. Rests S.Store p ls };
+    ghost remaining = { λ p ls. AreRemainingLots S.Store p ls };
 
     ghost reads_faithfully = { λ p. HasCleanDisk (state S.Store p.store.now) };
 
-    ghost leads = { λ p q. (q.store.ghost_name ≡ p.store.ghost_name) × IsKept S.Store p.store.now q.store.now };
+    ghost leads = { λ p q. (q.store.ghost_name ≡ p.store.ghost_name) × IsUnchangedByReads S.Store p.store.now q.store.now };
 
     ghost asked = { λ p. p.read - (length p.page.rows.items - p.page.given) };
 
     ghost faulted = { λ _. 0 };
 
-    ghost fails = { λ _ fault _. MayFail fault };
+    ghost fails = { λ _ fault _. IsCallFault fault };
 
     fn next(&mut self) -> Result<Option<Lot>, Fault> {
         match self.page.rows.get(self.page.given) {
             Some(row) => {
-                let lot = lot_of(row);
+                let lot = lot_of_holding_row(row);
                 self.page.given += 1;
                 Ok(Some(lot))
             }
-            None => self.turn(),
+            None => self.turn_to_next_page(),
         }
     }
 

@@ -3,14 +3,14 @@
 
 ghost use Rattle.std.specs.Prelude.{◌≡◌, ◌==◌, ◌&&◌, Err, IfErr, OnErr, bytes_eq};
 ghost use Rattle.brk_money.specs.declared.fault.Fault.TheVariants as fault;
-ghost use Rattle.brk_model.specs.Run.{MayFail};
-ghost use Rattle.brk_ref.specs.Records.{account_row_of, broker_row_of, customer_of, kept_of};
+ghost use Rattle.brk_model.specs.Run.{IsCallFault};
+ghost use Rattle.brk_ref.specs.Records.{abstract_account_row, abstract_broker_row, abstract_customer, abstract_kept_row};
 ghost use Rattle.brk_store.specs.Holds.{ReadPost};
 ghost use Rattle.brk_tables_schema.specs.Desk.{Accounts, Brokers, Customers, KeptRows};
-ghost use Rattle.brk_tables_schema.specs.Statements.{Found, Listed};
+ghost use Rattle.brk_tables_schema.specs.Statements.{IsFirstMatch, AreMatchingRows};
 
 use crate::Store;
-use crate::beginning::begin;
+use crate::beginning::begin_transaction;
 use brk_money::{Fault, Id, Stamp};
 use brk_ref::{AccountRow, BrokerRow, Customer, Kept, Key, TaxId};
 use sqlite::Alter;
@@ -24,67 +24,67 @@ impl<S: Alter> Store<S> {
         ensures read { ReadPost S.Store self.old self.new result (λ last t. last ≡ t.last) }
         ensures fault { OnErr result (result ≡ Err fault.Store) }
     {
-        let mut tx = begin(&mut self.conn);
+        let mut tx = begin_transaction(&mut self.conn);
         brk_tables_schema::last_stamp(&mut tx)
     }
 
     /// Returns the broker with an id, or `None` if there is none. Changes nothing. Fails with
     /// `Store` only.
     pub fn broker(&mut self, id: Id) -> Result<Option<BrokerRow>, Fault>
-        ensures read { ReadPost S.Store self.old self.new result (Found Brokers broker_row_of (λ r. r.id == id)) }
+        ensures read { ReadPost S.Store self.old self.new result (IsFirstMatch Brokers abstract_broker_row (λ r. r.id == id)) }
         ensures fault { OnErr result (result ≡ Err fault.Store) }
     {
-        let mut tx = begin(&mut self.conn);
+        let mut tx = begin_transaction(&mut self.conn);
         brk_tables_reference::broker_by_id(&mut tx, id)
     }
 
     /// Returns the customer with an id, or `None` if there is none. Changes nothing. Fails with
     /// `Store` only.
     pub fn customer(&mut self, id: Id) -> Result<Option<Customer>, Fault>
-        ensures read { ReadPost S.Store self.old self.new result (Found Customers customer_of (λ r. r.id == id)) }
+        ensures read { ReadPost S.Store self.old self.new result (IsFirstMatch Customers abstract_customer (λ r. r.id == id)) }
         ensures fault { OnErr result (result ≡ Err fault.Store) }
     {
-        let mut tx = begin(&mut self.conn);
+        let mut tx = begin_transaction(&mut self.conn);
         brk_tables_reference::customer_by_id(&mut tx, id)
     }
 
     /// Returns the customer with a tax id, or `None` if there is none. Changes nothing. Fails with
     /// `Store` only.
     pub fn customer_by_tax_id(&mut self, tax_id: &TaxId) -> Result<Option<Customer>, Fault>
-        ensures read { ReadPost S.Store self.old self.new result (Found Customers customer_of (λ r. bytes_eq r.tax_id tax_id.now)) }
+        ensures read { ReadPost S.Store self.old self.new result (IsFirstMatch Customers abstract_customer (λ r. bytes_eq r.tax_id tax_id.now)) }
         ensures fault { OnErr result (result ≡ Err fault.Store) }
     {
-        let mut tx = begin(&mut self.conn);
+        let mut tx = begin_transaction(&mut self.conn);
         brk_tables_reference::customer_by_tax_id(&mut tx, tax_id)
     }
 
     /// Returns the account with an id, or `None` if there is none. Changes nothing. Fails with
     /// `Store` only.
     pub fn account(&mut self, id: Id) -> Result<Option<AccountRow>, Fault>
-        ensures read { ReadPost S.Store self.old self.new result (Found Accounts account_row_of (λ r. r.id == id)) }
+        ensures read { ReadPost S.Store self.old self.new result (IsFirstMatch Accounts abstract_account_row (λ r. r.id == id)) }
         ensures fault { OnErr result (result ≡ Err fault.Store) }
     {
-        let mut tx = begin(&mut self.conn);
+        let mut tx = begin_transaction(&mut self.conn);
         brk_tables_reference::account_by_id(&mut tx, id)
     }
 
     /// Returns the accounts of a customer, sorted by id, ascending. Changes nothing. Fails with
     /// `Memory` or `Store`.
     pub fn accounts_of(&mut self, alloc: Global, customer: Id) -> Result<Vec<AccountRow>, Fault>
-        ensures read { ReadPost S.Store self.old self.new result (Listed Accounts account_row_of (λ r. r.customer == customer)) }
-        ensures fault { IfErr result MayFail }
+        ensures read { ReadPost S.Store self.old self.new result (AreMatchingRows Accounts abstract_account_row (λ r. r.customer == customer)) }
+        ensures fault { IfErr result IsCallFault }
     {
-        let mut tx = begin(&mut self.conn);
+        let mut tx = begin_transaction(&mut self.conn);
         brk_tables_reference::accounts_of_customer(&mut tx, alloc, customer)
     }
 
     /// Returns the row of KEPT under a key, or `None` if there is none. Changes nothing. Fails with
     /// `Store` only.
     pub fn kept(&mut self, key: &Key) -> Result<Option<Kept>, Fault>
-        ensures read { ReadPost S.Store self.old self.new result (Found KeptRows kept_of (λ k. bytes_eq k.key.batch key.now.batch && (k.key.row == key.now.row))) }
+        ensures read { ReadPost S.Store self.old self.new result (IsFirstMatch KeptRows abstract_kept_row (λ k. bytes_eq k.key.batch key.now.batch && (k.key.row == key.now.row))) }
         ensures fault { OnErr result (result ≡ Err fault.Store) }
     {
-        let mut tx = begin(&mut self.conn);
+        let mut tx = begin_transaction(&mut self.conn);
         brk_tables_schema::kept_by_key(&mut tx, key)
     }
 }

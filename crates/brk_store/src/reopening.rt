@@ -7,19 +7,19 @@ ghost use Rattle.sqlite_trees.specs.Tree.{Trees};
 ghost use Rattle.sqlite_trees.specs.declared.memory.MemStore.{MemStore};
 ghost use Rattle.std.specs.Prelude.{◌≡◌, IsTrue};
 ghost use Rattle.brk_model.specs.Tables.{Tables};
-ghost use Rattle.brk_store.specs.Holds.{AreTreesOf, Holds, IsOpenedOver, OnlyCrashState};
+ghost use Rattle.brk_store.specs.Holds.{AreTreesOfRows, HoldsRows, IsOpenedOverTrees, CrashStatesSatisfy};
 
 use sqlite::Alter;
 
 /// Proves that a connection that was opened over trees with the rows `t` holds these rows.
 pub fn reopening_finds_the_rows<S: Alter>()
-    ensures { (t : Tables) (trees : Trees) (conn : Held S) → AreTreesOf t trees → IsOpenedOver S.Store trees conn → Holds S.Store conn t }
+    ensures { (t : Tables) (trees : Trees) (conn : Held S) → AreTreesOfRows t trees → IsOpenedOverTrees S.Store trees conn → HoldsRows S.Store conn t }
 {}
 
 /// Proves that a crash of an open store exposes no state of the disk but the trees of its last
 /// commit.
 pub fn an_open_store_leaves_its_last_commit<S: Alter>()
-    ensures { (store : Held S) → IsTrue (state S.Store store).is_open → OnlyCrashState S.Store store (λ trees. trees ≡ (state S.Store store).committed.trees) }
+    ensures { (store : Held S) → IsTrue (state S.Store store).is_open → CrashStatesSatisfy S.Store store (λ trees. trees ≡ (state S.Store store).committed.trees) }
 {}
 
 /// Proves that a store in memory is open and satisfies the disk assumption, always.

@@ -1,4 +1,4 @@
-use crate::changing::{apply_all, make_desk};
+use crate::changing::{apply_in_transaction, create_in_transaction};
 use brk_changes::Change;
 use brk_money::Fault;
 use sqlite::{Alter, Connection};
@@ -33,7 +33,7 @@ impl<S: Alter> Store<S> {
     ghost use Rattle.std.specs.Prelude.{◌≡◌, ◌⊎◌, Err, IfErr, MatchResult, Ok, OnErr, false, true};
     ghost use Rattle.brk_money.specs.declared.fault.Condition.TheVariants.{NotEmpty};
     ghost use Rattle.brk_money.specs.declared.fault.Fault.TheVariants as fault;
-    ghost use Rattle.brk_changes.specs.Changes.{after_changes};
+    ghost use Rattle.brk_changes.specs.Changes.{tables_after_changes};
     ghost use Rattle.brk_store.specs.Holds.{ApplyPost, CreatePost};
 
     /// Creates the tables of a desk, without rows but the one of DESK, in the database of `conn`,
@@ -57,7 +57,7 @@ impl<S: Alter> Store<S> {
         if !conn.is_autocommit() {
             return Err((conn, Fault::Store));
         }
-        match make_desk(&mut conn) {
+        match create_in_transaction(&mut conn) {
             Ok(()) => Ok(Store { conn }),
             Err(fault) => Err((conn, fault)),
         }
@@ -71,10 +71,10 @@ impl<S: Alter> Store<S> {
     /// A crash exposes a state that a crash before the call could expose, or the changed rows;
     /// after `Ok` only the latter. After an error, too, a crash may expose the changed rows.
     pub fn apply(&mut self, changes: &[Change]) -> Result<(), Fault>
-        ensures applied { ApplyPost S.Store self.old self.new result (after_changes changes.now) }
+        ensures applied { ApplyPost S.Store self.old self.new result (tables_after_changes changes.now) }
         ensures fault { OnErr result (result ≡ Err fault.Store) }
     {
-        apply_all(&mut self.conn, changes)
+        apply_in_transaction(&mut self.conn, changes)
     }
 
     /// Returns the connection of the store, on which no transaction is open.

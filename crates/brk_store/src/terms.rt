@@ -2,15 +2,15 @@
 
 ghost use Rattle.std.specs.Prelude.{◌≡◌, ◌==◌, ◌&&◌, Err, IfErr, OnErr, bytes_eq};
 ghost use Rattle.brk_money.specs.declared.fault.Fault.TheVariants as fault;
-ghost use Rattle.brk_model.specs.Run.{MayFail};
-ghost use Rattle.brk_money.specs.Kinds.{same_type};
-ghost use Rattle.brk_ref.specs.Records.{band_of, charge_of, customer_tax_of, permission_of, security_of, tax_of};
+ghost use Rattle.brk_model.specs.Run.{IsCallFault};
+ghost use Rattle.brk_money.specs.Kinds.{is_same_trade_type};
+ghost use Rattle.brk_ref.specs.Records.{abstract_band, abstract_charge, abstract_customer_tax, abstract_permission, abstract_security_row, abstract_tax_rate};
 ghost use Rattle.brk_store.specs.Holds.{ReadPost};
 ghost use Rattle.brk_tables_schema.specs.Desk.{Bands, Charges, CustomerTaxes, Permissions, Securities, TaxRates};
-ghost use Rattle.brk_tables_schema.specs.Statements.{Found, Listed};
+ghost use Rattle.brk_tables_schema.specs.Statements.{IsFirstMatch, AreMatchingRows};
 
 use crate::Store;
-use crate::beginning::begin;
+use crate::beginning::begin_transaction;
 use brk_money::{Fault, Id, TradeType};
 use brk_ref::{
     Band, Charge, CustomerTax, Exchange, Permission, Security, Symbol, Tax, TaxId, Tier,
@@ -23,30 +23,30 @@ impl<S: Alter> Store<S> {
     /// Returns the permission of an account for a tax id, or `None` if there is none. Changes
     /// nothing. Fails with `Store` only.
     pub fn permission(&mut self, account: Id, tax_id: &TaxId) -> Result<Option<Permission>, Fault>
-        ensures read { ReadPost S.Store self.old self.new result (Found Permissions permission_of (λ r. (r.account == account) && bytes_eq r.tax_id tax_id.now)) }
+        ensures read { ReadPost S.Store self.old self.new result (IsFirstMatch Permissions abstract_permission (λ r. (r.account == account) && bytes_eq r.tax_id tax_id.now)) }
         ensures fault { OnErr result (result ≡ Err fault.Store) }
     {
-        let mut tx = begin(&mut self.conn);
+        let mut tx = begin_transaction(&mut self.conn);
         brk_tables_reference::permission_by_key(&mut tx, account, tax_id)
     }
 
     /// Returns the security with a symbol, or `None` if there is none. Changes nothing. Fails with
     /// `Store` only.
     pub fn security(&mut self, symbol: &Symbol) -> Result<Option<Security>, Fault>
-        ensures read { ReadPost S.Store self.old self.new result (Found Securities security_of (λ r. bytes_eq r.symbol symbol.now)) }
+        ensures read { ReadPost S.Store self.old self.new result (IsFirstMatch Securities abstract_security_row (λ r. bytes_eq r.symbol symbol.now)) }
         ensures fault { OnErr result (result ≡ Err fault.Store) }
     {
-        let mut tx = begin(&mut self.conn);
+        let mut tx = begin_transaction(&mut self.conn);
         brk_tables_reference::security_by_symbol(&mut tx, symbol)
     }
 
     /// Returns the charge of a type and a tier, or `None` if there is none. Changes nothing. Fails
     /// with `Store` only.
     pub fn charge(&mut self, kind: TradeType, tier: Tier) -> Result<Option<Charge>, Fault>
-        ensures read { ReadPost S.Store self.old self.new result (Found Charges charge_of (λ r. same_type r.kind kind && (r.tier == tier))) }
+        ensures read { ReadPost S.Store self.old self.new result (IsFirstMatch Charges abstract_charge (λ r. is_same_trade_type r.kind kind && (r.tier == tier))) }
         ensures fault { OnErr result (result ≡ Err fault.Store) }
     {
-        let mut tx = begin(&mut self.conn);
+        let mut tx = begin_transaction(&mut self.conn);
         brk_tables_reference::charge_by_key(&mut tx, kind, tier)
     }
 
@@ -59,30 +59,30 @@ impl<S: Alter> Store<S> {
         kind: TradeType,
         exchange: &Exchange,
     ) -> Result<Vec<Band>, Fault>
-        ensures read { ReadPost S.Store self.old self.new result (Listed Bands band_of (λ r. (r.tier == tier) && same_type r.kind kind && bytes_eq r.exchange exchange.now)) }
-        ensures fault { IfErr result MayFail }
+        ensures read { ReadPost S.Store self.old self.new result (AreMatchingRows Bands abstract_band (λ r. (r.tier == tier) && is_same_trade_type r.kind kind && bytes_eq r.exchange exchange.now)) }
+        ensures fault { IfErr result IsCallFault }
     {
-        let mut tx = begin(&mut self.conn);
+        let mut tx = begin_transaction(&mut self.conn);
         brk_tables_reference::bands_for(&mut tx, alloc, tier, kind, exchange)
     }
 
     /// Returns the tax with an id, or `None` if there is none. Changes nothing. Fails with `Store`
     /// only.
     pub fn tax_rate(&mut self, id: Id) -> Result<Option<Tax>, Fault>
-        ensures read { ReadPost S.Store self.old self.new result (Found TaxRates tax_of (λ r. r.id == id)) }
+        ensures read { ReadPost S.Store self.old self.new result (IsFirstMatch TaxRates abstract_tax_rate (λ r. r.id == id)) }
         ensures fault { OnErr result (result ≡ Err fault.Store) }
     {
-        let mut tx = begin(&mut self.conn);
+        let mut tx = begin_transaction(&mut self.conn);
         brk_tables_reference::tax_rate_by_id(&mut tx, id)
     }
 
     /// Returns the row of a customer and a tax, or `None` if the customer does not pay the tax.
     /// Changes nothing. Fails with `Store` only.
     pub fn customer_tax(&mut self, customer: Id, tax: Id) -> Result<Option<CustomerTax>, Fault>
-        ensures read { ReadPost S.Store self.old self.new result (Found CustomerTaxes customer_tax_of (λ r. (r.customer == customer) && (r.tax == tax))) }
+        ensures read { ReadPost S.Store self.old self.new result (IsFirstMatch CustomerTaxes abstract_customer_tax (λ r. (r.customer == customer) && (r.tax == tax))) }
         ensures fault { OnErr result (result ≡ Err fault.Store) }
     {
-        let mut tx = begin(&mut self.conn);
+        let mut tx = begin_transaction(&mut self.conn);
         brk_tables_reference::customer_tax_by_key(&mut tx, customer, tax)
     }
 
@@ -93,10 +93,10 @@ impl<S: Alter> Store<S> {
         alloc: Global,
         customer: Id,
     ) -> Result<Vec<CustomerTax>, Fault>
-        ensures read { ReadPost S.Store self.old self.new result (Listed CustomerTaxes customer_tax_of (λ r. r.customer == customer)) }
-        ensures fault { IfErr result MayFail }
+        ensures read { ReadPost S.Store self.old self.new result (AreMatchingRows CustomerTaxes abstract_customer_tax (λ r. r.customer == customer)) }
+        ensures fault { IfErr result IsCallFault }
     {
-        let mut tx = begin(&mut self.conn);
+        let mut tx = begin_transaction(&mut self.conn);
         brk_tables_reference::customer_taxes_of(&mut tx, alloc, customer)
     }
 }

@@ -2,15 +2,15 @@
 
 ghost use Rattle.std.specs.Prelude.{◌≡◌, ◌==◌, Err, IfErr, OnErr, map};
 ghost use Rattle.brk_money.specs.declared.fault.Fault.TheVariants as fault;
-ghost use Rattle.brk_model.specs.Run.{MayFail};
+ghost use Rattle.brk_model.specs.Run.{IsCallFault};
 ghost use Rattle.brk_changes.specs.Chosen as chosen;
-ghost use Rattle.brk_changes.specs.Rows.{settlement_row_of, trade_row_of};
+ghost use Rattle.brk_changes.specs.Rows.{abstract_settlement_row, abstract_trade_row};
 ghost use Rattle.brk_store.specs.Holds.{ReadPost};
 ghost use Rattle.brk_tables_schema.specs.Desk.{Settlements};
-ghost use Rattle.brk_tables_schema.specs.Statements.{Found};
+ghost use Rattle.brk_tables_schema.specs.Statements.{IsFirstMatch};
 
 use crate::Store;
-use crate::beginning::begin;
+use crate::beginning::begin_transaction;
 use brk_changes::{SettlementRow, TradeRow};
 use brk_money::{Fault, Id};
 use brk_orders::Span;
@@ -28,10 +28,10 @@ impl<S: Alter> Store<S> {
         account: Id,
         span: Span,
     ) -> Result<Vec<TradeRow>, Fault>
-        ensures read { ReadPost S.Store self.old self.new result (λ all t. map trade_row_of all.items ≡ chosen.completed_of_account account span.first span.last t) }
-        ensures fault { IfErr result MayFail }
+        ensures read { ReadPost S.Store self.old self.new result (λ all t. map abstract_trade_row all.items ≡ chosen.completed_trades_of_account account span.first span.last t) }
+        ensures fault { IfErr result IsCallFault }
     {
-        let mut tx = begin(&mut self.conn);
+        let mut tx = begin_transaction(&mut self.conn);
         brk_tables_trading::completed_of_account(&mut tx, alloc, account, span.first, span.last)
     }
 
@@ -43,20 +43,20 @@ impl<S: Alter> Store<S> {
         symbol: &Symbol,
         span: Span,
     ) -> Result<Vec<TradeRow>, Fault>
-        ensures read { ReadPost S.Store self.old self.new result (λ all t. map trade_row_of all.items ≡ chosen.completed_cash_of_symbol symbol.now span.first span.last t) }
-        ensures fault { IfErr result MayFail }
+        ensures read { ReadPost S.Store self.old self.new result (λ all t. map abstract_trade_row all.items ≡ chosen.completed_cash_trades_of_symbol symbol.now span.first span.last t) }
+        ensures fault { IfErr result IsCallFault }
     {
-        let mut tx = begin(&mut self.conn);
+        let mut tx = begin_transaction(&mut self.conn);
         brk_tables_trading::completed_cash_of_symbol(&mut tx, alloc, symbol, span.first, span.last)
     }
 
     /// Returns the settlement of a trade, or `None` if it has none. Changes nothing. Fails with
     /// `Store` only.
     pub fn settlement(&mut self, trade: Id) -> Result<Option<SettlementRow>, Fault>
-        ensures read { ReadPost S.Store self.old self.new result (Found Settlements settlement_row_of (λ r. r.trade == trade)) }
+        ensures read { ReadPost S.Store self.old self.new result (IsFirstMatch Settlements abstract_settlement_row (λ r. r.trade == trade)) }
         ensures fault { OnErr result (result ≡ Err fault.Store) }
     {
-        let mut tx = begin(&mut self.conn);
+        let mut tx = begin_transaction(&mut self.conn);
         brk_tables_trading::settlement_by_trade(&mut tx, trade)
     }
 }

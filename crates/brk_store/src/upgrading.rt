@@ -6,7 +6,7 @@ ghost use Rattle.brk_money.specs.declared.fault.Fault.TheVariants as fault;
 ghost use Rattle.brk_store.specs.Audited.{AdoptPost};
 
 use crate::Store;
-use crate::beginning::begin;
+use crate::beginning::begin_transaction;
 use crate::examining::{AuditResult, audit_by_own_schema};
 use brk_money::Fault;
 use brk_tables_upgrade::upgrade_tables;
@@ -22,7 +22,7 @@ fn adopt_desk<S: Alter>(conn: &mut Connection<S>, alloc: Global) -> Result<(), F
     ensures adopted { AdoptPost S.Store conn.old conn.new result }
     ensures condition { IfErr result (λ f. f ≢ fault.Damaged NotEmpty) }
 {
-    let mut tx = begin(conn);
+    let mut tx = begin_transaction(conn);
     let schema = match audit_by_own_schema(&mut tx, alloc)? {
         AuditResult::Fails(condition) => return Err(Fault::Damaged(condition)),
         AuditResult::Passes(schema) => schema,
@@ -53,10 +53,10 @@ impl<S: Alter> Store<S> {
     /// tables.
     ///
     /// The result and the crash states are specified only under a premise on the database
-    /// (`IsDefinedIn`): if it has all tables of a desk of some schema by their names and columns,
-    /// then these are defined as a desk defines them, with the same types, keys and references, and
-    /// no foreign key of theirs writes rows. A database without such tables, an empty one too,
-    /// satisfies it.
+    /// (`StoreNamesImplyDefinitions`): if it has all tables of a desk of some schema by their names
+    /// and columns, then these are defined as a desk defines them, with the same types, keys and
+    /// references, and no foreign key of theirs writes rows. A database without such tables, an
+    /// empty one too, satisfies it.
     pub fn adopt(alloc: Global, mut conn: Connection<S>) -> Result<Store<S>, (Connection<S>, Fault)>
         ensures adopted { MatchResult result (λ store. AdoptPost S.Store conn store (Ok tt)) (λ e. AdoptPost S.Store conn e.0 (Err e.1)) }
         ensures condition { IfErr result (λ e. e.1 ≢ fault.Damaged NotEmpty) }

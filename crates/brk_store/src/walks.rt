@@ -2,10 +2,10 @@
 //! store is borrowed for the whole walk.
 
 ghost use Rattle.std.specs.Fn.{CalledAt};
-ghost use Rattle.brk_changes.specs.Rows.{holding_row_of, move_row_of};
-ghost use Rattle.brk_model.specs.Statement.{lots_in};
-ghost use Rattle.brk_store.specs.Calling.{CalledAtLot};
-ghost use Rattle.brk_store.specs.Walked.{CallsEach, WalkPost, cash_of};
+ghost use Rattle.brk_changes.specs.Rows.{abstract_holding_row, abstract_move_row};
+ghost use Rattle.brk_model.specs.Statement.{lot_rows_of_account};
+ghost use Rattle.brk_store.specs.Calling.{IsCallWithLot};
+ghost use Rattle.brk_store.specs.Walked.{CallsClosureOnEach, WalkPost, cash_rows_in_span};
 
 use crate::Store;
 use crate::calling::{Calls, LotCalls};
@@ -34,7 +34,7 @@ impl<S: Alter> Store<S> {
         requires ready { V.ready visitor.old }
         ensures ready { V.ready visitor.new }
         ensures leads { V.leads visitor.old visitor.new }
-        ensures walked { WalkPost S.Store self.old self.new move_row_of (cash_of account from to) V.takes V.stops visitor.old visitor.new result }
+        ensures walked { WalkPost S.Store self.old self.new abstract_move_row (cash_rows_in_span account from to) V.takes V.stops visitor.old visitor.new result }
     {
         brk_tables_walks::walk_cash_between::<S, E, V>(&mut self.conn, account, from, to, visitor)
     }
@@ -54,7 +54,7 @@ impl<S: Alter> Store<S> {
         requires ready { V.ready visitor.old }
         ensures ready { V.ready visitor.new }
         ensures leads { V.leads visitor.old visitor.new }
-        ensures walked { WalkPost S.Store self.old self.new holding_row_of (λ t. lots_in t account) V.takes V.stops visitor.old visitor.new result }
+        ensures walked { WalkPost S.Store self.old self.new abstract_holding_row (λ t. lot_rows_of_account t account) V.takes V.stops visitor.old visitor.new result }
     {
         brk_tables_walks::walk_lots::<S, E, V>(&mut self.conn, account, visitor)
     }
@@ -74,7 +74,7 @@ impl<S: Alter> Store<S> {
         call: F,
     ) -> Result<(), E>
         requires callable { F.IsAlwaysCallable call }
-        ensures called { CallsEach S.Store self.old self.new move_row_of (cash_of account from to) (CalledAt F.FnMut) E.from_gives call result }
+        ensures called { CallsClosureOnEach S.Store self.old self.new abstract_move_row (cash_rows_in_span account from to) (CalledAt F.FnMut) E.from_gives call result }
     {
         let mut calls = Calls { call };
         match self.visit_cash::<E, Calls<F>>(account, from, to, &mut calls) {
@@ -97,7 +97,7 @@ impl<S: Alter> Store<S> {
         call: F,
     ) -> Result<(), E>
         requires callable { F.IsAlwaysCallable call }
-        ensures called { CallsEach S.Store self.old self.new holding_row_of (λ t. lots_in t account) (CalledAtLot F.FnMut) E.from_gives call result }
+        ensures called { CallsClosureOnEach S.Store self.old self.new abstract_holding_row (λ t. lot_rows_of_account t account) (IsCallWithLot F.FnMut) E.from_gives call result }
     {
         let mut calls = LotCalls { call };
         match self.visit_lots::<E, LotCalls<F>>(account, &mut calls) {

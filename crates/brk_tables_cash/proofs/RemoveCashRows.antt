@@ -11,7 +11,7 @@ use Rattle.sqlite_draft.specs.declared.join.Step.TheVariants.{Inner}
 use Rattle.sqlite_draft.specs.declared.query.Draft.{Draft}
 use Rattle.sqlite_tied.specs.Compute.{everything}
 use Rattle.brk_sql.specs.Partly.{lowering}
-use Rattle.brk_sql.specs.Desk.{Stands}
+use Rattle.brk_sql.specs.Desk.{IsTableAt}
 use Rattle.brk_sql.proofs.Meant.{meant, deletes_or}
 use Rattle.brk_sql.proofs.Pick.{selection, whole_page}
 use Rattle.brk_sql.proofs.Texts.{read}
@@ -36,7 +36,7 @@ draft_is : (schema : Schema) (at tree : ℕ) → slice_get schema.tables at ≡ 
 unfolding lowering
 draft_is schema at tree found = refl
 
-pub understood_as : (schema : Schema) (at tree : ℕ) → Stands schema (cash tree) at
+pub understood_as : (schema : Schema) (at tree : ℕ) → IsTableAt schema (cash tree) at
     → (compiled schema statement ≡ Ok (meant (read statement) [] (Delete at (record { lets = []; body = selection tree terms project [] whole_page })))) ⊎ (compiled schema statement ≡ Err Mismatch)
 unfolding everything
 understood_as schema at tree h = deletes_or schema statement (read statement) refl refl (codes "CASH_TRANSACTION") at (cash tree) h.named h.found test (draft tree) refl (draft_is schema at tree h.found)

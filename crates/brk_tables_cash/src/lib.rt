@@ -7,6 +7,6 @@ pub mod moves;
 pub mod rule;
 pub mod upgrade;
 
-pub use moves::{add_move, has_all_movements, last_move, move_by_trade, set_cash_name};
-pub use rule::{one_day, set_one_day};
-pub use upgrade::{remove_cash_rows, set_schema};
+pub use moves::{add_cash_row, cash_row_by_trade, has_maximum_movements, last_move, set_cash_name};
+pub use rule::{set_settlement_day, settlement_day};
+pub use upgrade::{remove_cash_rows, set_third_schema};

@@ -3,28 +3,28 @@
 ghost use Rattle.std.specs.Prelude.{◌≡◌, Err, OnErr, filter, is_none, length, nat_le, option_map, reverse, slice_get};
 ghost use Rattle.brk_money.specs.declared.fault.Fault.TheVariants.{Store};
 ghost use Rattle.brk_model.specs.Limits.{greatest_id};
-ghost use Rattle.brk_model.specs.LookupView.{is_cash_of};
-ghost use Rattle.brk_changes.specs.Changes.{with_cash_name, with_move};
-ghost use Rattle.brk_changes.specs.Rows.{move_row_of};
+ghost use Rattle.brk_model.specs.LookupView.{is_cash_row_of_trade};
+ghost use Rattle.brk_changes.specs.Changes.{tables_with_cash_text, tables_with_cash_row};
+ghost use Rattle.brk_changes.specs.Rows.{abstract_move_row};
 ghost use Rattle.brk_tables_schema.specs.Desk.{CashMoves};
-ghost use Rattle.brk_tables_schema.specs.Statements.{Finds, Reads, Writes};
+ghost use Rattle.brk_tables_schema.specs.Statements.{ReadsFirstMatch, ReadsDeskTables, WritesDeskTables};
 
 use brk_changes::MoveRow;
 use brk_money::{Fault, Id};
-use brk_tables_schema::calls::{run, select};
-use brk_tables_schema::record::first_row;
+use brk_tables_schema::calls::{execute_statement, select_rows};
+use brk_tables_schema::record::decode_first_row;
 use brk_tables_schema::values::{
     cents_value, id_value, maybe_id_value, move_id_value, number_value, stamp_value, text_value,
 };
 use sqlite::{Alter, Transaction};
 
 /// Inserts a cash row. Fails with `Store` only, also if its number exists.
-pub fn add_move<S: Alter>(tx: &mut Transaction<'_, S>, row: &MoveRow) -> Result<(), Fault>
+pub fn add_cash_row<S: Alter>(tx: &mut Transaction<'_, S>, row: &MoveRow) -> Result<(), Fault>
     ensures same_reference { tx.new.conn.ghost_name ≡ tx.old.conn.ghost_name }
-    ensures step { Writes S.Store tx.old tx.new result (with_move (move_row_of row.now)) }
+    ensures step { WritesDeskTables S.Store tx.old tx.new result (tables_with_cash_row (abstract_move_row row.now)) }
     ensures fault { OnErr result (result ≡ Err Store) }
 {
-    run(
+    execute_statement(
         tx,
         "INSERT INTO CASH_MOVE (CM_ID, CM_CA_ID, CM_T_ID, CM_DTS, CM_AMT, CM_NAME) VALUES (?1, ?2, ?3, ?4, ?5, ?6)",
         &[
@@ -42,25 +42,25 @@ pub fn add_move<S: Alter>(tx: &mut Transaction<'_, S>, row: &MoveRow) -> Result<
 /// Fails with `Store` only.
 pub fn last_move<S: Alter>(tx: &mut Transaction<'_, S>) -> Result<Option<MoveRow>, Fault>
     ensures same_reference { tx.new.conn.ghost_name ≡ tx.old.conn.ghost_name }
-    ensures step { Reads S.Store tx.old tx.new result (λ o t. option_map move_row_of o ≡ slice_get (reverse t.moves) 0) }
+    ensures step { ReadsDeskTables S.Store tx.old tx.new result (λ o t. option_map abstract_move_row o ≡ slice_get (reverse t.moves) 0) }
     ensures fault { OnErr result (result ≡ Err Store) }
 {
-    let rows = select(
+    let rows = select_rows(
         tx,
         "SELECT CM_ID, CM_CA_ID, CM_T_ID, CM_DTS, CM_AMT, CM_NAME FROM CASH_MOVE ORDER BY CM_ID DESC LIMIT 1",
         &[],
     )?;
-    first_row(&rows)
+    decode_first_row(&rows)
 }
 
 /// Returns true if there are at least 10^12 deposits and withdrawals. The database steps over all
 /// of them but the last. Changes nothing. Fails with `Store` only.
-pub fn has_all_movements<S: Alter>(tx: &mut Transaction<'_, S>) -> Result<bool, Fault>
+pub fn has_maximum_movements<S: Alter>(tx: &mut Transaction<'_, S>) -> Result<bool, Fault>
     ensures same_reference { tx.new.conn.ghost_name ≡ tx.old.conn.ghost_name }
-    ensures step { Reads S.Store tx.old tx.new result (λ all t. all ≡ nat_le greatest_id (length (filter (λ r. is_none r.trade) t.moves))) }
+    ensures step { ReadsDeskTables S.Store tx.old tx.new result (λ all t. all ≡ nat_le greatest_id (length (filter (λ r. is_none r.trade) t.moves))) }
     ensures fault { OnErr result (result ≡ Err Store) }
 {
-    let rows = select(
+    let rows = select_rows(
         tx,
         "SELECT CM_ID, CM_CA_ID, CM_T_ID, CM_DTS, CM_AMT, CM_NAME FROM CASH_MOVE WHERE CM_T_ID IS NULL ORDER BY CM_ID LIMIT 1 OFFSET ?1",
         &[number_value(999_999_999_999)],
@@ -70,20 +70,20 @@ pub fn has_all_movements<S: Alter>(tx: &mut Transaction<'_, S>) -> Result<bool, 
 
 /// Returns the cash row of a trade, or `None` if it has none. Changes nothing. Fails with `Store`
 /// only.
-pub fn move_by_trade<S: Alter>(
+pub fn cash_row_by_trade<S: Alter>(
     tx: &mut Transaction<'_, S>,
     trade: Id,
 ) -> Result<Option<MoveRow>, Fault>
     ensures same_reference { tx.new.conn.ghost_name ≡ tx.old.conn.ghost_name }
-    ensures step { Finds S.Store tx.old tx.new result CashMoves move_row_of (is_cash_of trade) }
+    ensures step { ReadsFirstMatch S.Store tx.old tx.new result CashMoves abstract_move_row (is_cash_row_of_trade trade) }
     ensures fault { OnErr result (result ≡ Err Store) }
 {
-    let rows = select(
+    let rows = select_rows(
         tx,
         "SELECT CM_ID, CM_CA_ID, CM_T_ID, CM_DTS, CM_AMT, CM_NAME FROM CASH_MOVE WHERE CM_T_ID = ?1 ORDER BY CM_ID",
         &[id_value(trade)],
     )?;
-    first_row(&rows)
+    decode_first_row(&rows)
 }
 
 /// Sets the text of a trade's cash row (CM_NAME). Fails with `Store` only.
@@ -93,10 +93,10 @@ pub fn set_cash_name<S: Alter>(
     name: &str,
 ) -> Result<(), Fault>
     ensures same_reference { tx.new.conn.ghost_name ≡ tx.old.conn.ghost_name }
-    ensures step { Writes S.Store tx.old tx.new result (with_cash_name trade name.now) }
+    ensures step { WritesDeskTables S.Store tx.old tx.new result (tables_with_cash_text trade name.now) }
     ensures fault { OnErr result (result ≡ Err Store) }
 {
-    run(
+    execute_statement(
         tx,
         "UPDATE CASH_MOVE SET CM_NAME = ?1 WHERE CM_T_ID = ?2",
         &[text_value(name), id_value(trade)],

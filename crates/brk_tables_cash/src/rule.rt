@@ -2,25 +2,25 @@
 
 ghost use Rattle.std.specs.Prelude.{◌≡◌, Err, IfOk, OnErr, map};
 ghost use Rattle.brk_money.specs.declared.fault.Fault.TheVariants.{Store};
-ghost use Rattle.brk_changes.specs.Changes.{with_rule};
+ghost use Rattle.brk_changes.specs.Changes.{tables_with_settlement_day};
 ghost use Rattle.brk_tables_schema.specs.Cells.{rule_cells};
 ghost use Rattle.brk_tables_schema.specs.Desk.{rule_rows};
-ghost use Rattle.brk_tables_schema.specs.Statements.{Reads, Writes};
+ghost use Rattle.brk_tables_schema.specs.Statements.{ReadsDeskTables, WritesDeskTables};
 
 use brk_money::{Day, Fault};
-use brk_tables_schema::calls::{run, select};
+use brk_tables_schema::calls::{execute_statement, select_rows};
 use brk_tables_schema::rule_row::day_in_rows;
 use brk_tables_schema::values::{day_value, number_value};
 use sqlite::{Alter, Row, Transaction};
 
 /// Inserts the settlement day, the first day whose completions settle after one day (SR_DAY). Fails
 /// with `Store` only, also if one is set.
-pub fn set_one_day<S: Alter>(tx: &mut Transaction<'_, S>, day: Day) -> Result<(), Fault>
+pub fn set_settlement_day<S: Alter>(tx: &mut Transaction<'_, S>, day: Day) -> Result<(), Fault>
     ensures same_reference { tx.new.conn.ghost_name ≡ tx.old.conn.ghost_name }
-    ensures step { Writes S.Store tx.old tx.new result (with_rule day) }
+    ensures step { WritesDeskTables S.Store tx.old tx.new result (tables_with_settlement_day day) }
     ensures fault { OnErr result (result ≡ Err Store) }
 {
-    run(
+    execute_statement(
         tx,
         "INSERT INTO SETTLE_RULE (SR_ID, SR_DAY) VALUES (?1, ?2)",
         &[number_value(1), day_value(day)],
@@ -28,7 +28,7 @@ pub fn set_one_day<S: Alter>(tx: &mut Transaction<'_, S>, day: Day) -> Result<()
 }
 
 // Decodes the settlement day from the rows of SETTLE_RULE. Fails with `Store` only.
-fn only_day(rows: &[Row]) -> Result<Option<Day>, Fault>
+fn settlement_day_in_rows(rows: &[Row]) -> Result<Option<Day>, Fault>
     ensures value { IfOk result (λ day. map rule_cells (rule_rows day) ≡ rows.now) }
     ensures fault { OnErr result (result ≡ Err Store) }
 {
@@ -37,15 +37,15 @@ fn only_day(rows: &[Row]) -> Result<Option<Day>, Fault>
 
 /// Returns the settlement day, the first day whose completions settle after one day (SR_DAY), or
 /// `None` if none is set. Changes nothing. Fails with `Store` only.
-pub fn one_day<S: Alter>(tx: &mut Transaction<'_, S>) -> Result<Option<Day>, Fault>
+pub fn settlement_day<S: Alter>(tx: &mut Transaction<'_, S>) -> Result<Option<Day>, Fault>
     ensures same_reference { tx.new.conn.ghost_name ≡ tx.old.conn.ghost_name }
-    ensures step { Reads S.Store tx.old tx.new result (λ day t. day ≡ t.rule) }
+    ensures step { ReadsDeskTables S.Store tx.old tx.new result (λ day t. day ≡ t.rule) }
     ensures fault { OnErr result (result ≡ Err Store) }
 {
-    let rows = select(
+    let rows = select_rows(
         tx,
         "SELECT SR_ID, SR_DAY FROM SETTLE_RULE ORDER BY SR_ID",
         &[],
     )?;
-    only_day(&rows)
+    settlement_day_in_rows(&rows)
 }

@@ -2,20 +2,20 @@
 use Rattle.std.specs.Prelude.{ℕ, List, filter, not, codes}
 use Rattle.sqlite.specs.Effect.{Database}
 use Rattle.brk_model.specs.Schemas.{Schema}
-use Rattle.brk_model.specs.Tables.{no_rows}
-use Rattle.brk_sql.specs.Desk.{KeepsOthers}
+use Rattle.brk_model.specs.Tables.{tables_without_rows}
+use Rattle.brk_sql.specs.Desk.{PreservesAllTables}
 use Rattle.brk_tables_schema.specs.Desk.{Which, all_tables, has_table}
 use Rattle.brk_tables_schema.specs.Made.{HasRows}
 
 -- The tables of a desk that this schema does not have, which later schemas add.
-abbrev pub later_than : Schema → List Which
-later_than schema = filter (λ w. not (has_table schema w)) all_tables
+abbrev pub tables_added_after : Schema → List Which
+tables_added_after schema = filter (λ w. not (has_table schema w)) all_tables
 
 -- The database `new` contains the tables of a desk in schema 3, without rows but the one of DESK,
 -- and all tables of `old` with their rows.
-pub record MakesDesk (old new : Database) : Type 0 where
-  pub rows : HasRows no_rows new
-  pub others : KeepsOthers old new
+pub record CreatesDeskTables (old new : Database) : Type 0 where
+  pub rows : HasRows tables_without_rows new
+  pub others : PreservesAllTables old new
 
 -- The text of the SQL statement that inserts the one row of DESK, with schema 3 and no stamp.
 abbrev pub desk_row_text : List ℕ

@@ -1,33 +1,33 @@
 -- Written by tools/tables.py: the tables as the code names them, and their SQL texts.
 use Rattle.std.specs.Prelude.{ℕ, List, ◌++◌, codes}
-use Rattle.brk_tables_schema.specs.Desk.{Which, TheDesk, KeptRows, Brokers, Customers, Accounts, Permissions, Securities, LastTrades, Charges, Bands, TaxRates, CustomerTaxes, Trades, TradeHistory, Requests, Holdings, Summaries, HoldingHistory, Settlements, CashRows, CashMoves, SettleRules, name_of}
+use Rattle.brk_tables_schema.specs.Desk.{Which, TheDesk, KeptRows, Brokers, Customers, Accounts, Permissions, Securities, LastTrades, Charges, Bands, TaxRates, CustomerTaxes, Trades, TradeHistory, Requests, Holdings, Summaries, HoldingHistory, Settlements, CashRows, CashMoves, SettleRules, table_name}
 use Rattle.brk_tables_create.specs.declared.table.Table.{Table}
 use Rattle.brk_tables_create.specs.declared.table.Table.TheVariants as table
 
 -- The table of the specification that a table of the code represents.
-abbrev pub which_of : Table → Which
-which_of table.TheDesk = TheDesk
-which_of table.KeptRows = KeptRows
-which_of table.Brokers = Brokers
-which_of table.Customers = Customers
-which_of table.Accounts = Accounts
-which_of table.Permissions = Permissions
-which_of table.Securities = Securities
-which_of table.LastTrades = LastTrades
-which_of table.Charges = Charges
-which_of table.Bands = Bands
-which_of table.TaxRates = TaxRates
-which_of table.CustomerTaxes = CustomerTaxes
-which_of table.Trades = Trades
-which_of table.TradeHistory = TradeHistory
-which_of table.Requests = Requests
-which_of table.Holdings = Holdings
-which_of table.Summaries = Summaries
-which_of table.HoldingHistory = HoldingHistory
-which_of table.Settlements = Settlements
-which_of table.CashRows = CashRows
-which_of table.CashMoves = CashMoves
-which_of table.SettleRules = SettleRules
+abbrev pub specified_table : Table → Which
+specified_table table.TheDesk = TheDesk
+specified_table table.KeptRows = KeptRows
+specified_table table.Brokers = Brokers
+specified_table table.Customers = Customers
+specified_table table.Accounts = Accounts
+specified_table table.Permissions = Permissions
+specified_table table.Securities = Securities
+specified_table table.LastTrades = LastTrades
+specified_table table.Charges = Charges
+specified_table table.Bands = Bands
+specified_table table.TaxRates = TaxRates
+specified_table table.CustomerTaxes = CustomerTaxes
+specified_table table.Trades = Trades
+specified_table table.TradeHistory = TradeHistory
+specified_table table.Requests = Requests
+specified_table table.Holdings = Holdings
+specified_table table.Summaries = Summaries
+specified_table table.HoldingHistory = HoldingHistory
+specified_table table.Settlements = Settlements
+specified_table table.CashRows = CashRows
+specified_table table.CashMoves = CashMoves
+specified_table table.SettleRules = SettleRules
 
 -- The text of the CREATE TABLE statement of a table.
 abbrev pub create_text : Which → List ℕ
@@ -56,4 +56,4 @@ create_text SettleRules = codes "CREATE TABLE SETTLE_RULE (SR_ID INTEGER PRIMARY
 
 -- The text of a DELETE on a table. It is prepared, to see if the table exists, and never run.
 abbrev pub probe_text : Which → List ℕ
-probe_text w = codes "DELETE FROM " ++ name_of w
+probe_text w = codes "DELETE FROM " ++ table_name w

@@ -8,6 +8,6 @@ pub mod making;
 pub mod presence;
 pub mod table;
 
-pub use making::{make_later_tables, make_tables};
-pub use presence::{has_some_table, has_tables_of};
+pub use making::{create_later_tables, create_tables};
+pub use presence::{has_some_desk_table, has_tables_of};
 pub use table::Table;

@@ -2,36 +2,36 @@
 
 ghost use Rattle.std.specs.Prelude.{◌≡◌, ℕ, List, [], Err, OnErr, map};
 ghost use Rattle.brk_money.specs.declared.fault.Fault.TheVariants.{Store};
-ghost use Rattle.brk_changes.specs.Schemas.{schema_of};
-ghost use Rattle.brk_sql.specs.Desk.{Makes, MakesEach};
-ghost use Rattle.brk_sql.specs.Model.{Ran, Steps};
+ghost use Rattle.brk_changes.specs.Schemas.{abstract_schema};
+ghost use Rattle.brk_sql.specs.Desk.{CreatesTableOfShape, CreatesEachTable};
+ghost use Rattle.brk_sql.specs.Model.{ExecutesStatement, IsConnectionStep};
 ghost use Rattle.brk_tables_schema.specs.Desk.{shape};
-ghost use Rattle.brk_tables_create.specs.Made.{MakesDesk, desk_row_text, later_than};
-ghost use Rattle.brk_tables_create.specs.Texts.{which_of};
+ghost use Rattle.brk_tables_create.specs.Made.{CreatesDeskTables, desk_row_text, tables_added_after};
+ghost use Rattle.brk_tables_create.specs.Texts.{specified_table};
 
 use crate::table::{ADDED_AFTER_FIRST, ADDED_AFTER_SECOND, IN_THIRD, Table};
 use brk_changes::Schema;
 use brk_money::Fault;
-use brk_tables_schema::calls::run;
+use brk_tables_schema::calls::execute_statement;
 use sqlite::{Alter, Transaction};
 
 // Creates a table without rows. Fails with `Store` only.
-fn make<S: Alter>(tx: &mut Transaction<'_, S>, table: Table) -> Result<(), Fault>
+fn create_desk_table<S: Alter>(tx: &mut Transaction<'_, S>, table: Table) -> Result<(), Fault>
     ensures same_reference { tx.new.conn.ghost_name ≡ tx.old.conn.ghost_name }
-    ensures step { Steps S.Store tx.old tx.new result (λ _ a b. Makes a.now b.now (shape (which_of table))) }
+    ensures step { IsConnectionStep S.Store tx.old tx.new result (λ _ a b. CreatesTableOfShape a.now b.now (shape (specified_table table))) }
     ensures fault { OnErr result (result ≡ Err Store) }
 {
-    run(tx, table.create_text(), &[])
+    execute_statement(tx, table.create_text(), &[])
 }
 
 // Creates the tables in order, without rows. Fails with `Store` only.
-fn make_each<S: Alter>(tx: &mut Transaction<'_, S>, tables: &[Table]) -> Result<(), Fault>
+fn create_each_table<S: Alter>(tx: &mut Transaction<'_, S>, tables: &[Table]) -> Result<(), Fault>
     ensures same_reference { tx.new.conn.ghost_name ≡ tx.old.conn.ghost_name }
-    ensures step { Steps S.Store tx.old tx.new result (λ _ a b. MakesEach (map (λ table. shape (which_of table)) tables.now) a.now b.now) }
+    ensures step { IsConnectionStep S.Store tx.old tx.new result (λ _ a b. CreatesEachTable (map (λ table. shape (specified_table table)) tables.now) a.now b.now) }
     ensures fault { OnErr result (result ≡ Err Store) }
 {
     for table in tables {
-        make(tx, *table)?;
+        create_desk_table(tx, *table)?;
     }
     Ok(())
 }
@@ -39,10 +39,10 @@ fn make_each<S: Alter>(tx: &mut Transaction<'_, S>, tables: &[Table]) -> Result<
 // Inserts the one row of DESK, with schema 3 and no stamp. Fails with `Store` only.
 fn add_desk_row<S: Alter>(tx: &mut Transaction<'_, S>) -> Result<(), Fault>
     ensures same_reference { tx.new.conn.ghost_name ≡ tx.old.conn.ghost_name }
-    ensures step { Steps S.Store tx.old tx.new result (λ _. Ran desk_row_text []) }
+    ensures step { IsConnectionStep S.Store tx.old tx.new result (λ _. ExecutesStatement desk_row_text []) }
     ensures fault { OnErr result (result ≡ Err Store) }
 {
-    run(
+    execute_statement(
         tx,
         "INSERT INTO DESK (D_ID, D_SCHEMA, D_LAST) VALUES (1, 3, NULL)",
         &[],
@@ -51,25 +51,28 @@ fn add_desk_row<S: Alter>(tx: &mut Transaction<'_, S>) -> Result<(), Fault>
 
 /// Creates the tables of schema 3, without rows but the one of DESK. Tables that exist keep their
 /// rows. Fails with `Store` only.
-pub fn make_tables<S: Alter>(tx: &mut Transaction<'_, S>) -> Result<(), Fault>
+pub fn create_tables<S: Alter>(tx: &mut Transaction<'_, S>) -> Result<(), Fault>
     ensures same_reference { tx.new.conn.ghost_name ≡ tx.old.conn.ghost_name }
-    ensures step { Steps S.Store tx.old tx.new result (λ _ a b. MakesDesk a.now b.now) }
+    ensures step { IsConnectionStep S.Store tx.old tx.new result (λ _ a b. CreatesDeskTables a.now b.now) }
     ensures fault { OnErr result (result ≡ Err Store) }
 {
-    make_each(tx, &IN_THIRD)?;
+    create_each_table(tx, &IN_THIRD)?;
     add_desk_row(tx)
 }
 
 /// Creates the tables that `schema` does not have and later schemas add, without rows. Fails with
 /// `Store` only.
-pub fn make_later_tables<S: Alter>(tx: &mut Transaction<'_, S>, schema: Schema) -> Result<(), Fault>
+pub fn create_later_tables<S: Alter>(
+    tx: &mut Transaction<'_, S>,
+    schema: Schema,
+) -> Result<(), Fault>
     ensures same_reference { tx.new.conn.ghost_name ≡ tx.old.conn.ghost_name }
-    ensures step { Steps S.Store tx.old tx.new result (λ _ a b. MakesEach (map shape (later_than (schema_of schema))) a.now b.now) }
+    ensures step { IsConnectionStep S.Store tx.old tx.new result (λ _ a b. CreatesEachTable (map shape (tables_added_after (abstract_schema schema))) a.now b.now) }
     ensures fault { OnErr result (result ≡ Err Store) }
 {
     match schema {
-        Schema::First => make_each(tx, &ADDED_AFTER_FIRST),
-        Schema::Second => make_each(tx, &ADDED_AFTER_SECOND),
-        Schema::Third => make_each(tx, &[]),
+        Schema::First => create_each_table(tx, &ADDED_AFTER_FIRST),
+        Schema::Second => create_each_table(tx, &ADDED_AFTER_SECOND),
+        Schema::Third => create_each_table(tx, &[]),
     }
 }

@@ -3,35 +3,35 @@
 ghost use Rattle.std.specs.Prelude.{◌≡◌, ◌&&◌, Err, OnErr, IsTrue, not};
 ghost use Rattle.std.specs.List.{list_all, list_any};
 ghost use Rattle.brk_money.specs.declared.fault.Fault.TheVariants.{Store};
-ghost use Rattle.brk_changes.specs.Schemas.{schema_of};
-ghost use Rattle.brk_sql.specs.Model.{Steps};
-ghost use Rattle.brk_tables_create.specs.Present.{has_table_of_desk, has_tables_of_schema, is_named};
-ghost use Rattle.brk_tables_create.specs.Texts.{which_of};
+ghost use Rattle.brk_changes.specs.Schemas.{abstract_schema};
+ghost use Rattle.brk_sql.specs.Model.{IsConnectionStep};
+ghost use Rattle.brk_tables_create.specs.Present.{has_table_of_desk, has_exact_table_names, has_table_named};
+ghost use Rattle.brk_tables_create.specs.Texts.{specified_table};
 
 use crate::table::{ADDED_AFTER_FIRST, ADDED_AFTER_SECOND, IN_FIRST, IN_SECOND, IN_THIRD, Table};
 use brk_changes::Schema;
 use brk_money::Fault;
-use brk_tables_schema::calls::is_understood;
+use brk_tables_schema::calls::statement_compiles;
 use sqlite::{Alter, Transaction};
 
 // Returns true if a table with the name of `table` exists. If it returns a value, the database was
 // open and is unchanged. Fails with `Store` only.
-fn is_there<S: Alter>(tx: &mut Transaction<'_, S>, table: Table) -> Result<bool, Fault>
+fn table_exists<S: Alter>(tx: &mut Transaction<'_, S>, table: Table) -> Result<bool, Fault>
     ensures same_reference { tx.new.conn.ghost_name ≡ tx.old.conn.ghost_name }
-    ensures step { Steps S.Store tx.old tx.new result (λ has a b. IsTrue a.is_open × (b.now ≡ a.now) × (has ≡ is_named a.now.schema (which_of table))) }
+    ensures step { IsConnectionStep S.Store tx.old tx.new result (λ has a b. IsTrue a.is_open × (b.now ≡ a.now) × (has ≡ has_table_named a.now.schema (specified_table table))) }
     ensures fault { OnErr result (result ≡ Err Store) }
 {
-    is_understood(tx, table.probe_text())
+    statement_compiles(tx, table.probe_text())
 }
 
 // Returns true if one of the tables exists, by name. Fails with `Store` only.
-fn has_one_of<S: Alter>(tx: &mut Transaction<'_, S>, tables: &[Table]) -> Result<bool, Fault>
+fn has_any_of_tables<S: Alter>(tx: &mut Transaction<'_, S>, tables: &[Table]) -> Result<bool, Fault>
     ensures same_reference { tx.new.conn.ghost_name ≡ tx.old.conn.ghost_name }
-    ensures step { Steps S.Store tx.old tx.new result (λ has a b. (b.now ≡ a.now) × (has ≡ list_any (λ table. is_named a.now.schema (which_of table)) tables.now)) }
+    ensures step { IsConnectionStep S.Store tx.old tx.new result (λ has a b. (b.now ≡ a.now) × (has ≡ list_any (λ table. has_table_named a.now.schema (specified_table table)) tables.now)) }
     ensures fault { OnErr result (result ≡ Err Store) }
 {
     for table in tables {
-        if is_there(tx, *table)? {
+        if table_exists(tx, *table)? {
             return Ok(true);
         }
     }
@@ -39,13 +39,16 @@ fn has_one_of<S: Alter>(tx: &mut Transaction<'_, S>, tables: &[Table]) -> Result
 }
 
 // Returns true if each of the tables exists, by name. Fails with `Store` only.
-fn has_each_of<S: Alter>(tx: &mut Transaction<'_, S>, tables: &[Table]) -> Result<bool, Fault>
+fn has_each_of_tables<S: Alter>(
+    tx: &mut Transaction<'_, S>,
+    tables: &[Table],
+) -> Result<bool, Fault>
     ensures same_reference { tx.new.conn.ghost_name ≡ tx.old.conn.ghost_name }
-    ensures step { Steps S.Store tx.old tx.new result (λ has a b. (b.now ≡ a.now) × (has ≡ list_all (λ table. is_named a.now.schema (which_of table)) tables.now)) }
+    ensures step { IsConnectionStep S.Store tx.old tx.new result (λ has a b. (b.now ≡ a.now) × (has ≡ list_all (λ table. has_table_named a.now.schema (specified_table table)) tables.now)) }
     ensures fault { OnErr result (result ≡ Err Store) }
 {
     for table in tables {
-        if !is_there(tx, *table)? {
+        if !table_exists(tx, *table)? {
             return Ok(false);
         }
     }
@@ -54,42 +57,45 @@ fn has_each_of<S: Alter>(tx: &mut Transaction<'_, S>, tables: &[Table]) -> Resul
 
 /// Returns true if the database has a table with the name of some table of a desk. Fails with
 /// `Store` only.
-pub fn has_some_table<S: Alter>(tx: &mut Transaction<'_, S>) -> Result<bool, Fault>
+pub fn has_some_desk_table<S: Alter>(tx: &mut Transaction<'_, S>) -> Result<bool, Fault>
     ensures same_reference { tx.new.conn.ghost_name ≡ tx.old.conn.ghost_name }
-    ensures step { Steps S.Store tx.old tx.new result (λ has a b. (b.now ≡ a.now) × (has ≡ has_table_of_desk a.now.schema)) }
+    ensures step { IsConnectionStep S.Store tx.old tx.new result (λ has a b. (b.now ≡ a.now) × (has ≡ has_table_of_desk a.now.schema)) }
     ensures fault { OnErr result (result ≡ Err Store) }
 {
-    has_one_of(tx, &IN_THIRD)
+    has_any_of_tables(tx, &IN_THIRD)
 }
 
 // Returns true if each table of `there` exists and none of `absent`, by name. Fails with `Store`
 // only.
-fn has_just<S: Alter>(
+fn has_exactly_tables<S: Alter>(
     tx: &mut Transaction<'_, S>,
     there: &[Table],
     absent: &[Table],
 ) -> Result<bool, Fault>
     ensures same_reference { tx.new.conn.ghost_name ≡ tx.old.conn.ghost_name }
-    ensures step { Steps S.Store tx.old tx.new result (λ has a b. (b.now ≡ a.now) × (has ≡ (list_all (λ table. is_named a.now.schema (which_of table)) there.now && not (list_any (λ table. is_named a.now.schema (which_of table)) absent.now)))) }
+    ensures step { IsConnectionStep S.Store tx.old tx.new result (λ has a b. (b.now ≡ a.now) × (has ≡ (list_all (λ table. has_table_named a.now.schema (specified_table table)) there.now && not (list_any (λ table. has_table_named a.now.schema (specified_table table)) absent.now)))) }
     ensures fault { OnErr result (result ≡ Err Store) }
 {
-    if !has_each_of(tx, there)? {
+    if !has_each_of_tables(tx, there)? {
         return Ok(false);
     }
-    Ok(!has_one_of(tx, absent)?)
+    Ok(!has_any_of_tables(tx, absent)?)
 }
 
 // Returns true if the tables that a schema has exist, by name, and none that a later schema adds.
 // Fails with `Store` only.
-fn has_just_of<S: Alter>(tx: &mut Transaction<'_, S>, schema: Schema) -> Result<bool, Fault>
+fn has_exactly_tables_of<S: Alter>(
+    tx: &mut Transaction<'_, S>,
+    schema: Schema,
+) -> Result<bool, Fault>
     ensures same_reference { tx.new.conn.ghost_name ≡ tx.old.conn.ghost_name }
-    ensures step { Steps S.Store tx.old tx.new result (λ has a b. (b.now ≡ a.now) × (has ≡ has_tables_of_schema (schema_of schema) a.now.schema)) }
+    ensures step { IsConnectionStep S.Store tx.old tx.new result (λ has a b. (b.now ≡ a.now) × (has ≡ has_exact_table_names (abstract_schema schema) a.now.schema)) }
     ensures fault { OnErr result (result ≡ Err Store) }
 {
     match schema {
-        Schema::First => has_just(tx, &IN_FIRST, &ADDED_AFTER_FIRST),
-        Schema::Second => has_just(tx, &IN_SECOND, &ADDED_AFTER_SECOND),
-        Schema::Third => has_just(tx, &IN_THIRD, &[]),
+        Schema::First => has_exactly_tables(tx, &IN_FIRST, &ADDED_AFTER_FIRST),
+        Schema::Second => has_exactly_tables(tx, &IN_SECOND, &ADDED_AFTER_SECOND),
+        Schema::Third => has_exactly_tables(tx, &IN_THIRD, &[]),
     }
 }
 
@@ -97,10 +103,10 @@ fn has_just_of<S: Alter>(tx: &mut Transaction<'_, S>, schema: Schema) -> Result<
 /// If it returns a value, the database was open and is unchanged. Fails with `Store` only.
 pub fn has_tables_of<S: Alter>(tx: &mut Transaction<'_, S>, schema: Schema) -> Result<bool, Fault>
     ensures same_reference { tx.new.conn.ghost_name ≡ tx.old.conn.ghost_name }
-    ensures step { Steps S.Store tx.old tx.new result (λ has a b. IsTrue a.is_open × (b.now ≡ a.now) × (has ≡ has_tables_of_schema (schema_of schema) a.now.schema)) }
+    ensures step { IsConnectionStep S.Store tx.old tx.new result (λ has a b. IsTrue a.is_open × (b.now ≡ a.now) × (has ≡ has_exact_table_names (abstract_schema schema) a.now.schema)) }
     ensures fault { OnErr result (result ≡ Err Store) }
 {
     // Any answer shows that the database is open. DESK is looked up again below.
-    let _there = is_there(tx, Table::TheDesk)?;
-    has_just_of(tx, schema)
+    let _there = table_exists(tx, Table::TheDesk)?;
+    has_exactly_tables_of(tx, schema)
 }

@@ -1,7 +1,7 @@
 //! Written by tools/tables.py: the tables of a desk, and their SQL texts.
 
 ghost use Rattle.std.specs.Prelude.{◌≡◌};
-ghost use Rattle.brk_tables_create.specs.Texts.{create_text, probe_text, which_of};
+ghost use Rattle.brk_tables_create.specs.Texts.{create_text, probe_text, specified_table};
 
 /// A table of a desk.
 #[derive(Clone, Copy)]
@@ -55,7 +55,7 @@ pub enum Table {
 impl Table {
     /// Returns the text of the CREATE TABLE statement of the table.
     pub fn create_text(self) -> &'static str
-        ensures { result.now ≡ create_text (which_of self) }
+        ensures { result.now ≡ create_text (specified_table self) }
     {
         match self {
             Table::TheDesk =>
@@ -107,7 +107,7 @@ impl Table {
 
     /// Returns the text of a DELETE on the table, which is prepared and never run.
     pub fn probe_text(self) -> &'static str
-        ensures { result.now ≡ probe_text (which_of self) }
+        ensures { result.now ≡ probe_text (specified_table self) }
     {
         match self {
             Table::TheDesk => "DELETE FROM DESK",

@@ -16,7 +16,7 @@ use Rattle.sqlite_draft.specs.declared.join.Step.TheVariants.{Inner}
 use Rattle.sqlite_draft.specs.declared.query.Draft.{Draft}
 use Rattle.sqlite_tied.specs.Compute.{everything}
 use Rattle.brk_sql.specs.Partly.{lowering}
-use Rattle.brk_sql.specs.Desk.{whole, text, Stands}
+use Rattle.brk_sql.specs.Desk.{integer_column, text_column, IsTableAt}
 use Rattle.brk_sql.proofs.Meant.{meant, reads_or}
 use Rattle.brk_sql.proofs.Pick.{selection}
 use Rattle.brk_sql.proofs.Scoped.{column_is, heading_is}
@@ -95,7 +95,7 @@ names = codes "CA_ID" ∷ codes "CA_C_ID" ∷ codes "CA_B_ID" ∷ codes "CA_NAME
 abbrev after : ℕ → Carried → State
 after spent last = record (fresh 2 max_budget) { budget = max_budget - spent; last = last }
 
-module _ (schema : Schema) (at tree : ℕ) (h : Stands schema (account tree) at) where
+module _ (schema : Schema) (at tree : ℕ) (h : IsTableAt schema (account tree) at) where
   abbrev found : slice_get schema.tables at ≡ Some (account tree)
   found = h.found
 
@@ -103,31 +103,31 @@ module _ (schema : Schema) (at tree : ℕ) (h : Stands schema (account tree) at)
   unfolding lowering
   shows =
       rw (
-        column_is schema at (account tree) found (codes "CUSTOMER_ACCOUNT") [] [] true true (codes "CA_ID") 0 (whole (codes "CA_ID")) refl refl,
-        heading_is schema at (account tree) found (codes "CUSTOMER_ACCOUNT") [] [] true true (e.Column None (codes "CA_ID")) (codes "CA_ID") (codes "CA_ID") 0 (whole (codes "CA_ID")) refl refl refl,
-        column_is schema at (account tree) found (codes "CUSTOMER_ACCOUNT") [] [] true true (codes "CA_C_ID") 1 (whole (codes "CA_C_ID")) refl refl,
-        heading_is schema at (account tree) found (codes "CUSTOMER_ACCOUNT") [] [] true true (e.Column None (codes "CA_C_ID")) (codes "CA_C_ID") (codes "CA_C_ID") 1 (whole (codes "CA_C_ID")) refl refl refl,
-        column_is schema at (account tree) found (codes "CUSTOMER_ACCOUNT") [] [] true true (codes "CA_B_ID") 2 (whole (codes "CA_B_ID")) refl refl,
-        heading_is schema at (account tree) found (codes "CUSTOMER_ACCOUNT") [] [] true true (e.Column None (codes "CA_B_ID")) (codes "CA_B_ID") (codes "CA_B_ID") 2 (whole (codes "CA_B_ID")) refl refl refl,
-        column_is schema at (account tree) found (codes "CUSTOMER_ACCOUNT") [] [] true true (codes "CA_NAME") 3 (text (codes "CA_NAME")) refl refl,
-        heading_is schema at (account tree) found (codes "CUSTOMER_ACCOUNT") [] [] true true (e.Column None (codes "CA_NAME")) (codes "CA_NAME") (codes "CA_NAME") 3 (text (codes "CA_NAME")) refl refl refl,
-        column_is schema at (account tree) found (codes "CUSTOMER_ACCOUNT") [] [] true true (codes "CA_TAX_ST") 4 (whole (codes "CA_TAX_ST")) refl refl,
-        heading_is schema at (account tree) found (codes "CUSTOMER_ACCOUNT") [] [] true true (e.Column None (codes "CA_TAX_ST")) (codes "CA_TAX_ST") (codes "CA_TAX_ST") 4 (whole (codes "CA_TAX_ST")) refl refl refl,
-        column_is schema at (account tree) found (codes "CUSTOMER_ACCOUNT") [] [] true true (codes "CA_OPEN") 5 (whole (codes "CA_OPEN")) refl refl,
-        heading_is schema at (account tree) found (codes "CUSTOMER_ACCOUNT") [] [] true true (e.Column None (codes "CA_OPEN")) (codes "CA_OPEN") (codes "CA_OPEN") 5 (whole (codes "CA_OPEN")) refl refl refl,
-        column_is schema at (account tree) found (codes "CUSTOMER_ACCOUNT") [] [] true true (codes "CA_BAL") 6 (whole (codes "CA_BAL")) refl refl,
-        heading_is schema at (account tree) found (codes "CUSTOMER_ACCOUNT") [] [] true true (e.Column None (codes "CA_BAL")) (codes "CA_BAL") (codes "CA_BAL") 6 (whole (codes "CA_BAL")) refl refl refl,
+        column_is schema at (account tree) found (codes "CUSTOMER_ACCOUNT") [] [] true true (codes "CA_ID") 0 (integer_column (codes "CA_ID")) refl refl,
+        heading_is schema at (account tree) found (codes "CUSTOMER_ACCOUNT") [] [] true true (e.Column None (codes "CA_ID")) (codes "CA_ID") (codes "CA_ID") 0 (integer_column (codes "CA_ID")) refl refl refl,
+        column_is schema at (account tree) found (codes "CUSTOMER_ACCOUNT") [] [] true true (codes "CA_C_ID") 1 (integer_column (codes "CA_C_ID")) refl refl,
+        heading_is schema at (account tree) found (codes "CUSTOMER_ACCOUNT") [] [] true true (e.Column None (codes "CA_C_ID")) (codes "CA_C_ID") (codes "CA_C_ID") 1 (integer_column (codes "CA_C_ID")) refl refl refl,
+        column_is schema at (account tree) found (codes "CUSTOMER_ACCOUNT") [] [] true true (codes "CA_B_ID") 2 (integer_column (codes "CA_B_ID")) refl refl,
+        heading_is schema at (account tree) found (codes "CUSTOMER_ACCOUNT") [] [] true true (e.Column None (codes "CA_B_ID")) (codes "CA_B_ID") (codes "CA_B_ID") 2 (integer_column (codes "CA_B_ID")) refl refl refl,
+        column_is schema at (account tree) found (codes "CUSTOMER_ACCOUNT") [] [] true true (codes "CA_NAME") 3 (text_column (codes "CA_NAME")) refl refl,
+        heading_is schema at (account tree) found (codes "CUSTOMER_ACCOUNT") [] [] true true (e.Column None (codes "CA_NAME")) (codes "CA_NAME") (codes "CA_NAME") 3 (text_column (codes "CA_NAME")) refl refl refl,
+        column_is schema at (account tree) found (codes "CUSTOMER_ACCOUNT") [] [] true true (codes "CA_TAX_ST") 4 (integer_column (codes "CA_TAX_ST")) refl refl,
+        heading_is schema at (account tree) found (codes "CUSTOMER_ACCOUNT") [] [] true true (e.Column None (codes "CA_TAX_ST")) (codes "CA_TAX_ST") (codes "CA_TAX_ST") 4 (integer_column (codes "CA_TAX_ST")) refl refl refl,
+        column_is schema at (account tree) found (codes "CUSTOMER_ACCOUNT") [] [] true true (codes "CA_OPEN") 5 (integer_column (codes "CA_OPEN")) refl refl,
+        heading_is schema at (account tree) found (codes "CUSTOMER_ACCOUNT") [] [] true true (e.Column None (codes "CA_OPEN")) (codes "CA_OPEN") (codes "CA_OPEN") 5 (integer_column (codes "CA_OPEN")) refl refl refl,
+        column_is schema at (account tree) found (codes "CUSTOMER_ACCOUNT") [] [] true true (codes "CA_BAL") 6 (integer_column (codes "CA_BAL")) refl refl,
+        heading_is schema at (account tree) found (codes "CUSTOMER_ACCOUNT") [] [] true true (e.Column None (codes "CA_BAL")) (codes "CA_BAL") (codes "CA_BAL") 6 (integer_column (codes "CA_BAL")) refl refl refl,
       )
 
   matches : matching lower (outermost schema) (level_one (codes "CUSTOMER_ACCOUNT") at columns) core (after 7 binary)
       ≡ Ok (record { steps = Inner tree ∷ []; filter = terms }, after 10 nothing)
   unfolding lowering
-  matches = rw (found, column_is schema at (account tree) found (codes "CUSTOMER_ACCOUNT") columns [] false true (codes "CA_C_ID") 1 (whole (codes "CA_C_ID")) refl refl, found)
+  matches = rw (found, column_is schema at (account tree) found (codes "CUSTOMER_ACCOUNT") columns [] false true (codes "CA_C_ID") 1 (integer_column (codes "CA_C_ID")) refl refl, found)
 
   sorted : sorts lower (inside schema (level_one (codes "CUSTOMER_ACCOUNT") at columns) false) columns by (after 10 nothing) ≡ Ok ((draft tree).order, after 11 nothing)
   unfolding lowering
   sorted =
-      rw (column_is schema at (account tree) found (codes "CUSTOMER_ACCOUNT") columns [] false true (codes "CA_ID") 0 (whole (codes "CA_ID")) refl refl)
+      rw (column_is schema at (account tree) found (codes "CUSTOMER_ACCOUNT") columns [] false true (codes "CA_ID") 0 (integer_column (codes "CA_ID")) refl refl)
 
   meaning_is : meaning schema select ≡ Ok ((draft tree, names, None ∷ Some Binary ∷ Some Binary ∷ Some Binary ∷ Some Binary ∷ Some Binary ∷ Some Binary ∷ []), [])
   unfolding everything

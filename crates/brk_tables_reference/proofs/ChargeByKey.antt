@@ -16,7 +16,7 @@ use Rattle.sqlite_draft.specs.declared.join.Step.TheVariants.{Inner}
 use Rattle.sqlite_draft.specs.declared.query.Draft.{Draft}
 use Rattle.sqlite_tied.specs.Compute.{everything}
 use Rattle.brk_sql.specs.Partly.{lowering}
-use Rattle.brk_sql.specs.Desk.{whole, text, Stands}
+use Rattle.brk_sql.specs.Desk.{integer_column, text_column, IsTableAt}
 use Rattle.brk_sql.proofs.Meant.{meant, reads_or}
 use Rattle.brk_sql.proofs.Pick.{selection}
 use Rattle.brk_sql.proofs.Scoped.{column_is, heading_is}
@@ -95,7 +95,7 @@ names = codes "CH_TT_ID" ∷ codes "CH_C_TIER" ∷ codes "CH_CHRG" ∷ []
 abbrev after : ℕ → Carried → State
 after spent last = record (fresh 2 max_budget) { budget = max_budget - spent; last = last }
 
-module _ (schema : Schema) (at tree : ℕ) (h : Stands schema (charge tree) at) where
+module _ (schema : Schema) (at tree : ℕ) (h : IsTableAt schema (charge tree) at) where
   abbrev found : slice_get schema.tables at ≡ Some (charge tree)
   found = h.found
 
@@ -103,25 +103,25 @@ module _ (schema : Schema) (at tree : ℕ) (h : Stands schema (charge tree) at) 
   unfolding lowering
   shows =
       rw (
-        column_is schema at (charge tree) found (codes "CHARGE") [] [] true true (codes "CH_TT_ID") 0 (text (codes "CH_TT_ID")) refl refl,
-        heading_is schema at (charge tree) found (codes "CHARGE") [] [] true true (e.Column None (codes "CH_TT_ID")) (codes "CH_TT_ID") (codes "CH_TT_ID") 0 (text (codes "CH_TT_ID")) refl refl refl,
-        column_is schema at (charge tree) found (codes "CHARGE") [] [] true true (codes "CH_C_TIER") 1 (whole (codes "CH_C_TIER")) refl refl,
-        heading_is schema at (charge tree) found (codes "CHARGE") [] [] true true (e.Column None (codes "CH_C_TIER")) (codes "CH_C_TIER") (codes "CH_C_TIER") 1 (whole (codes "CH_C_TIER")) refl refl refl,
-        column_is schema at (charge tree) found (codes "CHARGE") [] [] true true (codes "CH_CHRG") 2 (whole (codes "CH_CHRG")) refl refl,
-        heading_is schema at (charge tree) found (codes "CHARGE") [] [] true true (e.Column None (codes "CH_CHRG")) (codes "CH_CHRG") (codes "CH_CHRG") 2 (whole (codes "CH_CHRG")) refl refl refl,
+        column_is schema at (charge tree) found (codes "CHARGE") [] [] true true (codes "CH_TT_ID") 0 (text_column (codes "CH_TT_ID")) refl refl,
+        heading_is schema at (charge tree) found (codes "CHARGE") [] [] true true (e.Column None (codes "CH_TT_ID")) (codes "CH_TT_ID") (codes "CH_TT_ID") 0 (text_column (codes "CH_TT_ID")) refl refl refl,
+        column_is schema at (charge tree) found (codes "CHARGE") [] [] true true (codes "CH_C_TIER") 1 (integer_column (codes "CH_C_TIER")) refl refl,
+        heading_is schema at (charge tree) found (codes "CHARGE") [] [] true true (e.Column None (codes "CH_C_TIER")) (codes "CH_C_TIER") (codes "CH_C_TIER") 1 (integer_column (codes "CH_C_TIER")) refl refl refl,
+        column_is schema at (charge tree) found (codes "CHARGE") [] [] true true (codes "CH_CHRG") 2 (integer_column (codes "CH_CHRG")) refl refl,
+        heading_is schema at (charge tree) found (codes "CHARGE") [] [] true true (e.Column None (codes "CH_CHRG")) (codes "CH_CHRG") (codes "CH_CHRG") 2 (integer_column (codes "CH_CHRG")) refl refl refl,
       )
 
   matches : matching lower (outermost schema) (level_one (codes "CHARGE") at columns) core (after 3 binary)
       ≡ Ok (record { steps = Inner tree ∷ []; filter = terms }, after 10 nothing)
   unfolding lowering
-  matches = rw (found, column_is schema at (charge tree) found (codes "CHARGE") columns [] false true (codes "CH_TT_ID") 0 (text (codes "CH_TT_ID")) refl refl, found, column_is schema at (charge tree) found (codes "CHARGE") columns [] false true (codes "CH_C_TIER") 1 (whole (codes "CH_C_TIER")) refl refl, found)
+  matches = rw (found, column_is schema at (charge tree) found (codes "CHARGE") columns [] false true (codes "CH_TT_ID") 0 (text_column (codes "CH_TT_ID")) refl refl, found, column_is schema at (charge tree) found (codes "CHARGE") columns [] false true (codes "CH_C_TIER") 1 (integer_column (codes "CH_C_TIER")) refl refl, found)
 
   sorted : sorts lower (inside schema (level_one (codes "CHARGE") at columns) false) columns by (after 10 nothing) ≡ Ok ((draft tree).order, after 12 binary)
   unfolding lowering
   sorted =
       rw (
-        column_is schema at (charge tree) found (codes "CHARGE") columns [] false true (codes "CH_TT_ID") 0 (text (codes "CH_TT_ID")) refl refl,
-        column_is schema at (charge tree) found (codes "CHARGE") columns [] false true (codes "CH_C_TIER") 1 (whole (codes "CH_C_TIER")) refl refl,
+        column_is schema at (charge tree) found (codes "CHARGE") columns [] false true (codes "CH_TT_ID") 0 (text_column (codes "CH_TT_ID")) refl refl,
+        column_is schema at (charge tree) found (codes "CHARGE") columns [] false true (codes "CH_C_TIER") 1 (integer_column (codes "CH_C_TIER")) refl refl,
       )
 
   meaning_is : meaning schema select ≡ Ok ((draft tree, names, Some Binary ∷ Some Binary ∷ Some Binary ∷ []), [])

@@ -1,15 +1,15 @@
 ghost use Rattle.std.specs.Prelude.{◌≡◌, ◌==◌, Err, IfErr, OnErr};
 ghost use Rattle.brk_money.specs.declared.fault.Fault.TheVariants.{Store};
-ghost use Rattle.brk_model.specs.Run.{MayFail};
-ghost use Rattle.brk_ref.specs.Records.{account_of, account_row_of};
-ghost use Rattle.brk_changes.specs.Changes.{with_account};
+ghost use Rattle.brk_model.specs.Run.{IsCallFault};
+ghost use Rattle.brk_ref.specs.Records.{abstract_account, abstract_account_row};
+ghost use Rattle.brk_changes.specs.Changes.{tables_with_account};
 ghost use Rattle.brk_tables_schema.specs.Desk.{Accounts};
-ghost use Rattle.brk_tables_schema.specs.Statements.{Finds, Lists, Writes};
+ghost use Rattle.brk_tables_schema.specs.Statements.{ReadsFirstMatch, ReadsMatchingRows, WritesDeskTables};
 
 use brk_money::{Fault, Id};
 use brk_ref::{Account, AccountRow};
-use brk_tables_schema::calls::{run, select};
-use brk_tables_schema::record::{all_rows, first_row};
+use brk_tables_schema::calls::{execute_statement, select_rows};
+use brk_tables_schema::record::{decode_first_row, decode_rows};
 use brk_tables_schema::values::{cents_value, id_value, tax_status_value, text_value};
 use sqlite::{Alter, Transaction};
 use std::alloc::Global;
@@ -18,10 +18,10 @@ use std::alloc::Global;
 /// also if the id exists.
 pub fn add_account<S: Alter>(tx: &mut Transaction<'_, S>, account: &Account) -> Result<(), Fault>
     ensures same_reference { tx.new.conn.ghost_name ≡ tx.old.conn.ghost_name }
-    ensures step { Writes S.Store tx.old tx.new result (with_account (account_of account.now)) }
+    ensures step { WritesDeskTables S.Store tx.old tx.new result (tables_with_account (abstract_account account.now)) }
     ensures fault { OnErr result (result ≡ Err Store) }
 {
-    run(
+    execute_statement(
         tx,
         "INSERT INTO CUSTOMER_ACCOUNT (CA_ID, CA_C_ID, CA_B_ID, CA_NAME, CA_TAX_ST, CA_OPEN, CA_BAL) VALUES (?1, ?2, ?3, ?4, ?5, ?6, ?6)",
         &[
@@ -42,15 +42,15 @@ pub fn account_by_id<S: Alter>(
     id: Id,
 ) -> Result<Option<AccountRow>, Fault>
     ensures same_reference { tx.new.conn.ghost_name ≡ tx.old.conn.ghost_name }
-    ensures step { Finds S.Store tx.old tx.new result Accounts account_row_of (λ r. r.id == id) }
+    ensures step { ReadsFirstMatch S.Store tx.old tx.new result Accounts abstract_account_row (λ r. r.id == id) }
     ensures fault { OnErr result (result ≡ Err Store) }
 {
-    let rows = select(
+    let rows = select_rows(
         tx,
         "SELECT CA_ID, CA_C_ID, CA_B_ID, CA_NAME, CA_TAX_ST, CA_OPEN, CA_BAL FROM CUSTOMER_ACCOUNT WHERE CA_ID = ?1 ORDER BY CA_ID",
         &[id_value(id)],
     )?;
-    first_row(&rows)
+    decode_first_row(&rows)
 }
 
 /// Returns the accounts of a customer, sorted by id, ascending. Changes nothing. Fails with
@@ -61,13 +61,13 @@ pub fn accounts_of_customer<S: Alter>(
     customer: Id,
 ) -> Result<Vec<AccountRow>, Fault>
     ensures same_reference { tx.new.conn.ghost_name ≡ tx.old.conn.ghost_name }
-    ensures step { Lists S.Store tx.old tx.new result Accounts account_row_of (λ r. r.customer == customer) }
-    ensures fault { IfErr result MayFail }
+    ensures step { ReadsMatchingRows S.Store tx.old tx.new result Accounts abstract_account_row (λ r. r.customer == customer) }
+    ensures fault { IfErr result IsCallFault }
 {
-    let rows = select(
+    let rows = select_rows(
         tx,
         "SELECT CA_ID, CA_C_ID, CA_B_ID, CA_NAME, CA_TAX_ST, CA_OPEN, CA_BAL FROM CUSTOMER_ACCOUNT WHERE CA_C_ID = ?1 ORDER BY CA_ID",
         &[id_value(customer)],
     )?;
-    all_rows(alloc, &rows)
+    decode_rows(alloc, &rows)
 }

@@ -1,16 +1,16 @@
 ghost use Rattle.std.specs.Prelude.{◌≡◌, ◌==◌, ◌&&◌, Err, IfErr, OnErr, bytes_eq};
-ghost use Rattle.brk_money.specs.Kinds.{same_type};
+ghost use Rattle.brk_money.specs.Kinds.{is_same_trade_type};
 ghost use Rattle.brk_money.specs.declared.fault.Fault.TheVariants.{Store};
-ghost use Rattle.brk_model.specs.Run.{MayFail};
-ghost use Rattle.brk_ref.specs.Records.{band_of};
-ghost use Rattle.brk_changes.specs.Changes.{with_band};
+ghost use Rattle.brk_model.specs.Run.{IsCallFault};
+ghost use Rattle.brk_ref.specs.Records.{abstract_band};
+ghost use Rattle.brk_changes.specs.Changes.{tables_with_band};
 ghost use Rattle.brk_tables_schema.specs.Desk.{Bands};
-ghost use Rattle.brk_tables_schema.specs.Statements.{Lists, Writes};
+ghost use Rattle.brk_tables_schema.specs.Statements.{ReadsMatchingRows, WritesDeskTables};
 
 use brk_money::{Fault, TradeType};
 use brk_ref::{Band, Exchange, Tier};
-use brk_tables_schema::calls::{run, select};
-use brk_tables_schema::record::all_rows;
+use brk_tables_schema::calls::{execute_statement, select_rows};
+use brk_tables_schema::record::decode_rows;
 use brk_tables_schema::values::{qty_value, rate_value, text_value, tier_value, type_value};
 use sqlite::{Alter, Transaction};
 use std::alloc::Global;
@@ -19,10 +19,10 @@ use std::alloc::Global;
 /// bound exists.
 pub fn add_band<S: Alter>(tx: &mut Transaction<'_, S>, band: &Band) -> Result<(), Fault>
     ensures same_reference { tx.new.conn.ghost_name ≡ tx.old.conn.ghost_name }
-    ensures step { Writes S.Store tx.old tx.new result (with_band (band_of band.now)) }
+    ensures step { WritesDeskTables S.Store tx.old tx.new result (tables_with_band (abstract_band band.now)) }
     ensures fault { OnErr result (result ≡ Err Store) }
 {
-    run(
+    execute_statement(
         tx,
         "INSERT INTO COMMISSION_RATE (CR_C_TIER, CR_TT_ID, CR_EX_ID, CR_FROM_QTY, CR_TO_QTY, CR_RATE) VALUES (?1, ?2, ?3, ?4, ?5, ?6)",
         &[
@@ -46,10 +46,10 @@ pub fn bands_for<S: Alter>(
     exchange: &Exchange,
 ) -> Result<Vec<Band>, Fault>
     ensures same_reference { tx.new.conn.ghost_name ≡ tx.old.conn.ghost_name }
-    ensures step { Lists S.Store tx.old tx.new result Bands band_of (λ r. (r.tier == tier) && same_type r.kind kind && bytes_eq r.exchange exchange.now) }
-    ensures fault { IfErr result MayFail }
+    ensures step { ReadsMatchingRows S.Store tx.old tx.new result Bands abstract_band (λ r. (r.tier == tier) && is_same_trade_type r.kind kind && bytes_eq r.exchange exchange.now) }
+    ensures fault { IfErr result IsCallFault }
 {
-    let rows = select(
+    let rows = select_rows(
         tx,
         "SELECT CR_C_TIER, CR_TT_ID, CR_EX_ID, CR_FROM_QTY, CR_TO_QTY, CR_RATE FROM COMMISSION_RATE WHERE CR_C_TIER = ?1 AND CR_TT_ID = ?2 AND CR_EX_ID = ?3 ORDER BY CR_C_TIER, CR_TT_ID, CR_EX_ID, CR_FROM_QTY",
         &[
@@ -58,5 +58,5 @@ pub fn bands_for<S: Alter>(
             text_value(exchange.as_str()),
         ],
     )?;
-    all_rows(alloc, &rows)
+    decode_rows(alloc, &rows)
 }

@@ -1,14 +1,14 @@
 ghost use Rattle.std.specs.Prelude.{◌≡◌, ◌==◌, Err, OnErr};
 ghost use Rattle.brk_money.specs.declared.fault.Fault.TheVariants.{Store};
-ghost use Rattle.brk_ref.specs.Records.{broker_of, broker_row_of};
-ghost use Rattle.brk_changes.specs.Changes.{with_broker};
+ghost use Rattle.brk_ref.specs.Records.{abstract_broker, abstract_broker_row};
+ghost use Rattle.brk_changes.specs.Changes.{tables_with_broker};
 ghost use Rattle.brk_tables_schema.specs.Desk.{Brokers};
-ghost use Rattle.brk_tables_schema.specs.Statements.{Finds, Writes};
+ghost use Rattle.brk_tables_schema.specs.Statements.{ReadsFirstMatch, WritesDeskTables};
 
 use brk_money::{Fault, Id};
 use brk_ref::{Broker, BrokerRow};
-use brk_tables_schema::calls::{run, select};
-use brk_tables_schema::record::first_row;
+use brk_tables_schema::calls::{execute_statement, select_rows};
+use brk_tables_schema::record::decode_first_row;
 use brk_tables_schema::values::{id_value, text_value};
 use sqlite::{Alter, Transaction};
 
@@ -16,10 +16,10 @@ use sqlite::{Alter, Transaction};
 /// also if the id exists.
 pub fn add_broker<S: Alter>(tx: &mut Transaction<'_, S>, broker: &Broker) -> Result<(), Fault>
     ensures same_reference { tx.new.conn.ghost_name ≡ tx.old.conn.ghost_name }
-    ensures step { Writes S.Store tx.old tx.new result (with_broker (broker_of broker.now)) }
+    ensures step { WritesDeskTables S.Store tx.old tx.new result (tables_with_broker (abstract_broker broker.now)) }
     ensures fault { OnErr result (result ≡ Err Store) }
 {
-    run(
+    execute_statement(
         tx,
         "INSERT INTO BROKER (B_ID, B_NAME, B_NUM_TRADES, B_COMM_TOTAL) VALUES (?1, ?2, 0, 0)",
         &[id_value(broker.id), text_value(broker.name.as_str())],
@@ -33,13 +33,13 @@ pub fn broker_by_id<S: Alter>(
     id: Id,
 ) -> Result<Option<BrokerRow>, Fault>
     ensures same_reference { tx.new.conn.ghost_name ≡ tx.old.conn.ghost_name }
-    ensures step { Finds S.Store tx.old tx.new result Brokers broker_row_of (λ r. r.id == id) }
+    ensures step { ReadsFirstMatch S.Store tx.old tx.new result Brokers abstract_broker_row (λ r. r.id == id) }
     ensures fault { OnErr result (result ≡ Err Store) }
 {
-    let rows = select(
+    let rows = select_rows(
         tx,
         "SELECT B_ID, B_NAME, B_NUM_TRADES, B_COMM_TOTAL FROM BROKER WHERE B_ID = ?1 ORDER BY B_ID",
         &[id_value(id)],
     )?;
-    first_row(&rows)
+    decode_first_row(&rows)
 }

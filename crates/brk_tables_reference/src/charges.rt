@@ -1,25 +1,25 @@
 ghost use Rattle.std.specs.Prelude.{◌≡◌, ◌==◌, ◌&&◌, Err, OnErr};
-ghost use Rattle.brk_money.specs.Kinds.{same_type};
+ghost use Rattle.brk_money.specs.Kinds.{is_same_trade_type};
 ghost use Rattle.brk_money.specs.declared.fault.Fault.TheVariants.{Store};
-ghost use Rattle.brk_ref.specs.Records.{charge_of};
-ghost use Rattle.brk_changes.specs.Changes.{with_charge};
+ghost use Rattle.brk_ref.specs.Records.{abstract_charge};
+ghost use Rattle.brk_changes.specs.Changes.{tables_with_charge};
 ghost use Rattle.brk_tables_schema.specs.Desk.{Charges};
-ghost use Rattle.brk_tables_schema.specs.Statements.{Finds, Writes};
+ghost use Rattle.brk_tables_schema.specs.Statements.{ReadsFirstMatch, WritesDeskTables};
 
 use brk_money::{Fault, TradeType};
 use brk_ref::{Charge, Tier};
-use brk_tables_schema::calls::{run, select};
-use brk_tables_schema::record::first_row;
+use brk_tables_schema::calls::{execute_statement, select_rows};
+use brk_tables_schema::record::decode_first_row;
 use brk_tables_schema::values::{charge_amount_value, tier_value, type_value};
 use sqlite::{Alter, Transaction};
 
 /// Inserts a charge. Fails with `Store` only, also if a charge of its type and tier exists.
 pub fn add_charge<S: Alter>(tx: &mut Transaction<'_, S>, charge: &Charge) -> Result<(), Fault>
     ensures same_reference { tx.new.conn.ghost_name ≡ tx.old.conn.ghost_name }
-    ensures step { Writes S.Store tx.old tx.new result (with_charge (charge_of charge.now)) }
+    ensures step { WritesDeskTables S.Store tx.old tx.new result (tables_with_charge (abstract_charge charge.now)) }
     ensures fault { OnErr result (result ≡ Err Store) }
 {
-    run(
+    execute_statement(
         tx,
         "INSERT INTO CHARGE (CH_TT_ID, CH_C_TIER, CH_CHRG) VALUES (?1, ?2, ?3)",
         &[
@@ -38,13 +38,13 @@ pub fn charge_by_key<S: Alter>(
     tier: Tier,
 ) -> Result<Option<Charge>, Fault>
     ensures same_reference { tx.new.conn.ghost_name ≡ tx.old.conn.ghost_name }
-    ensures step { Finds S.Store tx.old tx.new result Charges charge_of (λ r. same_type r.kind kind && (r.tier == tier)) }
+    ensures step { ReadsFirstMatch S.Store tx.old tx.new result Charges abstract_charge (λ r. is_same_trade_type r.kind kind && (r.tier == tier)) }
     ensures fault { OnErr result (result ≡ Err Store) }
 {
-    let rows = select(
+    let rows = select_rows(
         tx,
         "SELECT CH_TT_ID, CH_C_TIER, CH_CHRG FROM CHARGE WHERE CH_TT_ID = ?1 AND CH_C_TIER = ?2 ORDER BY CH_TT_ID, CH_C_TIER",
         &[type_value(kind), tier_value(tier)],
     )?;
-    first_row(&rows)
+    decode_first_row(&rows)
 }

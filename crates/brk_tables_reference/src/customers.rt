@@ -1,24 +1,24 @@
 ghost use Rattle.std.specs.Prelude.{◌≡◌, ◌==◌, Err, OnErr, bytes_eq};
 ghost use Rattle.brk_money.specs.declared.fault.Fault.TheVariants.{Store};
-ghost use Rattle.brk_ref.specs.Records.{customer_of};
-ghost use Rattle.brk_changes.specs.Changes.{with_customer};
+ghost use Rattle.brk_ref.specs.Records.{abstract_customer};
+ghost use Rattle.brk_changes.specs.Changes.{tables_with_customer};
 ghost use Rattle.brk_tables_schema.specs.Desk.{Customers};
-ghost use Rattle.brk_tables_schema.specs.Statements.{Finds, Writes};
+ghost use Rattle.brk_tables_schema.specs.Statements.{ReadsFirstMatch, WritesDeskTables};
 
 use brk_money::{Fault, Id};
 use brk_ref::{Customer, TaxId};
-use brk_tables_schema::calls::{run, select};
-use brk_tables_schema::record::first_row;
+use brk_tables_schema::calls::{execute_statement, select_rows};
+use brk_tables_schema::record::decode_first_row;
 use brk_tables_schema::values::{id_value, text_value, tier_value};
 use sqlite::{Alter, Transaction};
 
 /// Inserts a customer. Fails with `Store` only, also if the id or the tax id exists.
 pub fn add_customer<S: Alter>(tx: &mut Transaction<'_, S>, customer: &Customer) -> Result<(), Fault>
     ensures same_reference { tx.new.conn.ghost_name ≡ tx.old.conn.ghost_name }
-    ensures step { Writes S.Store tx.old tx.new result (with_customer (customer_of customer.now)) }
+    ensures step { WritesDeskTables S.Store tx.old tx.new result (tables_with_customer (abstract_customer customer.now)) }
     ensures fault { OnErr result (result ≡ Err Store) }
 {
-    run(
+    execute_statement(
         tx,
         "INSERT INTO CUSTOMER (C_ID, C_TIER, C_TAX_ID, C_L_NAME, C_F_NAME) VALUES (?1, ?2, ?3, ?4, ?5)",
         &[
@@ -38,15 +38,15 @@ pub fn customer_by_id<S: Alter>(
     id: Id,
 ) -> Result<Option<Customer>, Fault>
     ensures same_reference { tx.new.conn.ghost_name ≡ tx.old.conn.ghost_name }
-    ensures step { Finds S.Store tx.old tx.new result Customers customer_of (λ r. r.id == id) }
+    ensures step { ReadsFirstMatch S.Store tx.old tx.new result Customers abstract_customer (λ r. r.id == id) }
     ensures fault { OnErr result (result ≡ Err Store) }
 {
-    let rows = select(
+    let rows = select_rows(
         tx,
         "SELECT C_ID, C_TIER, C_TAX_ID, C_L_NAME, C_F_NAME FROM CUSTOMER WHERE C_ID = ?1 ORDER BY C_ID",
         &[id_value(id)],
     )?;
-    first_row(&rows)
+    decode_first_row(&rows)
 }
 
 /// Returns the customer with this tax id, or `None` if there is none. Changes nothing. Fails with
@@ -56,13 +56,13 @@ pub fn customer_by_tax_id<S: Alter>(
     tax_id: &TaxId,
 ) -> Result<Option<Customer>, Fault>
     ensures same_reference { tx.new.conn.ghost_name ≡ tx.old.conn.ghost_name }
-    ensures step { Finds S.Store tx.old tx.new result Customers customer_of (λ r. bytes_eq r.tax_id tax_id.now) }
+    ensures step { ReadsFirstMatch S.Store tx.old tx.new result Customers abstract_customer (λ r. bytes_eq r.tax_id tax_id.now) }
     ensures fault { OnErr result (result ≡ Err Store) }
 {
-    let rows = select(
+    let rows = select_rows(
         tx,
         "SELECT C_ID, C_TIER, C_TAX_ID, C_L_NAME, C_F_NAME FROM CUSTOMER WHERE C_TAX_ID = ?1 ORDER BY C_ID",
         &[text_value(tax_id.as_str())],
     )?;
-    first_row(&rows)
+    decode_first_row(&rows)
 }

@@ -1,24 +1,24 @@
 ghost use Rattle.std.specs.Prelude.{◌≡◌, Err, OnErr, bytes_eq};
 ghost use Rattle.brk_money.specs.declared.fault.Fault.TheVariants.{Store};
-ghost use Rattle.brk_ref.specs.Records.{security_of, last_trade_of};
-ghost use Rattle.brk_changes.specs.Changes.{with_security, with_last_trade};
+ghost use Rattle.brk_ref.specs.Records.{abstract_security_row, abstract_last_trade_row};
+ghost use Rattle.brk_changes.specs.Changes.{tables_with_security, tables_with_last_trade};
 ghost use Rattle.brk_tables_schema.specs.Desk.{Securities};
-ghost use Rattle.brk_tables_schema.specs.Statements.{Finds, Writes};
+ghost use Rattle.brk_tables_schema.specs.Statements.{ReadsFirstMatch, WritesDeskTables};
 
 use brk_money::Fault;
 use brk_ref::{LastTrade, Security, Symbol};
-use brk_tables_schema::calls::{run, select};
-use brk_tables_schema::record::first_row;
+use brk_tables_schema::calls::{execute_statement, select_rows};
+use brk_tables_schema::record::decode_first_row;
 use brk_tables_schema::values::{price_value, stamp_value, text_value, volume_value};
 use sqlite::{Alter, Transaction};
 
 /// Inserts a security, without its last trade. Fails with `Store` only, also if the symbol exists.
 pub fn add_security<S: Alter>(tx: &mut Transaction<'_, S>, security: &Security) -> Result<(), Fault>
     ensures same_reference { tx.new.conn.ghost_name ≡ tx.old.conn.ghost_name }
-    ensures step { Writes S.Store tx.old tx.new result (with_security (security_of security.now)) }
+    ensures step { WritesDeskTables S.Store tx.old tx.new result (tables_with_security (abstract_security_row security.now)) }
     ensures fault { OnErr result (result ≡ Err Store) }
 {
-    run(
+    execute_statement(
         tx,
         "INSERT INTO SECURITY (S_SYMB, S_NAME, S_EX_ID, S_SECTOR) VALUES (?1, ?2, ?3, ?4)",
         &[
@@ -36,10 +36,10 @@ pub fn add_last_trade<S: Alter>(
     last_trade: &LastTrade,
 ) -> Result<(), Fault>
     ensures same_reference { tx.new.conn.ghost_name ≡ tx.old.conn.ghost_name }
-    ensures step { Writes S.Store tx.old tx.new result (with_last_trade (last_trade_of last_trade.now)) }
+    ensures step { WritesDeskTables S.Store tx.old tx.new result (tables_with_last_trade (abstract_last_trade_row last_trade.now)) }
     ensures fault { OnErr result (result ≡ Err Store) }
 {
-    run(
+    execute_statement(
         tx,
         "INSERT INTO LAST_TRADE (LT_S_SYMB, LT_DTS, LT_PRICE, LT_VOL) VALUES (?1, ?2, ?3, ?4)",
         &[
@@ -58,13 +58,13 @@ pub fn security_by_symbol<S: Alter>(
     symbol: &Symbol,
 ) -> Result<Option<Security>, Fault>
     ensures same_reference { tx.new.conn.ghost_name ≡ tx.old.conn.ghost_name }
-    ensures step { Finds S.Store tx.old tx.new result Securities security_of (λ r. bytes_eq r.symbol symbol.now) }
+    ensures step { ReadsFirstMatch S.Store tx.old tx.new result Securities abstract_security_row (λ r. bytes_eq r.symbol symbol.now) }
     ensures fault { OnErr result (result ≡ Err Store) }
 {
-    let rows = select(
+    let rows = select_rows(
         tx,
         "SELECT S_SYMB, S_NAME, S_EX_ID, S_SECTOR FROM SECURITY WHERE S_SYMB = ?1 ORDER BY S_SYMB",
         &[text_value(symbol.as_str())],
     )?;
-    first_row(&rows)
+    decode_first_row(&rows)
 }

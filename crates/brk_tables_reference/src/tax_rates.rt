@@ -1,15 +1,15 @@
 ghost use Rattle.std.specs.Prelude.{◌≡◌, ◌==◌, ◌&&◌, Err, IfErr, OnErr};
 ghost use Rattle.brk_money.specs.declared.fault.Fault.TheVariants.{Store};
-ghost use Rattle.brk_model.specs.Run.{MayFail};
-ghost use Rattle.brk_ref.specs.Records.{tax_of, customer_tax_of};
-ghost use Rattle.brk_changes.specs.Changes.{with_tax_rate, with_customer_tax};
+ghost use Rattle.brk_model.specs.Run.{IsCallFault};
+ghost use Rattle.brk_ref.specs.Records.{abstract_tax_rate, abstract_customer_tax};
+ghost use Rattle.brk_changes.specs.Changes.{tables_with_tax_rate, tables_with_customer_tax};
 ghost use Rattle.brk_tables_schema.specs.Desk.{CustomerTaxes, TaxRates};
-ghost use Rattle.brk_tables_schema.specs.Statements.{Finds, Lists, Writes};
+ghost use Rattle.brk_tables_schema.specs.Statements.{ReadsFirstMatch, ReadsMatchingRows, WritesDeskTables};
 
 use brk_money::{Fault, Id};
 use brk_ref::{CustomerTax, Tax};
-use brk_tables_schema::calls::{run, select};
-use brk_tables_schema::record::{all_rows, first_row};
+use brk_tables_schema::calls::{execute_statement, select_rows};
+use brk_tables_schema::record::{decode_first_row, decode_rows};
 use brk_tables_schema::values::{id_value, tax_rate_value, text_value};
 use sqlite::{Alter, Transaction};
 use std::alloc::Global;
@@ -17,10 +17,10 @@ use std::alloc::Global;
 /// Inserts a tax with its rate. Fails with `Store` only, also if the id exists.
 pub fn add_tax_rate<S: Alter>(tx: &mut Transaction<'_, S>, tax: &Tax) -> Result<(), Fault>
     ensures same_reference { tx.new.conn.ghost_name ≡ tx.old.conn.ghost_name }
-    ensures step { Writes S.Store tx.old tx.new result (with_tax_rate (tax_of tax.now)) }
+    ensures step { WritesDeskTables S.Store tx.old tx.new result (tables_with_tax_rate (abstract_tax_rate tax.now)) }
     ensures fault { OnErr result (result ≡ Err Store) }
 {
-    run(
+    execute_statement(
         tx,
         "INSERT INTO TAXRATE (TX_ID, TX_NAME, TX_RATE) VALUES (?1, ?2, ?3)",
         &[
@@ -37,10 +37,10 @@ pub fn add_customer_tax<S: Alter>(
     pays: &CustomerTax,
 ) -> Result<(), Fault>
     ensures same_reference { tx.new.conn.ghost_name ≡ tx.old.conn.ghost_name }
-    ensures step { Writes S.Store tx.old tx.new result (with_customer_tax (customer_tax_of pays.now)) }
+    ensures step { WritesDeskTables S.Store tx.old tx.new result (tables_with_customer_tax (abstract_customer_tax pays.now)) }
     ensures fault { OnErr result (result ≡ Err Store) }
 {
-    run(
+    execute_statement(
         tx,
         "INSERT INTO CUSTOMER_TAXRATE (CX_C_ID, CX_TX_ID) VALUES (?1, ?2)",
         &[id_value(pays.customer), id_value(pays.tax)],
@@ -51,15 +51,15 @@ pub fn add_customer_tax<S: Alter>(
 /// only.
 pub fn tax_rate_by_id<S: Alter>(tx: &mut Transaction<'_, S>, id: Id) -> Result<Option<Tax>, Fault>
     ensures same_reference { tx.new.conn.ghost_name ≡ tx.old.conn.ghost_name }
-    ensures step { Finds S.Store tx.old tx.new result TaxRates tax_of (λ r. r.id == id) }
+    ensures step { ReadsFirstMatch S.Store tx.old tx.new result TaxRates abstract_tax_rate (λ r. r.id == id) }
     ensures fault { OnErr result (result ≡ Err Store) }
 {
-    let rows = select(
+    let rows = select_rows(
         tx,
         "SELECT TX_ID, TX_NAME, TX_RATE FROM TAXRATE WHERE TX_ID = ?1 ORDER BY TX_ID",
         &[id_value(id)],
     )?;
-    first_row(&rows)
+    decode_first_row(&rows)
 }
 
 /// Returns the row of a customer and a tax, or `None` if the customer does not pay it. Changes
@@ -70,15 +70,15 @@ pub fn customer_tax_by_key<S: Alter>(
     tax: Id,
 ) -> Result<Option<CustomerTax>, Fault>
     ensures same_reference { tx.new.conn.ghost_name ≡ tx.old.conn.ghost_name }
-    ensures step { Finds S.Store tx.old tx.new result CustomerTaxes customer_tax_of (λ r. (r.customer == customer) && (r.tax == tax)) }
+    ensures step { ReadsFirstMatch S.Store tx.old tx.new result CustomerTaxes abstract_customer_tax (λ r. (r.customer == customer) && (r.tax == tax)) }
     ensures fault { OnErr result (result ≡ Err Store) }
 {
-    let rows = select(
+    let rows = select_rows(
         tx,
         "SELECT CX_C_ID, CX_TX_ID FROM CUSTOMER_TAXRATE WHERE CX_C_ID = ?1 AND CX_TX_ID = ?2 ORDER BY CX_C_ID, CX_TX_ID",
         &[id_value(customer), id_value(tax)],
     )?;
-    first_row(&rows)
+    decode_first_row(&rows)
 }
 
 /// Returns the taxes that a customer pays, sorted by id of the tax, ascending. Changes nothing.
@@ -89,13 +89,13 @@ pub fn customer_taxes_of<S: Alter>(
     customer: Id,
 ) -> Result<Vec<CustomerTax>, Fault>
     ensures same_reference { tx.new.conn.ghost_name ≡ tx.old.conn.ghost_name }
-    ensures step { Lists S.Store tx.old tx.new result CustomerTaxes customer_tax_of (λ r. r.customer == customer) }
-    ensures fault { IfErr result MayFail }
+    ensures step { ReadsMatchingRows S.Store tx.old tx.new result CustomerTaxes abstract_customer_tax (λ r. r.customer == customer) }
+    ensures fault { IfErr result IsCallFault }
 {
-    let rows = select(
+    let rows = select_rows(
         tx,
         "SELECT CX_C_ID, CX_TX_ID FROM CUSTOMER_TAXRATE WHERE CX_C_ID = ?1 ORDER BY CX_C_ID, CX_TX_ID",
         &[id_value(customer)],
     )?;
-    all_rows(alloc, &rows)
+    decode_rows(alloc, &rows)
 }

@@ -13,7 +13,7 @@ use Rattle.sqlite_draft.specs.declared.join.Step.TheVariants.{Inner}
 use Rattle.sqlite_draft.specs.declared.query.Draft.{Draft}
 use Rattle.sqlite_tied.specs.Compute.{everything}
 use Rattle.brk_sql.specs.Partly.{lowering}
-use Rattle.brk_sql.specs.Desk.{whole, text, Stands}
+use Rattle.brk_sql.specs.Desk.{integer_column, text_column, IsTableAt}
 use Rattle.brk_sql.proofs.Meant.{meant, reads_or}
 use Rattle.brk_sql.proofs.Pick.{selection}
 use Rattle.brk_sql.proofs.Scoped.{column_is, heading_is}
@@ -92,7 +92,7 @@ names = codes "CR_C_TIER" ∷ codes "CR_TT_ID" ∷ codes "CR_EX_ID" ∷ codes "C
 abbrev after : ℕ → Carried → State
 after spent last = record (fresh 2 max_budget) { budget = max_budget - spent; last = last }
 
-module _ (schema : Schema) (at tree : ℕ) (h : Stands schema (band tree) at) where
+module _ (schema : Schema) (at tree : ℕ) (h : IsTableAt schema (band tree) at) where
   abbrev found : slice_get schema.tables at ≡ Some (band tree)
   found = h.found
 
@@ -100,18 +100,18 @@ module _ (schema : Schema) (at tree : ℕ) (h : Stands schema (band tree) at) wh
   unfolding lowering
   shows =
       rw (
-        column_is schema at (band tree) found (codes "COMMISSION_RATE") [] [] true true (codes "CR_C_TIER") 0 (whole (codes "CR_C_TIER")) refl refl,
-        heading_is schema at (band tree) found (codes "COMMISSION_RATE") [] [] true true (e.Column None (codes "CR_C_TIER")) (codes "CR_C_TIER") (codes "CR_C_TIER") 0 (whole (codes "CR_C_TIER")) refl refl refl,
-        column_is schema at (band tree) found (codes "COMMISSION_RATE") [] [] true true (codes "CR_TT_ID") 1 (text (codes "CR_TT_ID")) refl refl,
-        heading_is schema at (band tree) found (codes "COMMISSION_RATE") [] [] true true (e.Column None (codes "CR_TT_ID")) (codes "CR_TT_ID") (codes "CR_TT_ID") 1 (text (codes "CR_TT_ID")) refl refl refl,
-        column_is schema at (band tree) found (codes "COMMISSION_RATE") [] [] true true (codes "CR_EX_ID") 2 (text (codes "CR_EX_ID")) refl refl,
-        heading_is schema at (band tree) found (codes "COMMISSION_RATE") [] [] true true (e.Column None (codes "CR_EX_ID")) (codes "CR_EX_ID") (codes "CR_EX_ID") 2 (text (codes "CR_EX_ID")) refl refl refl,
-        column_is schema at (band tree) found (codes "COMMISSION_RATE") [] [] true true (codes "CR_FROM_QTY") 3 (whole (codes "CR_FROM_QTY")) refl refl,
-        heading_is schema at (band tree) found (codes "COMMISSION_RATE") [] [] true true (e.Column None (codes "CR_FROM_QTY")) (codes "CR_FROM_QTY") (codes "CR_FROM_QTY") 3 (whole (codes "CR_FROM_QTY")) refl refl refl,
-        column_is schema at (band tree) found (codes "COMMISSION_RATE") [] [] true true (codes "CR_TO_QTY") 4 (whole (codes "CR_TO_QTY")) refl refl,
-        heading_is schema at (band tree) found (codes "COMMISSION_RATE") [] [] true true (e.Column None (codes "CR_TO_QTY")) (codes "CR_TO_QTY") (codes "CR_TO_QTY") 4 (whole (codes "CR_TO_QTY")) refl refl refl,
-        column_is schema at (band tree) found (codes "COMMISSION_RATE") [] [] true true (codes "CR_RATE") 5 (whole (codes "CR_RATE")) refl refl,
-        heading_is schema at (band tree) found (codes "COMMISSION_RATE") [] [] true true (e.Column None (codes "CR_RATE")) (codes "CR_RATE") (codes "CR_RATE") 5 (whole (codes "CR_RATE")) refl refl refl,
+        column_is schema at (band tree) found (codes "COMMISSION_RATE") [] [] true true (codes "CR_C_TIER") 0 (integer_column (codes "CR_C_TIER")) refl refl,
+        heading_is schema at (band tree) found (codes "COMMISSION_RATE") [] [] true true (e.Column None (codes "CR_C_TIER")) (codes "CR_C_TIER") (codes "CR_C_TIER") 0 (integer_column (codes "CR_C_TIER")) refl refl refl,
+        column_is schema at (band tree) found (codes "COMMISSION_RATE") [] [] true true (codes "CR_TT_ID") 1 (text_column (codes "CR_TT_ID")) refl refl,
+        heading_is schema at (band tree) found (codes "COMMISSION_RATE") [] [] true true (e.Column None (codes "CR_TT_ID")) (codes "CR_TT_ID") (codes "CR_TT_ID") 1 (text_column (codes "CR_TT_ID")) refl refl refl,
+        column_is schema at (band tree) found (codes "COMMISSION_RATE") [] [] true true (codes "CR_EX_ID") 2 (text_column (codes "CR_EX_ID")) refl refl,
+        heading_is schema at (band tree) found (codes "COMMISSION_RATE") [] [] true true (e.Column None (codes "CR_EX_ID")) (codes "CR_EX_ID") (codes "CR_EX_ID") 2 (text_column (codes "CR_EX_ID")) refl refl refl,
+        column_is schema at (band tree) found (codes "COMMISSION_RATE") [] [] true true (codes "CR_FROM_QTY") 3 (integer_column (codes "CR_FROM_QTY")) refl refl,
+        heading_is schema at (band tree) found (codes "COMMISSION_RATE") [] [] true true (e.Column None (codes "CR_FROM_QTY")) (codes "CR_FROM_QTY") (codes "CR_FROM_QTY") 3 (integer_column (codes "CR_FROM_QTY")) refl refl refl,
+        column_is schema at (band tree) found (codes "COMMISSION_RATE") [] [] true true (codes "CR_TO_QTY") 4 (integer_column (codes "CR_TO_QTY")) refl refl,
+        heading_is schema at (band tree) found (codes "COMMISSION_RATE") [] [] true true (e.Column None (codes "CR_TO_QTY")) (codes "CR_TO_QTY") (codes "CR_TO_QTY") 4 (integer_column (codes "CR_TO_QTY")) refl refl refl,
+        column_is schema at (band tree) found (codes "COMMISSION_RATE") [] [] true true (codes "CR_RATE") 5 (integer_column (codes "CR_RATE")) refl refl,
+        heading_is schema at (band tree) found (codes "COMMISSION_RATE") [] [] true true (e.Column None (codes "CR_RATE")) (codes "CR_RATE") (codes "CR_RATE") 5 (integer_column (codes "CR_RATE")) refl refl refl,
       )
 
   matches : matching lower (outermost schema) (level_one (codes "COMMISSION_RATE") at columns) core (after 6 binary)
@@ -123,10 +123,10 @@ module _ (schema : Schema) (at tree : ℕ) (h : Stands schema (band tree) at) wh
   unfolding lowering
   sorted =
       rw (
-        column_is schema at (band tree) found (codes "COMMISSION_RATE") columns [] false true (codes "CR_C_TIER") 0 (whole (codes "CR_C_TIER")) refl refl,
-        column_is schema at (band tree) found (codes "COMMISSION_RATE") columns [] false true (codes "CR_TT_ID") 1 (text (codes "CR_TT_ID")) refl refl,
-        column_is schema at (band tree) found (codes "COMMISSION_RATE") columns [] false true (codes "CR_EX_ID") 2 (text (codes "CR_EX_ID")) refl refl,
-        column_is schema at (band tree) found (codes "COMMISSION_RATE") columns [] false true (codes "CR_FROM_QTY") 3 (whole (codes "CR_FROM_QTY")) refl refl,
+        column_is schema at (band tree) found (codes "COMMISSION_RATE") columns [] false true (codes "CR_C_TIER") 0 (integer_column (codes "CR_C_TIER")) refl refl,
+        column_is schema at (band tree) found (codes "COMMISSION_RATE") columns [] false true (codes "CR_TT_ID") 1 (text_column (codes "CR_TT_ID")) refl refl,
+        column_is schema at (band tree) found (codes "COMMISSION_RATE") columns [] false true (codes "CR_EX_ID") 2 (text_column (codes "CR_EX_ID")) refl refl,
+        column_is schema at (band tree) found (codes "COMMISSION_RATE") columns [] false true (codes "CR_FROM_QTY") 3 (integer_column (codes "CR_FROM_QTY")) refl refl,
       )
 
   meaning_is : meaning schema select ≡ Ok ((draft tree, names, Some Binary ∷ Some Binary ∷ Some Binary ∷ Some Binary ∷ Some Binary ∷ Some Binary ∷ []), [])

@@ -13,7 +13,7 @@ use Rattle.sqlite_draft.specs.declared.join.Step.TheVariants.{Inner}
 use Rattle.sqlite_draft.specs.declared.query.Draft.{Draft}
 use Rattle.sqlite_tied.specs.Compute.{everything}
 use Rattle.brk_sql.specs.Partly.{lowering}
-use Rattle.brk_sql.specs.Desk.{whole, text, Stands}
+use Rattle.brk_sql.specs.Desk.{integer_column, text_column, IsTableAt}
 use Rattle.brk_sql.proofs.Meant.{meant, reads_or}
 use Rattle.brk_sql.proofs.Pick.{selection}
 use Rattle.brk_sql.proofs.Scoped.{column_is, heading_is}
@@ -92,7 +92,7 @@ names = codes "B_ID" ∷ codes "B_NAME" ∷ codes "B_NUM_TRADES" ∷ codes "B_CO
 abbrev after : ℕ → Carried → State
 after spent last = record (fresh 2 max_budget) { budget = max_budget - spent; last = last }
 
-module _ (schema : Schema) (at tree : ℕ) (h : Stands schema (broker tree) at) where
+module _ (schema : Schema) (at tree : ℕ) (h : IsTableAt schema (broker tree) at) where
   abbrev found : slice_get schema.tables at ≡ Some (broker tree)
   found = h.found
 
@@ -100,14 +100,14 @@ module _ (schema : Schema) (at tree : ℕ) (h : Stands schema (broker tree) at) 
   unfolding lowering
   shows =
       rw (
-        column_is schema at (broker tree) found (codes "BROKER") [] [] true true (codes "B_ID") 0 (whole (codes "B_ID")) refl refl,
-        heading_is schema at (broker tree) found (codes "BROKER") [] [] true true (e.Column None (codes "B_ID")) (codes "B_ID") (codes "B_ID") 0 (whole (codes "B_ID")) refl refl refl,
-        column_is schema at (broker tree) found (codes "BROKER") [] [] true true (codes "B_NAME") 1 (text (codes "B_NAME")) refl refl,
-        heading_is schema at (broker tree) found (codes "BROKER") [] [] true true (e.Column None (codes "B_NAME")) (codes "B_NAME") (codes "B_NAME") 1 (text (codes "B_NAME")) refl refl refl,
-        column_is schema at (broker tree) found (codes "BROKER") [] [] true true (codes "B_NUM_TRADES") 2 (whole (codes "B_NUM_TRADES")) refl refl,
-        heading_is schema at (broker tree) found (codes "BROKER") [] [] true true (e.Column None (codes "B_NUM_TRADES")) (codes "B_NUM_TRADES") (codes "B_NUM_TRADES") 2 (whole (codes "B_NUM_TRADES")) refl refl refl,
-        column_is schema at (broker tree) found (codes "BROKER") [] [] true true (codes "B_COMM_TOTAL") 3 (whole (codes "B_COMM_TOTAL")) refl refl,
-        heading_is schema at (broker tree) found (codes "BROKER") [] [] true true (e.Column None (codes "B_COMM_TOTAL")) (codes "B_COMM_TOTAL") (codes "B_COMM_TOTAL") 3 (whole (codes "B_COMM_TOTAL")) refl refl refl,
+        column_is schema at (broker tree) found (codes "BROKER") [] [] true true (codes "B_ID") 0 (integer_column (codes "B_ID")) refl refl,
+        heading_is schema at (broker tree) found (codes "BROKER") [] [] true true (e.Column None (codes "B_ID")) (codes "B_ID") (codes "B_ID") 0 (integer_column (codes "B_ID")) refl refl refl,
+        column_is schema at (broker tree) found (codes "BROKER") [] [] true true (codes "B_NAME") 1 (text_column (codes "B_NAME")) refl refl,
+        heading_is schema at (broker tree) found (codes "BROKER") [] [] true true (e.Column None (codes "B_NAME")) (codes "B_NAME") (codes "B_NAME") 1 (text_column (codes "B_NAME")) refl refl refl,
+        column_is schema at (broker tree) found (codes "BROKER") [] [] true true (codes "B_NUM_TRADES") 2 (integer_column (codes "B_NUM_TRADES")) refl refl,
+        heading_is schema at (broker tree) found (codes "BROKER") [] [] true true (e.Column None (codes "B_NUM_TRADES")) (codes "B_NUM_TRADES") (codes "B_NUM_TRADES") 2 (integer_column (codes "B_NUM_TRADES")) refl refl refl,
+        column_is schema at (broker tree) found (codes "BROKER") [] [] true true (codes "B_COMM_TOTAL") 3 (integer_column (codes "B_COMM_TOTAL")) refl refl,
+        heading_is schema at (broker tree) found (codes "BROKER") [] [] true true (e.Column None (codes "B_COMM_TOTAL")) (codes "B_COMM_TOTAL") (codes "B_COMM_TOTAL") 3 (integer_column (codes "B_COMM_TOTAL")) refl refl refl,
       )
 
   matches : matching lower (outermost schema) (level_one (codes "BROKER") at columns) core (after 4 binary)
@@ -118,7 +118,7 @@ module _ (schema : Schema) (at tree : ℕ) (h : Stands schema (broker tree) at) 
   sorted : sorts lower (inside schema (level_one (codes "BROKER") at columns) false) columns by (after 4 binary) ≡ Ok ((draft tree).order, after 5 nothing)
   unfolding lowering
   sorted =
-      rw (column_is schema at (broker tree) found (codes "BROKER") columns [] false true (codes "B_ID") 0 (whole (codes "B_ID")) refl refl)
+      rw (column_is schema at (broker tree) found (codes "BROKER") columns [] false true (codes "B_ID") 0 (integer_column (codes "B_ID")) refl refl)
 
   meaning_is : meaning schema select ≡ Ok ((draft tree, names, None ∷ Some Binary ∷ Some Binary ∷ Some Binary ∷ []), [])
   unfolding everything

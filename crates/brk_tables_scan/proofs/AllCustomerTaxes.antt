@@ -13,7 +13,7 @@ use Rattle.sqlite_draft.specs.declared.join.Step.TheVariants.{Inner}
 use Rattle.sqlite_draft.specs.declared.query.Draft.{Draft}
 use Rattle.sqlite_tied.specs.Compute.{everything}
 use Rattle.brk_sql.specs.Partly.{lowering}
-use Rattle.brk_sql.specs.Desk.{whole, Stands}
+use Rattle.brk_sql.specs.Desk.{integer_column, IsTableAt}
 use Rattle.brk_sql.proofs.Meant.{meant, reads_or}
 use Rattle.brk_sql.proofs.Pick.{selection}
 use Rattle.brk_sql.proofs.Scoped.{column_is, heading_is}
@@ -92,7 +92,7 @@ names = codes "CX_C_ID" ∷ codes "CX_TX_ID" ∷ []
 abbrev after : ℕ → Carried → State
 after spent last = record (fresh 2 max_budget) { budget = max_budget - spent; last = last }
 
-module _ (schema : Schema) (at tree : ℕ) (h : Stands schema (customer_tax tree) at) where
+module _ (schema : Schema) (at tree : ℕ) (h : IsTableAt schema (customer_tax tree) at) where
   abbrev found : slice_get schema.tables at ≡ Some (customer_tax tree)
   found = h.found
 
@@ -100,10 +100,10 @@ module _ (schema : Schema) (at tree : ℕ) (h : Stands schema (customer_tax tree
   unfolding lowering
   shows =
       rw (
-        column_is schema at (customer_tax tree) found (codes "CUSTOMER_TAXRATE") [] [] true true (codes "CX_C_ID") 0 (whole (codes "CX_C_ID")) refl refl,
-        heading_is schema at (customer_tax tree) found (codes "CUSTOMER_TAXRATE") [] [] true true (e.Column None (codes "CX_C_ID")) (codes "CX_C_ID") (codes "CX_C_ID") 0 (whole (codes "CX_C_ID")) refl refl refl,
-        column_is schema at (customer_tax tree) found (codes "CUSTOMER_TAXRATE") [] [] true true (codes "CX_TX_ID") 1 (whole (codes "CX_TX_ID")) refl refl,
-        heading_is schema at (customer_tax tree) found (codes "CUSTOMER_TAXRATE") [] [] true true (e.Column None (codes "CX_TX_ID")) (codes "CX_TX_ID") (codes "CX_TX_ID") 1 (whole (codes "CX_TX_ID")) refl refl refl,
+        column_is schema at (customer_tax tree) found (codes "CUSTOMER_TAXRATE") [] [] true true (codes "CX_C_ID") 0 (integer_column (codes "CX_C_ID")) refl refl,
+        heading_is schema at (customer_tax tree) found (codes "CUSTOMER_TAXRATE") [] [] true true (e.Column None (codes "CX_C_ID")) (codes "CX_C_ID") (codes "CX_C_ID") 0 (integer_column (codes "CX_C_ID")) refl refl refl,
+        column_is schema at (customer_tax tree) found (codes "CUSTOMER_TAXRATE") [] [] true true (codes "CX_TX_ID") 1 (integer_column (codes "CX_TX_ID")) refl refl,
+        heading_is schema at (customer_tax tree) found (codes "CUSTOMER_TAXRATE") [] [] true true (e.Column None (codes "CX_TX_ID")) (codes "CX_TX_ID") (codes "CX_TX_ID") 1 (integer_column (codes "CX_TX_ID")) refl refl refl,
       )
 
   matches : matching lower (outermost schema) (level_one (codes "CUSTOMER_TAXRATE") at columns) core (after 2 binary)
@@ -115,8 +115,8 @@ module _ (schema : Schema) (at tree : ℕ) (h : Stands schema (customer_tax tree
   unfolding lowering
   sorted =
       rw (
-        column_is schema at (customer_tax tree) found (codes "CUSTOMER_TAXRATE") columns [] false true (codes "CX_C_ID") 0 (whole (codes "CX_C_ID")) refl refl,
-        column_is schema at (customer_tax tree) found (codes "CUSTOMER_TAXRATE") columns [] false true (codes "CX_TX_ID") 1 (whole (codes "CX_TX_ID")) refl refl,
+        column_is schema at (customer_tax tree) found (codes "CUSTOMER_TAXRATE") columns [] false true (codes "CX_C_ID") 0 (integer_column (codes "CX_C_ID")) refl refl,
+        column_is schema at (customer_tax tree) found (codes "CUSTOMER_TAXRATE") columns [] false true (codes "CX_TX_ID") 1 (integer_column (codes "CX_TX_ID")) refl refl,
       )
 
   meaning_is : meaning schema select ≡ Ok ((draft tree, names, Some Binary ∷ Some Binary ∷ []), [])

@@ -13,7 +13,7 @@ use Rattle.sqlite_draft.specs.declared.join.Step.TheVariants.{Inner}
 use Rattle.sqlite_draft.specs.declared.query.Draft.{Draft}
 use Rattle.sqlite_tied.specs.Compute.{everything}
 use Rattle.brk_sql.specs.Partly.{lowering}
-use Rattle.brk_sql.specs.Desk.{whole, Stands}
+use Rattle.brk_sql.specs.Desk.{integer_column, IsTableAt}
 use Rattle.brk_sql.proofs.Meant.{meant, reads_or}
 use Rattle.brk_sql.proofs.Pick.{selection}
 use Rattle.brk_sql.proofs.Scoped.{column_is, heading_is}
@@ -92,7 +92,7 @@ names = codes "HH_H_T_ID" ∷ codes "HH_T_ID" ∷ codes "HH_BEFORE_QTY" ∷ code
 abbrev after : ℕ → Carried → State
 after spent last = record (fresh 2 max_budget) { budget = max_budget - spent; last = last }
 
-module _ (schema : Schema) (at tree : ℕ) (h : Stands schema (holding_history tree) at) where
+module _ (schema : Schema) (at tree : ℕ) (h : IsTableAt schema (holding_history tree) at) where
   abbrev found : slice_get schema.tables at ≡ Some (holding_history tree)
   found = h.found
 
@@ -100,14 +100,14 @@ module _ (schema : Schema) (at tree : ℕ) (h : Stands schema (holding_history t
   unfolding lowering
   shows =
       rw (
-        column_is schema at (holding_history tree) found (codes "HOLDING_HISTORY") [] [] true true (codes "HH_H_T_ID") 0 (whole (codes "HH_H_T_ID")) refl refl,
-        heading_is schema at (holding_history tree) found (codes "HOLDING_HISTORY") [] [] true true (e.Column None (codes "HH_H_T_ID")) (codes "HH_H_T_ID") (codes "HH_H_T_ID") 0 (whole (codes "HH_H_T_ID")) refl refl refl,
-        column_is schema at (holding_history tree) found (codes "HOLDING_HISTORY") [] [] true true (codes "HH_T_ID") 1 (whole (codes "HH_T_ID")) refl refl,
-        heading_is schema at (holding_history tree) found (codes "HOLDING_HISTORY") [] [] true true (e.Column None (codes "HH_T_ID")) (codes "HH_T_ID") (codes "HH_T_ID") 1 (whole (codes "HH_T_ID")) refl refl refl,
-        column_is schema at (holding_history tree) found (codes "HOLDING_HISTORY") [] [] true true (codes "HH_BEFORE_QTY") 2 (whole (codes "HH_BEFORE_QTY")) refl refl,
-        heading_is schema at (holding_history tree) found (codes "HOLDING_HISTORY") [] [] true true (e.Column None (codes "HH_BEFORE_QTY")) (codes "HH_BEFORE_QTY") (codes "HH_BEFORE_QTY") 2 (whole (codes "HH_BEFORE_QTY")) refl refl refl,
-        column_is schema at (holding_history tree) found (codes "HOLDING_HISTORY") [] [] true true (codes "HH_AFTER_QTY") 3 (whole (codes "HH_AFTER_QTY")) refl refl,
-        heading_is schema at (holding_history tree) found (codes "HOLDING_HISTORY") [] [] true true (e.Column None (codes "HH_AFTER_QTY")) (codes "HH_AFTER_QTY") (codes "HH_AFTER_QTY") 3 (whole (codes "HH_AFTER_QTY")) refl refl refl,
+        column_is schema at (holding_history tree) found (codes "HOLDING_HISTORY") [] [] true true (codes "HH_H_T_ID") 0 (integer_column (codes "HH_H_T_ID")) refl refl,
+        heading_is schema at (holding_history tree) found (codes "HOLDING_HISTORY") [] [] true true (e.Column None (codes "HH_H_T_ID")) (codes "HH_H_T_ID") (codes "HH_H_T_ID") 0 (integer_column (codes "HH_H_T_ID")) refl refl refl,
+        column_is schema at (holding_history tree) found (codes "HOLDING_HISTORY") [] [] true true (codes "HH_T_ID") 1 (integer_column (codes "HH_T_ID")) refl refl,
+        heading_is schema at (holding_history tree) found (codes "HOLDING_HISTORY") [] [] true true (e.Column None (codes "HH_T_ID")) (codes "HH_T_ID") (codes "HH_T_ID") 1 (integer_column (codes "HH_T_ID")) refl refl refl,
+        column_is schema at (holding_history tree) found (codes "HOLDING_HISTORY") [] [] true true (codes "HH_BEFORE_QTY") 2 (integer_column (codes "HH_BEFORE_QTY")) refl refl,
+        heading_is schema at (holding_history tree) found (codes "HOLDING_HISTORY") [] [] true true (e.Column None (codes "HH_BEFORE_QTY")) (codes "HH_BEFORE_QTY") (codes "HH_BEFORE_QTY") 2 (integer_column (codes "HH_BEFORE_QTY")) refl refl refl,
+        column_is schema at (holding_history tree) found (codes "HOLDING_HISTORY") [] [] true true (codes "HH_AFTER_QTY") 3 (integer_column (codes "HH_AFTER_QTY")) refl refl,
+        heading_is schema at (holding_history tree) found (codes "HOLDING_HISTORY") [] [] true true (e.Column None (codes "HH_AFTER_QTY")) (codes "HH_AFTER_QTY") (codes "HH_AFTER_QTY") 3 (integer_column (codes "HH_AFTER_QTY")) refl refl refl,
       )
 
   matches : matching lower (outermost schema) (level_one (codes "HOLDING_HISTORY") at columns) core (after 4 binary)
@@ -119,8 +119,8 @@ module _ (schema : Schema) (at tree : ℕ) (h : Stands schema (holding_history t
   unfolding lowering
   sorted =
       rw (
-        column_is schema at (holding_history tree) found (codes "HOLDING_HISTORY") columns [] false true (codes "HH_H_T_ID") 0 (whole (codes "HH_H_T_ID")) refl refl,
-        column_is schema at (holding_history tree) found (codes "HOLDING_HISTORY") columns [] false true (codes "HH_T_ID") 1 (whole (codes "HH_T_ID")) refl refl,
+        column_is schema at (holding_history tree) found (codes "HOLDING_HISTORY") columns [] false true (codes "HH_H_T_ID") 0 (integer_column (codes "HH_H_T_ID")) refl refl,
+        column_is schema at (holding_history tree) found (codes "HOLDING_HISTORY") columns [] false true (codes "HH_T_ID") 1 (integer_column (codes "HH_T_ID")) refl refl,
       )
 
   meaning_is : meaning schema select ≡ Ok ((draft tree, names, Some Binary ∷ Some Binary ∷ Some Binary ∷ Some Binary ∷ []), [])

@@ -13,7 +13,7 @@ use Rattle.sqlite_draft.specs.declared.join.Step.TheVariants.{Inner}
 use Rattle.sqlite_draft.specs.declared.query.Draft.{Draft}
 use Rattle.sqlite_tied.specs.Compute.{everything}
 use Rattle.brk_sql.specs.Partly.{lowering}
-use Rattle.brk_sql.specs.Desk.{whole, text, Stands}
+use Rattle.brk_sql.specs.Desk.{integer_column, text_column, IsTableAt}
 use Rattle.brk_sql.proofs.Meant.{meant, reads_or}
 use Rattle.brk_sql.proofs.Pick.{selection}
 use Rattle.brk_sql.proofs.Scoped.{column_is, heading_is}
@@ -92,7 +92,7 @@ names = codes "K_BATCH" ∷ codes "K_N" ∷ codes "K_ROW" ∷ codes "K_LINE" ∷
 abbrev after : ℕ → Carried → State
 after spent last = record (fresh 2 max_budget) { budget = max_budget - spent; last = last }
 
-module _ (schema : Schema) (at tree : ℕ) (h : Stands schema (kept tree) at) where
+module _ (schema : Schema) (at tree : ℕ) (h : IsTableAt schema (kept tree) at) where
   abbrev found : slice_get schema.tables at ≡ Some (kept tree)
   found = h.found
 
@@ -100,14 +100,14 @@ module _ (schema : Schema) (at tree : ℕ) (h : Stands schema (kept tree) at) wh
   unfolding lowering
   shows =
       rw (
-        column_is schema at (kept tree) found (codes "KEPT") [] [] true true (codes "K_BATCH") 0 (text (codes "K_BATCH")) refl refl,
-        heading_is schema at (kept tree) found (codes "KEPT") [] [] true true (e.Column None (codes "K_BATCH")) (codes "K_BATCH") (codes "K_BATCH") 0 (text (codes "K_BATCH")) refl refl refl,
-        column_is schema at (kept tree) found (codes "KEPT") [] [] true true (codes "K_N") 1 (whole (codes "K_N")) refl refl,
-        heading_is schema at (kept tree) found (codes "KEPT") [] [] true true (e.Column None (codes "K_N")) (codes "K_N") (codes "K_N") 1 (whole (codes "K_N")) refl refl refl,
-        column_is schema at (kept tree) found (codes "KEPT") [] [] true true (codes "K_ROW") 2 (text (codes "K_ROW")) refl refl,
-        heading_is schema at (kept tree) found (codes "KEPT") [] [] true true (e.Column None (codes "K_ROW")) (codes "K_ROW") (codes "K_ROW") 2 (text (codes "K_ROW")) refl refl refl,
-        column_is schema at (kept tree) found (codes "KEPT") [] [] true true (codes "K_LINE") 3 (text (codes "K_LINE")) refl refl,
-        heading_is schema at (kept tree) found (codes "KEPT") [] [] true true (e.Column None (codes "K_LINE")) (codes "K_LINE") (codes "K_LINE") 3 (text (codes "K_LINE")) refl refl refl,
+        column_is schema at (kept tree) found (codes "KEPT") [] [] true true (codes "K_BATCH") 0 (text_column (codes "K_BATCH")) refl refl,
+        heading_is schema at (kept tree) found (codes "KEPT") [] [] true true (e.Column None (codes "K_BATCH")) (codes "K_BATCH") (codes "K_BATCH") 0 (text_column (codes "K_BATCH")) refl refl refl,
+        column_is schema at (kept tree) found (codes "KEPT") [] [] true true (codes "K_N") 1 (integer_column (codes "K_N")) refl refl,
+        heading_is schema at (kept tree) found (codes "KEPT") [] [] true true (e.Column None (codes "K_N")) (codes "K_N") (codes "K_N") 1 (integer_column (codes "K_N")) refl refl refl,
+        column_is schema at (kept tree) found (codes "KEPT") [] [] true true (codes "K_ROW") 2 (text_column (codes "K_ROW")) refl refl,
+        heading_is schema at (kept tree) found (codes "KEPT") [] [] true true (e.Column None (codes "K_ROW")) (codes "K_ROW") (codes "K_ROW") 2 (text_column (codes "K_ROW")) refl refl refl,
+        column_is schema at (kept tree) found (codes "KEPT") [] [] true true (codes "K_LINE") 3 (text_column (codes "K_LINE")) refl refl,
+        heading_is schema at (kept tree) found (codes "KEPT") [] [] true true (e.Column None (codes "K_LINE")) (codes "K_LINE") (codes "K_LINE") 3 (text_column (codes "K_LINE")) refl refl refl,
       )
 
   matches : matching lower (outermost schema) (level_one (codes "KEPT") at columns) core (after 4 binary)
@@ -119,8 +119,8 @@ module _ (schema : Schema) (at tree : ℕ) (h : Stands schema (kept tree) at) wh
   unfolding lowering
   sorted =
       rw (
-        column_is schema at (kept tree) found (codes "KEPT") columns [] false true (codes "K_BATCH") 0 (text (codes "K_BATCH")) refl refl,
-        column_is schema at (kept tree) found (codes "KEPT") columns [] false true (codes "K_N") 1 (whole (codes "K_N")) refl refl,
+        column_is schema at (kept tree) found (codes "KEPT") columns [] false true (codes "K_BATCH") 0 (text_column (codes "K_BATCH")) refl refl,
+        column_is schema at (kept tree) found (codes "KEPT") columns [] false true (codes "K_N") 1 (integer_column (codes "K_N")) refl refl,
       )
 
   meaning_is : meaning schema select ≡ Ok ((draft tree, names, Some Binary ∷ Some Binary ∷ Some Binary ∷ Some Binary ∷ []), [])

@@ -13,7 +13,7 @@ use Rattle.sqlite_draft.specs.declared.join.Step.TheVariants.{Inner}
 use Rattle.sqlite_draft.specs.declared.query.Draft.{Draft}
 use Rattle.sqlite_tied.specs.Compute.{everything}
 use Rattle.brk_sql.specs.Partly.{lowering}
-use Rattle.brk_sql.specs.Desk.{whole, text, Stands}
+use Rattle.brk_sql.specs.Desk.{integer_column, text_column, IsTableAt}
 use Rattle.brk_sql.proofs.Meant.{meant, reads_or}
 use Rattle.brk_sql.proofs.Pick.{selection}
 use Rattle.brk_sql.proofs.Scoped.{column_is, heading_is}
@@ -92,7 +92,7 @@ names = codes "AP_CA_ID" ∷ codes "AP_TAX_ID" ∷ codes "AP_ACL" ∷ codes "AP_
 abbrev after : ℕ → Carried → State
 after spent last = record (fresh 2 max_budget) { budget = max_budget - spent; last = last }
 
-module _ (schema : Schema) (at tree : ℕ) (h : Stands schema (permission tree) at) where
+module _ (schema : Schema) (at tree : ℕ) (h : IsTableAt schema (permission tree) at) where
   abbrev found : slice_get schema.tables at ≡ Some (permission tree)
   found = h.found
 
@@ -100,16 +100,16 @@ module _ (schema : Schema) (at tree : ℕ) (h : Stands schema (permission tree) 
   unfolding lowering
   shows =
       rw (
-        column_is schema at (permission tree) found (codes "ACCOUNT_PERMISSION") [] [] true true (codes "AP_CA_ID") 0 (whole (codes "AP_CA_ID")) refl refl,
-        heading_is schema at (permission tree) found (codes "ACCOUNT_PERMISSION") [] [] true true (e.Column None (codes "AP_CA_ID")) (codes "AP_CA_ID") (codes "AP_CA_ID") 0 (whole (codes "AP_CA_ID")) refl refl refl,
-        column_is schema at (permission tree) found (codes "ACCOUNT_PERMISSION") [] [] true true (codes "AP_TAX_ID") 1 (text (codes "AP_TAX_ID")) refl refl,
-        heading_is schema at (permission tree) found (codes "ACCOUNT_PERMISSION") [] [] true true (e.Column None (codes "AP_TAX_ID")) (codes "AP_TAX_ID") (codes "AP_TAX_ID") 1 (text (codes "AP_TAX_ID")) refl refl refl,
-        column_is schema at (permission tree) found (codes "ACCOUNT_PERMISSION") [] [] true true (codes "AP_ACL") 2 (text (codes "AP_ACL")) refl refl,
-        heading_is schema at (permission tree) found (codes "ACCOUNT_PERMISSION") [] [] true true (e.Column None (codes "AP_ACL")) (codes "AP_ACL") (codes "AP_ACL") 2 (text (codes "AP_ACL")) refl refl refl,
-        column_is schema at (permission tree) found (codes "ACCOUNT_PERMISSION") [] [] true true (codes "AP_L_NAME") 3 (text (codes "AP_L_NAME")) refl refl,
-        heading_is schema at (permission tree) found (codes "ACCOUNT_PERMISSION") [] [] true true (e.Column None (codes "AP_L_NAME")) (codes "AP_L_NAME") (codes "AP_L_NAME") 3 (text (codes "AP_L_NAME")) refl refl refl,
-        column_is schema at (permission tree) found (codes "ACCOUNT_PERMISSION") [] [] true true (codes "AP_F_NAME") 4 (text (codes "AP_F_NAME")) refl refl,
-        heading_is schema at (permission tree) found (codes "ACCOUNT_PERMISSION") [] [] true true (e.Column None (codes "AP_F_NAME")) (codes "AP_F_NAME") (codes "AP_F_NAME") 4 (text (codes "AP_F_NAME")) refl refl refl,
+        column_is schema at (permission tree) found (codes "ACCOUNT_PERMISSION") [] [] true true (codes "AP_CA_ID") 0 (integer_column (codes "AP_CA_ID")) refl refl,
+        heading_is schema at (permission tree) found (codes "ACCOUNT_PERMISSION") [] [] true true (e.Column None (codes "AP_CA_ID")) (codes "AP_CA_ID") (codes "AP_CA_ID") 0 (integer_column (codes "AP_CA_ID")) refl refl refl,
+        column_is schema at (permission tree) found (codes "ACCOUNT_PERMISSION") [] [] true true (codes "AP_TAX_ID") 1 (text_column (codes "AP_TAX_ID")) refl refl,
+        heading_is schema at (permission tree) found (codes "ACCOUNT_PERMISSION") [] [] true true (e.Column None (codes "AP_TAX_ID")) (codes "AP_TAX_ID") (codes "AP_TAX_ID") 1 (text_column (codes "AP_TAX_ID")) refl refl refl,
+        column_is schema at (permission tree) found (codes "ACCOUNT_PERMISSION") [] [] true true (codes "AP_ACL") 2 (text_column (codes "AP_ACL")) refl refl,
+        heading_is schema at (permission tree) found (codes "ACCOUNT_PERMISSION") [] [] true true (e.Column None (codes "AP_ACL")) (codes "AP_ACL") (codes "AP_ACL") 2 (text_column (codes "AP_ACL")) refl refl refl,
+        column_is schema at (permission tree) found (codes "ACCOUNT_PERMISSION") [] [] true true (codes "AP_L_NAME") 3 (text_column (codes "AP_L_NAME")) refl refl,
+        heading_is schema at (permission tree) found (codes "ACCOUNT_PERMISSION") [] [] true true (e.Column None (codes "AP_L_NAME")) (codes "AP_L_NAME") (codes "AP_L_NAME") 3 (text_column (codes "AP_L_NAME")) refl refl refl,
+        column_is schema at (permission tree) found (codes "ACCOUNT_PERMISSION") [] [] true true (codes "AP_F_NAME") 4 (text_column (codes "AP_F_NAME")) refl refl,
+        heading_is schema at (permission tree) found (codes "ACCOUNT_PERMISSION") [] [] true true (e.Column None (codes "AP_F_NAME")) (codes "AP_F_NAME") (codes "AP_F_NAME") 4 (text_column (codes "AP_F_NAME")) refl refl refl,
       )
 
   matches : matching lower (outermost schema) (level_one (codes "ACCOUNT_PERMISSION") at columns) core (after 5 binary)
@@ -121,8 +121,8 @@ module _ (schema : Schema) (at tree : ℕ) (h : Stands schema (permission tree) 
   unfolding lowering
   sorted =
       rw (
-        column_is schema at (permission tree) found (codes "ACCOUNT_PERMISSION") columns [] false true (codes "AP_CA_ID") 0 (whole (codes "AP_CA_ID")) refl refl,
-        column_is schema at (permission tree) found (codes "ACCOUNT_PERMISSION") columns [] false true (codes "AP_TAX_ID") 1 (text (codes "AP_TAX_ID")) refl refl,
+        column_is schema at (permission tree) found (codes "ACCOUNT_PERMISSION") columns [] false true (codes "AP_CA_ID") 0 (integer_column (codes "AP_CA_ID")) refl refl,
+        column_is schema at (permission tree) found (codes "ACCOUNT_PERMISSION") columns [] false true (codes "AP_TAX_ID") 1 (text_column (codes "AP_TAX_ID")) refl refl,
       )
 
   meaning_is : meaning schema select ≡ Ok ((draft tree, names, Some Binary ∷ Some Binary ∷ Some Binary ∷ Some Binary ∷ Some Binary ∷ []), [])

@@ -13,7 +13,7 @@ use Rattle.sqlite_draft.specs.declared.join.Step.TheVariants.{Inner}
 use Rattle.sqlite_draft.specs.declared.query.Draft.{Draft}
 use Rattle.sqlite_tied.specs.Compute.{everything}
 use Rattle.brk_sql.specs.Partly.{lowering}
-use Rattle.brk_sql.specs.Desk.{whole, text, Stands}
+use Rattle.brk_sql.specs.Desk.{integer_column, text_column, IsTableAt}
 use Rattle.brk_sql.proofs.Meant.{meant, reads_or}
 use Rattle.brk_sql.proofs.Pick.{selection}
 use Rattle.brk_sql.proofs.Scoped.{column_is, heading_is}
@@ -92,7 +92,7 @@ names = codes "TX_ID" ∷ codes "TX_NAME" ∷ codes "TX_RATE" ∷ []
 abbrev after : ℕ → Carried → State
 after spent last = record (fresh 2 max_budget) { budget = max_budget - spent; last = last }
 
-module _ (schema : Schema) (at tree : ℕ) (h : Stands schema (tax_rate tree) at) where
+module _ (schema : Schema) (at tree : ℕ) (h : IsTableAt schema (tax_rate tree) at) where
   abbrev found : slice_get schema.tables at ≡ Some (tax_rate tree)
   found = h.found
 
@@ -100,12 +100,12 @@ module _ (schema : Schema) (at tree : ℕ) (h : Stands schema (tax_rate tree) at
   unfolding lowering
   shows =
       rw (
-        column_is schema at (tax_rate tree) found (codes "TAXRATE") [] [] true true (codes "TX_ID") 0 (whole (codes "TX_ID")) refl refl,
-        heading_is schema at (tax_rate tree) found (codes "TAXRATE") [] [] true true (e.Column None (codes "TX_ID")) (codes "TX_ID") (codes "TX_ID") 0 (whole (codes "TX_ID")) refl refl refl,
-        column_is schema at (tax_rate tree) found (codes "TAXRATE") [] [] true true (codes "TX_NAME") 1 (text (codes "TX_NAME")) refl refl,
-        heading_is schema at (tax_rate tree) found (codes "TAXRATE") [] [] true true (e.Column None (codes "TX_NAME")) (codes "TX_NAME") (codes "TX_NAME") 1 (text (codes "TX_NAME")) refl refl refl,
-        column_is schema at (tax_rate tree) found (codes "TAXRATE") [] [] true true (codes "TX_RATE") 2 (whole (codes "TX_RATE")) refl refl,
-        heading_is schema at (tax_rate tree) found (codes "TAXRATE") [] [] true true (e.Column None (codes "TX_RATE")) (codes "TX_RATE") (codes "TX_RATE") 2 (whole (codes "TX_RATE")) refl refl refl,
+        column_is schema at (tax_rate tree) found (codes "TAXRATE") [] [] true true (codes "TX_ID") 0 (integer_column (codes "TX_ID")) refl refl,
+        heading_is schema at (tax_rate tree) found (codes "TAXRATE") [] [] true true (e.Column None (codes "TX_ID")) (codes "TX_ID") (codes "TX_ID") 0 (integer_column (codes "TX_ID")) refl refl refl,
+        column_is schema at (tax_rate tree) found (codes "TAXRATE") [] [] true true (codes "TX_NAME") 1 (text_column (codes "TX_NAME")) refl refl,
+        heading_is schema at (tax_rate tree) found (codes "TAXRATE") [] [] true true (e.Column None (codes "TX_NAME")) (codes "TX_NAME") (codes "TX_NAME") 1 (text_column (codes "TX_NAME")) refl refl refl,
+        column_is schema at (tax_rate tree) found (codes "TAXRATE") [] [] true true (codes "TX_RATE") 2 (integer_column (codes "TX_RATE")) refl refl,
+        heading_is schema at (tax_rate tree) found (codes "TAXRATE") [] [] true true (e.Column None (codes "TX_RATE")) (codes "TX_RATE") (codes "TX_RATE") 2 (integer_column (codes "TX_RATE")) refl refl refl,
       )
 
   matches : matching lower (outermost schema) (level_one (codes "TAXRATE") at columns) core (after 3 binary)
@@ -116,7 +116,7 @@ module _ (schema : Schema) (at tree : ℕ) (h : Stands schema (tax_rate tree) at
   sorted : sorts lower (inside schema (level_one (codes "TAXRATE") at columns) false) columns by (after 3 binary) ≡ Ok ((draft tree).order, after 4 nothing)
   unfolding lowering
   sorted =
-      rw (column_is schema at (tax_rate tree) found (codes "TAXRATE") columns [] false true (codes "TX_ID") 0 (whole (codes "TX_ID")) refl refl)
+      rw (column_is schema at (tax_rate tree) found (codes "TAXRATE") columns [] false true (codes "TX_ID") 0 (integer_column (codes "TX_ID")) refl refl)
 
   meaning_is : meaning schema select ≡ Ok ((draft tree, names, None ∷ Some Binary ∷ Some Binary ∷ []), [])
   unfolding everything

@@ -13,14 +13,14 @@ use Rattle.sqlite.specs.Effect.{Database}
 use Rattle.brk_model.specs.Schemas.{Schema}
 use Rattle.brk_model.specs.Tables.{Tables}
 use Rattle.brk_sql.proofs.Order.{has_permuted}
-use Rattle.brk_sql.specs.Desk.{IsCalm, Stands}
-use Rattle.brk_sql.specs.Rows.{cells}
-use Rattle.brk_tables_schema.specs.Cells.{maybe, nat}
-use Rattle.brk_tables_schema.specs.Desk.{Which, TheDesk, all_tables, has_table, name_of, placed, shape, tables_in}
-use Rattle.brk_tables_schema.specs.Made.{HasRowsIn, IsOf}
+use Rattle.brk_sql.specs.Desk.{HasNoActionsAt, IsTableAt}
+use Rattle.brk_sql.specs.Rows.{cells_in_column_order}
+use Rattle.brk_tables_schema.specs.Cells.{optional_as_value, natural_as_value}
+use Rattle.brk_tables_schema.specs.Desk.{Which, TheDesk, all_tables, has_table, table_name, placed, shape, tables_in_schema}
+use Rattle.brk_tables_schema.specs.Made.{HasRowsInSchema, IsTableOfSchema}
 use Rattle.brk_tables_schema.specs.Shapes.{desk_row}
-use Rattle.brk_tables_create.specs.Made.{later_than}
-use Rattle.brk_tables_scan.specs.Schemas.{HasDesk, HasTable, IsDefinedAs, IsKeyed, Says, names_of}
+use Rattle.brk_tables_create.specs.Made.{tables_added_after}
+use Rattle.brk_tables_scan.specs.Schemas.{HasDesk, HasTableWithNames, SchemaNamesImplyDefinitions, HasDistinctRowids, HasOneDeskRow, table_names_of}
 use Rattle.brk_tables_scan.proofs.Listed.{names_alike}
 
 some_same : {X : Type 0} (x y : X) → Some x ≡ Some y → x ≡ y
@@ -39,25 +39,25 @@ one_row x (y ∷ z ∷ rows) p = absurd (let e : suc (suc (length rows)) ≡ suc
 
 -- ---- where a table stands
 
-module _ (desk : Schema) (t : Tables) (db : Database) (has : HasRowsIn desk t db) where
+module _ (desk : Schema) (t : Tables) (db : Database) (has : HasRowsInSchema desk t db) where
   abbrev tree : Which → ℕ
   tree = has.0
 
-  stands : (w : Which) → IsOf desk w → Stands db.schema (shape w (tree w)) (has.1.place w)
+  stands : (w : Which) → IsTableOfSchema desk w → IsTableAt db.schema (shape w (tree w)) (has.1.place w)
   stands w of = has.1.stands w of
 
   -- whatever is found by its name is the desk's
-  found_table : (w : Which) → IsOf desk w → (at : ℕ) (table : Table) → table_named db.schema (name_of w) ≡ Some at → slice_get db.schema.tables at ≡ Some table → table ≡ shape w (tree w)
+  found_table : (w : Which) → IsTableOfSchema desk w → (at : ℕ) (table : Table) → table_named db.schema (table_name w) ≡ Some at → slice_get db.schema.tables at ≡ Some table → table ≡ shape w (tree w)
   found_table w of at table named found =
       let e : at ≡ has.1.place w = some_same at (has.1.place w) (sym named ∙ ap (λ n. table_named db.schema n.name) (names_alike w 0 (tree w)) ∙ (stands w of).named) in
       some_same table (shape w (tree w)) (sym found ∙ ap (slice_get db.schema.tables) e ∙ (stands w of).found)
 
-  at_its_tree : (w : Which) → IsOf desk w → (at n : ℕ) → Stands db.schema (shape w n) at → n ≡ tree w
+  at_its_tree : (w : Which) → IsTableOfSchema desk w → (at n : ℕ) → IsTableAt db.schema (shape w n) at → n ≡ tree w
   at_its_tree w of at n s =
       let e : shape w n ≡ shape w (tree w) = found_table w of at (shape w n) (ap (λ n. table_named db.schema n.name) (names_alike w 0 n) ∙ s.named) s.found in
       sym (placed w n) ∙ ap (λ (table : Table). table.tree) e ∙ placed w (tree w)
 
-  there : (w : Which) → IsOf desk w → HasTable db.schema (names_of (shape w 0))
+  there : (w : Which) → IsTableOfSchema desk w → HasTableWithNames db.schema (table_names_of (shape w 0))
   there w of = (
     has.1.place w,
     shape w (tree w),
@@ -70,11 +70,11 @@ module _ (desk : Schema) (t : Tables) (db : Database) (has : HasRowsIn desk t db
 
   -- ---- the row of DESK
 
-  desk_row_shown : map (cells (desk_row (tree TheDesk))) (db.trees (tree TheDesk)) ≡ (nat 1 ∷ nat desk.number ∷ maybe t.last ∷ []) ∷ []
-  desk_row_shown = one_row (nat 1 ∷ nat desk.number ∷ maybe t.last ∷ []) (map (cells (desk_row (tree TheDesk))) (db.trees (tree TheDesk))) (has.1.rows TheDesk refl).shown
+  desk_row_shown : map (cells_in_column_order (desk_row (tree TheDesk))) (db.trees (tree TheDesk)) ≡ (natural_as_value 1 ∷ natural_as_value desk.number ∷ optional_as_value t.last ∷ []) ∷ []
+  desk_row_shown = one_row (natural_as_value 1 ∷ natural_as_value desk.number ∷ optional_as_value t.last ∷ []) (map (cells_in_column_order (desk_row (tree TheDesk))) (db.trees (tree TheDesk))) (has.1.rows TheDesk refl).shown
 
-  the_row : (at n : ℕ) → Stands db.schema (desk_row n) at → Says desk (map (cells (desk_row n)) (db.trees n))
-  the_row at n s = (maybe t.last, subst (λ k. map (cells (desk_row k)) (db.trees k) ≡ (nat 1 ∷ nat desk.number ∷ maybe t.last ∷ []) ∷ []) (sym (at_its_tree TheDesk refl at n s)) desk_row_shown)
+  the_row : (at n : ℕ) → IsTableAt db.schema (desk_row n) at → HasOneDeskRow desk (map (cells_in_column_order (desk_row n)) (db.trees n))
+  the_row at n s = (optional_as_value t.last, subst (λ k. map (cells_in_column_order (desk_row k)) (db.trees k) ≡ (natural_as_value 1 ∷ natural_as_value desk.number ∷ optional_as_value t.last ∷ []) ∷ []) (sym (at_its_tree TheDesk refl at n s)) desk_row_shown)
 
   not_not : (b : _) → not b ≡ true → b ≡ false
   not_not true h = absurd (let e = h in cc)
@@ -82,12 +82,12 @@ module _ (desk : Schema) (t : Tables) (db : Database) (has : HasRowsIn desk t db
 
   pub desk_is_there : HasDesk desk db
   desk_is_there = record {
-    tables = all_from (λ w. HasTable db.schema (names_of (shape w 0))) (tables_in desk) (λ w listed. there w (has_filtered (has_table desk) all_tables w listed).1);
-    later = all_from (λ w. table_named db.schema (name_of w) ≡ None) (later_than desk) (λ w listed. (has.2 w (not_not (has_table desk w) (has_filtered (λ w. not (has_table desk w)) all_tables w listed).1)).0);
+    tables = all_from (λ w. HasTableWithNames db.schema (table_names_of (shape w 0))) (tables_in_schema desk) (λ w listed. there w (has_filtered (has_table desk) all_tables w listed).1);
+    later = all_from (λ w. table_named db.schema (table_name w) ≡ None) (tables_added_after desk) (λ w listed. (has.2 w (not_not (has_table desk w) (has_filtered (λ w. not (has_table desk w)) all_tables w listed).1)).0);
     row = the_row;
   }
 
-  pub desk_is_defined : IsDefinedAs desk db
+  pub desk_is_defined : SchemaNamesImplyDefinitions desk db
   desk_is_defined _ = record {
     sound = has.1.sound;
     shaped = λ w of at table named found.
@@ -95,6 +95,6 @@ module _ (desk : Schema) (t : Tables) (db : Database) (has : HasRowsIn desk t db
         let n : tree w ≡ table.tree = sym (ap (λ (u : Table). u.tree) e ∙ placed w (tree w)) in
         e ∙ ap (shape w) n;
     apart = λ v w a b i j n p q. has.1.apart v w a b (sym (at_its_tree v a i n p) ∙ at_its_tree w b j n q);
-    calm = λ w of at n s. subst (IsCalm db.schema) (sym (at_its_tree w of at n s)) (has.1.calm w of);
-    keyed = λ w of at n s. let rows = has.1.rows w of in subst (λ k. IsKeyed (db.trees k)) (sym (at_its_tree w of at n s)) (record { keyed = rows.keyed; apart = rows.apart });
+    calm = λ w of at n s. subst (HasNoActionsAt db.schema) (sym (at_its_tree w of at n s)) (has.1.calm w of);
+    keyed = λ w of at n s. let rows = has.1.rows w of in subst (λ k. HasDistinctRowids (db.trees k)) (sym (at_its_tree w of at n s)) (record { keyed = rows.keyed; apart = rows.apart });
   }

@@ -9,21 +9,21 @@ use Rattle.sqlite_schema.specs.Names.{table_named}
 use Rattle.sqlite.specs.Effect.{Database}
 use Rattle.brk_model.specs.Schemas.{Schema, third_schema}
 use Rattle.brk_model.specs.Tables.{Tables}
-use Rattle.brk_model.specs.Form.{has_form, has_texts}
-use Rattle.brk_sql.specs.Desk.{Stands}
+use Rattle.brk_model.specs.Form.{satisfies_form_condition, has_utf8_texts}
+use Rattle.brk_sql.specs.Desk.{IsTableAt}
 use Rattle.brk_changes.specs.declared.schema.Schema as known
 use Rattle.brk_changes.specs.declared.schema.Schema.TheVariants.{First, Second, Third}
-use Rattle.brk_changes.specs.Schemas.{schema_of}
+use Rattle.brk_changes.specs.Schemas.{abstract_schema}
 use Rattle.brk_changes.specs.declared.sheets.Sheets.{Sheets}
 use Rattle.brk_changes.specs.Sheets.{tables_in_sheets}
-use Rattle.brk_tables_schema.specs.Desk.{Which, all_tables, encode, has_table, list_in, shape, tables_in, name_of}
-use Rattle.brk_tables_schema.specs.Made.{HasRowsIn, IsOf}
+use Rattle.brk_tables_schema.specs.Desk.{Which, all_tables, encode, has_table, rows_in_schema, shape, tables_in_schema, table_name}
+use Rattle.brk_tables_schema.specs.Made.{HasRowsInSchema, IsTableOfSchema}
 use Rattle.brk_tables_schema.proofs.Which.{all_listed}
-use Rattle.brk_tables_create.specs.Made.{later_than}
-use Rattle.brk_tables_scan.specs.Schemas.{HasDesk, HasTable, IsDefinedAs, IsMadeAlike, names_of}
-use Rattle.brk_tables_scan.specs.Whole.{ShowsIf}
-use Rattle.brk_tables_scan.specs.Raw.{raw_rows}
-use Rattle.brk_tables_scan.specs.Decoded.{AreSheets, formed}
+use Rattle.brk_tables_create.specs.Made.{tables_added_after}
+use Rattle.brk_tables_scan.specs.Schemas.{HasDesk, HasTableWithNames, SchemaNamesImplyDefinitions, HasDeskDefinitions, table_names_of}
+use Rattle.brk_tables_scan.specs.Whole.{ShowsRowsIfPresent}
+use Rattle.brk_tables_scan.specs.Raw.{raw_rows_of_table}
+use Rattle.brk_tables_scan.specs.Decoded.{DecodesSheets, are_raw_sheets_well_formed}
 use Rattle.brk_tables_scan.specs.declared.raw.RawSheets.{RawSheets}
 use Rattle.brk_tables_scan.proofs.FormedTables.{tables_formed}
 use Rattle.brk_tables_scan.proofs.Listed.{same_name_at}
@@ -33,11 +33,11 @@ pub unshown : {X : Type 0} (f : X → Row) (xs : List X) → map f xs ≡ [] →
 unshown f [] e = refl
 unshown f (x ∷ xs) e = absurd (let g = e in cc)
 
-module _ (desk : Schema) (db : Database) (has : HasDesk desk db) (defined : IsDefinedAs desk db) where
-  pub table_of : (w : Which) → IsOf desk w → HasTable db.schema (names_of (shape w 0))
-  table_of w of = all_has (λ w. HasTable db.schema (names_of (shape w 0))) (tables_in desk) w has.tables (has_kept (has_table desk) all_tables w (all_listed w) of)
+module _ (desk : Schema) (db : Database) (has : HasDesk desk db) (defined : SchemaNamesImplyDefinitions desk db) where
+  pub table_of : (w : Which) → IsTableOfSchema desk w → HasTableWithNames db.schema (table_names_of (shape w 0))
+  table_of w of = all_has (λ w. HasTableWithNames db.schema (table_names_of (shape w 0))) (tables_in_schema desk) w has.tables (has_kept (has_table desk) all_tables w (all_listed w) of)
 
-  alike : IsMadeAlike desk db
+  alike : HasDeskDefinitions desk db
   alike = defined has.tables
 
   -- where a table stands, if the schema has it
@@ -55,7 +55,7 @@ module _ (desk : Schema) (db : Database) (has : HasDesk desk db) (defined : IsDe
   abbrev pub place : Which → ℕ
   place w = place_if w (has_table desk w) refl
 
-  stood : (w : Which) (b : Bool) (e : has_table desk w ≡ b) → b ≡ true → Stands db.schema (shape w (tree_if w b e)) (place_if w b e)
+  stood : (w : Which) (b : Bool) (e : has_table desk w ≡ b) → b ≡ true → IsTableAt db.schema (shape w (tree_if w b e)) (place_if w b e)
   stood w true of sure =
       let t = table_of w of in
       record {
@@ -64,47 +64,47 @@ module _ (desk : Schema) (db : Database) (has : HasDesk desk db) (defined : IsDe
       }
   stood w false lacks sure = absurd (let f = sure in cc)
 
-  pub stands : (w : Which) → IsOf desk w → Stands db.schema (shape w (tree w)) (place w)
+  pub stands : (w : Which) → IsTableOfSchema desk w → IsTableAt db.schema (shape w (tree w)) (place w)
   stands w of = stood w (has_table desk w) refl of
 
   -- what was read is what the tables hold
-  pub rows_read : (raw : RawSheets) → ((w : Which) → ShowsIf desk w (raw_rows raw w) db) → (sheets : Sheets) → AreSheets desk sheets raw → HasRowsIn desk (tables_in_sheets sheets) db
+  pub rows_read : (raw : RawSheets) → ((w : Which) → ShowsRowsIfPresent desk w (raw_rows_of_table raw w) db) → (sheets : Sheets) → DecodesSheets desk sheets raw → HasRowsInSchema desk (tables_in_sheets sheets) db
   rows_read raw shown sheets are = (
     tree,
     record {
       place = place;
       stands = stands;
-      apart = λ v w a b same. alike.apart v w a b (place v) (place w) (tree v) (stands v a) (subst (λ n. Stands db.schema (shape w n) (place w)) (sym same) (stands w b));
+      apart = λ v w a b same. alike.apart v w a b (place v) (place w) (tree v) (stands v a) (subst (λ n. IsTableAt db.schema (shape w n) (place w)) (sym same) (stands w b));
       calm = λ w of. alike.calm w of (place w) (tree w) (stands w of);
       sound = alike.sound;
-      rows = λ w of. ((shown w).0 of (place w) (tree w) (stands w of)).held (list_in desk w (tables_in_sheets sheets)) alike.sound (alike.keyed w of (place w) (tree w) (stands w of)) (are w);
+      rows = λ w of. ((shown w).0 of (place w) (tree w) (stands w of)).held (rows_in_schema desk w (tables_in_sheets sheets)) alike.sound (alike.keyed w of (place w) (tree w) (stands w of)) (are w);
     },
     λ w lacks. (
-      all_has (λ w. table_named db.schema (name_of w) ≡ None) (later_than desk) w has.later (has_kept (λ w. not (has_table desk w)) all_tables w (all_listed w) (ap not lacks)),
-      unshown (encode w) (list_in desk w (tables_in_sheets sheets)) (are w ∙ (shown w).1 lacks),
+      all_has (λ w. table_named db.schema (table_name w) ≡ None) (tables_added_after desk) w has.later (has_kept (λ w. not (has_table desk w)) all_tables w (all_listed w) (ap not lacks)),
+      unshown (encode w) (rows_in_schema desk w (tables_in_sheets sheets)) (are w ∙ (shown w).1 lacks),
     ),
   )
 
 -- the rows of tables are those that are shown, also where the schema lacks the table
-rows_shown : (desk : Schema) (db : Database) (raw : RawSheets) → ((w : Which) → ShowsIf desk w (raw_rows raw w) db) → (t : Tables) → HasRowsIn desk t db → (w : Which) → raw_rows raw w ≡ map (encode w) (list_in desk w t)
+rows_shown : (desk : Schema) (db : Database) (raw : RawSheets) → ((w : Which) → ShowsRowsIfPresent desk w (raw_rows_of_table raw w) db) → (t : Tables) → HasRowsInSchema desk t db → (w : Which) → raw_rows_of_table raw w ≡ map (encode w) (rows_in_schema desk w t)
 rows_shown desk db raw shown t h w = by_test (has_table desk w) refl
   where
-    by_test : (b : Bool) → has_table desk w ≡ b → raw_rows raw w ≡ map (encode w) (list_in desk w t)
-    by_test true of = ((shown w).0 of (h.1.place w) (h.0 w) (h.1.stands w of)).told (list_in desk w t) (h.1.rows w of)
+    by_test : (b : Bool) → has_table desk w ≡ b → raw_rows_of_table raw w ≡ map (encode w) (rows_in_schema desk w t)
+    by_test true of = ((shown w).0 of (h.1.place w) (h.0 w) (h.1.stands w of)).told (rows_in_schema desk w t) (h.1.rows w of)
     by_test false lacks = (shown w).1 lacks ∙ sym (ap (map (encode w)) (h.2 w lacks).1)
 
 -- no tables in form have rows of which one has no form
-pub none_in_form : (desk : Schema) → desk.greatest_qty ≤ third_schema.greatest_qty → (db : Database) (raw : RawSheets) → ((w : Which) → ShowsIf desk w (raw_rows raw w) db) → formed desk raw ≡ false → (t : Tables) → HasRowsIn desk t db → has_form desk t && has_texts t ≡ false
-none_in_form desk narrow db raw shown unformed t h = elim (cases_Bool (has_form desk t && has_texts t)) [
+pub none_in_form : (desk : Schema) → desk.greatest_qty ≤ third_schema.greatest_qty → (db : Database) (raw : RawSheets) → ((w : Which) → ShowsRowsIfPresent desk w (raw_rows_of_table raw w) db) → are_raw_sheets_well_formed desk raw ≡ false → (t : Tables) → HasRowsInSchema desk t db → satisfies_form_condition desk t && has_utf8_texts t ≡ false
+none_in_form desk narrow db raw shown unformed t h = elim (cases_Bool (satisfies_form_condition desk t && has_utf8_texts t)) [
   | inl e ↦
-      let p = and_parts (has_form desk t) (has_texts t) e in
+      let p = and_parts (satisfies_form_condition desk t) (has_utf8_texts t) e in
       let sure = tables_formed desk narrow t raw (rows_shown desk db raw shown t h) p.0 p.1 in
       absurd (let clash = sym sure ∙ unformed in cc)
   | inr e ↦ e
 ]
 
 -- each schema has narrower limits than the third, or the same
-pub narrower : (schema : known.Schema) → (schema_of schema).greatest_qty ≤ third_schema.greatest_qty
+pub narrower : (schema : known.Schema) → (abstract_schema schema).greatest_qty ≤ third_schema.greatest_qty
 narrower First = omega arith
 narrower Second = omega arith
 narrower Third = omega arith

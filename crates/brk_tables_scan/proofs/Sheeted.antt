@@ -2,12 +2,12 @@
 use Rattle.std.proofs.Common.{◌∙◌}
 use Rattle.brk_sql.proofs.Order.{map_twice}
 use Rattle.brk_model.specs.Schemas.{Schema}
-use Rattle.brk_ref.specs.Records.{kept_of, broker_row_of, customer_of, account_row_of, permission_of, security_of, last_trade_of, charge_of, band_of, tax_of, customer_tax_of}
-use Rattle.brk_changes.specs.Rows.{trade_row_of, history_row_of, request_row_of, holding_row_of, summary_row_of, lot_change_of, settlement_row_of, cash_row_of, move_row_of}
+use Rattle.brk_ref.specs.Records.{abstract_kept_row, abstract_broker_row, abstract_customer, abstract_account_row, abstract_permission, abstract_security_row, abstract_last_trade_row, abstract_charge, abstract_band, abstract_tax_rate, abstract_customer_tax}
+use Rattle.brk_changes.specs.Rows.{abstract_trade_row, abstract_history_row, abstract_request_row, abstract_holding_row, abstract_summary_row, abstract_lot_change_row, abstract_settlement_row, abstract_cash_row, abstract_move_row}
 use Rattle.brk_changes.specs.declared.sheets.Sheets.{Sheets}
 use Rattle.brk_tables_schema.specs.Cells.{kept_cells, broker_cells, customer_cells, account_cells, permission_cells, security_cells, last_trade_cells, charge_cells, band_cells, tax_rate_cells, customer_tax_cells, trade_cells, history_cells, request_cells, holding_cells, summary_cells, holding_history_cells, settlement_cells, cash_cells, move_cells}
 use Rattle.brk_tables_schema.specs.Desk.{TheDesk, KeptRows, Brokers, Customers, Accounts, Permissions, Securities, LastTrades, Charges, Bands, TaxRates, CustomerTaxes, Trades, TradeHistory, Requests, Holdings, Summaries, HoldingHistory, Settlements, CashRows, CashMoves, SettleRules}
-use Rattle.brk_tables_scan.specs.Decoded.{AreSheets, IsFirst, IsAccount, IsRate, IsTrade, IsLast, IsLater}
+use Rattle.brk_tables_scan.specs.Decoded.{DecodesSheets, DecodesFirstTables, DecodesAccountTables, DecodesRateTables, DecodesTradeTables, DecodesLastTables, DecodesLaterTables}
 use Rattle.brk_tables_scan.specs.declared.raw.RawSheets.{RawSheets}
 use Rattle.brk_tables_scan.specs.declared.decoding.FirstSheets.{FirstSheets}
 use Rattle.brk_tables_scan.specs.declared.decoding.AccountSheets.{AccountSheets}
@@ -16,30 +16,30 @@ use Rattle.brk_tables_scan.specs.declared.decoding.TradeSheets.{TradeSheets}
 use Rattle.brk_tables_scan.specs.declared.decoding.LastSheets.{LastSheets}
 use Rattle.brk_tables_scan.specs.declared.decoding.LaterSheets.{LaterSheets}
 
-module _ (f : FirstSheets) (a : AccountSheets) (r : RateSheets) (t : TradeSheets) (l : LastSheets) (n : LaterSheets) (desk : Schema) (raw : RawSheets) (is_f : IsFirst desk f raw.first) (is_a : IsAccount a raw.accounts) (is_r : IsRate r raw.rates) (is_t : IsTrade t raw.trades) (is_l : IsLast l raw.last) (is_n : IsLater n raw.later) where
+module _ (f : FirstSheets) (a : AccountSheets) (r : RateSheets) (t : TradeSheets) (l : LastSheets) (n : LaterSheets) (desk : Schema) (raw : RawSheets) (is_f : DecodesFirstTables desk f raw.first) (is_a : DecodesAccountTables a raw.accounts) (is_r : DecodesRateTables r raw.rates) (is_t : DecodesTradeTables t raw.trades) (is_l : DecodesLastTables l raw.last) (is_n : DecodesLaterTables n raw.later) where
   abbrev pub sheets : Sheets
   sheets = record { last = f.last; kept = f.kept; brokers = f.brokers; customers = f.customers; accounts = a.accounts; permissions = a.permissions; securities = a.securities; last_trades = a.last_trades; charges = r.charges; bands = r.bands; tax_rates = r.tax_rates; customer_taxes = r.customer_taxes; trades = t.trades; history = t.history; requests = t.requests; holdings = t.holdings; summaries = l.summaries; holding_history = l.holding_history; settlements = l.settlements; cash = l.cash; moves = n.moves; rule = n.rule }
 
-  pub are_sheets : AreSheets desk sheets raw
+  pub are_sheets : DecodesSheets desk sheets raw
   are_sheets TheDesk = is_f.desk
-  are_sheets KeptRows = map_twice kept_cells kept_of f.kept.items ∙ is_f.kept
-  are_sheets Brokers = map_twice broker_cells broker_row_of f.brokers.items ∙ is_f.brokers
-  are_sheets Customers = map_twice customer_cells customer_of f.customers.items ∙ is_f.customers
-  are_sheets Accounts = map_twice account_cells account_row_of a.accounts.items ∙ is_a.accounts
-  are_sheets Permissions = map_twice permission_cells permission_of a.permissions.items ∙ is_a.permissions
-  are_sheets Securities = map_twice security_cells security_of a.securities.items ∙ is_a.securities
-  are_sheets LastTrades = map_twice last_trade_cells last_trade_of a.last_trades.items ∙ is_a.last_trades
-  are_sheets Charges = map_twice charge_cells charge_of r.charges.items ∙ is_r.charges
-  are_sheets Bands = map_twice band_cells band_of r.bands.items ∙ is_r.bands
-  are_sheets TaxRates = map_twice tax_rate_cells tax_of r.tax_rates.items ∙ is_r.tax_rates
-  are_sheets CustomerTaxes = map_twice customer_tax_cells customer_tax_of r.customer_taxes.items ∙ is_r.customer_taxes
-  are_sheets Trades = map_twice trade_cells trade_row_of t.trades.items ∙ is_t.trades
-  are_sheets TradeHistory = map_twice history_cells history_row_of t.history.items ∙ is_t.history
-  are_sheets Requests = map_twice request_cells request_row_of t.requests.items ∙ is_t.requests
-  are_sheets Holdings = map_twice holding_cells holding_row_of t.holdings.items ∙ is_t.holdings
-  are_sheets Summaries = map_twice summary_cells summary_row_of l.summaries.items ∙ is_l.summaries
-  are_sheets HoldingHistory = map_twice holding_history_cells lot_change_of l.holding_history.items ∙ is_l.holding_history
-  are_sheets Settlements = map_twice settlement_cells settlement_row_of l.settlements.items ∙ is_l.settlements
-  are_sheets CashRows = map_twice cash_cells cash_row_of l.cash.items ∙ is_l.cash
-  are_sheets CashMoves = map_twice move_cells move_row_of n.moves.items ∙ is_n.moves
+  are_sheets KeptRows = map_twice kept_cells abstract_kept_row f.kept.items ∙ is_f.kept
+  are_sheets Brokers = map_twice broker_cells abstract_broker_row f.brokers.items ∙ is_f.brokers
+  are_sheets Customers = map_twice customer_cells abstract_customer f.customers.items ∙ is_f.customers
+  are_sheets Accounts = map_twice account_cells abstract_account_row a.accounts.items ∙ is_a.accounts
+  are_sheets Permissions = map_twice permission_cells abstract_permission a.permissions.items ∙ is_a.permissions
+  are_sheets Securities = map_twice security_cells abstract_security_row a.securities.items ∙ is_a.securities
+  are_sheets LastTrades = map_twice last_trade_cells abstract_last_trade_row a.last_trades.items ∙ is_a.last_trades
+  are_sheets Charges = map_twice charge_cells abstract_charge r.charges.items ∙ is_r.charges
+  are_sheets Bands = map_twice band_cells abstract_band r.bands.items ∙ is_r.bands
+  are_sheets TaxRates = map_twice tax_rate_cells abstract_tax_rate r.tax_rates.items ∙ is_r.tax_rates
+  are_sheets CustomerTaxes = map_twice customer_tax_cells abstract_customer_tax r.customer_taxes.items ∙ is_r.customer_taxes
+  are_sheets Trades = map_twice trade_cells abstract_trade_row t.trades.items ∙ is_t.trades
+  are_sheets TradeHistory = map_twice history_cells abstract_history_row t.history.items ∙ is_t.history
+  are_sheets Requests = map_twice request_cells abstract_request_row t.requests.items ∙ is_t.requests
+  are_sheets Holdings = map_twice holding_cells abstract_holding_row t.holdings.items ∙ is_t.holdings
+  are_sheets Summaries = map_twice summary_cells abstract_summary_row l.summaries.items ∙ is_l.summaries
+  are_sheets HoldingHistory = map_twice holding_history_cells abstract_lot_change_row l.holding_history.items ∙ is_l.holding_history
+  are_sheets Settlements = map_twice settlement_cells abstract_settlement_row l.settlements.items ∙ is_l.settlements
+  are_sheets CashRows = map_twice cash_cells abstract_cash_row l.cash.items ∙ is_l.cash
+  are_sheets CashMoves = map_twice move_cells abstract_move_row n.moves.items ∙ is_n.moves
   are_sheets SettleRules = is_n.rule

@@ -2,28 +2,28 @@
 use Rattle.std.specs.Prelude.{◌≡◌, ◌⊎◌, ℕ, List, [], ◌∷◌, ◌++◌, codes, map, Bool, true, false}
 use Rattle.std.specs.Borrow.{Bor}
 use Rattle.sqlite_schema.specs.declared.schema.Schema.{Schema}
-use Rattle.brk_sql.specs.Desk.{Heads}
-use Rattle.brk_tables_schema.specs.Desk.{Which, name_of, shape}
-use Rattle.brk_tables_scan.specs.Schemas.{names_of}
+use Rattle.brk_sql.specs.Desk.{MatchesResultColumns}
+use Rattle.brk_tables_schema.specs.Desk.{Which, table_name, shape}
+use Rattle.brk_tables_scan.specs.Schemas.{table_names_of}
 
 -- A statement and the column names that its result is to have.
 abbrev pub Heading : Type 0
 Heading = List ℕ × List (List ℕ)
 
 -- The heading of a text and of names that are borrowed.
-abbrev pub heading : Bor (List ℕ) × Bor (List (Bor (List ℕ))) → Heading
-heading told = (told.0.now, map (λ (name : Bor (List ℕ)). name.now) told.1.now)
+abbrev pub borrowed_heading : Bor (List ℕ) × Bor (List (Bor (List ℕ))) → Heading
+borrowed_heading told = (told.0.now, map (λ (name : Bor (List ℕ)). name.now) told.1.now)
 
 -- The text `SELECT * FROM` with the name of the table.
-abbrev pub star : Which → List ℕ
-star w = codes "SELECT * FROM " ++ name_of w
+abbrev pub select_all_text : Which → List ℕ
+select_all_text w = codes "SELECT * FROM " ++ table_name w
 
 -- The statement that selects all columns of a table, and the names of these columns, in order.
-abbrev pub heading_of : Which → Heading
-heading_of w = (star w, (names_of (shape w 0)).columns)
+abbrev pub heading_of_table : Which → Heading
+heading_of_table w = (select_all_text w, (table_names_of (shape w 0)).columns)
 
 -- If `has` is true, the result of each statement has exactly the column names of its heading, in
 -- order. If it is false, the result of one statement has not.
-abbrev pub HeadsEach : List Heading → Bool → Schema → Type 0
-HeadsEach [] has schema = has ≡ true
-HeadsEach (h ∷ headings) has schema = (Heads h.0 h.1 false schema × (has ≡ false)) ⊎ (Heads h.0 h.1 true schema × HeadsEach headings has schema)
+abbrev pub MatchesEachHeading : List Heading → Bool → Schema → Type 0
+MatchesEachHeading [] has schema = has ≡ true
+MatchesEachHeading (h ∷ headings) has schema = (MatchesResultColumns h.0 h.1 false schema × (has ≡ false)) ⊎ (MatchesResultColumns h.0 h.1 true schema × MatchesEachHeading headings has schema)

@@ -2,31 +2,31 @@
 
 ghost use Rattle.std.specs.Prelude.{◌≡◌, ◌↔◌, map, Err, OnErr, IsTrue};
 ghost use Rattle.brk_money.specs.declared.fault.Fault.TheVariants.{Store};
-ghost use Rattle.brk_sql.specs.Model.{Steps};
-ghost use Rattle.brk_tables_scan.specs.Headings.{HeadsEach, heading, heading_of};
-ghost use Rattle.brk_changes.specs.Schemas.{schema_of};
-ghost use Rattle.brk_tables_schema.specs.Desk.{tables_in};
-ghost use Rattle.brk_tables_scan.specs.Schemas.{HasTablesOf, LacksLater};
+ghost use Rattle.brk_sql.specs.Model.{IsConnectionStep};
+ghost use Rattle.brk_tables_scan.specs.Headings.{MatchesEachHeading, borrowed_heading, heading_of_table};
+ghost use Rattle.brk_changes.specs.Schemas.{abstract_schema};
+ghost use Rattle.brk_tables_schema.specs.Desk.{tables_in_schema};
+ghost use Rattle.brk_tables_scan.specs.Schemas.{HasTablesOfSchema, LacksLaterTables};
 
 use crate::column_names::{IN_FIRST, IN_SECOND, IN_THIRD};
 use brk_changes::Schema;
 use brk_money::Fault;
 use brk_tables_create::has_tables_of;
-use brk_tables_schema::calls::shows_columns;
+use brk_tables_schema::calls::statement_has_columns;
 use sqlite::{Alter, Transaction};
 
 // Returns true if the result of each statement has exactly its column names, in order. Fails with
 // `Store` only.
-fn each_shows<S: Alter>(
+fn each_heading_matches<S: Alter>(
     tx: &mut Transaction<'_, S>,
     headings: &[(&str, &[&str])],
 ) -> Result<bool, Fault>
     ensures same_reference { tx.new.conn.ghost_name ≡ tx.old.conn.ghost_name }
-    ensures step { Steps S.Store tx.old tx.new result (λ has a b. (b.now ≡ a.now) × HeadsEach (map heading headings.now) has a.now.schema) }
+    ensures step { IsConnectionStep S.Store tx.old tx.new result (λ has a b. (b.now ≡ a.now) × MatchesEachHeading (map borrowed_heading headings.now) has a.now.schema) }
     ensures fault { OnErr result (result ≡ Err Store) }
 {
     for (text, names) in headings {
-        if !shows_columns(tx, text, names)? {
+        if !statement_has_columns(tx, text, names)? {
             return Ok(false);
         }
     }
@@ -35,27 +35,30 @@ fn each_shows<S: Alter>(
 
 // Returns true if each table of a schema has exactly its columns, in order. Fails with `Store`
 // only.
-fn shows_columns_of<S: Alter>(tx: &mut Transaction<'_, S>, schema: Schema) -> Result<bool, Fault>
+fn tables_have_columns<S: Alter>(tx: &mut Transaction<'_, S>, schema: Schema) -> Result<bool, Fault>
     ensures same_reference { tx.new.conn.ghost_name ≡ tx.old.conn.ghost_name }
-    ensures step { Steps S.Store tx.old tx.new result (λ has a b. (b.now ≡ a.now) × HeadsEach (map heading_of (tables_in (schema_of schema))) has a.now.schema) }
+    ensures step { IsConnectionStep S.Store tx.old tx.new result (λ has a b. (b.now ≡ a.now) × MatchesEachHeading (map heading_of_table (tables_in_schema (abstract_schema schema))) has a.now.schema) }
     ensures fault { OnErr result (result ≡ Err Store) }
 {
     match schema {
-        Schema::First => each_shows(tx, &IN_FIRST),
-        Schema::Second => each_shows(tx, &IN_SECOND),
-        Schema::Third => each_shows(tx, &IN_THIRD),
+        Schema::First => each_heading_matches(tx, &IN_FIRST),
+        Schema::Second => each_heading_matches(tx, &IN_SECOND),
+        Schema::Third => each_heading_matches(tx, &IN_THIRD),
     }
 }
 
 /// Returns true if each table of `schema` exists with exactly its columns, in order, and none that
 /// a later schema adds. Assumes nothing of the tables that exist. Fails with `Store` only.
-pub fn has_tables<S: Alter>(tx: &mut Transaction<'_, S>, schema: Schema) -> Result<bool, Fault>
+pub fn has_exact_tables<S: Alter>(
+    tx: &mut Transaction<'_, S>,
+    schema: Schema,
+) -> Result<bool, Fault>
     ensures same_reference { tx.new.conn.ghost_name ≡ tx.old.conn.ghost_name }
-    ensures step { Steps S.Store tx.old tx.new result (λ has a b. IsTrue a.is_open × (b.now ≡ a.now) × (IsTrue has ↔ HasTablesOf (schema_of schema) a.now.schema × LacksLater (schema_of schema) a.now.schema)) }
+    ensures step { IsConnectionStep S.Store tx.old tx.new result (λ has a b. IsTrue a.is_open × (b.now ≡ a.now) × (IsTrue has ↔ HasTablesOfSchema (abstract_schema schema) a.now.schema × LacksLaterTables (abstract_schema schema) a.now.schema)) }
     ensures fault { OnErr result (result ≡ Err Store) }
 {
     if !has_tables_of(tx, schema)? {
         return Ok(false);
     }
-    shows_columns_of(tx, schema)
+    tables_have_columns(tx, schema)
 }

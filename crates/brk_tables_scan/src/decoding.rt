@@ -2,8 +2,8 @@
 
 ghost use Rattle.std.specs.Prelude.{◌≡◌, Err, IfOk, false};
 ghost use Rattle.brk_tables_schema.specs.declared.decode_error.DecodeError.TheVariants.{Form as Formless};
-ghost use Rattle.brk_tables_scan.specs.Decoded.{AreSheets, IsFirst, IsAccount, IsRate, IsTrade, IsLast, IsLater, formed, formed_first, formed_accounts, formed_rates, formed_trades, formed_last, formed_later};
-ghost use Rattle.brk_changes.specs.Schemas.{schema_of};
+ghost use Rattle.brk_tables_scan.specs.Decoded.{DecodesSheets, DecodesFirstTables, DecodesAccountTables, DecodesRateTables, DecodesTradeTables, DecodesLastTables, DecodesLaterTables, are_raw_sheets_well_formed, are_first_well_formed, are_accounts_well_formed, are_rates_well_formed, are_trades_well_formed, are_last_well_formed, are_later_well_formed};
+ghost use Rattle.brk_changes.specs.Schemas.{abstract_schema};
 
 use crate::raw::{AccountRows, FirstRows, LastRows, LaterRows, RateRows, RawSheets, TradeRows};
 use brk_changes::{
@@ -16,8 +16,8 @@ use brk_ref::{
     Security, Tax,
 };
 use brk_tables_schema::DecodeError;
-use brk_tables_schema::desk_row::stamp_in_rows;
-use brk_tables_schema::record::all_records;
+use brk_tables_schema::desk_row::last_stamp_in_rows;
+use brk_tables_schema::record::decode_records;
 use brk_tables_schema::rule_row::day_in_rows;
 use std::alloc::Global;
 
@@ -32,15 +32,19 @@ pub struct FirstSheets {
 // Decodes the rows of DESK, KEPT, BROKER and CUSTOMER. Fails with `Form` only if one is malformed,
 // or with `Memory`.
 #[tactic(auto, using(crate::proofs::Formless::first_fails, crate::proofs::Formless::last_fails))]
-fn decode_first(alloc: Global, schema: Schema, raw: &FirstRows) -> Result<FirstSheets, DecodeError>
-    ensures value { IfOk result (λ sheets. IsFirst (schema_of schema) sheets raw.now) }
-    ensures form { result ≡ Err Formless → formed_first (schema_of schema) raw.now ≡ false }
+fn decode_first_tables(
+    alloc: Global,
+    schema: Schema,
+    raw: &FirstRows,
+) -> Result<FirstSheets, DecodeError>
+    ensures value { IfOk result (λ sheets. DecodesFirstTables (abstract_schema schema) sheets raw.now) }
+    ensures form { result ≡ Err Formless → are_first_well_formed (abstract_schema schema) raw.now ≡ false }
 {
     Ok(FirstSheets {
-        last: stamp_in_rows(schema, &raw.desk)?,
-        kept: all_records(alloc, &raw.kept)?,
-        brokers: all_records(alloc, &raw.brokers)?,
-        customers: all_records(alloc, &raw.customers)?,
+        last: last_stamp_in_rows(schema, &raw.desk)?,
+        kept: decode_records(alloc, &raw.kept)?,
+        brokers: decode_records(alloc, &raw.brokers)?,
+        customers: decode_records(alloc, &raw.customers)?,
     })
 }
 
@@ -56,14 +60,14 @@ pub struct AccountSheets {
 // `Form` only if one is malformed, or with `Memory`.
 #[tactic(auto, using(crate::proofs::Formless::first_fails, crate::proofs::Formless::last_fails))]
 fn decode_accounts(alloc: Global, raw: &AccountRows) -> Result<AccountSheets, DecodeError>
-    ensures value { IfOk result (λ sheets. IsAccount sheets raw.now) }
-    ensures form { result ≡ Err Formless → formed_accounts raw.now ≡ false }
+    ensures value { IfOk result (λ sheets. DecodesAccountTables sheets raw.now) }
+    ensures form { result ≡ Err Formless → are_accounts_well_formed raw.now ≡ false }
 {
     Ok(AccountSheets {
-        accounts: all_records(alloc, &raw.accounts)?,
-        permissions: all_records(alloc, &raw.permissions)?,
-        securities: all_records(alloc, &raw.securities)?,
-        last_trades: all_records(alloc, &raw.last_trades)?,
+        accounts: decode_records(alloc, &raw.accounts)?,
+        permissions: decode_records(alloc, &raw.permissions)?,
+        securities: decode_records(alloc, &raw.securities)?,
+        last_trades: decode_records(alloc, &raw.last_trades)?,
     })
 }
 
@@ -79,14 +83,14 @@ pub struct RateSheets {
 // if one is malformed, or with `Memory`.
 #[tactic(auto, using(crate::proofs::Formless::first_fails, crate::proofs::Formless::last_fails))]
 fn decode_rates(alloc: Global, raw: &RateRows) -> Result<RateSheets, DecodeError>
-    ensures value { IfOk result (λ sheets. IsRate sheets raw.now) }
-    ensures form { result ≡ Err Formless → formed_rates raw.now ≡ false }
+    ensures value { IfOk result (λ sheets. DecodesRateTables sheets raw.now) }
+    ensures form { result ≡ Err Formless → are_rates_well_formed raw.now ≡ false }
 {
     Ok(RateSheets {
-        charges: all_records(alloc, &raw.charges)?,
-        bands: all_records(alloc, &raw.bands)?,
-        tax_rates: all_records(alloc, &raw.tax_rates)?,
-        customer_taxes: all_records(alloc, &raw.customer_taxes)?,
+        charges: decode_records(alloc, &raw.charges)?,
+        bands: decode_records(alloc, &raw.bands)?,
+        tax_rates: decode_records(alloc, &raw.tax_rates)?,
+        customer_taxes: decode_records(alloc, &raw.customer_taxes)?,
     })
 }
 
@@ -102,14 +106,14 @@ pub struct TradeSheets {
 // one is malformed, or with `Memory`.
 #[tactic(auto, using(crate::proofs::Formless::first_fails, crate::proofs::Formless::last_fails))]
 fn decode_trades(alloc: Global, raw: &TradeRows) -> Result<TradeSheets, DecodeError>
-    ensures value { IfOk result (λ sheets. IsTrade sheets raw.now) }
-    ensures form { result ≡ Err Formless → formed_trades raw.now ≡ false }
+    ensures value { IfOk result (λ sheets. DecodesTradeTables sheets raw.now) }
+    ensures form { result ≡ Err Formless → are_trades_well_formed raw.now ≡ false }
 {
     Ok(TradeSheets {
-        trades: all_records(alloc, &raw.trades)?,
-        history: all_records(alloc, &raw.history)?,
-        requests: all_records(alloc, &raw.requests)?,
-        holdings: all_records(alloc, &raw.holdings)?,
+        trades: decode_records(alloc, &raw.trades)?,
+        history: decode_records(alloc, &raw.history)?,
+        requests: decode_records(alloc, &raw.requests)?,
+        holdings: decode_records(alloc, &raw.holdings)?,
     })
 }
 
@@ -124,15 +128,15 @@ pub struct LastSheets {
 // Decodes the rows of HOLDING_SUMMARY, HOLDING_HISTORY, SETTLEMENT and CASH_TRANSACTION. Fails with
 // `Form` only if one is malformed, or with `Memory`.
 #[tactic(auto, using(crate::proofs::Formless::first_fails, crate::proofs::Formless::last_fails))]
-fn decode_last(alloc: Global, raw: &LastRows) -> Result<LastSheets, DecodeError>
-    ensures value { IfOk result (λ sheets. IsLast sheets raw.now) }
-    ensures form { result ≡ Err Formless → formed_last raw.now ≡ false }
+fn decode_last_tables(alloc: Global, raw: &LastRows) -> Result<LastSheets, DecodeError>
+    ensures value { IfOk result (λ sheets. DecodesLastTables sheets raw.now) }
+    ensures form { result ≡ Err Formless → are_last_well_formed raw.now ≡ false }
 {
     Ok(LastSheets {
-        summaries: all_records(alloc, &raw.summaries)?,
-        holding_history: all_records(alloc, &raw.holding_history)?,
-        settlements: all_records(alloc, &raw.settlements)?,
-        cash: all_records(alloc, &raw.cash)?,
+        summaries: decode_records(alloc, &raw.summaries)?,
+        holding_history: decode_records(alloc, &raw.holding_history)?,
+        settlements: decode_records(alloc, &raw.settlements)?,
+        cash: decode_records(alloc, &raw.cash)?,
     })
 }
 
@@ -145,27 +149,27 @@ pub struct LaterSheets {
 // Decodes the rows of CASH_MOVE and SETTLE_RULE. Fails with `Form` only if one is malformed, or
 // with `Memory`.
 #[tactic(auto, using(crate::proofs::Formless::first_fails, crate::proofs::Formless::last_fails))]
-fn decode_later(alloc: Global, raw: &LaterRows) -> Result<LaterSheets, DecodeError>
-    ensures value { IfOk result (λ sheets. IsLater sheets raw.now) }
-    ensures form { result ≡ Err Formless → formed_later raw.now ≡ false }
+fn decode_later_tables(alloc: Global, raw: &LaterRows) -> Result<LaterSheets, DecodeError>
+    ensures value { IfOk result (λ sheets. DecodesLaterTables sheets raw.now) }
+    ensures form { result ≡ Err Formless → are_later_well_formed raw.now ≡ false }
 {
     Ok(LaterSheets {
-        moves: all_records(alloc, &raw.moves)?,
+        moves: decode_records(alloc, &raw.moves)?,
         rule: day_in_rows(&raw.rule)?,
     })
 }
 
 /// Decodes the rows of all tables. Fails with `Form` only if a row is malformed, or with `Memory`.
-pub fn decode(alloc: Global, schema: Schema, raw: &RawSheets) -> Result<Sheets, DecodeError>
-    ensures value { IfOk result (λ sheets. AreSheets (schema_of schema) sheets raw.now) }
-    ensures form { result ≡ Err Formless → formed (schema_of schema) raw.now ≡ false }
+pub fn decode_sheets(alloc: Global, schema: Schema, raw: &RawSheets) -> Result<Sheets, DecodeError>
+    ensures value { IfOk result (λ sheets. DecodesSheets (abstract_schema schema) sheets raw.now) }
+    ensures form { result ≡ Err Formless → are_raw_sheets_well_formed (abstract_schema schema) raw.now ≡ false }
 {
-    let first = decode_first(alloc, schema, &raw.first)?;
+    let first = decode_first_tables(alloc, schema, &raw.first)?;
     let accounts = decode_accounts(alloc, &raw.accounts)?;
     let rates = decode_rates(alloc, &raw.rates)?;
     let trades = decode_trades(alloc, &raw.trades)?;
-    let last = decode_last(alloc, &raw.last)?;
-    let later = decode_later(alloc, &raw.later)?;
+    let last = decode_last_tables(alloc, &raw.last)?;
+    let later = decode_later_tables(alloc, &raw.later)?;
     Ok(Sheets {
         last: first.last,
         kept: first.kept,

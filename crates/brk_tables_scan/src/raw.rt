@@ -2,9 +2,9 @@
 
 ghost use Rattle.std.specs.Prelude.{◌≡◌, Err, OnErr};
 ghost use Rattle.brk_money.specs.declared.fault.Fault.TheVariants.{Store};
-ghost use Rattle.brk_sql.specs.Model.{Steps};
-ghost use Rattle.brk_tables_scan.specs.Raw.{ShowsFirst, ShowsAccount, ShowsRate, ShowsTrade, ShowsLast, ShowsLater, ShowsDesk};
-ghost use Rattle.brk_changes.specs.Schemas.{schema_of};
+ghost use Rattle.brk_sql.specs.Model.{IsConnectionStep};
+ghost use Rattle.brk_tables_scan.specs.Raw.{ShowsFirstTables, ShowsAccountTables, ShowsRateTables, ShowsTradeTables, ShowsLastTables, ShowsLaterTables, ShowsDeskTables};
+ghost use Rattle.brk_changes.specs.Schemas.{abstract_schema};
 
 use crate::rows::{
     account_rows, band_rows, broker_rows, cash_rows, charge_rows, customer_rows, customer_tax_rows,
@@ -81,9 +81,9 @@ pub struct RawSheets {
 }
 
 // Reads all rows of DESK, KEPT, BROKER and CUSTOMER. Fails with `Store` only.
-fn read_first<S: Alter>(tx: &mut Transaction<'_, S>) -> Result<FirstRows, Fault>
+fn read_first_tables<S: Alter>(tx: &mut Transaction<'_, S>) -> Result<FirstRows, Fault>
     ensures same_reference { tx.new.conn.ghost_name ≡ tx.old.conn.ghost_name }
-    ensures step { Steps S.Store tx.old tx.new result (λ raw. ShowsFirst raw) }
+    ensures step { IsConnectionStep S.Store tx.old tx.new result (λ raw. ShowsFirstTables raw) }
     ensures fault { OnErr result (result ≡ Err Store) }
 {
     Ok(FirstRows {
@@ -98,7 +98,7 @@ fn read_first<S: Alter>(tx: &mut Transaction<'_, S>) -> Result<FirstRows, Fault>
 // `Store` only.
 fn read_accounts<S: Alter>(tx: &mut Transaction<'_, S>) -> Result<AccountRows, Fault>
     ensures same_reference { tx.new.conn.ghost_name ≡ tx.old.conn.ghost_name }
-    ensures step { Steps S.Store tx.old tx.new result (λ raw. ShowsAccount raw) }
+    ensures step { IsConnectionStep S.Store tx.old tx.new result (λ raw. ShowsAccountTables raw) }
     ensures fault { OnErr result (result ≡ Err Store) }
 {
     Ok(AccountRows {
@@ -112,7 +112,7 @@ fn read_accounts<S: Alter>(tx: &mut Transaction<'_, S>) -> Result<AccountRows, F
 // Reads all rows of CHARGE, COMMISSION_RATE, TAXRATE and CUSTOMER_TAXRATE. Fails with `Store` only.
 fn read_rates<S: Alter>(tx: &mut Transaction<'_, S>) -> Result<RateRows, Fault>
     ensures same_reference { tx.new.conn.ghost_name ≡ tx.old.conn.ghost_name }
-    ensures step { Steps S.Store tx.old tx.new result (λ raw. ShowsRate raw) }
+    ensures step { IsConnectionStep S.Store tx.old tx.new result (λ raw. ShowsRateTables raw) }
     ensures fault { OnErr result (result ≡ Err Store) }
 {
     Ok(RateRows {
@@ -126,7 +126,7 @@ fn read_rates<S: Alter>(tx: &mut Transaction<'_, S>) -> Result<RateRows, Fault>
 // Reads all rows of TRADE, TRADE_HISTORY, TRADE_REQUEST and HOLDING. Fails with `Store` only.
 fn read_trades<S: Alter>(tx: &mut Transaction<'_, S>) -> Result<TradeRows, Fault>
     ensures same_reference { tx.new.conn.ghost_name ≡ tx.old.conn.ghost_name }
-    ensures step { Steps S.Store tx.old tx.new result (λ raw. ShowsTrade raw) }
+    ensures step { IsConnectionStep S.Store tx.old tx.new result (λ raw. ShowsTradeTables raw) }
     ensures fault { OnErr result (result ≡ Err Store) }
 {
     Ok(TradeRows {
@@ -139,9 +139,9 @@ fn read_trades<S: Alter>(tx: &mut Transaction<'_, S>) -> Result<TradeRows, Fault
 
 // Reads all rows of HOLDING_SUMMARY, HOLDING_HISTORY, SETTLEMENT and CASH_TRANSACTION. Fails with
 // `Store` only.
-fn read_last<S: Alter>(tx: &mut Transaction<'_, S>) -> Result<LastRows, Fault>
+fn read_last_tables<S: Alter>(tx: &mut Transaction<'_, S>) -> Result<LastRows, Fault>
     ensures same_reference { tx.new.conn.ghost_name ≡ tx.old.conn.ghost_name }
-    ensures step { Steps S.Store tx.old tx.new result (λ raw. ShowsLast raw) }
+    ensures step { IsConnectionStep S.Store tx.old tx.new result (λ raw. ShowsLastTables raw) }
     ensures fault { OnErr result (result ≡ Err Store) }
 {
     Ok(LastRows {
@@ -153,13 +153,13 @@ fn read_last<S: Alter>(tx: &mut Transaction<'_, S>) -> Result<LastRows, Fault>
 }
 
 // Reads all rows of CASH_MOVE and SETTLE_RULE. Fails with `Store` only.
-fn read_later<S: Alter>(
+fn read_later_tables<S: Alter>(
     tx: &mut Transaction<'_, S>,
     alloc: Global,
     schema: Schema,
 ) -> Result<LaterRows, Fault>
     ensures same_reference { tx.new.conn.ghost_name ≡ tx.old.conn.ghost_name }
-    ensures step { Steps S.Store tx.old tx.new result (λ raw. ShowsLater (schema_of schema) raw) }
+    ensures step { IsConnectionStep S.Store tx.old tx.new result (λ raw. ShowsLaterTables (abstract_schema schema) raw) }
     ensures fault { OnErr result (result ≡ Err Store) }
 {
     Ok(LaterRows {
@@ -170,21 +170,21 @@ fn read_later<S: Alter>(
 
 /// Reads all rows of the tables of `schema`, each list sorted by key. A table that it lacks has no
 /// rows. Fails with `Store` only.
-pub fn read_raw<S: Alter>(
+pub fn read_raw_sheets<S: Alter>(
     tx: &mut Transaction<'_, S>,
     alloc: Global,
     schema: Schema,
 ) -> Result<RawSheets, Fault>
     ensures same_reference { tx.new.conn.ghost_name ≡ tx.old.conn.ghost_name }
-    ensures step { Steps S.Store tx.old tx.new result (λ raw. ShowsDesk (schema_of schema) raw) }
+    ensures step { IsConnectionStep S.Store tx.old tx.new result (λ raw. ShowsDeskTables (abstract_schema schema) raw) }
     ensures fault { OnErr result (result ≡ Err Store) }
 {
     Ok(RawSheets {
-        first: read_first(tx)?,
+        first: read_first_tables(tx)?,
         accounts: read_accounts(tx)?,
         rates: read_rates(tx)?,
         trades: read_trades(tx)?,
-        last: read_last(tx)?,
-        later: read_later(tx, alloc, schema)?,
+        last: read_last_tables(tx)?,
+        later: read_later_tables(tx, alloc, schema)?,
     })
 }

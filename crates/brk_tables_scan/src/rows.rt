@@ -3,22 +3,22 @@
 ghost use Rattle.std.specs.Prelude.{◌≡◌, Err, OnErr};
 ghost use Rattle.brk_money.specs.declared.fault.Fault.TheVariants.{Store};
 ghost use Rattle.brk_tables_schema.specs.Desk.{TheDesk, KeptRows, Brokers, Customers, Accounts, Permissions, Securities, LastTrades, Charges, Bands, TaxRates, CustomerTaxes, Trades, TradeHistory, Requests, Holdings, Summaries, HoldingHistory, Settlements, CashRows, CashMoves, SettleRules};
-ghost use Rattle.brk_changes.specs.Schemas.{schema_of};
-ghost use Rattle.brk_tables_scan.specs.Whole.{ReadsIf, ReadsWhole};
+ghost use Rattle.brk_changes.specs.Schemas.{abstract_schema};
+ghost use Rattle.brk_tables_scan.specs.Whole.{ReadsRowsIfPresent, ReadsAllRows};
 
 use brk_changes::Schema;
 use brk_money::Fault;
-use brk_tables_schema::calls::select;
+use brk_tables_schema::calls::select_rows;
 use sqlite::{Alter, Row, Transaction};
 use std::alloc::Global;
 
 /// Returns all rows of DESK, sorted by key, ascending. Fails with `Store` only.
 pub fn desk_rows<S: Alter>(tx: &mut Transaction<'_, S>) -> Result<Vec<Row>, Fault>
     ensures same_reference { tx.new.conn.ghost_name ≡ tx.old.conn.ghost_name }
-    ensures step { ReadsWhole S.Store tx.old tx.new result TheDesk }
+    ensures step { ReadsAllRows S.Store tx.old tx.new result TheDesk }
     ensures fault { OnErr result (result ≡ Err Store) }
 {
-    select(
+    select_rows(
         tx,
         "SELECT D_ID, D_SCHEMA, D_LAST FROM DESK ORDER BY D_ID",
         &[],
@@ -28,10 +28,10 @@ pub fn desk_rows<S: Alter>(tx: &mut Transaction<'_, S>) -> Result<Vec<Row>, Faul
 /// Returns all rows of KEPT, sorted by key, ascending. Fails with `Store` only.
 pub fn kept_rows<S: Alter>(tx: &mut Transaction<'_, S>) -> Result<Vec<Row>, Fault>
     ensures same_reference { tx.new.conn.ghost_name ≡ tx.old.conn.ghost_name }
-    ensures step { ReadsWhole S.Store tx.old tx.new result KeptRows }
+    ensures step { ReadsAllRows S.Store tx.old tx.new result KeptRows }
     ensures fault { OnErr result (result ≡ Err Store) }
 {
-    select(
+    select_rows(
         tx,
         "SELECT K_BATCH, K_N, K_ROW, K_LINE FROM KEPT ORDER BY K_BATCH, K_N",
         &[],
@@ -41,10 +41,10 @@ pub fn kept_rows<S: Alter>(tx: &mut Transaction<'_, S>) -> Result<Vec<Row>, Faul
 /// Returns all rows of BROKER, sorted by key, ascending. Fails with `Store` only.
 pub fn broker_rows<S: Alter>(tx: &mut Transaction<'_, S>) -> Result<Vec<Row>, Fault>
     ensures same_reference { tx.new.conn.ghost_name ≡ tx.old.conn.ghost_name }
-    ensures step { ReadsWhole S.Store tx.old tx.new result Brokers }
+    ensures step { ReadsAllRows S.Store tx.old tx.new result Brokers }
     ensures fault { OnErr result (result ≡ Err Store) }
 {
-    select(
+    select_rows(
         tx,
         "SELECT B_ID, B_NAME, B_NUM_TRADES, B_COMM_TOTAL FROM BROKER ORDER BY B_ID",
         &[],
@@ -54,10 +54,10 @@ pub fn broker_rows<S: Alter>(tx: &mut Transaction<'_, S>) -> Result<Vec<Row>, Fa
 /// Returns all rows of CUSTOMER, sorted by key, ascending. Fails with `Store` only.
 pub fn customer_rows<S: Alter>(tx: &mut Transaction<'_, S>) -> Result<Vec<Row>, Fault>
     ensures same_reference { tx.new.conn.ghost_name ≡ tx.old.conn.ghost_name }
-    ensures step { ReadsWhole S.Store tx.old tx.new result Customers }
+    ensures step { ReadsAllRows S.Store tx.old tx.new result Customers }
     ensures fault { OnErr result (result ≡ Err Store) }
 {
-    select(
+    select_rows(
         tx,
         "SELECT C_ID, C_TIER, C_TAX_ID, C_L_NAME, C_F_NAME FROM CUSTOMER ORDER BY C_ID",
         &[],
@@ -67,10 +67,10 @@ pub fn customer_rows<S: Alter>(tx: &mut Transaction<'_, S>) -> Result<Vec<Row>, 
 /// Returns all rows of CUSTOMER_ACCOUNT, sorted by key, ascending. Fails with `Store` only.
 pub fn account_rows<S: Alter>(tx: &mut Transaction<'_, S>) -> Result<Vec<Row>, Fault>
     ensures same_reference { tx.new.conn.ghost_name ≡ tx.old.conn.ghost_name }
-    ensures step { ReadsWhole S.Store tx.old tx.new result Accounts }
+    ensures step { ReadsAllRows S.Store tx.old tx.new result Accounts }
     ensures fault { OnErr result (result ≡ Err Store) }
 {
-    select(
+    select_rows(
         tx,
         "SELECT CA_ID, CA_C_ID, CA_B_ID, CA_NAME, CA_TAX_ST, CA_OPEN, CA_BAL FROM CUSTOMER_ACCOUNT ORDER BY CA_ID",
         &[],
@@ -80,10 +80,10 @@ pub fn account_rows<S: Alter>(tx: &mut Transaction<'_, S>) -> Result<Vec<Row>, F
 /// Returns all rows of ACCOUNT_PERMISSION, sorted by key, ascending. Fails with `Store` only.
 pub fn permission_rows<S: Alter>(tx: &mut Transaction<'_, S>) -> Result<Vec<Row>, Fault>
     ensures same_reference { tx.new.conn.ghost_name ≡ tx.old.conn.ghost_name }
-    ensures step { ReadsWhole S.Store tx.old tx.new result Permissions }
+    ensures step { ReadsAllRows S.Store tx.old tx.new result Permissions }
     ensures fault { OnErr result (result ≡ Err Store) }
 {
-    select(
+    select_rows(
         tx,
         "SELECT AP_CA_ID, AP_TAX_ID, AP_ACL, AP_L_NAME, AP_F_NAME FROM ACCOUNT_PERMISSION ORDER BY AP_CA_ID, AP_TAX_ID",
         &[],
@@ -93,10 +93,10 @@ pub fn permission_rows<S: Alter>(tx: &mut Transaction<'_, S>) -> Result<Vec<Row>
 /// Returns all rows of SECURITY, sorted by key, ascending. Fails with `Store` only.
 pub fn security_rows<S: Alter>(tx: &mut Transaction<'_, S>) -> Result<Vec<Row>, Fault>
     ensures same_reference { tx.new.conn.ghost_name ≡ tx.old.conn.ghost_name }
-    ensures step { ReadsWhole S.Store tx.old tx.new result Securities }
+    ensures step { ReadsAllRows S.Store tx.old tx.new result Securities }
     ensures fault { OnErr result (result ≡ Err Store) }
 {
-    select(
+    select_rows(
         tx,
         "SELECT S_SYMB, S_NAME, S_EX_ID, S_SECTOR FROM SECURITY ORDER BY S_SYMB",
         &[],
@@ -106,10 +106,10 @@ pub fn security_rows<S: Alter>(tx: &mut Transaction<'_, S>) -> Result<Vec<Row>, 
 /// Returns all rows of LAST_TRADE, sorted by key, ascending. Fails with `Store` only.
 pub fn last_trade_rows<S: Alter>(tx: &mut Transaction<'_, S>) -> Result<Vec<Row>, Fault>
     ensures same_reference { tx.new.conn.ghost_name ≡ tx.old.conn.ghost_name }
-    ensures step { ReadsWhole S.Store tx.old tx.new result LastTrades }
+    ensures step { ReadsAllRows S.Store tx.old tx.new result LastTrades }
     ensures fault { OnErr result (result ≡ Err Store) }
 {
-    select(
+    select_rows(
         tx,
         "SELECT LT_S_SYMB, LT_DTS, LT_PRICE, LT_VOL FROM LAST_TRADE ORDER BY LT_S_SYMB",
         &[],
@@ -119,10 +119,10 @@ pub fn last_trade_rows<S: Alter>(tx: &mut Transaction<'_, S>) -> Result<Vec<Row>
 /// Returns all rows of CHARGE, sorted by key, ascending. Fails with `Store` only.
 pub fn charge_rows<S: Alter>(tx: &mut Transaction<'_, S>) -> Result<Vec<Row>, Fault>
     ensures same_reference { tx.new.conn.ghost_name ≡ tx.old.conn.ghost_name }
-    ensures step { ReadsWhole S.Store tx.old tx.new result Charges }
+    ensures step { ReadsAllRows S.Store tx.old tx.new result Charges }
     ensures fault { OnErr result (result ≡ Err Store) }
 {
-    select(
+    select_rows(
         tx,
         "SELECT CH_TT_ID, CH_C_TIER, CH_CHRG FROM CHARGE ORDER BY CH_TT_ID, CH_C_TIER",
         &[],
@@ -132,10 +132,10 @@ pub fn charge_rows<S: Alter>(tx: &mut Transaction<'_, S>) -> Result<Vec<Row>, Fa
 /// Returns all rows of COMMISSION_RATE, sorted by key, ascending. Fails with `Store` only.
 pub fn band_rows<S: Alter>(tx: &mut Transaction<'_, S>) -> Result<Vec<Row>, Fault>
     ensures same_reference { tx.new.conn.ghost_name ≡ tx.old.conn.ghost_name }
-    ensures step { ReadsWhole S.Store tx.old tx.new result Bands }
+    ensures step { ReadsAllRows S.Store tx.old tx.new result Bands }
     ensures fault { OnErr result (result ≡ Err Store) }
 {
-    select(
+    select_rows(
         tx,
         "SELECT CR_C_TIER, CR_TT_ID, CR_EX_ID, CR_FROM_QTY, CR_TO_QTY, CR_RATE FROM COMMISSION_RATE ORDER BY CR_C_TIER, CR_TT_ID, CR_EX_ID, CR_FROM_QTY",
         &[],
@@ -145,10 +145,10 @@ pub fn band_rows<S: Alter>(tx: &mut Transaction<'_, S>) -> Result<Vec<Row>, Faul
 /// Returns all rows of TAXRATE, sorted by key, ascending. Fails with `Store` only.
 pub fn tax_rate_rows<S: Alter>(tx: &mut Transaction<'_, S>) -> Result<Vec<Row>, Fault>
     ensures same_reference { tx.new.conn.ghost_name ≡ tx.old.conn.ghost_name }
-    ensures step { ReadsWhole S.Store tx.old tx.new result TaxRates }
+    ensures step { ReadsAllRows S.Store tx.old tx.new result TaxRates }
     ensures fault { OnErr result (result ≡ Err Store) }
 {
-    select(
+    select_rows(
         tx,
         "SELECT TX_ID, TX_NAME, TX_RATE FROM TAXRATE ORDER BY TX_ID",
         &[],
@@ -158,10 +158,10 @@ pub fn tax_rate_rows<S: Alter>(tx: &mut Transaction<'_, S>) -> Result<Vec<Row>, 
 /// Returns all rows of CUSTOMER_TAXRATE, sorted by key, ascending. Fails with `Store` only.
 pub fn customer_tax_rows<S: Alter>(tx: &mut Transaction<'_, S>) -> Result<Vec<Row>, Fault>
     ensures same_reference { tx.new.conn.ghost_name ≡ tx.old.conn.ghost_name }
-    ensures step { ReadsWhole S.Store tx.old tx.new result CustomerTaxes }
+    ensures step { ReadsAllRows S.Store tx.old tx.new result CustomerTaxes }
     ensures fault { OnErr result (result ≡ Err Store) }
 {
-    select(
+    select_rows(
         tx,
         "SELECT CX_C_ID, CX_TX_ID FROM CUSTOMER_TAXRATE ORDER BY CX_C_ID, CX_TX_ID",
         &[],
@@ -171,10 +171,10 @@ pub fn customer_tax_rows<S: Alter>(tx: &mut Transaction<'_, S>) -> Result<Vec<Ro
 /// Returns all rows of TRADE, sorted by key, ascending. Fails with `Store` only.
 pub fn trade_rows<S: Alter>(tx: &mut Transaction<'_, S>) -> Result<Vec<Row>, Fault>
     ensures same_reference { tx.new.conn.ghost_name ≡ tx.old.conn.ghost_name }
-    ensures step { ReadsWhole S.Store tx.old tx.new result Trades }
+    ensures step { ReadsAllRows S.Store tx.old tx.new result Trades }
     ensures fault { OnErr result (result ≡ Err Store) }
 {
-    select(
+    select_rows(
         tx,
         "SELECT T_ID, T_DTS, T_ST_ID, T_TT_ID, T_IS_CASH, T_S_SYMB, T_QTY, T_BID_PRICE, T_CA_ID, T_EXEC_NAME, T_TRADE_PRICE, T_CHRG, T_COMM, T_TAX, T_LIFO FROM TRADE ORDER BY T_ID",
         &[],
@@ -184,10 +184,10 @@ pub fn trade_rows<S: Alter>(tx: &mut Transaction<'_, S>) -> Result<Vec<Row>, Fau
 /// Returns all rows of TRADE_HISTORY, sorted by key, ascending. Fails with `Store` only.
 pub fn history_rows<S: Alter>(tx: &mut Transaction<'_, S>) -> Result<Vec<Row>, Fault>
     ensures same_reference { tx.new.conn.ghost_name ≡ tx.old.conn.ghost_name }
-    ensures step { ReadsWhole S.Store tx.old tx.new result TradeHistory }
+    ensures step { ReadsAllRows S.Store tx.old tx.new result TradeHistory }
     ensures fault { OnErr result (result ≡ Err Store) }
 {
-    select(
+    select_rows(
         tx,
         "SELECT TH_T_ID, TH_ST_ID, TH_DTS FROM TRADE_HISTORY ORDER BY TH_T_ID, TH_ST_ID",
         &[],
@@ -197,10 +197,10 @@ pub fn history_rows<S: Alter>(tx: &mut Transaction<'_, S>) -> Result<Vec<Row>, F
 /// Returns all rows of TRADE_REQUEST, sorted by key, ascending. Fails with `Store` only.
 pub fn request_rows<S: Alter>(tx: &mut Transaction<'_, S>) -> Result<Vec<Row>, Fault>
     ensures same_reference { tx.new.conn.ghost_name ≡ tx.old.conn.ghost_name }
-    ensures step { ReadsWhole S.Store tx.old tx.new result Requests }
+    ensures step { ReadsAllRows S.Store tx.old tx.new result Requests }
     ensures fault { OnErr result (result ≡ Err Store) }
 {
-    select(
+    select_rows(
         tx,
         "SELECT TR_T_ID, TR_TT_ID, TR_S_SYMB, TR_QTY, TR_BID_PRICE, TR_B_ID FROM TRADE_REQUEST ORDER BY TR_T_ID",
         &[],
@@ -210,10 +210,10 @@ pub fn request_rows<S: Alter>(tx: &mut Transaction<'_, S>) -> Result<Vec<Row>, F
 /// Returns all rows of HOLDING, sorted by key, ascending. Fails with `Store` only.
 pub fn holding_rows<S: Alter>(tx: &mut Transaction<'_, S>) -> Result<Vec<Row>, Fault>
     ensures same_reference { tx.new.conn.ghost_name ≡ tx.old.conn.ghost_name }
-    ensures step { ReadsWhole S.Store tx.old tx.new result Holdings }
+    ensures step { ReadsAllRows S.Store tx.old tx.new result Holdings }
     ensures fault { OnErr result (result ≡ Err Store) }
 {
-    select(
+    select_rows(
         tx,
         "SELECT H_T_ID, H_CA_ID, H_S_SYMB, H_DTS, H_PRICE, H_QTY FROM HOLDING ORDER BY H_T_ID",
         &[],
@@ -223,10 +223,10 @@ pub fn holding_rows<S: Alter>(tx: &mut Transaction<'_, S>) -> Result<Vec<Row>, F
 /// Returns all rows of HOLDING_SUMMARY, sorted by key, ascending. Fails with `Store` only.
 pub fn summary_rows<S: Alter>(tx: &mut Transaction<'_, S>) -> Result<Vec<Row>, Fault>
     ensures same_reference { tx.new.conn.ghost_name ≡ tx.old.conn.ghost_name }
-    ensures step { ReadsWhole S.Store tx.old tx.new result Summaries }
+    ensures step { ReadsAllRows S.Store tx.old tx.new result Summaries }
     ensures fault { OnErr result (result ≡ Err Store) }
 {
-    select(
+    select_rows(
         tx,
         "SELECT HS_CA_ID, HS_S_SYMB, HS_QTY FROM HOLDING_SUMMARY ORDER BY HS_CA_ID, HS_S_SYMB",
         &[],
@@ -236,10 +236,10 @@ pub fn summary_rows<S: Alter>(tx: &mut Transaction<'_, S>) -> Result<Vec<Row>, F
 /// Returns all rows of HOLDING_HISTORY, sorted by key, ascending. Fails with `Store` only.
 pub fn holding_history_rows<S: Alter>(tx: &mut Transaction<'_, S>) -> Result<Vec<Row>, Fault>
     ensures same_reference { tx.new.conn.ghost_name ≡ tx.old.conn.ghost_name }
-    ensures step { ReadsWhole S.Store tx.old tx.new result HoldingHistory }
+    ensures step { ReadsAllRows S.Store tx.old tx.new result HoldingHistory }
     ensures fault { OnErr result (result ≡ Err Store) }
 {
-    select(
+    select_rows(
         tx,
         "SELECT HH_H_T_ID, HH_T_ID, HH_BEFORE_QTY, HH_AFTER_QTY FROM HOLDING_HISTORY ORDER BY HH_H_T_ID, HH_T_ID",
         &[],
@@ -249,10 +249,10 @@ pub fn holding_history_rows<S: Alter>(tx: &mut Transaction<'_, S>) -> Result<Vec
 /// Returns all rows of SETTLEMENT, sorted by key, ascending. Fails with `Store` only.
 pub fn settlement_rows<S: Alter>(tx: &mut Transaction<'_, S>) -> Result<Vec<Row>, Fault>
     ensures same_reference { tx.new.conn.ghost_name ≡ tx.old.conn.ghost_name }
-    ensures step { ReadsWhole S.Store tx.old tx.new result Settlements }
+    ensures step { ReadsAllRows S.Store tx.old tx.new result Settlements }
     ensures fault { OnErr result (result ≡ Err Store) }
 {
-    select(
+    select_rows(
         tx,
         "SELECT SE_T_ID, SE_CASH_TYPE, SE_CASH_DUE_DATE, SE_AMT FROM SETTLEMENT ORDER BY SE_T_ID",
         &[],
@@ -262,10 +262,10 @@ pub fn settlement_rows<S: Alter>(tx: &mut Transaction<'_, S>) -> Result<Vec<Row>
 /// Returns all rows of CASH_TRANSACTION, sorted by key, ascending. Fails with `Store` only.
 pub fn cash_rows<S: Alter>(tx: &mut Transaction<'_, S>) -> Result<Vec<Row>, Fault>
     ensures same_reference { tx.new.conn.ghost_name ≡ tx.old.conn.ghost_name }
-    ensures step { ReadsWhole S.Store tx.old tx.new result CashRows }
+    ensures step { ReadsAllRows S.Store tx.old tx.new result CashRows }
     ensures fault { OnErr result (result ≡ Err Store) }
 {
-    select(
+    select_rows(
         tx,
         "SELECT CT_T_ID, CT_DTS, CT_AMT, CT_NAME FROM CASH_TRANSACTION ORDER BY CT_T_ID",
         &[],
@@ -275,10 +275,10 @@ pub fn cash_rows<S: Alter>(tx: &mut Transaction<'_, S>) -> Result<Vec<Row>, Faul
 // Returns all rows of CASH_MOVE, sorted by key, ascending. Fails with `Store` only.
 fn move_rows<S: Alter>(tx: &mut Transaction<'_, S>) -> Result<Vec<Row>, Fault>
     ensures same_reference { tx.new.conn.ghost_name ≡ tx.old.conn.ghost_name }
-    ensures step { ReadsWhole S.Store tx.old tx.new result CashMoves }
+    ensures step { ReadsAllRows S.Store tx.old tx.new result CashMoves }
     ensures fault { OnErr result (result ≡ Err Store) }
 {
-    select(
+    select_rows(
         tx,
         "SELECT CM_ID, CM_CA_ID, CM_T_ID, CM_DTS, CM_AMT, CM_NAME FROM CASH_MOVE ORDER BY CM_ID",
         &[],
@@ -288,10 +288,10 @@ fn move_rows<S: Alter>(tx: &mut Transaction<'_, S>) -> Result<Vec<Row>, Fault>
 // Returns all rows of SETTLE_RULE, sorted by key, ascending. Fails with `Store` only.
 fn rule_rows<S: Alter>(tx: &mut Transaction<'_, S>) -> Result<Vec<Row>, Fault>
     ensures same_reference { tx.new.conn.ghost_name ≡ tx.old.conn.ghost_name }
-    ensures step { ReadsWhole S.Store tx.old tx.new result SettleRules }
+    ensures step { ReadsAllRows S.Store tx.old tx.new result SettleRules }
     ensures fault { OnErr result (result ≡ Err Store) }
 {
-    select(
+    select_rows(
         tx,
         "SELECT SR_ID, SR_DAY FROM SETTLE_RULE ORDER BY SR_ID",
         &[],
@@ -306,7 +306,7 @@ pub fn move_rows_in<S: Alter>(
     schema: Schema,
 ) -> Result<Vec<Row>, Fault>
     ensures same_reference { tx.new.conn.ghost_name ≡ tx.old.conn.ghost_name }
-    ensures step { ReadsIf S.Store tx.old tx.new result (schema_of schema) CashMoves }
+    ensures step { ReadsRowsIfPresent S.Store tx.old tx.new result (abstract_schema schema) CashMoves }
     ensures fault { OnErr result (result ≡ Err Store) }
 {
     if !schema.has_moves() {
@@ -323,7 +323,7 @@ pub fn rule_rows_in<S: Alter>(
     schema: Schema,
 ) -> Result<Vec<Row>, Fault>
     ensures same_reference { tx.new.conn.ghost_name ≡ tx.old.conn.ghost_name }
-    ensures step { ReadsIf S.Store tx.old tx.new result (schema_of schema) SettleRules }
+    ensures step { ReadsRowsIfPresent S.Store tx.old tx.new result (abstract_schema schema) SettleRules }
     ensures fault { OnErr result (result ≡ Err Store) }
 {
     if !schema.has_rule() {

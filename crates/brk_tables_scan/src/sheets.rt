@@ -1,12 +1,12 @@
 ghost use Rattle.std.specs.Prelude.{◌≡◌, IfErr, IsTrue};
-ghost use Rattle.brk_model.specs.Run.{MayFail};
-ghost use Rattle.brk_changes.specs.Schemas.{schema_of};
-ghost use Rattle.brk_sql.specs.Model.{Steps};
-ghost use Rattle.brk_tables_scan.specs.Schemas.{HasDesk, IsDefinedAs};
-ghost use Rattle.brk_tables_scan.specs.Whole.{WasRead};
+ghost use Rattle.brk_model.specs.Run.{IsCallFault};
+ghost use Rattle.brk_changes.specs.Schemas.{abstract_schema};
+ghost use Rattle.brk_sql.specs.Model.{IsConnectionStep};
+ghost use Rattle.brk_tables_scan.specs.Schemas.{HasDesk, SchemaNamesImplyDefinitions};
+ghost use Rattle.brk_tables_scan.specs.Whole.{AreSheetsOfDatabase};
 
-use crate::decoding::decode;
-use crate::raw::read_raw;
+use crate::decoding::decode_sheets;
+use crate::raw::read_raw_sheets;
 use brk_changes::{Schema, Sheets};
 use brk_money::Fault;
 use brk_tables_schema::DecodeError;
@@ -24,11 +24,11 @@ pub fn read_sheets<S: Alter>(
     schema: Schema,
 ) -> Result<Option<Sheets>, Fault>
     ensures same_reference { tx.new.conn.ghost_name ≡ tx.old.conn.ghost_name }
-    ensures step { Steps S.Store tx.old tx.new result (λ read a b. IsTrue a.is_open × (b.now ≡ a.now) × (IsDefinedAs (schema_of schema) a.now → HasDesk (schema_of schema) a.now → WasRead (schema_of schema) a.now read)) }
-    ensures fault { IfErr result MayFail }
+    ensures step { IsConnectionStep S.Store tx.old tx.new result (λ read a b. IsTrue a.is_open × (b.now ≡ a.now) × (SchemaNamesImplyDefinitions (abstract_schema schema) a.now → HasDesk (abstract_schema schema) a.now → AreSheetsOfDatabase (abstract_schema schema) a.now read)) }
+    ensures fault { IfErr result IsCallFault }
 {
-    let raw = read_raw(tx, alloc, schema)?;
-    match decode(alloc, schema, &raw) {
+    let raw = read_raw_sheets(tx, alloc, schema)?;
+    match decode_sheets(alloc, schema, &raw) {
         Ok(sheets) => Ok(Some(sheets)),
         Err(DecodeError::Form) => Ok(None),
         Err(DecodeError::Memory) => Err(Fault::Memory),

@@ -4,16 +4,16 @@ use Rattle.sqlite_value.specs.declared.value.Value.{Value}
 use Rattle.sqlite_value.specs.declared.value.Value.TheVariants.{Int}
 use Rattle.sqlite_value.specs.Order.{Row, column}
 use Rattle.sqlite_rules.specs.Edit.{id_in}
-use Rattle.brk_money.specs.Kinds.{tax_status_number, type_code}
+use Rattle.brk_money.specs.Kinds.{tax_status_number, trade_type_code}
 use Rattle.brk_money.specs.declared.tax_status.TaxStatus.{TaxStatus}
 use Rattle.brk_money.specs.declared.tax_status.TaxStatus.TheVariants.{Untaxed, Withheld, Reported}
 use Rattle.brk_money.specs.declared.trade_type.TradeType.{TradeType}
 use Rattle.brk_money.specs.declared.trade_type.TradeType.TheVariants.{MarketBuy, MarketSell, StopLoss, LimitSell, LimitBuy}
-use Rattle.brk_model.specs.Forms.{type_of}
+use Rattle.brk_model.specs.Forms.{trade_type_with_code}
 use Rattle.brk_model.specs.Records.{Customer, Permission, Charge, Band, TaxRate, CustomerTax, Kept}
 use Rattle.brk_model.specs.Tables.{BrokerRow, AccountRow, SecurityRow, MoveRow}
 use Rattle.brk_sql.proofs.Decode.{text_in}
-use Rattle.brk_tables_schema.specs.Cells.{DeskRow, RuleRow, maybe, move_cells, rule_cells, desk_row_cells, kept_cells, broker_cells, customer_cells, account_cells, permission_cells, security_cells, charge_cells, band_cells, tax_rate_cells, customer_tax_cells}
+use Rattle.brk_tables_schema.specs.Cells.{DeskRow, RuleRow, optional_as_value, move_cells, rule_cells, desk_row_cells, kept_cells, broker_cells, customer_cells, account_cells, permission_cells, security_cells, charge_cells, band_cells, tax_rate_cells, customer_tax_cells}
 
 abbrev pub natural : ℤ → ℕ
 natural (pos n) = n
@@ -31,7 +31,7 @@ status_at zero = Untaxed
 status_at (suc zero) = Withheld
 status_at (suc (suc n)) = Reported
 
-pub maybe_back : (o : Option ℕ) → maybe_in (maybe o) ≡ o
+pub maybe_back : (o : Option ℕ) → maybe_in (optional_as_value o) ≡ o
 maybe_back None = refl
 maybe_back (Some n) = refl
 
@@ -84,9 +84,9 @@ unfolding account_back text_in
 account_is_back a = ap (λ s. let r : AccountRow = record a { tax_status = s } in r) (status_back a.tax_status)
 
 abbrev pub type_at : List ℕ → TradeType
-type_at code = unwrap_or (type_of code) MarketBuy
+type_at code = unwrap_or (trade_type_with_code code) MarketBuy
 
-pub type_back : (k : TradeType) → type_at (type_code k) ≡ k
+pub type_back : (k : TradeType) → type_at (trade_type_code k) ≡ k
 type_back MarketBuy = refl
 type_back MarketSell = refl
 type_back StopLoss = refl

@@ -13,7 +13,7 @@ use Rattle.sqlite_draft.specs.declared.join.Step.TheVariants.{Inner}
 use Rattle.sqlite_draft.specs.declared.query.Draft.{Draft}
 use Rattle.sqlite_tied.specs.Compute.{everything}
 use Rattle.brk_sql.specs.Partly.{lowering}
-use Rattle.brk_sql.specs.Desk.{whole, perhaps, Stands}
+use Rattle.brk_sql.specs.Desk.{integer_column, nullable_integer_column, IsTableAt}
 use Rattle.brk_sql.proofs.Meant.{meant, reads_or}
 use Rattle.brk_sql.proofs.Pick.{selection}
 use Rattle.brk_sql.proofs.Scoped.{column_is, heading_is}
@@ -92,7 +92,7 @@ names = codes "D_ID" ∷ codes "D_SCHEMA" ∷ codes "D_LAST" ∷ []
 abbrev after : ℕ → Carried → State
 after spent last = record (fresh 2 max_budget) { budget = max_budget - spent; last = last }
 
-module _ (schema : Schema) (at tree : ℕ) (h : Stands schema (desk_row tree) at) where
+module _ (schema : Schema) (at tree : ℕ) (h : IsTableAt schema (desk_row tree) at) where
   abbrev found : slice_get schema.tables at ≡ Some (desk_row tree)
   found = h.found
 
@@ -100,12 +100,12 @@ module _ (schema : Schema) (at tree : ℕ) (h : Stands schema (desk_row tree) at
   unfolding lowering
   shows =
       rw (
-        column_is schema at (desk_row tree) found (codes "DESK") [] [] true true (codes "D_ID") 0 (whole (codes "D_ID")) refl refl,
-        heading_is schema at (desk_row tree) found (codes "DESK") [] [] true true (e.Column None (codes "D_ID")) (codes "D_ID") (codes "D_ID") 0 (whole (codes "D_ID")) refl refl refl,
-        column_is schema at (desk_row tree) found (codes "DESK") [] [] true true (codes "D_SCHEMA") 1 (whole (codes "D_SCHEMA")) refl refl,
-        heading_is schema at (desk_row tree) found (codes "DESK") [] [] true true (e.Column None (codes "D_SCHEMA")) (codes "D_SCHEMA") (codes "D_SCHEMA") 1 (whole (codes "D_SCHEMA")) refl refl refl,
-        column_is schema at (desk_row tree) found (codes "DESK") [] [] true true (codes "D_LAST") 2 (perhaps (codes "D_LAST")) refl refl,
-        heading_is schema at (desk_row tree) found (codes "DESK") [] [] true true (e.Column None (codes "D_LAST")) (codes "D_LAST") (codes "D_LAST") 2 (perhaps (codes "D_LAST")) refl refl refl,
+        column_is schema at (desk_row tree) found (codes "DESK") [] [] true true (codes "D_ID") 0 (integer_column (codes "D_ID")) refl refl,
+        heading_is schema at (desk_row tree) found (codes "DESK") [] [] true true (e.Column None (codes "D_ID")) (codes "D_ID") (codes "D_ID") 0 (integer_column (codes "D_ID")) refl refl refl,
+        column_is schema at (desk_row tree) found (codes "DESK") [] [] true true (codes "D_SCHEMA") 1 (integer_column (codes "D_SCHEMA")) refl refl,
+        heading_is schema at (desk_row tree) found (codes "DESK") [] [] true true (e.Column None (codes "D_SCHEMA")) (codes "D_SCHEMA") (codes "D_SCHEMA") 1 (integer_column (codes "D_SCHEMA")) refl refl refl,
+        column_is schema at (desk_row tree) found (codes "DESK") [] [] true true (codes "D_LAST") 2 (nullable_integer_column (codes "D_LAST")) refl refl,
+        heading_is schema at (desk_row tree) found (codes "DESK") [] [] true true (e.Column None (codes "D_LAST")) (codes "D_LAST") (codes "D_LAST") 2 (nullable_integer_column (codes "D_LAST")) refl refl refl,
       )
 
   matches : matching lower (outermost schema) (level_one (codes "DESK") at columns) core (after 3 binary)
@@ -116,7 +116,7 @@ module _ (schema : Schema) (at tree : ℕ) (h : Stands schema (desk_row tree) at
   sorted : sorts lower (inside schema (level_one (codes "DESK") at columns) false) columns by (after 3 binary) ≡ Ok ((draft tree).order, after 4 nothing)
   unfolding lowering
   sorted =
-      rw (column_is schema at (desk_row tree) found (codes "DESK") columns [] false true (codes "D_ID") 0 (whole (codes "D_ID")) refl refl)
+      rw (column_is schema at (desk_row tree) found (codes "DESK") columns [] false true (codes "D_ID") 0 (integer_column (codes "D_ID")) refl refl)
 
   meaning_is : meaning schema select ≡ Ok ((draft tree, names, None ∷ Some Binary ∷ Some Binary ∷ []), [])
   unfolding everything

@@ -9,11 +9,11 @@ use Rattle.std.proofs.lemmas.Bool.{cases_Bool, ltb-true, ltb-false}
 use Rattle.sqlite_value.specs.Order.{value_cmp}
 use Rattle.sqlite_value.proofs.OrderLemmas.{value_cmp_total, value_cmp-Int, value_cmp-Text}
 use Rattle.sqlite_keyed.specs.Lists.{insert_sorted}
-use Rattle.brk_model.specs.Lists.{text_before}
-use Rattle.brk_model.specs.Keys.{KeyPart, number, word, part_before, key_before, insert_row}
-use Rattle.brk_tables_schema.specs.Order.{part_value, key_values, by_key_values}
+use Rattle.brk_model.specs.Lists.{is_text_less}
+use Rattle.brk_model.specs.Keys.{KeyPart, number, word, is_key_part_less, is_key_less, insert_row_by_key}
+use Rattle.brk_tables_schema.specs.Order.{key_part_value, key_values, ordering_by_key}
 
-pub key_total : {X : Type 0} (key : X → List KeyPart) → IsTotalOrder (by_key_values key)
+pub key_total : {X : Type 0} (key : X → List KeyPart) → IsTotalOrder (ordering_by_key key)
 key_total key = on_total (λ x. key_values (key x)) (lists_total value_cmp_total)
 
 -- ---- one part
@@ -24,7 +24,7 @@ numbers_before m n = elim (cases_Bool (nat_lt m n)) [
   | inr a ↦ elim (cases_Bool (nat_lt n m)) [ inl b ↦ rw (a, b) refl | inr b ↦ rw (a, b) refl ]
 ]
 
-texts_before : (s t : List ℕ) → text_before s t ≡ is_gt (slice_cmp nat_cmp t s)
+texts_before : (s t : List ℕ) → is_text_less s t ≡ is_gt (slice_cmp nat_cmp t s)
 texts_before [] [] = refl
 texts_before (x ∷ s) [] = refl
 texts_before [] (y ∷ t) = refl
@@ -36,7 +36,7 @@ texts_before (x ∷ s) (y ∷ t) = elim (cases_Bool (nat_lt y x)) [
   ]
 ]
 
-parts_before : (j k : KeyPart) → part_before j k ≡ is_gt (value_cmp (part_value k) (part_value j))
+parts_before : (j k : KeyPart) → is_key_part_less j k ≡ is_gt (value_cmp (key_part_value k) (key_part_value j))
 unfolding value_cmp
 parts_before (number m) (number n) = numbers_before m n ∙ ap is_gt (sym (value_cmp-Int (pos n) (pos m)))
 parts_before (word s) (word t) = texts_before s t ∙ ap is_gt (sym (value_cmp-Text t s))
@@ -50,14 +50,14 @@ decided Less a b c d p q r rest s = rw (p, q) refl
 decided Equal a b c d p q r rest s = rw (p, q) (r ∙ s)
 decided Greater a b c d p q r rest s = rw p refl
 
-keys_before : (js ks : List KeyPart) → key_before js ks ≡ is_gt (slice_cmp value_cmp (key_values ks) (key_values js))
+keys_before : (js ks : List KeyPart) → is_key_less js ks ≡ is_gt (slice_cmp value_cmp (key_values ks) (key_values js))
 keys_before [] [] = refl
 keys_before (j ∷ js) [] = refl
 keys_before [] (k ∷ ks) = refl
 keys_before (j ∷ js) (k ∷ ks) =
-    decided (value_cmp (part_value k) (part_value j)) _ _ _ _ (parts_before j k) (parts_before k j ∙ ap is_gt (value_cmp_total.antisymm (part_value j) (part_value k))) refl _ (keys_before js ks)
+    decided (value_cmp (key_part_value k) (key_part_value j)) _ _ _ _ (parts_before j k) (parts_before k j ∙ ap is_gt (value_cmp_total.antisymm (key_part_value j) (key_part_value k))) refl _ (keys_before js ks)
 
 -- a row is put where its key goes
-pub inserted : {X : Type 0} (key : X → List KeyPart) (x : X) (xs : List X) → insert_row key x xs ≡ insert_sorted (by_key_values key) x xs
+pub inserted : {X : Type 0} (key : X → List KeyPart) (x : X) (xs : List X) → insert_row_by_key key x xs ≡ insert_sorted (ordering_by_key key) x xs
 inserted key x [] = refl
 inserted key x (y ∷ xs) = ap₂ (λ b (l : List _). if b then y ∷ l else x ∷ y ∷ xs) (keys_before (key y) (key x)) (inserted key x xs)

@@ -8,16 +8,16 @@ use Rattle.sqlite.specs.Effect.{Database}
 use Rattle.sqlite.specs.State.{State, Shown}
 use Rattle.brk_model.specs.Schemas.{third_schema}
 use Rattle.brk_model.specs.Tables.{Tables}
-use Rattle.brk_model.specs.Keys.{insert_row}
-use Rattle.brk_sql.specs.Desk.{HasTables, Turns, Tells}
-use Rattle.brk_sql.specs.Model.{Ran}
+use Rattle.brk_model.specs.Keys.{insert_row_by_key}
+use Rattle.brk_sql.specs.Desk.{HasTables, ChangesTablesBy, TablesSatisfy}
+use Rattle.brk_sql.specs.Model.{ExecutesStatement}
 use Rattle.brk_sql.proofs.Texts.{read}
 use Rattle.brk_sql.proofs.Values.{cast_int, cast_null, cast_whole}
 use Rattle.brk_sql.proofs.Writes.{Place, updates_as}
 use Rattle.brk_sql.proofs.Looks.{tells_rising}
-use Rattle.brk_tables_schema.specs.Cells.{DeskRow, nat, desk_row_cells}
+use Rattle.brk_tables_schema.specs.Cells.{DeskRow, natural_as_value, desk_row_cells}
 use Rattle.brk_tables_schema.specs.Desk.{Which, TheDesk, Item, desk, desk_rows, rule_rows, desk_key, key, order, list}
-use Rattle.brk_changes.specs.Changes.{with_last}
+use Rattle.brk_changes.specs.Changes.{tables_with_last_stamp}
 use Rattle.brk_tables_schema.proofs.Order.{inserted, key_total}
 use Rattle.brk_tables_schema.proofs.Tests.{same_number}
 use Rattle.brk_tables_schema.proofs.Wide.{wide, wide_of, widened, narrowed}
@@ -28,28 +28,28 @@ use Rattle.brk_tables_schema.proofs.DeskRows
 -- ---- changes
 
 -- a row is put where its key goes
-pub added : (w : Which) (place : Place desk w) (x : Item w) (old new : Database) → Turns desk (λ t. place.put (insert_sorted (order w) x (list w t)) t) old new → Turns desk (λ t. place.put (insert_row (key w) x (list w t)) t) old new
+pub added : (w : Which) (place : Place desk w) (x : Item w) (old new : Database) → ChangesTablesBy desk (λ t. place.put (insert_sorted (order w) x (list w t)) t) old new → ChangesTablesBy desk (λ t. place.put (insert_row_by_key (key w) x (list w t)) t) old new
 added w place x old new turns = λ t tree h. let turned = turns t tree h in (subst (λ xs. HasTables desk (place.put xs t) tree new) (sym (inserted (key w) x (list w t))) turned.0, turned.1)
 
-pub sets_last : (old new : State) (stamp : ℕ) → Ran SetLast.statement (nat stamp ∷ nat 1 ∷ []) old new → Turns desk (with_last stamp) old.now new.now
+pub sets_last : (old new : State) (stamp : ℕ) → ExecutesStatement SetLast.statement (natural_as_value stamp ∷ natural_as_value 1 ∷ []) old new → ChangesTablesBy desk (tables_with_last_stamp stamp) old.now new.now
 sets_last old new stamp ran = λ t tree h.
-    let turned = updates_as wide TheDesk the_desk SetLast.statement (nat stamp ∷ nat 1 ∷ []) (read SetLast.statement) SetLast.terms SetLast.project (λ (r : DeskRow). r.id == 1)
-    (λ tree r x e. let a : column r 0 ≡ nat x.id = cc in rw (a, same_number x.id 1) (and_true _)) (λ r. refl) SetLast.understood_as
-    (λ r. column r 0 ∷ Null ∷ column r 2 ∷ nat stamp ∷ []) (λ (r : DeskRow). record r { last = Some stamp }) (λ x y. refl) (λ x y. refl) (λ r. refl)
-    (λ tree r x whole e. let a : column r 2 ≡ nat x.schema = cc in
-    rw (a, cast_int (pos x.schema), cast_int (pos stamp), cast_null) (ap (λ v. v ∷ Null ∷ nat x.schema ∷ nat stamp ∷ []) (cast_whole (column r 0) whole)))
-    (λ tree r x e. let a : column r 0 ≡ nat x.id = cc in let b : column r 2 ≡ nat x.schema = cc in rw (a, b) refl) old new ran.0 ran.1
+    let turned = updates_as wide TheDesk the_desk SetLast.statement (natural_as_value stamp ∷ natural_as_value 1 ∷ []) (read SetLast.statement) SetLast.terms SetLast.project (λ (r : DeskRow). r.id == 1)
+    (λ tree r x e. let a : column r 0 ≡ natural_as_value x.id = cc in rw (a, same_number x.id 1) (and_true _)) (λ r. refl) SetLast.understood_as
+    (λ r. column r 0 ∷ Null ∷ column r 2 ∷ natural_as_value stamp ∷ []) (λ (r : DeskRow). record r { last = Some stamp }) (λ x y. refl) (λ x y. refl) (λ r. refl)
+    (λ tree r x whole e. let a : column r 2 ≡ natural_as_value x.schema = cc in
+    rw (a, cast_int (pos x.schema), cast_int (pos stamp), cast_null) (ap (λ v. v ∷ Null ∷ natural_as_value x.schema ∷ natural_as_value stamp ∷ []) (cast_whole (column r 0) whole)))
+    (λ tree r x e. let a : column r 0 ≡ natural_as_value x.id = cc in let b : column r 2 ≡ natural_as_value x.schema = cc in rw (a, b) refl) old new ran.0 ran.1
     (wide_of third_schema t) tree (widened third_schema tree old.now t h) in
-    (narrowed third_schema tree new.now (desk_rows third_schema (Some stamp)) (rule_rows t.rule) t (with_last stamp t) refl refl (λ w other _. others w other t) turned.0, turned.1)
+    (narrowed third_schema tree new.now (desk_rows third_schema (Some stamp)) (rule_rows t.rule) t (tables_with_last_stamp stamp t) refl refl (λ w other _. others w other t) turned.0, turned.1)
   where
-    others : (w : Which) → w ≢ TheDesk → (t : Tables) → list w (with_last stamp t) ≡ list w t
+    others : (w : Which) → w ≢ TheDesk → (t : Tables) → list w (tables_with_last_stamp stamp t) ≡ list w t
     others TheDesk other t = absurd (other refl)
     others w other t = refl
 
 -- ---- reads
 
-pub tells_last : (old new : State) (rows : List Row) → Shown DeskRows.statement [] old new rows → Tells desk (λ t. rows ≡ map desk_row_cells (desk_rows third_schema t.last)) old.now
+pub tells_last : (old new : State) (rows : List Row) → Shown DeskRows.statement [] old new rows → TablesSatisfy desk (λ t. rows ≡ map desk_row_cells (desk_rows third_schema t.last)) old.now
 tells_last old new rows shown = λ t tree h.
     tells_rising desk TheDesk DeskRows.statement [] (read DeskRows.statement) DeskRows.terms DeskRows.project DeskRows.order DeskRows.paging DeskRows.names DeskRows.understood_as
     (λ _. true) (λ tree r x e. refl) desk_row_cells (λ tree r x e. e) (order TheDesk) (key_total desk_key)
-    (λ tree a b x y e f. let p : column a 0 ≡ nat x.id = cc in let q : column b 0 ≡ nat y.id = cc in rw (p, q) refl) old new rows shown (λ x y. refl) t tree h
+    (λ tree a b x y e f. let p : column a 0 ≡ natural_as_value x.id = cc in let q : column b 0 ≡ natural_as_value y.id = cc in rw (p, q) refl) old new rows shown (λ x y. refl) t tree h

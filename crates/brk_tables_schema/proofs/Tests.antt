@@ -9,11 +9,11 @@ use Rattle.sqlite_value.specs.declared.keys.Collation.TheVariants.{Binary}
 use Rattle.sqlite_sql.specs.declared.ops.BinaryOp.TheVariants.{Compare}
 use Rattle.sqlite_sql.specs.declared.ops.CompareOp.TheVariants.{Eq}
 use Rattle.sqlite_sql.specs.Ops.{binary, is_true}
-use Rattle.brk_money.specs.Kinds.{type_code, same_type}
+use Rattle.brk_money.specs.Kinds.{trade_type_code, is_same_trade_type}
 use Rattle.brk_money.specs.declared.trade_type.TradeType.{TradeType}
 use Rattle.brk_money.specs.declared.trade_type.TradeType.TheVariants.{MarketBuy, MarketSell, StopLoss, LimitSell, LimitBuy}
 use Rattle.brk_sql.proofs.Values.{equal_ints, equal_texts}
-use Rattle.brk_tables_schema.specs.Cells.{maybe}
+use Rattle.brk_tables_schema.specs.Cells.{optional_as_value}
 
 numbers_tie : (m n : ℕ) → is_eq (int_cmp (pos m) (pos n)) ≡ (m == n)
 numbers_tie m n = elim (cases_Bool (nat_lt m n)) [
@@ -30,7 +30,7 @@ same_number m n = equal_ints (pos m) (pos n) ∙ numbers_tie m n
 pub same_text : (s t : List ℕ) → is_true (binary (Compare Eq Binary) (Words s) (Words t)) ≡ bytes_eq s t
 same_text s t = equal_texts s t ∙ is_eq-slice_cmp s t
 
-codes_tie : (j k : TradeType) → bytes_eq (type_code j) (type_code k) ≡ same_type j k
+codes_tie : (j k : TradeType) → bytes_eq (trade_type_code j) (trade_type_code k) ≡ is_same_trade_type j k
 codes_tie MarketBuy MarketBuy = refl
 codes_tie MarketBuy MarketSell = refl
 codes_tie MarketBuy StopLoss = refl
@@ -57,8 +57,8 @@ codes_tie LimitBuy StopLoss = refl
 codes_tie LimitBuy LimitSell = refl
 codes_tie LimitBuy LimitBuy = refl
 
-pub same_code : (j k : TradeType) → is_true (binary (Compare Eq Binary) (Words (type_code j)) (Words (type_code k))) ≡ same_type j k
-same_code j k = same_text (type_code j) (type_code k) ∙ codes_tie j k
+pub same_code : (j k : TradeType) → is_true (binary (Compare Eq Binary) (Words (trade_type_code j)) (Words (trade_type_code k))) ≡ is_same_trade_type j k
+same_code j k = same_text (trade_type_code j) (trade_type_code k) ∙ codes_tie j k
 
 -- null is no number
 null_ties : (n : ℕ) → is_true (binary (Compare Eq Binary) Null (Int (pos n))) ≡ false
@@ -66,6 +66,6 @@ unfolding binary
 null_ties n = refl
 
 -- a number that may be missing: where it is, no number is the same
-pub same_maybe : (o : Option ℕ) (n : ℕ) → is_true (binary (Compare Eq Binary) (maybe o) (Int (pos n))) ≡ option_map_or (λ m. m == n) o false
+pub same_maybe : (o : Option ℕ) (n : ℕ) → is_true (binary (Compare Eq Binary) (optional_as_value o) (Int (pos n))) ≡ option_map_or (λ m. m == n) o false
 same_maybe None n = null_ties n
 same_maybe (Some m) n = same_number m n

@@ -3,12 +3,12 @@ use Rattle.std.proofs.Common.{◌≡◌, ℕ, zero, suc, List, [], ◌∷◌, Bo
 use Rattle.std.specs.Prelude.{if◌then◌else◌, bytes_eq}
 use Rattle.sqlite_value.specs.Order.{Row, column}
 use Rattle.sqlite_rules.specs.Edit.{id_in}
-use Rattle.brk_money.specs.Kinds.{status_code, type_code}
+use Rattle.brk_money.specs.Kinds.{trade_status_code, trade_type_code}
 use Rattle.brk_money.specs.declared.status.Status.{Status}
 use Rattle.brk_money.specs.declared.status.Status.TheVariants.{Completed, Active, Submitted, Pending, Canceled}
 use Rattle.brk_model.specs.Tables.{TradeRow, RequestRow, LastTradeRow, HistoryRow, HoldingRow, SummaryRow, HoldingHistoryRow, SettlementRow, CashRow}
 use Rattle.brk_sql.proofs.Decode.{text_in}
-use Rattle.brk_tables_schema.specs.Cells.{nat, flag, maybe, trade_cells, request_cells, last_trade_cells, history_cells, holding_cells, summary_cells, holding_history_cells, settlement_cells, cash_cells}
+use Rattle.brk_tables_schema.specs.Cells.{natural_as_value, flag_as_value, optional_as_value, trade_cells, request_cells, last_trade_cells, history_cells, holding_cells, summary_cells, holding_history_cells, settlement_cells, cash_cells}
 use Rattle.brk_tables_schema.proofs.Back.{number_in, maybe_in, maybe_back, type_at, type_back}
 
 -- ---- words
@@ -21,7 +21,7 @@ status_at code =
     else if bytes_eq code (codes "PNDG") then Pending
     else Canceled
 
-pub status_back : (s : Status) → status_at (status_code s) ≡ s
+pub status_back : (s : Status) → status_at (trade_status_code s) ≡ s
 status_back Completed = refl
 status_back Active = refl
 status_back Submitted = refl
@@ -32,7 +32,7 @@ abbrev pub flag_at : ℕ → Bool
 flag_at zero = false
 flag_at (suc n) = true
 
-pub flag_back : (b : Bool) → flag_at (number_in (flag b)) ≡ b
+pub flag_back : (b : Bool) → flag_at (number_in (flag_as_value b)) ≡ b
 flag_back true = refl
 flag_back false = refl
 
@@ -60,10 +60,10 @@ trade_back r = record {
 pub trade_is_back : (t : TradeRow) → trade_back (trade_cells t) ≡ t
 unfolding trade_back text_in
 trade_is_back t =
-    ap (λ s. let r : TradeRow = record t { status = s; kind = type_at (type_code t.kind); is_cash = flag_at (number_in (flag t.is_cash)); price = maybe_in (maybe t.price); is_lifo = flag_at (number_in (flag t.is_lifo)) } in r) (status_back t.status)
-    ∙ ap (λ k. let r : TradeRow = record t { kind = k; is_cash = flag_at (number_in (flag t.is_cash)); price = maybe_in (maybe t.price); is_lifo = flag_at (number_in (flag t.is_lifo)) } in r) (type_back t.kind)
-    ∙ ap (λ b. let r : TradeRow = record t { is_cash = b; price = maybe_in (maybe t.price); is_lifo = flag_at (number_in (flag t.is_lifo)) } in r) (flag_back t.is_cash)
-    ∙ ap (λ o. let r : TradeRow = record t { price = o; is_lifo = flag_at (number_in (flag t.is_lifo)) } in r) (maybe_back t.price)
+    ap (λ s. let r : TradeRow = record t { status = s; kind = type_at (trade_type_code t.kind); is_cash = flag_at (number_in (flag_as_value t.is_cash)); price = maybe_in (optional_as_value t.price); is_lifo = flag_at (number_in (flag_as_value t.is_lifo)) } in r) (status_back t.status)
+    ∙ ap (λ k. let r : TradeRow = record t { kind = k; is_cash = flag_at (number_in (flag_as_value t.is_cash)); price = maybe_in (optional_as_value t.price); is_lifo = flag_at (number_in (flag_as_value t.is_lifo)) } in r) (type_back t.kind)
+    ∙ ap (λ b. let r : TradeRow = record t { is_cash = b; price = maybe_in (optional_as_value t.price); is_lifo = flag_at (number_in (flag_as_value t.is_lifo)) } in r) (flag_back t.is_cash)
+    ∙ ap (λ o. let r : TradeRow = record t { price = o; is_lifo = flag_at (number_in (flag_as_value t.is_lifo)) } in r) (maybe_back t.price)
     ∙ ap (λ b. let r : TradeRow = record t { is_lifo = b } in r) (flag_back t.is_lifo)
 
 pub request_back : Row → RequestRow
@@ -127,6 +127,6 @@ cash_is_back c = refl
 pub id_back : Row → ℕ
 id_back r = number_in (column r 0)
 
-pub id_is_back : (n : ℕ) → id_back (nat n ∷ []) ≡ n
+pub id_is_back : (n : ℕ) → id_back (natural_as_value n ∷ []) ≡ n
 unfolding id_back
 id_is_back n = refl

@@ -11,14 +11,14 @@ use Rattle.sqlite_value.specs.declared.value.Value.TheVariants.{Null, Int, Real,
 use Rattle.sqlite_value.specs.Order.{Row, column}
 use Rattle.brk_tables_schema.specs.declared.decode_error.DecodeError.{DecodeError}
 use Rattle.brk_tables_schema.specs.declared.decode_error.DecodeError.TheVariants.{Form}
-use Rattle.brk_tables_schema.specs.Formed.{natural_cell, maybe_cell, words_cell, number_cell, all_formed}
+use Rattle.brk_tables_schema.specs.Formed.{is_natural_cell, is_null_or_natural_cell, is_text_cell, is_integer_cell, passes_all_cell_checks}
 
 -- a form that nothing has
 unformed : (b : Bool) → (b ≡ true → ⊥) → b ≡ false
 unformed true never = absurd (never refl)
 unformed false never = refl
 
-pub not_natural : (v : Value) (form : ℕ → Bool) → ((n : ℕ) → v ≡ Int (pos n) → form n ≡ true → ⊥) → natural_cell form v ≡ false
+pub not_natural : (v : Value) (form : ℕ → Bool) → ((n : ℕ) → v ≡ Int (pos n) → form n ≡ true → ⊥) → is_natural_cell form v ≡ false
 not_natural (Int (pos n)) form never = unformed _ (never n refl)
 not_natural (Int (negsuc n)) form never = refl
 not_natural Null form never = refl
@@ -26,10 +26,10 @@ not_natural (Real x) form never = refl
 not_natural (Words s) form never = refl
 not_natural (Blob b) form never = refl
 
-pub is_natural : (v : Value) (form : ℕ → Bool) (n : ℕ) → natural_cell form v ≡ false → v ≡ Int (pos n) → form n ≡ false
+pub is_natural : (v : Value) (form : ℕ → Bool) (n : ℕ) → is_natural_cell form v ≡ false → v ≡ Int (pos n) → form n ≡ false
 is_natural v form n never is = rw is at never
 
-pub not_maybe : (v : Value) (form : ℕ → Bool) → (v ≡ Null → ⊥) → ((n : ℕ) → v ≡ Int (pos n) → form n ≡ true → ⊥) → maybe_cell form v ≡ false
+pub not_maybe : (v : Value) (form : ℕ → Bool) → (v ≡ Null → ⊥) → ((n : ℕ) → v ≡ Int (pos n) → form n ≡ true → ⊥) → is_null_or_natural_cell form v ≡ false
 not_maybe (Int (pos n)) form null never = unformed _ (never n refl)
 not_maybe (Int (negsuc n)) form null never = refl
 not_maybe Null form null never = absurd (null refl)
@@ -37,14 +37,14 @@ not_maybe (Real x) form null never = refl
 not_maybe (Words s) form null never = refl
 not_maybe (Blob b) form null never = refl
 
-pub not_words : (v : Value) (form : List ℕ → Bool) → ((s : List ℕ) → v ≡ Words s → form s ≡ true → ⊥) → words_cell form v ≡ false
+pub not_words : (v : Value) (form : List ℕ → Bool) → ((s : List ℕ) → v ≡ Words s → form s ≡ true → ⊥) → is_text_cell form v ≡ false
 not_words (Int n) form never = refl
 not_words Null form never = refl
 not_words (Real x) form never = refl
 not_words (Words s) form never = unformed _ (never s refl)
 not_words (Blob b) form never = refl
 
-pub not_number : (v : Value) → ((n : ℤ) → v ≡ Int n → ⊥) → number_cell v ≡ false
+pub not_number : (v : Value) → ((n : ℤ) → v ≡ Int n → ⊥) → is_integer_cell v ≡ false
 not_number (Int n) never = absurd (never n refl)
 not_number Null never = refl
 not_number (Real x) never = refl
@@ -58,14 +58,14 @@ past true = refl
 past false = refl
 
 -- one column has no form
-pub no_form_at : (forms : List (Value → Bool)) (row : Row) (k : ℕ) (form : Value → Bool) → slice_get forms k ≡ Some form → (k < length row → form (column row k) ≡ false) → all_formed forms row ≡ false
+pub no_form_at : (forms : List (Value → Bool)) (row : Row) (k : ℕ) (form : Value → Bool) → slice_get forms k ≡ Some form → (k < length row → form (column row k) ≡ false) → passes_all_cell_checks forms row ≡ false
 no_form_at [] row k form is never = absurd (let e = is in cc)
 no_form_at (f ∷ forms) [] k form is never = refl
 no_form_at (f ∷ forms) (v ∷ row) zero form is never = let e : f ≡ form = cc in rw (e, never (omega arith)) refl
 no_form_at (f ∷ forms) (v ∷ row) (suc k) form is never = rw (no_form_at forms row k form is (λ lt. never (omega (arith, lt)))) (past (f v))
 
 -- there are too many columns or too few
-pub wrong_length : (forms : List (Value → Bool)) (row : Row) → (length row ≡ length forms → ⊥) → all_formed forms row ≡ false
+pub wrong_length : (forms : List (Value → Bool)) (row : Row) → (length row ≡ length forms → ⊥) → passes_all_cell_checks forms row ≡ false
 wrong_length [] [] never = absurd (never refl)
 wrong_length [] (v ∷ row) never = refl
 wrong_length (f ∷ forms) [] never = refl
@@ -73,10 +73,10 @@ wrong_length (f ∷ forms) (v ∷ row) never = rw (wrong_length forms row (λ e.
 
 -- ---- texts
 
-pub no_text : (v : Value) → (((t : List ℕ) × (v ≡ Words t) × IsUtf8 t) → ⊥) → words_cell is_utf8 v ≡ false
+pub no_text : (v : Value) → (((t : List ℕ) × (v ≡ Words t) × IsUtf8 t) → ⊥) → is_text_cell is_utf8 v ≡ false
 no_text v never = not_words v is_utf8 (λ s e f. never (s, e, IsUtf8-from_is_utf8 s f))
 
-pub no_formed_text : (form : List ℕ → Bool) → ((s : List ℕ) → form s ≡ true → IsUtf8 s) → (v : Value) → words_cell is_utf8 v ≡ false → words_cell form v ≡ false
+pub no_formed_text : (form : List ℕ → Bool) → ((s : List ℕ) → form s ≡ true → IsUtf8 s) → (v : Value) → is_text_cell is_utf8 v ≡ false → is_text_cell form v ≡ false
 no_formed_text form utf8 v none = not_words v form (λ s e f. let k : is_utf8 s ≡ true = is_utf8-from_IsUtf8 s (utf8 s f) in let other : is_utf8 s ≡ false = rw e at none in let clash = sym k ∙ other in cc)
 
 -- ---- rows

@@ -14,9 +14,9 @@ use Rattle.brk_sql.proofs.Writes.{IsUniqueKey}
 use Rattle.brk_tables_schema.specs.Shapes.{kept, permission, security, last_trade, charge, band, customer_tax}
 use Rattle.brk_tables_schema.specs.Cells.{kept_cells, permission_cells, security_cells, last_trade_cells, charge_cells, band_cells, customer_tax_cells}
 use Rattle.brk_tables_schema.specs.Desk.{KeptRows, Permissions, Securities, LastTrades, Charges, Bands, CustomerTaxes, order}
-use Rattle.brk_tables_schema.specs.Order.{part_value, key_values}
+use Rattle.brk_tables_schema.specs.Order.{key_part_value, key_values}
 
-same_part : (j k : KeyPart) → equal Binary (part_value j) (part_value k) ≡ is_eq (value_cmp (part_value j) (part_value k))
+same_part : (j k : KeyPart) → equal Binary (key_part_value j) (key_part_value k) ≡ is_eq (value_cmp (key_part_value j) (key_part_value k))
 unfolding binary value_cmp
 same_part (number m) (number n) = equal_ints (pos m) (pos n) ∙ ap is_eq (sym (value_cmp-Int (pos m) (pos n)))
 same_part (word s) (word t) = equal_texts s t ∙ ap is_eq (sym (value_cmp-Text s t))
@@ -37,11 +37,11 @@ same_key (j ∷ js) ks [] r s e f = absurd (let g = e in cc)
 same_key [] ks (p ∷ places) r s e f = absurd (let g = e in cc)
 same_key (j ∷ js) [] (p ∷ places) r s e f = absurd (let g = f in cc)
 same_key (j ∷ js) (k ∷ ks) (p ∷ places) r s e f =
-    let a : column r p ≡ part_value j = cc in
-    let b : column s p ≡ part_value k = cc in
+    let a : column r p ≡ key_part_value j = cc in
+    let b : column s p ≡ key_part_value k = cc in
     let c : map (column r) places ≡ key_values js = cc in
     let d : map (column s) places ≡ key_values ks = cc in
-    rw (a, b, same_part j k) (eq_then (value_cmp (part_value j) (part_value k)) _ ∙ ap (λ rest. is_eq (value_cmp (part_value j) (part_value k)) && rest) (same_key js ks places r s c d))
+    rw (a, b, same_part j k) (eq_then (value_cmp (key_part_value j) (key_part_value k)) _ ∙ ap (λ rest. is_eq (value_cmp (key_part_value j) (key_part_value k)) && rest) (same_key js ks places r s c d))
 
 pub kept_keyed : IsUniqueKey kept kept_cells (order KeptRows)
 kept_keyed = record { key = 1 ∷ 2 ∷ []; first = λ tree. refl; tied = λ tree r s x y e f. same_key (kept_key x) (kept_key y) (1 ∷ 2 ∷ []) r s (ap (take 2) e) (ap (take 2) f) }

@@ -10,7 +10,7 @@ use Rattle.brk_model.specs.Keys.{KeyPart, number, kept_key, broker_key, customer
 use Rattle.brk_sql.specs.Desk.{Desk}
 use Rattle.brk_tables_schema.specs.Shapes.{desk_row, kept, broker, customer, account, permission, security, last_trade, charge, band, tax_rate, customer_tax, trade, history, request, holding, summary, holding_history, settlement, cash, move, rule}
 use Rattle.brk_tables_schema.specs.Cells.{DeskRow, RuleRow, desk_row_cells, kept_cells, broker_cells, customer_cells, account_cells, permission_cells, security_cells, last_trade_cells, charge_cells, band_cells, tax_rate_cells, customer_tax_cells, trade_cells, history_cells, request_cells, holding_cells, summary_cells, holding_history_cells, settlement_cells, cash_cells, move_cells, rule_cells}
-use Rattle.brk_tables_schema.specs.Order.{by_key_values}
+use Rattle.brk_tables_schema.specs.Order.{ordering_by_key}
 
 -- A table, by its name.
 pub data Which : Type 0 where
@@ -187,58 +187,58 @@ key SettleRules = rule_key
 
 -- Compares two records of a table by their primary keys.
 abbrev pub order : (w : Which) → Item w → Item w → Ordering
-order w = by_key_values (key w)
+order w = ordering_by_key (key w)
 
 -- The records of the table `w` of a desk with the tables `t`. Only the one of DESK depends on the
 -- schema.
-abbrev pub list_in : Schema → (w : Which) → Tables → List (Item w)
-list_in schema TheDesk t = desk_rows schema t.last
-list_in schema KeptRows t = t.kept
-list_in schema Brokers t = t.brokers
-list_in schema Customers t = t.customers
-list_in schema Accounts t = t.accounts
-list_in schema Permissions t = t.permissions
-list_in schema Securities t = t.securities
-list_in schema LastTrades t = t.last_trades
-list_in schema Charges t = t.charges
-list_in schema Bands t = t.bands
-list_in schema TaxRates t = t.tax_rates
-list_in schema CustomerTaxes t = t.customer_taxes
-list_in schema Trades t = t.trades
-list_in schema TradeHistory t = t.history
-list_in schema Requests t = t.requests
-list_in schema Holdings t = t.holdings
-list_in schema Summaries t = t.summaries
-list_in schema HoldingHistory t = t.holding_history
-list_in schema Settlements t = t.settlements
-list_in schema CashRows t = t.cash
-list_in schema CashMoves t = t.moves
-list_in schema SettleRules t = rule_rows t.rule
+abbrev pub rows_in_schema : Schema → (w : Which) → Tables → List (Item w)
+rows_in_schema schema TheDesk t = desk_rows schema t.last
+rows_in_schema schema KeptRows t = t.kept
+rows_in_schema schema Brokers t = t.brokers
+rows_in_schema schema Customers t = t.customers
+rows_in_schema schema Accounts t = t.accounts
+rows_in_schema schema Permissions t = t.permissions
+rows_in_schema schema Securities t = t.securities
+rows_in_schema schema LastTrades t = t.last_trades
+rows_in_schema schema Charges t = t.charges
+rows_in_schema schema Bands t = t.bands
+rows_in_schema schema TaxRates t = t.tax_rates
+rows_in_schema schema CustomerTaxes t = t.customer_taxes
+rows_in_schema schema Trades t = t.trades
+rows_in_schema schema TradeHistory t = t.history
+rows_in_schema schema Requests t = t.requests
+rows_in_schema schema Holdings t = t.holdings
+rows_in_schema schema Summaries t = t.summaries
+rows_in_schema schema HoldingHistory t = t.holding_history
+rows_in_schema schema Settlements t = t.settlements
+rows_in_schema schema CashRows t = t.cash
+rows_in_schema schema CashMoves t = t.moves
+rows_in_schema schema SettleRules t = rule_rows t.rule
 
 -- The records of the table `w` of a desk in schema 3 with the tables `t`.
 abbrev pub list : (w : Which) → Tables → List (Item w)
-list = list_in third_schema
+list = rows_in_schema third_schema
 
 -- All tables of a desk, with the number of the given schema in the row of DESK.
-abbrev pub desk_in : Schema → Desk Which Tables
-desk_in schema = record { shape = shape; placed = placed; Item = Item; encode = encode; order = order; list = list_in schema }
+abbrev pub desk_of_schema : Schema → Desk Which Tables
+desk_of_schema schema = record { shape = shape; placed = placed; Item = Item; encode = encode; order = order; list = rows_in_schema schema }
 
 -- All tables of a desk in schema 3.
 abbrev pub desk : Desk Which Tables
-desk = desk_in third_schema
+desk = desk_of_schema third_schema
 
 -- The list of all tables, which are those of schema 3.
 abbrev pub all_tables : List Which
 all_tables = TheDesk ∷ KeptRows ∷ Brokers ∷ Customers ∷ Accounts ∷ Permissions ∷ Securities ∷ LastTrades ∷ Charges ∷ Bands ∷ TaxRates ∷ CustomerTaxes ∷ Trades ∷ TradeHistory ∷ Requests ∷ Holdings ∷ Summaries ∷ HoldingHistory ∷ Settlements ∷ CashRows ∷ CashMoves ∷ SettleRules ∷ []
 
 -- The list of the tables that a schema has.
-abbrev pub tables_in : Schema → List Which
-tables_in schema = filter (has_table schema) all_tables
+abbrev pub tables_in_schema : Schema → List Which
+tables_in_schema schema = filter (has_table schema) all_tables
 
 -- The SQL name of a table.
-abbrev pub name_of : Which → List ℕ
-name_of w = (shape w 0).name
+abbrev pub table_name : Which → List ℕ
+table_name w = (shape w 0).name
 
 -- The SQL names of all tables.
-abbrev pub names : List (List ℕ)
-names = map name_of all_tables
+abbrev pub all_table_names : List (List ℕ)
+all_table_names = map table_name all_tables

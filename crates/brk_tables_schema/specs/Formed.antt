@@ -5,260 +5,260 @@ use Rattle.std.specs.Str.{is_utf8}
 use Rattle.sqlite_value.specs.declared.value.Value.{Value}
 use Rattle.sqlite_value.specs.declared.value.Value.TheVariants.{Null, Int, Text as Words}
 use Rattle.sqlite_value.specs.Order.{Row}
-use Rattle.brk_money.specs.Kinds.{status_code, tax_status_of}
-use Rattle.brk_money.specs.Moments.{last_day, last_stamp}
+use Rattle.brk_money.specs.Kinds.{trade_status_code, tax_status_with_number}
+use Rattle.brk_money.specs.Moments.{greatest_day, greatest_stamp}
 use Rattle.brk_money.specs.declared.status.Status.{Status}
 use Rattle.brk_money.specs.declared.status.Status.TheVariants.{Completed, Active, Submitted, Pending, Canceled}
-use Rattle.brk_model.specs.Limits.{greatest_amount, greatest_charge, greatest_rate, greatest_tax_rate}
-use Rattle.brk_model.specs.Form.{is_id, is_move_id, is_qty, is_price, is_tier, is_amount}
+use Rattle.brk_model.specs.Limits.{greatest_amount, greatest_charge, greatest_commission_rate, greatest_tax_rate}
+use Rattle.brk_model.specs.Form.{is_id, is_cash_row_number, is_quantity_in_schema, is_price, is_tier, is_amount}
 use Rattle.brk_model.specs.Schemas.{Schema, third_schema}
-use Rattle.brk_model.specs.Forms.{is_name, is_tax_id, is_symbol, is_exchange, is_acl, is_batch_name, type_of}
-use Rattle.brk_changes.specs.Rows.{cash_type_word}
+use Rattle.brk_model.specs.Forms.{is_name, is_tax_id, is_symbol, is_exchange, is_acl, is_batch_name, trade_type_with_code}
+use Rattle.brk_changes.specs.Rows.{cash_type_text}
 use Rattle.brk_changes.specs.declared.cash_type.CashType.{CashType}
 use Rattle.brk_changes.specs.declared.cash_type.CashType.TheVariants.{CashAccount, Cash, Margin, MarginAccount}
 
 -- ---- The check of one column
 
 -- True if the value is an INTEGER of at least 0 that passes the check `form`.
-abbrev pub natural_cell : (ℕ → Bool) → Value → Bool
-natural_cell form (Int (pos n)) = form n
-natural_cell form _ = false
+abbrev pub is_natural_cell : (ℕ → Bool) → Value → Bool
+is_natural_cell form (Int (pos n)) = form n
+is_natural_cell form _ = false
 
 -- True if the value is NULL, or an INTEGER of at least 0 that passes the check `form`.
-abbrev pub maybe_cell : (ℕ → Bool) → Value → Bool
-maybe_cell form Null = true
-maybe_cell form (Int (pos n)) = form n
-maybe_cell form _ = false
+abbrev pub is_null_or_natural_cell : (ℕ → Bool) → Value → Bool
+is_null_or_natural_cell form Null = true
+is_null_or_natural_cell form (Int (pos n)) = form n
+is_null_or_natural_cell form _ = false
 
 -- True if the value is an INTEGER.
-abbrev pub number_cell : Value → Bool
-number_cell (Int n) = true
-number_cell _ = false
+abbrev pub is_integer_cell : Value → Bool
+is_integer_cell (Int n) = true
+is_integer_cell _ = false
 
 -- True if the value is an INTEGER within the limits of an amount of cents, of either sign.
-abbrev pub cents_cell : Value → Bool
-cents_cell (Int n) = is_amount n
-cents_cell _ = false
+abbrev pub is_cents_cell : Value → Bool
+is_cents_cell (Int n) = is_amount n
+is_cents_cell _ = false
 
 -- True if the value is a TEXT that passes the check `form`.
-abbrev pub words_cell : (List ℕ → Bool) → Value → Bool
-words_cell form (Words s) = form s
-words_cell form _ = false
+abbrev pub is_text_cell : (List ℕ → Bool) → Value → Bool
+is_text_cell form (Words s) = form s
+is_text_cell form _ = false
 
 -- True if the value is the INTEGER 0 or 1.
-abbrev pub flag_cell : Value → Bool
-flag_cell = natural_cell (λ n. (n == 0) || (n == 1))
+abbrev pub is_flag_cell : Value → Bool
+is_flag_cell = is_natural_cell (λ n. (n == 0) || (n == 1))
 
 -- True if the value is a TEXT in UTF-8.
-abbrev pub text_cell : Value → Bool
-text_cell = words_cell is_utf8
+abbrev pub is_utf8_cell : Value → Bool
+is_utf8_cell = is_text_cell is_utf8
 
 -- True if the text is the code of a trade type.
-abbrev pub is_type : List ℕ → Bool
-is_type s = is_some (type_of s)
+abbrev pub is_type_code : List ℕ → Bool
+is_type_code s = is_some (trade_type_with_code s)
 
 -- The list of all statuses of a trade.
 abbrev pub all_statuses : List Status
 all_statuses = Completed ∷ Active ∷ Submitted ∷ Pending ∷ Canceled ∷ []
 
 -- True if the text is the code of a status.
-abbrev pub is_status : List ℕ → Bool
-is_status s = list_any (λ status. bytes_eq (status_code status) s) all_statuses
+abbrev pub is_status_code : List ℕ → Bool
+is_status_code s = list_any (λ status. bytes_eq (trade_status_code status) s) all_statuses
 
 -- The list of all cash types of a settlement.
 abbrev pub all_cash_types : List CashType
 all_cash_types = CashAccount ∷ Cash ∷ Margin ∷ MarginAccount ∷ []
 
 -- True if the text is that of a cash type.
-abbrev pub is_cash_word : List ℕ → Bool
-is_cash_word s = list_any (λ kind. bytes_eq (cash_type_word kind) s) all_cash_types
+abbrev pub is_cash_type_text : List ℕ → Bool
+is_cash_type_text s = list_any (λ kind. bytes_eq (cash_type_text kind) s) all_cash_types
 
 -- True if the number is that of a tax status.
-abbrev pub is_tax_status : ℕ → Bool
-is_tax_status n = is_some (tax_status_of n)
+abbrev pub is_tax_status_number : ℕ → Bool
+is_tax_status_number n = is_some (tax_status_with_number n)
 
 -- True if the value is an INTEGER within the limits of an id.
-abbrev pub id_cell : Value → Bool
-id_cell = natural_cell is_id
+abbrev pub is_id_cell : Value → Bool
+is_id_cell = is_natural_cell is_id
 
 -- True if the value is an INTEGER within the limits of the number of a cash row.
-abbrev pub move_id_cell : Value → Bool
-move_id_cell = natural_cell is_move_id
+abbrev pub is_move_id_cell : Value → Bool
+is_move_id_cell = is_natural_cell is_cash_row_number
 
 -- True if the value is a TEXT in the format of a name.
-abbrev pub name_cell : Value → Bool
-name_cell = words_cell is_name
+abbrev pub is_name_cell : Value → Bool
+is_name_cell = is_text_cell is_name
 
 -- True if the value is a TEXT in the format of a tax id.
-abbrev pub tax_id_cell : Value → Bool
-tax_id_cell = words_cell is_tax_id
+abbrev pub is_tax_id_cell : Value → Bool
+is_tax_id_cell = is_text_cell is_tax_id
 
 -- True if the value is a TEXT in the format of a symbol.
-abbrev pub symbol_cell : Value → Bool
-symbol_cell = words_cell is_symbol
+abbrev pub is_symbol_cell : Value → Bool
+is_symbol_cell = is_text_cell is_symbol
 
 -- True if the value is a TEXT in the format of an exchange.
-abbrev pub exchange_cell : Value → Bool
-exchange_cell = words_cell is_exchange
+abbrev pub is_exchange_cell : Value → Bool
+is_exchange_cell = is_text_cell is_exchange
 
 -- True if the value is a TEXT that is the code of a trade type.
-abbrev pub type_cell : Value → Bool
-type_cell = words_cell is_type
+abbrev pub is_type_cell : Value → Bool
+is_type_cell = is_text_cell is_type_code
 
 -- True if the value is a TEXT that is the code of a status.
-abbrev pub status_cell : Value → Bool
-status_cell = words_cell is_status
+abbrev pub is_status_cell : Value → Bool
+is_status_cell = is_text_cell is_status_code
 
 -- True if the value is an INTEGER that is a tier.
-abbrev pub tier_cell : Value → Bool
-tier_cell = natural_cell is_tier
+abbrev pub is_tier_cell : Value → Bool
+is_tier_cell = is_natural_cell is_tier
 
 -- True if the value is an INTEGER within the limits of a quantity in schema 3.
-abbrev pub qty_cell : Value → Bool
-qty_cell = natural_cell (is_qty third_schema)
+abbrev pub is_quantity_cell : Value → Bool
+is_quantity_cell = is_natural_cell (is_quantity_in_schema third_schema)
 
 -- True if the value is an INTEGER within the limits of a price.
-abbrev pub price_cell : Value → Bool
-price_cell = natural_cell is_price
+abbrev pub is_price_cell : Value → Bool
+is_price_cell = is_natural_cell is_price
 
 -- True if the value is an INTEGER of at least 0 and at most the last stamp.
-abbrev pub stamp_cell : Value → Bool
-stamp_cell = natural_cell (λ n. nat_le n last_stamp)
+abbrev pub is_stamp_cell : Value → Bool
+is_stamp_cell = is_natural_cell (λ n. nat_le n greatest_stamp)
 
 -- True if the value is an INTEGER of at least 0 and at most the greatest amount: a sum of cents or
 -- a volume.
-abbrev pub sum_cell : Value → Bool
-sum_cell = natural_cell (λ n. nat_le n greatest_amount)
+abbrev pub is_amount_cell : Value → Bool
+is_amount_cell = is_natural_cell (λ n. nat_le n greatest_amount)
 
 -- True if the value is an INTEGER of at least 0 and at most the greatest commission rate.
-abbrev pub rate_cell : Value → Bool
-rate_cell = natural_cell (λ n. nat_le n greatest_rate)
+abbrev pub is_rate_cell : Value → Bool
+is_rate_cell = is_natural_cell (λ n. nat_le n greatest_commission_rate)
 
 -- True if the value is an INTEGER of at least 0 and at most the greatest tax rate.
-abbrev pub tax_cell : Value → Bool
-tax_cell = natural_cell (λ n. nat_le n greatest_tax_rate)
+abbrev pub is_tax_rate_cell : Value → Bool
+is_tax_rate_cell = is_natural_cell (λ n. nat_le n greatest_tax_rate)
 
 -- True if the value is an INTEGER of at least 0 and at most the last day.
-abbrev pub day_cell : Value → Bool
-day_cell = natural_cell (λ n. nat_le n last_day)
+abbrev pub is_day_cell : Value → Bool
+is_day_cell = is_natural_cell (λ n. nat_le n greatest_day)
 
 -- True if the value is an INTEGER that is the number of a tax status.
-abbrev pub tax_status_cell : Value → Bool
-tax_status_cell = natural_cell is_tax_status
+abbrev pub is_tax_status_cell : Value → Bool
+is_tax_status_cell = is_natural_cell is_tax_status_number
 
 -- True if the value is an INTEGER of at least 0 and at most the greatest charge.
-abbrev pub charge_cell : Value → Bool
-charge_cell = natural_cell (λ n. nat_le n greatest_charge)
+abbrev pub is_charge_cell : Value → Bool
+is_charge_cell = is_natural_cell (λ n. nat_le n greatest_charge)
 
 -- True if the value is NULL or a stamp.
-abbrev pub last_cell : Value → Bool
-last_cell = maybe_cell (λ n. nat_le n last_stamp)
+abbrev pub is_null_or_stamp_cell : Value → Bool
+is_null_or_stamp_cell = is_null_or_natural_cell (λ n. nat_le n greatest_stamp)
 
 -- ---- The check of a row
 
 -- True if the row has as many columns as there are checks, and each column passes its own.
-abbrev pub all_formed : List (Value → Bool) → Row → Bool
-all_formed [] [] = true
-all_formed (has_form ∷ forms) (v ∷ row) = has_form v && all_formed forms row
-all_formed _ _ = false
+abbrev pub passes_all_cell_checks : List (Value → Bool) → Row → Bool
+passes_all_cell_checks [] [] = true
+passes_all_cell_checks (has_form ∷ forms) (v ∷ row) = has_form v && passes_all_cell_checks forms row
+passes_all_cell_checks _ _ = false
 
 -- The checks of the columns of DESK, with the number of `schema`, in the order of the columns.
-abbrev pub desk_forms : Schema → List (Value → Bool)
-desk_forms schema = natural_cell (λ n. n == 1) ∷ natural_cell (λ n. n == schema.number) ∷ last_cell ∷ []
+abbrev pub desk_column_cell_checks : Schema → List (Value → Bool)
+desk_column_cell_checks schema = is_natural_cell (λ n. n == 1) ∷ is_natural_cell (λ n. n == schema.number) ∷ is_null_or_stamp_cell ∷ []
 
 -- True if there is exactly one row of DESK, and it passes the checks of the schema.
-abbrev pub is_desk_row : Schema → List Row → Bool
-is_desk_row schema (row ∷ []) = all_formed (desk_forms schema) row
-is_desk_row schema _ = false
+abbrev pub is_one_valid_desk_row : Schema → List Row → Bool
+is_one_valid_desk_row schema (row ∷ []) = passes_all_cell_checks (desk_column_cell_checks schema) row
+is_one_valid_desk_row schema _ = false
 
 -- The checks of the columns of KEPT.
-abbrev pub kept_forms : List (Value → Bool)
-kept_forms = words_cell is_batch_name ∷ id_cell ∷ text_cell ∷ text_cell ∷ []
+abbrev pub kept_column_cell_checks : List (Value → Bool)
+kept_column_cell_checks = is_text_cell is_batch_name ∷ is_id_cell ∷ is_utf8_cell ∷ is_utf8_cell ∷ []
 
 -- The checks of the columns of BROKER.
-abbrev pub broker_forms : List (Value → Bool)
-broker_forms = id_cell ∷ name_cell ∷ number_cell ∷ natural_cell (λ n. true) ∷ []
+abbrev pub broker_column_cell_checks : List (Value → Bool)
+broker_column_cell_checks = is_id_cell ∷ is_name_cell ∷ is_integer_cell ∷ is_natural_cell (λ n. true) ∷ []
 
 -- The checks of the columns of CUSTOMER.
-abbrev pub customer_forms : List (Value → Bool)
-customer_forms = id_cell ∷ tier_cell ∷ tax_id_cell ∷ name_cell ∷ name_cell ∷ []
+abbrev pub customer_column_cell_checks : List (Value → Bool)
+customer_column_cell_checks = is_id_cell ∷ is_tier_cell ∷ is_tax_id_cell ∷ is_name_cell ∷ is_name_cell ∷ []
 
 -- The checks of the columns of CUSTOMER_ACCOUNT.
-abbrev pub account_forms : List (Value → Bool)
-account_forms = id_cell ∷ id_cell ∷ id_cell ∷ name_cell ∷ tax_status_cell ∷ cents_cell ∷ cents_cell ∷ []
+abbrev pub account_column_cell_checks : List (Value → Bool)
+account_column_cell_checks = is_id_cell ∷ is_id_cell ∷ is_id_cell ∷ is_name_cell ∷ is_tax_status_cell ∷ is_cents_cell ∷ is_cents_cell ∷ []
 
 -- The checks of the columns of ACCOUNT_PERMISSION.
-abbrev pub permission_forms : List (Value → Bool)
-permission_forms = id_cell ∷ tax_id_cell ∷ words_cell is_acl ∷ name_cell ∷ name_cell ∷ []
+abbrev pub permission_column_cell_checks : List (Value → Bool)
+permission_column_cell_checks = is_id_cell ∷ is_tax_id_cell ∷ is_text_cell is_acl ∷ is_name_cell ∷ is_name_cell ∷ []
 
 -- The checks of the columns of SECURITY.
-abbrev pub security_forms : List (Value → Bool)
-security_forms = symbol_cell ∷ name_cell ∷ exchange_cell ∷ name_cell ∷ []
+abbrev pub security_column_cell_checks : List (Value → Bool)
+security_column_cell_checks = is_symbol_cell ∷ is_name_cell ∷ is_exchange_cell ∷ is_name_cell ∷ []
 
 -- The checks of the columns of LAST_TRADE.
-abbrev pub last_trade_forms : List (Value → Bool)
-last_trade_forms = symbol_cell ∷ stamp_cell ∷ price_cell ∷ sum_cell ∷ []
+abbrev pub last_trade_column_cell_checks : List (Value → Bool)
+last_trade_column_cell_checks = is_symbol_cell ∷ is_stamp_cell ∷ is_price_cell ∷ is_amount_cell ∷ []
 
 -- The checks of the columns of CHARGE.
-abbrev pub charge_forms : List (Value → Bool)
-charge_forms = type_cell ∷ tier_cell ∷ charge_cell ∷ []
+abbrev pub charge_column_cell_checks : List (Value → Bool)
+charge_column_cell_checks = is_type_cell ∷ is_tier_cell ∷ is_charge_cell ∷ []
 
 -- The checks of the columns of COMMISSION_RATE.
-abbrev pub band_forms : List (Value → Bool)
-band_forms = tier_cell ∷ type_cell ∷ exchange_cell ∷ qty_cell ∷ qty_cell ∷ rate_cell ∷ []
+abbrev pub band_column_cell_checks : List (Value → Bool)
+band_column_cell_checks = is_tier_cell ∷ is_type_cell ∷ is_exchange_cell ∷ is_quantity_cell ∷ is_quantity_cell ∷ is_rate_cell ∷ []
 
 -- The checks of the columns of TAXRATE.
-abbrev pub tax_rate_forms : List (Value → Bool)
-tax_rate_forms = id_cell ∷ name_cell ∷ tax_cell ∷ []
+abbrev pub tax_rate_column_cell_checks : List (Value → Bool)
+tax_rate_column_cell_checks = is_id_cell ∷ is_name_cell ∷ is_tax_rate_cell ∷ []
 
 -- The checks of the columns of CUSTOMER_TAXRATE.
-abbrev pub customer_tax_forms : List (Value → Bool)
-customer_tax_forms = id_cell ∷ id_cell ∷ []
+abbrev pub customer_tax_column_cell_checks : List (Value → Bool)
+customer_tax_column_cell_checks = is_id_cell ∷ is_id_cell ∷ []
 
 -- The checks of the columns of TRADE.
-abbrev pub trade_forms : List (Value → Bool)
-trade_forms =
-    id_cell ∷ stamp_cell ∷ status_cell ∷ type_cell ∷ flag_cell ∷ symbol_cell ∷ qty_cell ∷ price_cell ∷ id_cell ∷ text_cell ∷ maybe_cell is_price ∷ charge_cell
-    ∷ sum_cell ∷ sum_cell ∷ flag_cell ∷ []
+abbrev pub trade_column_cell_checks : List (Value → Bool)
+trade_column_cell_checks =
+    is_id_cell ∷ is_stamp_cell ∷ is_status_cell ∷ is_type_cell ∷ is_flag_cell ∷ is_symbol_cell ∷ is_quantity_cell ∷ is_price_cell ∷ is_id_cell ∷ is_utf8_cell ∷ is_null_or_natural_cell is_price ∷ is_charge_cell
+    ∷ is_amount_cell ∷ is_amount_cell ∷ is_flag_cell ∷ []
 
 -- The checks of the columns of TRADE_HISTORY.
-abbrev pub history_forms : List (Value → Bool)
-history_forms = id_cell ∷ status_cell ∷ stamp_cell ∷ []
+abbrev pub history_column_cell_checks : List (Value → Bool)
+history_column_cell_checks = is_id_cell ∷ is_status_cell ∷ is_stamp_cell ∷ []
 
 -- The checks of the columns of TRADE_REQUEST.
-abbrev pub request_forms : List (Value → Bool)
-request_forms = id_cell ∷ type_cell ∷ symbol_cell ∷ qty_cell ∷ price_cell ∷ id_cell ∷ []
+abbrev pub request_column_cell_checks : List (Value → Bool)
+request_column_cell_checks = is_id_cell ∷ is_type_cell ∷ is_symbol_cell ∷ is_quantity_cell ∷ is_price_cell ∷ is_id_cell ∷ []
 
 -- The checks of the columns of HOLDING.
-abbrev pub holding_forms : List (Value → Bool)
-holding_forms = id_cell ∷ id_cell ∷ symbol_cell ∷ stamp_cell ∷ price_cell ∷ number_cell ∷ []
+abbrev pub holding_column_cell_checks : List (Value → Bool)
+holding_column_cell_checks = is_id_cell ∷ is_id_cell ∷ is_symbol_cell ∷ is_stamp_cell ∷ is_price_cell ∷ is_integer_cell ∷ []
 
 -- The checks of the columns of HOLDING_SUMMARY.
-abbrev pub summary_forms : List (Value → Bool)
-summary_forms = id_cell ∷ symbol_cell ∷ number_cell ∷ []
+abbrev pub summary_column_cell_checks : List (Value → Bool)
+summary_column_cell_checks = is_id_cell ∷ is_symbol_cell ∷ is_integer_cell ∷ []
 
 -- The checks of the columns of HOLDING_HISTORY.
-abbrev pub holding_history_forms : List (Value → Bool)
-holding_history_forms = id_cell ∷ id_cell ∷ number_cell ∷ number_cell ∷ []
+abbrev pub holding_history_column_cell_checks : List (Value → Bool)
+holding_history_column_cell_checks = is_id_cell ∷ is_id_cell ∷ is_integer_cell ∷ is_integer_cell ∷ []
 
 -- The checks of the columns of SETTLEMENT.
-abbrev pub settlement_forms : List (Value → Bool)
-settlement_forms = id_cell ∷ words_cell is_cash_word ∷ day_cell ∷ cents_cell ∷ []
+abbrev pub settlement_column_cell_checks : List (Value → Bool)
+settlement_column_cell_checks = is_id_cell ∷ is_text_cell is_cash_type_text ∷ is_day_cell ∷ is_cents_cell ∷ []
 
 -- The checks of the columns of CASH_TRANSACTION.
-abbrev pub cash_forms : List (Value → Bool)
-cash_forms = id_cell ∷ stamp_cell ∷ cents_cell ∷ text_cell ∷ []
+abbrev pub cash_column_cell_checks : List (Value → Bool)
+cash_column_cell_checks = is_id_cell ∷ is_stamp_cell ∷ is_cents_cell ∷ is_utf8_cell ∷ []
 
 -- The checks of the columns of CASH_MOVE.
-abbrev pub move_forms : List (Value → Bool)
-move_forms = move_id_cell ∷ id_cell ∷ maybe_cell is_id ∷ stamp_cell ∷ cents_cell ∷ text_cell ∷ []
+abbrev pub move_column_cell_checks : List (Value → Bool)
+move_column_cell_checks = is_move_id_cell ∷ is_id_cell ∷ is_null_or_natural_cell is_id ∷ is_stamp_cell ∷ is_cents_cell ∷ is_utf8_cell ∷ []
 
 -- The checks of the columns of SETTLE_RULE.
-abbrev pub rule_forms : List (Value → Bool)
-rule_forms = natural_cell (λ n. n == 1) ∷ day_cell ∷ []
+abbrev pub rule_column_cell_checks : List (Value → Bool)
+rule_column_cell_checks = is_natural_cell (λ n. n == 1) ∷ is_day_cell ∷ []
 
 -- True if there is no row of SETTLE_RULE, or exactly one, which passes its checks.
-abbrev pub is_rule : List Row → Bool
-is_rule [] = true
-is_rule (row ∷ []) = all_formed rule_forms row
-is_rule _ = false
+abbrev pub is_at_most_one_valid_rule : List Row → Bool
+is_at_most_one_valid_rule [] = true
+is_at_most_one_valid_rule (row ∷ []) = passes_all_cell_checks rule_column_cell_checks row
+is_at_most_one_valid_rule _ = false

@@ -8,14 +8,14 @@ use Rattle.sqlite_value.specs.Order.{Row, value_cmp}
 use Rattle.brk_model.specs.Keys.{KeyPart, number, word}
 
 -- The SQL value of a part of a key: an INTEGER for a number, a TEXT for a word.
-abbrev pub part_value : KeyPart → Value
-part_value (number n) = Int (pos n)
-part_value (word s) = Words s
+abbrev pub key_part_value : KeyPart → Value
+key_part_value (number n) = Int (pos n)
+key_part_value (word s) = Words s
 
 -- The SQL values of the parts of a key, in order.
 abbrev pub key_values : List KeyPart → Row
-key_values = map part_value
+key_values = map key_part_value
 
 -- Compares two records by their keys, part by part, in the order of SQL values.
-abbrev pub by_key_values : {X : Type 0} → (X → List KeyPart) → X → X → Ordering
-by_key_values key x y = slice_cmp value_cmp (key_values (key x)) (key_values (key y))
+abbrev pub ordering_by_key : {X : Type 0} → (X → List KeyPart) → X → X → Ordering
+ordering_by_key key x y = slice_cmp value_cmp (key_values (key x)) (key_values (key y))

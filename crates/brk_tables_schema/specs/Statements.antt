@@ -10,31 +10,31 @@ use Rattle.brk_tables_schema.specs.Desk.{Which, Item, desk, list}
 -- If the call succeeds, it changes the rows of a desk's tables from `t` to `f t`, whatever `t` is,
 -- and leaves other tables unchanged. It commits nothing. Vacuous if the disk assumption fails, or
 -- outside a transaction.
-abbrev pub Writes : {S V E : Type 0} → Ghosts S → Transaction S → Transaction S → Result V E → (Tables → Tables) → Type 0
-Writes g old new result f = WritesTables desk g old new result f
+abbrev pub WritesDeskTables : {S V E : Type 0} → Ghosts S → Transaction S → Transaction S → Result V E → (Tables → Tables) → Type 0
+WritesDeskTables g old new result f = WritesTables desk g old new result f
 
 -- If the call succeeds, it changes nothing, and `Told` relates its value to the rows of a desk's
 -- tables. Vacuous if the disk assumption fails, or outside a transaction.
-abbrev pub Reads : {S V E : Type 0} → Ghosts S → Transaction S → Transaction S → Result V E → (V → Tables → Type 0) → Type 0
-Reads g old new result Told = ReadsTables desk g old new result Told
+abbrev pub ReadsDeskTables : {S V E : Type 0} → Ghosts S → Transaction S → Transaction S → Result V E → (V → Tables → Type 0) → Type 0
+ReadsDeskTables g old new result Told = ReadsTables desk g old new result Told
 
 -- `o` is, through `of`, the first record of the table `w` that passes `is`, or `None` if no record
 -- passes.
-abbrev pub Found : {X : Type 0} (w : Which) → (X → Item w) → (Item w → Bool) → Option X → Tables → Type 0
-Found w of is o t = option_map of o ≡ find is (list w t)
+abbrev pub IsFirstMatch : {X : Type 0} (w : Which) → (X → Item w) → (Item w → Bool) → Option X → Tables → Type 0
+IsFirstMatch w of is o t = option_map of o ≡ find is (list w t)
 
 -- `all` are, through `of`, all records of the table `w` that pass `is`, sorted by the key of the
 -- table.
-abbrev pub Listed : {X : Type 0} (w : Which) → (X → Item w) → (Item w → Bool) → Vec X → Tables → Type 0
-Listed w of is all t = map of all.items ≡ filter is (list w t)
+abbrev pub AreMatchingRows : {X : Type 0} (w : Which) → (X → Item w) → (Item w → Bool) → Vec X → Tables → Type 0
+AreMatchingRows w of is all t = map of all.items ≡ filter is (list w t)
 
 -- If the call succeeds, it changes nothing and returns the first record of the table `w` that
 -- passes `is`, or `None` if no record passes. Vacuous if the disk assumption fails, or outside a
 -- transaction.
-abbrev pub Finds : {S X E : Type 0} → Ghosts S → Transaction S → Transaction S → Result (Option X) E → (w : Which) → (X → Item w) → (Item w → Bool) → Type 0
-Finds g old new result w of is = Reads g old new result (Found w of is)
+abbrev pub ReadsFirstMatch : {S X E : Type 0} → Ghosts S → Transaction S → Transaction S → Result (Option X) E → (w : Which) → (X → Item w) → (Item w → Bool) → Type 0
+ReadsFirstMatch g old new result w of is = ReadsDeskTables g old new result (IsFirstMatch w of is)
 
 -- If the call succeeds, it changes nothing and returns all records of the table `w` that pass `is`,
 -- sorted by the key of the table. Vacuous if the disk assumption fails, or outside a transaction.
-abbrev pub Lists : {S X E : Type 0} → Ghosts S → Transaction S → Transaction S → Result (Vec X) E → (w : Which) → (X → Item w) → (Item w → Bool) → Type 0
-Lists g old new result w of is = Reads g old new result (Listed w of is)
+abbrev pub ReadsMatchingRows : {S X E : Type 0} → Ghosts S → Transaction S → Transaction S → Result (Vec X) E → (w : Which) → (X → Item w) → (Item w → Bool) → Type 0
+ReadsMatchingRows g old new result w of is = ReadsDeskTables g old new result (AreMatchingRows w of is)

@@ -7,21 +7,21 @@ ghost use Rattle.sqlite.specs.Listing.{understood};
 ghost use Rattle.sqlite.specs.Values.{bound};
 ghost use Rattle.sqlite_resolve.specs.declared.compiled.Compiled.{Compiled};
 ghost use Rattle.sqlite_schema.specs.declared.schema.Schema.{Schema};
-ghost use Rattle.brk_sql.specs.Desk.{Heads, Probes};
-ghost use Rattle.brk_sql.specs.Model.{Ran, Selected, Steps};
+ghost use Rattle.brk_sql.specs.Desk.{MatchesResultColumns, MatchesCompilation};
+ghost use Rattle.brk_sql.specs.Model.{ExecutesStatement, SelectsRows, IsConnectionStep};
 
 use brk_money::Fault;
 use sqlite::{Alter, Row, Transaction};
 use sqlite_value::value::ValueRef;
 
 /// Executes a statement that creates a table or changes rows. Fails with `Store` only.
-pub fn run<S: Alter>(
+pub fn execute_statement<S: Alter>(
     tx: &mut Transaction<'_, S>,
     text: &str,
     params: &[ValueRef<'_>],
 ) -> Result<(), Fault>
     ensures same_reference { tx.new.conn.ghost_name ≡ tx.old.conn.ghost_name }
-    ensures step { Steps S.Store tx.old tx.new result (λ _. Ran text.now (bound params.now)) }
+    ensures step { IsConnectionStep S.Store tx.old tx.new result (λ _. ExecutesStatement text.now (bound params.now)) }
     ensures fault { OnErr result (result ≡ Err Store) }
 {
     match tx.execute(text, params) {
@@ -32,14 +32,14 @@ pub fn run<S: Alter>(
 
 /// Returns the rows that a statement selects, which has no RETURNING clause. Fails with `Store`
 /// only.
-pub fn select<S: Alter>(
+pub fn select_rows<S: Alter>(
     tx: &mut Transaction<'_, S>,
     text: &str,
     params: &[ValueRef<'_>],
 ) -> Result<Vec<Row>, Fault>
     requires plain { (schema : Schema) (c : Compiled) → understood schema text.now ≡ Ok c → c.returning ≡ None }
     ensures same_reference { tx.new.conn.ghost_name ≡ tx.old.conn.ghost_name }
-    ensures step { Steps S.Store tx.old tx.new result (λ rows. Selected text.now (bound params.now) rows.items) }
+    ensures step { IsConnectionStep S.Store tx.old tx.new result (λ rows. SelectsRows text.now (bound params.now) rows.items) }
     ensures fault { OnErr result (result ≡ Err Store) }
 {
     match tx.query_all(text, params) {
@@ -50,12 +50,12 @@ pub fn select<S: Alter>(
 
 /// Returns true if the statement compiles, and false if it names a table that does not exist. The
 /// database is unchanged. Fails with `Store` only.
-pub fn is_understood<S: Alter>(tx: &mut Transaction<'_, S>, text: &str) -> Result<bool, Fault>
+pub fn statement_compiles<S: Alter>(tx: &mut Transaction<'_, S>, text: &str) -> Result<bool, Fault>
     ensures same_reference { tx.new.conn.ghost_name ≡ tx.old.conn.ghost_name }
-    ensures step { Steps S.Store tx.old tx.new result (λ has a b. IsTrue a.is_open × (b.now ≡ a.now) × Probes text.now has a.now.schema) }
+    ensures step { IsConnectionStep S.Store tx.old tx.new result (λ has a b. IsTrue a.is_open × (b.now ≡ a.now) × MatchesCompilation text.now has a.now.schema) }
     ensures fault { OnErr result (result ≡ Err Store) }
 {
-    match brk_sql::is_understood(tx, text) {
+    match brk_sql::statement_compiles(tx, text) {
         Ok(has) => Ok(has),
         Err(_) => Err(Fault::Store),
     }
@@ -63,16 +63,16 @@ pub fn is_understood<S: Alter>(tx: &mut Transaction<'_, S>, text: &str) -> Resul
 
 /// Returns true if the columns of the statement's result are exactly `names`, in order. The
 /// database is unchanged. Fails with `Store` only.
-pub fn shows_columns<S: Alter>(
+pub fn statement_has_columns<S: Alter>(
     tx: &mut Transaction<'_, S>,
     text: &str,
     names: &[&str],
 ) -> Result<bool, Fault>
     ensures same_reference { tx.new.conn.ghost_name ≡ tx.old.conn.ghost_name }
-    ensures step { Steps S.Store tx.old tx.new result (λ has a b. IsTrue a.is_open × (b.now ≡ a.now) × Heads text.now (map (λ (name : Bor (List ℕ)). name.now) names.now) has a.now.schema) }
+    ensures step { IsConnectionStep S.Store tx.old tx.new result (λ has a b. IsTrue a.is_open × (b.now ≡ a.now) × MatchesResultColumns text.now (map (λ (name : Bor (List ℕ)). name.now) names.now) has a.now.schema) }
     ensures fault { OnErr result (result ≡ Err Store) }
 {
-    match brk_sql::shows_columns(tx, text, names) {
+    match brk_sql::statement_has_columns(tx, text, names) {
         Ok(has) => Ok(has),
         Err(_) => Err(Fault::Store),
     }

@@ -3,11 +3,11 @@
 ghost use Rattle.std.specs.Prelude.{◌≡◌, ◌≢◌, ◌<◌, ◌^◌, Err, IfOk, MatchOption, OnOk, bytes_eq, length, nat_lt, pos, string_bytes, true, false};
 ghost use Rattle.sqlite_value.specs.declared.value.Value.TheVariants.{Int, Text};
 ghost use Rattle.sqlite_value.specs.Order.{column};
-ghost use Rattle.brk_money.specs.Kinds.{status_code, tax_status_number, type_code};
-ghost use Rattle.brk_changes.specs.Rows.{cash_type_word};
+ghost use Rattle.brk_money.specs.Kinds.{trade_status_code, tax_status_number, trade_type_code};
+ghost use Rattle.brk_changes.specs.Rows.{cash_type_text};
 ghost use Rattle.brk_model.specs.Form.{is_id, is_price};
-ghost use Rattle.brk_tables_schema.specs.Cells.{flag, maybe};
-ghost use Rattle.brk_tables_schema.specs.Formed.{cents_cell, charge_cell, day_cell, flag_cell, id_cell, is_cash_word, is_status, is_tax_status, last_cell, maybe_cell, move_id_cell, natural_cell, number_cell, price_cell, qty_cell, rate_cell, stamp_cell, status_cell, sum_cell, tax_cell, tax_status_cell, text_cell, tier_cell, type_cell, words_cell};
+ghost use Rattle.brk_tables_schema.specs.Cells.{flag_as_value, optional_as_value};
+ghost use Rattle.brk_tables_schema.specs.Formed.{is_cents_cell, is_charge_cell, is_day_cell, is_flag_cell, is_id_cell, is_cash_type_text, is_status_code, is_tax_status_number, is_null_or_stamp_cell, is_null_or_natural_cell, is_move_id_cell, is_natural_cell, is_integer_cell, is_price_cell, is_quantity_cell, is_rate_cell, is_stamp_cell, is_status_cell, is_amount_cell, is_tax_rate_cell, is_tax_status_cell, is_utf8_cell, is_tier_cell, is_type_cell, is_text_cell};
 ghost use Rattle.brk_tables_schema.specs.declared.decode_error.DecodeError.TheVariants.{Form as Formless};
 
 use crate::decode_error::{DecodeError, decode_error_by};
@@ -15,14 +15,14 @@ use brk_changes::{Amount, CashType};
 use brk_money::{
     Cents, Day, Id, MoveId, Price, Qty, Rate, Stamp, Status, TaxRate, TaxStatus, TradeType,
 };
-use brk_ref::{ChargeAmount, Form, RowNumber, Text as FormedText, Tier, Volume, parse_type};
+use brk_ref::{ChargeAmount, Form, RowNumber, Text as FormedText, Tier, Volume, parse_trade_type};
 use sqlite::Row;
 use sqlite::types::FromSql;
 use sqlite_value::value::ValueRef;
 
 /// Returns `Ok` only if the row has exactly `count` columns. Fails with `Form` only if it has not,
 /// or with `Memory`.
-pub fn has_columns(row: &Row, count: usize) -> Result<(), DecodeError>
+pub fn check_column_count(row: &Row, count: usize) -> Result<(), DecodeError>
     ensures columns { OnOk result (length row.now ≡ count) }
     ensures form { result ≡ Err Formless → length row.now ≢ count }
 {
@@ -35,7 +35,7 @@ pub fn has_columns(row: &Row, count: usize) -> Result<(), DecodeError>
 
 // Reads a column as the type `T`. Fails with `Form` only if the column is missing or malformed, or
 // with `Memory`.
-fn value_in<T: FromSql>(row: &Row, at: usize) -> Result<T, DecodeError>
+fn read_value<T: FromSql>(row: &Row, at: usize) -> Result<T, DecodeError>
     ensures value { IfOk result (T.FromSql.reads_as (column row.now at)) }
     ensures form { result ≡ Err Formless → at < length row.now → ¬ T.FromSql.is_readable (column row.now at) }
 {
@@ -47,9 +47,9 @@ fn value_in<T: FromSql>(row: &Row, at: usize) -> Result<T, DecodeError>
 
 // Reads the bytes of a text. Fails with `Form` only if the column is missing or malformed, or with
 // `Memory`.
-fn bytes_in(row: &Row, at: usize) -> Result<&[u8], DecodeError>
+fn read_bytes(row: &Row, at: usize) -> Result<&[u8], DecodeError>
     ensures value { IfOk result (λ bytes. column row.now at ≡ Text bytes.now) }
-    ensures form { result ≡ Err Formless → at < length row.now → words_cell (λ _. true) (column row.now at) ≡ false }
+    ensures form { result ≡ Err Formless → at < length row.now → is_text_cell (λ _. true) (column row.now at) ≡ false }
 {
     match row.get_ref(at) {
         Ok(ValueRef::Text(bytes)) => Ok(bytes),
@@ -61,27 +61,27 @@ fn bytes_in(row: &Row, at: usize) -> Result<&[u8], DecodeError>
 /// `Memory`.
 pub fn number_in(row: &Row, at: usize) -> Result<i64, DecodeError>
     ensures value { IfOk result (λ number. column row.now at ≡ Int number) }
-    ensures form { result ≡ Err Formless → at < length row.now → number_cell (column row.now at) ≡ false }
+    ensures form { result ≡ Err Formless → at < length row.now → is_integer_cell (column row.now at) ≡ false }
 {
-    value_in(row, at)
+    read_value(row, at)
 }
 
 /// Reads an integer that is not below 0. Fails with `Form` only if the column is missing or
 /// malformed, or with `Memory`.
 pub fn natural_in(row: &Row, at: usize) -> Result<u64, DecodeError>
     ensures value { IfOk result (λ number. column row.now at ≡ Int (pos number)) }
-    ensures form { result ≡ Err Formless → at < length row.now → natural_cell (λ _. true) (column row.now at) ≡ false }
+    ensures form { result ≡ Err Formless → at < length row.now → is_natural_cell (λ _. true) (column row.now at) ≡ false }
 {
-    value_in(row, at)
+    read_value(row, at)
 }
 
 /// Reads an integer that is not below 0 and fits 32 bits. Fails with `Form` only if the column is
 /// missing or malformed, or with `Memory`.
 pub fn small_in(row: &Row, at: usize) -> Result<u32, DecodeError>
     ensures value { IfOk result (λ number. column row.now at ≡ Int (pos number)) }
-    ensures form { result ≡ Err Formless → at < length row.now → natural_cell (λ n. nat_lt n (2 ^ 32)) (column row.now at) ≡ false }
+    ensures form { result ≡ Err Formless → at < length row.now → is_natural_cell (λ n. nat_lt n (2 ^ 32)) (column row.now at) ≡ false }
 {
-    value_in(row, at)
+    read_value(row, at)
 }
 
 /// Reads a text of UTF-8. Fails with `Form` only if the column is missing or malformed, or with
@@ -89,17 +89,17 @@ pub fn small_in(row: &Row, at: usize) -> Result<u32, DecodeError>
 #[tactic(auto, using(crate::proofs::Unformed::no_text))]
 pub fn text_in(row: &Row, at: usize) -> Result<String, DecodeError>
     ensures value { IfOk result (λ text. column row.now at ≡ Text (string_bytes text)) }
-    ensures form { result ≡ Err Formless → at < length row.now → text_cell (column row.now at) ≡ false }
+    ensures form { result ≡ Err Formless → at < length row.now → is_utf8_cell (column row.now at) ≡ false }
 {
-    value_in(row, at)
+    read_value(row, at)
 }
 
 /// Reads a text of the format `F`. Fails with `Form` only if the column is missing or malformed, or
 /// with `Memory`.
 #[tactic(auto, using(crate::proofs::Unformed::no_formed_text))]
-pub fn text_of<F: Form>(row: &Row, at: usize) -> Result<FormedText<F>, DecodeError>
+pub fn formed_text_in<F: Form>(row: &Row, at: usize) -> Result<FormedText<F>, DecodeError>
     ensures value { IfOk result (λ text. column row.now at ≡ Text text) }
-    ensures form { result ≡ Err Formless → at < length row.now → words_cell F.form (column row.now at) ≡ false }
+    ensures form { result ≡ Err Formless → at < length row.now → is_text_cell F.form (column row.now at) ≡ false }
 {
     FormedText::new(text_in(row, at)?).ok_or(DecodeError::Form)
 }
@@ -108,7 +108,7 @@ pub fn text_of<F: Form>(row: &Row, at: usize) -> Result<FormedText<F>, DecodeErr
 /// malformed, or with `Memory`.
 pub fn row_number_in(row: &Row, at: usize) -> Result<RowNumber, DecodeError>
     ensures value { IfOk result (λ number. column row.now at ≡ Int (pos number)) }
-    ensures form { result ≡ Err Formless → at < length row.now → id_cell (column row.now at) ≡ false }
+    ensures form { result ≡ Err Formless → at < length row.now → is_id_cell (column row.now at) ≡ false }
 {
     RowNumber::new(natural_in(row, at)?).ok_or(DecodeError::Form)
 }
@@ -116,7 +116,7 @@ pub fn row_number_in(row: &Row, at: usize) -> Result<RowNumber, DecodeError>
 /// Reads an id. Fails with `Form` only if the column is missing or malformed, or with `Memory`.
 pub fn id_in(row: &Row, at: usize) -> Result<Id, DecodeError>
     ensures value { IfOk result (λ id. column row.now at ≡ Int (pos id)) }
-    ensures form { result ≡ Err Formless → at < length row.now → id_cell (column row.now at) ≡ false }
+    ensures form { result ≡ Err Formless → at < length row.now → is_id_cell (column row.now at) ≡ false }
 {
     Id::new(natural_in(row, at)?).ok_or(DecodeError::Form)
 }
@@ -125,7 +125,7 @@ pub fn id_in(row: &Row, at: usize) -> Result<Id, DecodeError>
 /// with `Memory`.
 pub fn move_id_in(row: &Row, at: usize) -> Result<MoveId, DecodeError>
     ensures value { IfOk result (λ id. column row.now at ≡ Int (pos id)) }
-    ensures form { result ≡ Err Formless → at < length row.now → move_id_cell (column row.now at) ≡ false }
+    ensures form { result ≡ Err Formless → at < length row.now → is_move_id_cell (column row.now at) ≡ false }
 {
     MoveId::new(natural_in(row, at)?).ok_or(DecodeError::Form)
 }
@@ -133,10 +133,10 @@ pub fn move_id_in(row: &Row, at: usize) -> Result<MoveId, DecodeError>
 /// Reads an id, or `None` if the column is null. Fails with `Form` only if the column is missing or
 /// malformed, or with `Memory`.
 pub fn maybe_id_in(row: &Row, at: usize) -> Result<Option<Id>, DecodeError>
-    ensures value { IfOk result (λ id. column row.now at ≡ maybe id) }
-    ensures form { result ≡ Err Formless → at < length row.now → maybe_cell is_id (column row.now at) ≡ false }
+    ensures value { IfOk result (λ id. column row.now at ≡ optional_as_value id) }
+    ensures form { result ≡ Err Formless → at < length row.now → is_null_or_natural_cell is_id (column row.now at) ≡ false }
 {
-    let number: Option<u64> = value_in(row, at)?;
+    let number: Option<u64> = read_value(row, at)?;
     let Some(number) = number else {
         return Ok(None);
     };
@@ -146,7 +146,7 @@ pub fn maybe_id_in(row: &Row, at: usize) -> Result<Option<Id>, DecodeError>
 /// Reads a tier. Fails with `Form` only if the column is missing or malformed, or with `Memory`.
 pub fn tier_in(row: &Row, at: usize) -> Result<Tier, DecodeError>
     ensures value { IfOk result (λ tier. column row.now at ≡ Int (pos tier)) }
-    ensures form { result ≡ Err Formless → at < length row.now → tier_cell (column row.now at) ≡ false }
+    ensures form { result ≡ Err Formless → at < length row.now → is_tier_cell (column row.now at) ≡ false }
 {
     Tier::new(natural_in(row, at)?).ok_or(DecodeError::Form)
 }
@@ -155,7 +155,7 @@ pub fn tier_in(row: &Row, at: usize) -> Result<Tier, DecodeError>
 /// malformed, or with `Memory`.
 pub fn amount_in(row: &Row, at: usize) -> Result<Amount, DecodeError>
     ensures value { IfOk result (λ amount. column row.now at ≡ Int (pos amount)) }
-    ensures form { result ≡ Err Formless → at < length row.now → sum_cell (column row.now at) ≡ false }
+    ensures form { result ≡ Err Formless → at < length row.now → is_amount_cell (column row.now at) ≡ false }
 {
     Amount::new(natural_in(row, at)?).ok_or(DecodeError::Form)
 }
@@ -163,7 +163,7 @@ pub fn amount_in(row: &Row, at: usize) -> Result<Amount, DecodeError>
 /// Reads a volume. Fails with `Form` only if the column is missing or malformed, or with `Memory`.
 pub fn volume_in(row: &Row, at: usize) -> Result<Volume, DecodeError>
     ensures value { IfOk result (λ volume. column row.now at ≡ Int (pos volume)) }
-    ensures form { result ≡ Err Formless → at < length row.now → sum_cell (column row.now at) ≡ false }
+    ensures form { result ≡ Err Formless → at < length row.now → is_amount_cell (column row.now at) ≡ false }
 {
     Volume::new(natural_in(row, at)?).ok_or(DecodeError::Form)
 }
@@ -172,7 +172,7 @@ pub fn volume_in(row: &Row, at: usize) -> Result<Volume, DecodeError>
 /// `Memory`.
 pub fn qty_in(row: &Row, at: usize) -> Result<Qty, DecodeError>
     ensures value { IfOk result (λ qty. column row.now at ≡ Int (pos qty)) }
-    ensures form { result ≡ Err Formless → at < length row.now → qty_cell (column row.now at) ≡ false }
+    ensures form { result ≡ Err Formless → at < length row.now → is_quantity_cell (column row.now at) ≡ false }
 {
     Qty::new(small_in(row, at)?).ok_or(DecodeError::Form)
 }
@@ -180,7 +180,7 @@ pub fn qty_in(row: &Row, at: usize) -> Result<Qty, DecodeError>
 /// Reads a price. Fails with `Form` only if the column is missing or malformed, or with `Memory`.
 pub fn price_in(row: &Row, at: usize) -> Result<Price, DecodeError>
     ensures value { IfOk result (λ price. column row.now at ≡ Int (pos price)) }
-    ensures form { result ≡ Err Formless → at < length row.now → price_cell (column row.now at) ≡ false }
+    ensures form { result ≡ Err Formless → at < length row.now → is_price_cell (column row.now at) ≡ false }
 {
     Price::new(small_in(row, at)?).ok_or(DecodeError::Form)
 }
@@ -189,7 +189,7 @@ pub fn price_in(row: &Row, at: usize) -> Result<Price, DecodeError>
 /// `Memory`.
 pub fn rate_in(row: &Row, at: usize) -> Result<Rate, DecodeError>
     ensures value { IfOk result (λ rate. column row.now at ≡ Int (pos rate)) }
-    ensures form { result ≡ Err Formless → at < length row.now → rate_cell (column row.now at) ≡ false }
+    ensures form { result ≡ Err Formless → at < length row.now → is_rate_cell (column row.now at) ≡ false }
 {
     Rate::new(small_in(row, at)?).ok_or(DecodeError::Form)
 }
@@ -198,7 +198,7 @@ pub fn rate_in(row: &Row, at: usize) -> Result<Rate, DecodeError>
 /// `Memory`.
 pub fn tax_rate_in(row: &Row, at: usize) -> Result<TaxRate, DecodeError>
     ensures value { IfOk result (λ rate. column row.now at ≡ Int (pos rate)) }
-    ensures form { result ≡ Err Formless → at < length row.now → tax_cell (column row.now at) ≡ false }
+    ensures form { result ≡ Err Formless → at < length row.now → is_tax_rate_cell (column row.now at) ≡ false }
 {
     TaxRate::new(small_in(row, at)?).ok_or(DecodeError::Form)
 }
@@ -206,7 +206,7 @@ pub fn tax_rate_in(row: &Row, at: usize) -> Result<TaxRate, DecodeError>
 /// Reads a charge. Fails with `Form` only if the column is missing or malformed, or with `Memory`.
 pub fn charge_amount_in(row: &Row, at: usize) -> Result<ChargeAmount, DecodeError>
     ensures value { IfOk result (λ amount. column row.now at ≡ Int (pos amount)) }
-    ensures form { result ≡ Err Formless → at < length row.now → charge_cell (column row.now at) ≡ false }
+    ensures form { result ≡ Err Formless → at < length row.now → is_charge_cell (column row.now at) ≡ false }
 {
     ChargeAmount::new(small_in(row, at)?).ok_or(DecodeError::Form)
 }
@@ -215,7 +215,7 @@ pub fn charge_amount_in(row: &Row, at: usize) -> Result<ChargeAmount, DecodeErro
 /// malformed, or with `Memory`.
 pub fn cents_in(row: &Row, at: usize) -> Result<Cents, DecodeError>
     ensures value { IfOk result (λ cents. column row.now at ≡ Int cents) }
-    ensures form { result ≡ Err Formless → at < length row.now → cents_cell (column row.now at) ≡ false }
+    ensures form { result ≡ Err Formless → at < length row.now → is_cents_cell (column row.now at) ≡ false }
 {
     Cents::new(number_in(row, at)?).ok_or(DecodeError::Form)
 }
@@ -223,7 +223,7 @@ pub fn cents_in(row: &Row, at: usize) -> Result<Cents, DecodeError>
 /// Reads a stamp. Fails with `Form` only if the column is missing or malformed, or with `Memory`.
 pub fn stamp_in(row: &Row, at: usize) -> Result<Stamp, DecodeError>
     ensures value { IfOk result (λ stamp. column row.now at ≡ Int (pos stamp)) }
-    ensures form { result ≡ Err Formless → at < length row.now → stamp_cell (column row.now at) ≡ false }
+    ensures form { result ≡ Err Formless → at < length row.now → is_stamp_cell (column row.now at) ≡ false }
 {
     Stamp::new(number_in(row, at)?).ok_or(DecodeError::Form)
 }
@@ -231,18 +231,18 @@ pub fn stamp_in(row: &Row, at: usize) -> Result<Stamp, DecodeError>
 /// Reads a day. Fails with `Form` only if the column is missing or malformed, or with `Memory`.
 pub fn day_in(row: &Row, at: usize) -> Result<Day, DecodeError>
     ensures value { IfOk result (λ day. column row.now at ≡ Int (pos day)) }
-    ensures form { result ≡ Err Formless → at < length row.now → day_cell (column row.now at) ≡ false }
+    ensures form { result ≡ Err Formless → at < length row.now → is_day_cell (column row.now at) ≡ false }
 {
-    Day::new(value_in(row, at)?).ok_or(DecodeError::Form)
+    Day::new(read_value(row, at)?).ok_or(DecodeError::Form)
 }
 
 /// Reads a stamp, or `None` if the column is null. Fails with `Form` only if the column is missing
 /// or malformed, or with `Memory`.
 pub fn maybe_stamp_in(row: &Row, at: usize) -> Result<Option<Stamp>, DecodeError>
-    ensures value { IfOk result (λ stamp. column row.now at ≡ maybe stamp) }
-    ensures form { result ≡ Err Formless → at < length row.now → last_cell (column row.now at) ≡ false }
+    ensures value { IfOk result (λ stamp. column row.now at ≡ optional_as_value stamp) }
+    ensures form { result ≡ Err Formless → at < length row.now → is_null_or_stamp_cell (column row.now at) ≡ false }
 {
-    let millis: Option<i64> = value_in(row, at)?;
+    let millis: Option<i64> = read_value(row, at)?;
     let Some(millis) = millis else {
         return Ok(None);
     };
@@ -252,10 +252,10 @@ pub fn maybe_stamp_in(row: &Row, at: usize) -> Result<Option<Stamp>, DecodeError
 /// Reads a price, or `None` if the column is null. Fails with `Form` only if the column is missing
 /// or malformed, or with `Memory`.
 pub fn maybe_price_in(row: &Row, at: usize) -> Result<Option<Price>, DecodeError>
-    ensures value { IfOk result (λ price. column row.now at ≡ maybe price) }
-    ensures form { result ≡ Err Formless → at < length row.now → maybe_cell is_price (column row.now at) ≡ false }
+    ensures value { IfOk result (λ price. column row.now at ≡ optional_as_value price) }
+    ensures form { result ≡ Err Formless → at < length row.now → is_null_or_natural_cell is_price (column row.now at) ≡ false }
 {
-    let cents: Option<u32> = value_in(row, at)?;
+    let cents: Option<u32> = read_value(row, at)?;
     let Some(cents) = cents else {
         return Ok(None);
     };
@@ -266,7 +266,7 @@ pub fn maybe_price_in(row: &Row, at: usize) -> Result<Option<Price>, DecodeError
 /// or with `Memory`.
 pub fn tax_status_in(row: &Row, at: usize) -> Result<TaxStatus, DecodeError>
     ensures value { IfOk result (λ tax_status. column row.now at ≡ Int (pos (tax_status_number tax_status))) }
-    ensures form { result ≡ Err Formless → at < length row.now → tax_status_cell (column row.now at) ≡ false }
+    ensures form { result ≡ Err Formless → at < length row.now → is_tax_status_cell (column row.now at) ≡ false }
 {
     TaxStatus::from_number(natural_in(row, at)?).ok_or(DecodeError::Form)
 }
@@ -274,8 +274,8 @@ pub fn tax_status_in(row: &Row, at: usize) -> Result<TaxStatus, DecodeError>
 /// Reads a flag: 1 as true and 0 as false. Fails with `Form` only if the column is missing or
 /// malformed, or with `Memory`.
 pub fn flag_in(row: &Row, at: usize) -> Result<bool, DecodeError>
-    ensures value { IfOk result (λ is. column row.now at ≡ flag is) }
-    ensures form { result ≡ Err Formless → at < length row.now → flag_cell (column row.now at) ≡ false }
+    ensures value { IfOk result (λ is. column row.now at ≡ flag_as_value is) }
+    ensures form { result ≡ Err Formless → at < length row.now → is_flag_cell (column row.now at) ≡ false }
 {
     match natural_in(row, at)? {
         0 => Ok(false),
@@ -287,36 +287,36 @@ pub fn flag_in(row: &Row, at: usize) -> Result<bool, DecodeError>
 /// Reads a trade type by its code. Fails with `Form` only if the column is missing or malformed, or
 /// with `Memory`.
 pub fn type_in(row: &Row, at: usize) -> Result<TradeType, DecodeError>
-    ensures value { IfOk result (λ kind. column row.now at ≡ Text (type_code kind)) }
-    ensures form { result ≡ Err Formless → at < length row.now → type_cell (column row.now at) ≡ false }
+    ensures value { IfOk result (λ kind. column row.now at ≡ Text (trade_type_code kind)) }
+    ensures form { result ≡ Err Formless → at < length row.now → is_type_cell (column row.now at) ≡ false }
 {
-    parse_type(bytes_in(row, at)?).ok_or(DecodeError::Form)
+    parse_trade_type(read_bytes(row, at)?).ok_or(DecodeError::Form)
 }
 
 // Returns true if the bytes are the code of the status.
-fn is_code_of(status: Status, bytes: &[u8]) -> bool
-    ensures { result ≡ bytes_eq (status_code status) bytes.now }
+fn is_code_of_status(status: Status, bytes: &[u8]) -> bool
+    ensures { result ≡ bytes_eq (trade_status_code status) bytes.now }
 {
     status.code().as_bytes() == bytes
 }
 
 // Returns the status with this code, or `None` if no status has it.
 fn parse_status(bytes: &[u8]) -> Option<Status>
-    ensures { MatchOption result (is_status bytes.now ≡ false) (λ status. status_code status ≡ bytes.now) }
+    ensures { MatchOption result (is_status_code bytes.now ≡ false) (λ status. trade_status_code status ≡ bytes.now) }
 {
-    if is_code_of(Status::Completed, bytes) {
+    if is_code_of_status(Status::Completed, bytes) {
         return Some(Status::Completed);
     }
-    if is_code_of(Status::Active, bytes) {
+    if is_code_of_status(Status::Active, bytes) {
         return Some(Status::Active);
     }
-    if is_code_of(Status::Submitted, bytes) {
+    if is_code_of_status(Status::Submitted, bytes) {
         return Some(Status::Submitted);
     }
-    if is_code_of(Status::Pending, bytes) {
+    if is_code_of_status(Status::Pending, bytes) {
         return Some(Status::Pending);
     }
-    if is_code_of(Status::Canceled, bytes) {
+    if is_code_of_status(Status::Canceled, bytes) {
         return Some(Status::Canceled);
     }
     None
@@ -325,33 +325,33 @@ fn parse_status(bytes: &[u8]) -> Option<Status>
 /// Reads a status by its code. Fails with `Form` only if the column is missing or malformed, or
 /// with `Memory`.
 pub fn status_in(row: &Row, at: usize) -> Result<Status, DecodeError>
-    ensures value { IfOk result (λ status. column row.now at ≡ Text (status_code status)) }
-    ensures form { result ≡ Err Formless → at < length row.now → status_cell (column row.now at) ≡ false }
+    ensures value { IfOk result (λ status. column row.now at ≡ Text (trade_status_code status)) }
+    ensures form { result ≡ Err Formless → at < length row.now → is_status_cell (column row.now at) ≡ false }
 {
-    parse_status(bytes_in(row, at)?).ok_or(DecodeError::Form)
+    parse_status(read_bytes(row, at)?).ok_or(DecodeError::Form)
 }
 
 // Returns true if the bytes are the text of the cash type.
-fn is_word_of(kind: CashType, bytes: &[u8]) -> bool
-    ensures { result ≡ bytes_eq (cash_type_word kind) bytes.now }
+fn is_text_of_cash_type(kind: CashType, bytes: &[u8]) -> bool
+    ensures { result ≡ bytes_eq (cash_type_text kind) bytes.now }
 {
     kind.word().as_bytes() == bytes
 }
 
 // Returns the cash type with this text, or `None` if no cash type has it.
 fn parse_cash_type(bytes: &[u8]) -> Option<CashType>
-    ensures { MatchOption result (is_cash_word bytes.now ≡ false) (λ kind. cash_type_word kind ≡ bytes.now) }
+    ensures { MatchOption result (is_cash_type_text bytes.now ≡ false) (λ kind. cash_type_text kind ≡ bytes.now) }
 {
-    if is_word_of(CashType::CashAccount, bytes) {
+    if is_text_of_cash_type(CashType::CashAccount, bytes) {
         return Some(CashType::CashAccount);
     }
-    if is_word_of(CashType::Cash, bytes) {
+    if is_text_of_cash_type(CashType::Cash, bytes) {
         return Some(CashType::Cash);
     }
-    if is_word_of(CashType::Margin, bytes) {
+    if is_text_of_cash_type(CashType::Margin, bytes) {
         return Some(CashType::Margin);
     }
-    if is_word_of(CashType::MarginAccount, bytes) {
+    if is_text_of_cash_type(CashType::MarginAccount, bytes) {
         return Some(CashType::MarginAccount);
     }
     None
@@ -360,8 +360,8 @@ fn parse_cash_type(bytes: &[u8]) -> Option<CashType>
 /// Reads a cash type by its text. Fails with `Form` only if the column is missing or malformed, or
 /// with `Memory`.
 pub fn cash_type_in(row: &Row, at: usize) -> Result<CashType, DecodeError>
-    ensures value { IfOk result (λ kind. column row.now at ≡ Text (cash_type_word kind)) }
-    ensures form { result ≡ Err Formless → at < length row.now → words_cell is_cash_word (column row.now at) ≡ false }
+    ensures value { IfOk result (λ kind. column row.now at ≡ Text (cash_type_text kind)) }
+    ensures form { result ≡ Err Formless → at < length row.now → is_text_cell is_cash_type_text (column row.now at) ≡ false }
 {
-    parse_cash_type(bytes_in(row, at)?).ok_or(DecodeError::Form)
+    parse_cash_type(read_bytes(row, at)?).ok_or(DecodeError::Form)
 }

@@ -1,17 +1,17 @@
 ghost use Rattle.std.specs.Prelude.{◌≡◌, ◌∷◌, [], IfOk, map, Err, OnErr, false};
 ghost use Rattle.brk_money.specs.declared.fault.Fault.TheVariants.{Store};
-ghost use Rattle.brk_sql.specs.Model.{Steps};
+ghost use Rattle.brk_sql.specs.Model.{IsConnectionStep};
 ghost use Rattle.brk_model.specs.Schemas.{third_schema};
-ghost use Rattle.brk_changes.specs.Changes.{with_last};
-ghost use Rattle.brk_changes.specs.Schemas.{schema_of};
+ghost use Rattle.brk_changes.specs.Changes.{tables_with_last_stamp};
+ghost use Rattle.brk_changes.specs.Schemas.{abstract_schema};
 ghost use Rattle.brk_tables_schema.specs.Cells.{desk_row_cells};
 ghost use Rattle.brk_tables_schema.specs.Desk.{desk_rows};
-ghost use Rattle.brk_tables_schema.specs.Formed.{all_formed, desk_forms, is_desk_row};
+ghost use Rattle.brk_tables_schema.specs.Formed.{passes_all_cell_checks, desk_column_cell_checks, is_one_valid_desk_row};
 ghost use Rattle.brk_tables_schema.specs.declared.decode_error.DecodeError.TheVariants.{Form as Formless};
-ghost use Rattle.brk_tables_schema.specs.Statements.{Reads, Writes};
+ghost use Rattle.brk_tables_schema.specs.Statements.{ReadsDeskTables, WritesDeskTables};
 
-use crate::calls::{run, select};
-use crate::cells::{has_columns, maybe_stamp_in, natural_in};
+use crate::calls::{execute_statement, select_rows};
+use crate::cells::{check_column_count, maybe_stamp_in, natural_in};
 use crate::decode_error::DecodeError;
 use crate::values::{number_value, stamp_value};
 use brk_changes::Schema;
@@ -21,10 +21,10 @@ use sqlite::{Alter, Row, Transaction};
 /// Sets the stamp of the last accepted command (D_LAST). Fails with `Store` only.
 pub fn set_last_stamp<S: Alter>(tx: &mut Transaction<'_, S>, stamp: Stamp) -> Result<(), Fault>
     ensures same_reference { tx.new.conn.ghost_name ≡ tx.old.conn.ghost_name }
-    ensures step { Writes S.Store tx.old tx.new result (with_last stamp) }
+    ensures step { WritesDeskTables S.Store tx.old tx.new result (tables_with_last_stamp stamp) }
     ensures fault { OnErr result (result ≡ Err Store) }
 {
-    run(
+    execute_statement(
         tx,
         "UPDATE DESK SET D_LAST = ?1 WHERE D_ID = ?2",
         &[stamp_value(stamp), number_value(1)],
@@ -33,11 +33,11 @@ pub fn set_last_stamp<S: Alter>(tx: &mut Transaction<'_, S>, stamp: Stamp) -> Re
 
 // Decodes the stamp of the last accepted command from a row of DESK in a schema. Fails with `Form`
 // only if the row is malformed, or with `Memory`.
-fn stamp_of_row(schema: Schema, row: &Row) -> Result<Option<Stamp>, DecodeError>
-    ensures value { IfOk result (λ last. map desk_row_cells (desk_rows (schema_of schema) last) ≡ row.now ∷ []) }
-    ensures form { result ≡ Err Formless → all_formed (desk_forms (schema_of schema)) row.now ≡ false }
+fn last_stamp_of_row(schema: Schema, row: &Row) -> Result<Option<Stamp>, DecodeError>
+    ensures value { IfOk result (λ last. map desk_row_cells (desk_rows (abstract_schema schema) last) ≡ row.now ∷ []) }
+    ensures form { result ≡ Err Formless → passes_all_cell_checks (desk_column_cell_checks (abstract_schema schema)) row.now ≡ false }
 {
-    has_columns(row, 3)?;
+    check_column_count(row, 3)?;
     if natural_in(row, 0)? != 1 || natural_in(row, 1)? != u64::from(schema.number()) {
         return Err(DecodeError::Form);
     }
@@ -46,36 +46,36 @@ fn stamp_of_row(schema: Schema, row: &Row) -> Result<Option<Stamp>, DecodeError>
 
 /// Decodes the stamp of the last accepted command from the rows of DESK in a schema. Fails with
 /// `Form` only if there is not exactly one well-formed row, or with `Memory`.
-pub fn stamp_in_rows(schema: Schema, rows: &[Row]) -> Result<Option<Stamp>, DecodeError>
-    ensures value { IfOk result (λ last. map desk_row_cells (desk_rows (schema_of schema) last) ≡ rows.now) }
-    ensures form { result ≡ Err Formless → is_desk_row (schema_of schema) rows.now ≡ false }
+pub fn last_stamp_in_rows(schema: Schema, rows: &[Row]) -> Result<Option<Stamp>, DecodeError>
+    ensures value { IfOk result (λ last. map desk_row_cells (desk_rows (abstract_schema schema) last) ≡ rows.now) }
+    ensures form { result ≡ Err Formless → is_one_valid_desk_row (abstract_schema schema) rows.now ≡ false }
 {
     match rows {
-        [row] => stamp_of_row(schema, row),
+        [row] => last_stamp_of_row(schema, row),
         _ => Err(DecodeError::Form),
     }
 }
 
 // Decodes the stamp of the last accepted command from the one row of DESK in schema 3. Fails with
 // `Store` only.
-fn only_stamp(rows: &[Row]) -> Result<Option<Stamp>, Fault>
+fn last_stamp_in_third_rows(rows: &[Row]) -> Result<Option<Stamp>, Fault>
     ensures value { IfOk result (λ last. map desk_row_cells (desk_rows third_schema last) ≡ rows.now) }
     ensures fault { OnErr result (result ≡ Err Store) }
 {
-    Ok(stamp_in_rows(Schema::Third, rows)?)
+    Ok(last_stamp_in_rows(Schema::Third, rows)?)
 }
 
 /// Returns the stamp of the last accepted command (D_LAST), or `None` if none is stored. Changes
 /// nothing. Fails with `Store` only.
 pub fn last_stamp<S: Alter>(tx: &mut Transaction<'_, S>) -> Result<Option<Stamp>, Fault>
     ensures same_reference { tx.new.conn.ghost_name ≡ tx.old.conn.ghost_name }
-    ensures step { Reads S.Store tx.old tx.new result (λ last t. last ≡ t.last) }
+    ensures step { ReadsDeskTables S.Store tx.old tx.new result (λ last t. last ≡ t.last) }
     ensures fault { OnErr result (result ≡ Err Store) }
 {
-    let rows = select(
+    let rows = select_rows(
         tx,
         "SELECT D_ID, D_SCHEMA, D_LAST FROM DESK ORDER BY D_ID",
         &[],
     )?;
-    only_stamp(&rows)
+    last_stamp_in_third_rows(&rows)
 }

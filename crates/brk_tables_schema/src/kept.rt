@@ -1,16 +1,16 @@
 ghost use Rattle.std.specs.Prelude.{◌≡◌, ◌==◌, ◌&&◌, Err, OnErr, bytes_eq};
 ghost use Rattle.brk_money.specs.declared.fault.Fault.TheVariants.{Store};
-ghost use Rattle.brk_ref.specs.Records.{kept_of};
-ghost use Rattle.brk_changes.specs.Changes.{with_kept};
+ghost use Rattle.brk_ref.specs.Records.{abstract_kept_row};
+ghost use Rattle.brk_changes.specs.Changes.{tables_with_stored_reply};
 ghost use Rattle.brk_tables_schema.specs.Cells.{kept_cells};
 ghost use Rattle.brk_tables_schema.specs.Desk.{KeptRows};
-ghost use Rattle.brk_tables_schema.specs.Formed.{kept_forms};
-ghost use Rattle.brk_tables_schema.specs.Statements.{Finds, Writes};
+ghost use Rattle.brk_tables_schema.specs.Formed.{kept_column_cell_checks};
+ghost use Rattle.brk_tables_schema.specs.Statements.{ReadsFirstMatch, WritesDeskTables};
 
-use crate::calls::{run, select};
-use crate::cells::{has_columns, row_number_in, text_in, text_of};
+use crate::calls::{execute_statement, select_rows};
+use crate::cells::{check_column_count, formed_text_in, row_number_in, text_in};
 use crate::decode_error::DecodeError;
-use crate::record::{Record, first_row};
+use crate::record::{Record, decode_first_row};
 use crate::values::{row_number_value, text_value};
 use brk_money::Fault;
 use brk_ref::{Kept, Key};
@@ -18,12 +18,12 @@ use sqlite::{Alter, Row, Transaction};
 
 /// Inserts a row of KEPT: a stored request and its reply under a key. Fails with `Store` only, also
 /// if the key exists.
-pub fn add_kept<S: Alter>(tx: &mut Transaction<'_, S>, kept: &Kept) -> Result<(), Fault>
+pub fn add_kept_row<S: Alter>(tx: &mut Transaction<'_, S>, kept: &Kept) -> Result<(), Fault>
     ensures same_reference { tx.new.conn.ghost_name ≡ tx.old.conn.ghost_name }
-    ensures step { Writes S.Store tx.old tx.new result (with_kept (kept_of kept.now)) }
+    ensures step { WritesDeskTables S.Store tx.old tx.new result (tables_with_stored_reply (abstract_kept_row kept.now)) }
     ensures fault { OnErr result (result ≡ Err Store) }
 {
-    run(
+    execute_statement(
         tx,
         "INSERT INTO KEPT (K_BATCH, K_N, K_ROW, K_LINE) VALUES (?1, ?2, ?3, ?4)",
         &[
@@ -36,14 +36,14 @@ pub fn add_kept<S: Alter>(tx: &mut Transaction<'_, S>, kept: &Kept) -> Result<()
 }
 
 impl Record for Kept {
-    ghost cells = { λ r. kept_cells (kept_of r) };
+    ghost cells = { λ r. kept_cells (abstract_kept_row r) };
 
-    ghost forms = { kept_forms };
+    ghost forms = { kept_column_cell_checks };
 
     fn from_row(row: &Row) -> Result<Kept, DecodeError> {
-        has_columns(row, 4)?;
+        check_column_count(row, 4)?;
         let key = Key {
-            batch: text_of(row, 0)?,
+            batch: formed_text_in(row, 0)?,
             row: row_number_in(row, 1)?,
         };
         Ok(Kept {
@@ -58,13 +58,13 @@ impl Record for Kept {
 /// `Store` only.
 pub fn kept_by_key<S: Alter>(tx: &mut Transaction<'_, S>, key: &Key) -> Result<Option<Kept>, Fault>
     ensures same_reference { tx.new.conn.ghost_name ≡ tx.old.conn.ghost_name }
-    ensures step { Finds S.Store tx.old tx.new result KeptRows kept_of (λ k. bytes_eq k.key.batch key.now.batch && (k.key.row == key.now.row)) }
+    ensures step { ReadsFirstMatch S.Store tx.old tx.new result KeptRows abstract_kept_row (λ k. bytes_eq k.key.batch key.now.batch && (k.key.row == key.now.row)) }
     ensures fault { OnErr result (result ≡ Err Store) }
 {
-    let rows = select(
+    let rows = select_rows(
         tx,
         "SELECT K_BATCH, K_N, K_ROW, K_LINE FROM KEPT WHERE K_BATCH = ?1 AND K_N = ?2 ORDER BY K_BATCH, K_N",
         &[text_value(key.batch.as_str()), row_number_value(key.row)],
     )?;
-    first_row(&rows)
+    decode_first_row(&rows)
 }

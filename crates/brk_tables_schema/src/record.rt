@@ -3,10 +3,10 @@
 ghost use Rattle.std.specs.Prelude.{◌≡◌, Bool, Err, IfErr, IfOk, List, OnErr, false, map, option_map, slice_get};
 ghost use Rattle.std.specs.List.{list_all};
 ghost use Rattle.brk_money.specs.declared.fault.Fault.TheVariants.{Store};
-ghost use Rattle.brk_model.specs.Run.{MayFail};
+ghost use Rattle.brk_model.specs.Run.{IsCallFault};
 ghost use Rattle.sqlite_value.specs.declared.value.Value.{Value};
 ghost use Rattle.sqlite_value.specs.Order.{Row as Cells};
-ghost use Rattle.brk_tables_schema.specs.Formed.{all_formed};
+ghost use Rattle.brk_tables_schema.specs.Formed.{passes_all_cell_checks};
 ghost use Rattle.brk_tables_schema.specs.declared.decode_error.DecodeError.TheVariants.{Form as Formless};
 
 use crate::decode_error::DecodeError;
@@ -26,11 +26,11 @@ pub trait Record: Drop {
     /// wrong, or with `Memory`.
     fn from_row(row: &Row) -> Result<Self, DecodeError>
         ensures value { IfOk result (λ r. cells r ≡ row.now) }
-        ensures form { result ≡ Err Formless → all_formed forms row.now ≡ false };
+        ensures form { result ≡ Err Formless → passes_all_cell_checks forms row.now ≡ false };
 }
 
 /// Decodes the first row, or returns `None` if there is none. Fails with `Store` only.
-pub fn first_row<T: Record>(rows: &[Row]) -> Result<Option<T>, Fault>
+pub fn decode_first_row<T: Record>(rows: &[Row]) -> Result<Option<T>, Fault>
     ensures value { IfOk result (λ o. option_map T.cells o ≡ slice_get rows.now 0) }
     ensures fault { OnErr result (result ≡ Err Store) }
 {
@@ -41,11 +41,11 @@ pub fn first_row<T: Record>(rows: &[Row]) -> Result<Option<T>, Fault>
 }
 
 /// Decodes all rows, in order. Fails with `Memory` or `Store` only.
-pub fn all_rows<T: Record>(alloc: Global, rows: &[Row]) -> Result<Vec<T>, Fault>
+pub fn decode_rows<T: Record>(alloc: Global, rows: &[Row]) -> Result<Vec<T>, Fault>
     ensures value { IfOk result (λ all. map T.cells all.items ≡ rows.now) }
-    ensures fault { IfErr result MayFail }
+    ensures fault { IfErr result IsCallFault }
 {
-    match all_records(alloc, rows) {
+    match decode_records(alloc, rows) {
         Ok(all) => Ok(all),
         Err(DecodeError::Form) => Err(Fault::Store),
         Err(DecodeError::Memory) => Err(Fault::Memory),
@@ -55,9 +55,9 @@ pub fn all_rows<T: Record>(alloc: Global, rows: &[Row]) -> Result<Vec<T>, Fault>
 /// Decodes all rows, in order. Fails with `Form` only if one of them is malformed, or with
 /// `Memory`.
 #[tactic(auto, using(crate::proofs::Unformed::not_all))]
-pub fn all_records<T: Record>(alloc: Global, rows: &[Row]) -> Result<Vec<T>, DecodeError>
+pub fn decode_records<T: Record>(alloc: Global, rows: &[Row]) -> Result<Vec<T>, DecodeError>
     ensures value { IfOk result (λ all. map T.cells all.items ≡ rows.now) }
-    ensures form { result ≡ Err Formless → list_all (all_formed T.forms) rows.now ≡ false }
+    ensures form { result ≡ Err Formless → list_all (passes_all_cell_checks T.forms) rows.now ≡ false }
 {
     let mut all = Vec::new(alloc);
     for row in rows {

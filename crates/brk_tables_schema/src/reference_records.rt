@@ -1,12 +1,12 @@
 //! The decoding of the rows of reference data, column by column.
 
-ghost use Rattle.brk_ref.specs.Records.{account_row_of, band_of, broker_row_of, charge_of, customer_of, customer_tax_of, permission_of, security_of, tax_of};
+ghost use Rattle.brk_ref.specs.Records.{abstract_account_row, abstract_band, abstract_broker_row, abstract_charge, abstract_customer, abstract_customer_tax, abstract_permission, abstract_security_row, abstract_tax_rate};
 ghost use Rattle.brk_tables_schema.specs.Cells.{account_cells, band_cells, broker_cells, charge_cells, customer_cells, customer_tax_cells, permission_cells, security_cells, tax_rate_cells};
-ghost use Rattle.brk_tables_schema.specs.Formed.{account_forms, band_forms, broker_forms, charge_forms, customer_forms, customer_tax_forms, permission_forms, security_forms, tax_rate_forms};
+ghost use Rattle.brk_tables_schema.specs.Formed.{account_column_cell_checks, band_column_cell_checks, broker_column_cell_checks, charge_column_cell_checks, customer_column_cell_checks, customer_tax_column_cell_checks, permission_column_cell_checks, security_column_cell_checks, tax_rate_column_cell_checks};
 
 use crate::cells::{
-    cents_in, charge_amount_in, has_columns, id_in, natural_in, number_in, qty_in, rate_in,
-    tax_rate_in, tax_status_in, text_of, tier_in, type_in,
+    cents_in, charge_amount_in, check_column_count, formed_text_in, id_in, natural_in, number_in,
+    qty_in, rate_in, tax_rate_in, tax_status_in, tier_in, type_in,
 };
 use crate::decode_error::DecodeError;
 use crate::record::Record;
@@ -17,18 +17,18 @@ use brk_ref::{
 use sqlite::Row;
 
 impl Record for AccountRow {
-    ghost cells = { λ r. account_cells (account_row_of r) };
+    ghost cells = { λ r. account_cells (abstract_account_row r) };
 
-    ghost forms = { account_forms };
+    ghost forms = { account_column_cell_checks };
 
     fn from_row(row: &Row) -> Result<AccountRow, DecodeError> {
-        has_columns(row, 7)?;
+        check_column_count(row, 7)?;
         Ok(AccountRow {
             account: Account {
                 id: id_in(row, 0)?,
                 customer: id_in(row, 1)?,
                 broker: id_in(row, 2)?,
-                name: text_of(row, 3)?,
+                name: formed_text_in(row, 3)?,
                 tax_status: tax_status_in(row, 4)?,
                 opening: cents_in(row, 5)?,
             },
@@ -38,16 +38,16 @@ impl Record for AccountRow {
 }
 
 impl Record for Band {
-    ghost cells = { λ r. band_cells (band_of r) };
+    ghost cells = { λ r. band_cells (abstract_band r) };
 
-    ghost forms = { band_forms };
+    ghost forms = { band_column_cell_checks };
 
     fn from_row(row: &Row) -> Result<Band, DecodeError> {
-        has_columns(row, 6)?;
+        check_column_count(row, 6)?;
         Ok(Band {
             tier: tier_in(row, 0)?,
             kind: type_in(row, 1)?,
-            exchange: text_of(row, 2)?,
+            exchange: formed_text_in(row, 2)?,
             from_qty: qty_in(row, 3)?,
             to_qty: qty_in(row, 4)?,
             rate: rate_in(row, 5)?,
@@ -56,16 +56,16 @@ impl Record for Band {
 }
 
 impl Record for BrokerRow {
-    ghost cells = { λ r. broker_cells (broker_row_of r) };
+    ghost cells = { λ r. broker_cells (abstract_broker_row r) };
 
-    ghost forms = { broker_forms };
+    ghost forms = { broker_column_cell_checks };
 
     fn from_row(row: &Row) -> Result<BrokerRow, DecodeError> {
-        has_columns(row, 4)?;
+        check_column_count(row, 4)?;
         Ok(BrokerRow {
             broker: Broker {
                 id: id_in(row, 0)?,
-                name: text_of(row, 1)?,
+                name: formed_text_in(row, 1)?,
             },
             trades: number_in(row, 2)?,
             commissions: natural_in(row, 3)?,
@@ -74,12 +74,12 @@ impl Record for BrokerRow {
 }
 
 impl Record for Charge {
-    ghost cells = { λ r. charge_cells (charge_of r) };
+    ghost cells = { λ r. charge_cells (abstract_charge r) };
 
-    ghost forms = { charge_forms };
+    ghost forms = { charge_column_cell_checks };
 
     fn from_row(row: &Row) -> Result<Charge, DecodeError> {
-        has_columns(row, 3)?;
+        check_column_count(row, 3)?;
         Ok(Charge {
             kind: type_in(row, 0)?,
             tier: tier_in(row, 1)?,
@@ -89,77 +89,77 @@ impl Record for Charge {
 }
 
 impl Record for Customer {
-    ghost cells = { λ r. customer_cells (customer_of r) };
+    ghost cells = { λ r. customer_cells (abstract_customer r) };
 
-    ghost forms = { customer_forms };
+    ghost forms = { customer_column_cell_checks };
 
     fn from_row(row: &Row) -> Result<Customer, DecodeError> {
-        has_columns(row, 5)?;
+        check_column_count(row, 5)?;
         Ok(Customer {
             id: id_in(row, 0)?,
             tier: tier_in(row, 1)?,
-            tax_id: text_of(row, 2)?,
-            last_name: text_of(row, 3)?,
-            first_name: text_of(row, 4)?,
+            tax_id: formed_text_in(row, 2)?,
+            last_name: formed_text_in(row, 3)?,
+            first_name: formed_text_in(row, 4)?,
         })
     }
 }
 
 impl Record for Permission {
-    ghost cells = { λ r. permission_cells (permission_of r) };
+    ghost cells = { λ r. permission_cells (abstract_permission r) };
 
-    ghost forms = { permission_forms };
+    ghost forms = { permission_column_cell_checks };
 
     fn from_row(row: &Row) -> Result<Permission, DecodeError> {
-        has_columns(row, 5)?;
+        check_column_count(row, 5)?;
         Ok(Permission {
             account: id_in(row, 0)?,
-            tax_id: text_of(row, 1)?,
-            acl: text_of(row, 2)?,
-            last_name: text_of(row, 3)?,
-            first_name: text_of(row, 4)?,
+            tax_id: formed_text_in(row, 1)?,
+            acl: formed_text_in(row, 2)?,
+            last_name: formed_text_in(row, 3)?,
+            first_name: formed_text_in(row, 4)?,
         })
     }
 }
 
 impl Record for Security {
-    ghost cells = { λ r. security_cells (security_of r) };
+    ghost cells = { λ r. security_cells (abstract_security_row r) };
 
-    ghost forms = { security_forms };
+    ghost forms = { security_column_cell_checks };
 
     fn from_row(row: &Row) -> Result<Security, DecodeError> {
-        has_columns(row, 4)?;
+        check_column_count(row, 4)?;
         Ok(Security {
-            symbol: text_of(row, 0)?,
-            name: text_of(row, 1)?,
-            exchange: text_of(row, 2)?,
-            sector: text_of(row, 3)?,
+            symbol: formed_text_in(row, 0)?,
+            name: formed_text_in(row, 1)?,
+            exchange: formed_text_in(row, 2)?,
+            sector: formed_text_in(row, 3)?,
         })
     }
 }
 
 impl Record for Tax {
-    ghost cells = { λ r. tax_rate_cells (tax_of r) };
+    ghost cells = { λ r. tax_rate_cells (abstract_tax_rate r) };
 
-    ghost forms = { tax_rate_forms };
+    ghost forms = { tax_rate_column_cell_checks };
 
     fn from_row(row: &Row) -> Result<Tax, DecodeError> {
-        has_columns(row, 3)?;
+        check_column_count(row, 3)?;
         Ok(Tax {
             id: id_in(row, 0)?,
-            name: text_of(row, 1)?,
+            name: formed_text_in(row, 1)?,
             rate: tax_rate_in(row, 2)?,
         })
     }
 }
 
 impl Record for CustomerTax {
-    ghost cells = { λ r. customer_tax_cells (customer_tax_of r) };
+    ghost cells = { λ r. customer_tax_cells (abstract_customer_tax r) };
 
-    ghost forms = { customer_tax_forms };
+    ghost forms = { customer_tax_column_cell_checks };
 
     fn from_row(row: &Row) -> Result<CustomerTax, DecodeError> {
-        has_columns(row, 2)?;
+        check_column_count(row, 2)?;
         Ok(CustomerTax {
             customer: id_in(row, 0)?,
             tax: id_in(row, 1)?,

@@ -3,10 +3,10 @@
 ghost use Rattle.std.specs.Prelude.{◌≡◌, ◌∷◌, [], Err, IfOk, Some, false, map};
 ghost use Rattle.brk_tables_schema.specs.Cells.{rule_cells};
 ghost use Rattle.brk_tables_schema.specs.Desk.{rule_rows};
-ghost use Rattle.brk_tables_schema.specs.Formed.{all_formed, is_rule, rule_forms};
+ghost use Rattle.brk_tables_schema.specs.Formed.{passes_all_cell_checks, is_at_most_one_valid_rule, rule_column_cell_checks};
 ghost use Rattle.brk_tables_schema.specs.declared.decode_error.DecodeError.TheVariants.{Form as Formless};
 
-use crate::cells::{day_in, has_columns, natural_in};
+use crate::cells::{check_column_count, day_in, natural_in};
 use crate::decode_error::DecodeError;
 use brk_money::Day;
 use sqlite::Row;
@@ -15,9 +15,9 @@ use sqlite::Row;
 // malformed, or with `Memory`.
 fn day_of_row(row: &Row) -> Result<Day, DecodeError>
     ensures value { IfOk result (λ day. map rule_cells (rule_rows (Some day)) ≡ row.now ∷ []) }
-    ensures form { result ≡ Err Formless → all_formed rule_forms row.now ≡ false }
+    ensures form { result ≡ Err Formless → passes_all_cell_checks rule_column_cell_checks row.now ≡ false }
 {
-    has_columns(row, 2)?;
+    check_column_count(row, 2)?;
     if natural_in(row, 0)? != 1 {
         return Err(DecodeError::Form);
     }
@@ -28,7 +28,7 @@ fn day_of_row(row: &Row) -> Result<Day, DecodeError>
 /// Fails with `Form` only if there are two rows or a malformed one, or with `Memory`.
 pub fn day_in_rows(rows: &[Row]) -> Result<Option<Day>, DecodeError>
     ensures value { IfOk result (λ day. map rule_cells (rule_rows day) ≡ rows.now) }
-    ensures form { result ≡ Err Formless → is_rule rows.now ≡ false }
+    ensures form { result ≡ Err Formless → is_at_most_one_valid_rule rows.now ≡ false }
 {
     match rows {
         [] => Ok(None),

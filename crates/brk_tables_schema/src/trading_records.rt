@@ -1,15 +1,15 @@
 //! The decoding of the rows of trades, holdings, settlements and cash, column by column.
 
 ghost use Rattle.std.specs.Prelude.{◌∷◌, []};
-ghost use Rattle.brk_ref.specs.Records.{last_trade_of};
-ghost use Rattle.brk_changes.specs.Rows.{cash_row_of, history_row_of, holding_row_of, lot_change_of, move_row_of, request_row_of, settlement_row_of, summary_row_of, trade_row_of};
-ghost use Rattle.brk_tables_schema.specs.Cells.{cash_cells, history_cells, holding_cells, holding_history_cells, last_trade_cells, move_cells, nat, request_cells, settlement_cells, summary_cells, trade_cells};
-ghost use Rattle.brk_tables_schema.specs.Formed.{cash_forms, history_forms, holding_forms, holding_history_forms, id_cell, last_trade_forms, move_forms, request_forms, settlement_forms, summary_forms, trade_forms};
+ghost use Rattle.brk_ref.specs.Records.{abstract_last_trade_row};
+ghost use Rattle.brk_changes.specs.Rows.{abstract_cash_row, abstract_history_row, abstract_holding_row, abstract_lot_change_row, abstract_move_row, abstract_request_row, abstract_settlement_row, abstract_summary_row, abstract_trade_row};
+ghost use Rattle.brk_tables_schema.specs.Cells.{cash_cells, history_cells, holding_cells, holding_history_cells, last_trade_cells, move_cells, natural_as_value, request_cells, settlement_cells, summary_cells, trade_cells};
+ghost use Rattle.brk_tables_schema.specs.Formed.{cash_column_cell_checks, history_column_cell_checks, holding_column_cell_checks, holding_history_column_cell_checks, is_id_cell, last_trade_column_cell_checks, move_column_cell_checks, request_column_cell_checks, settlement_column_cell_checks, summary_column_cell_checks, trade_column_cell_checks};
 
 use crate::cells::{
-    amount_in, cash_type_in, cents_in, charge_amount_in, day_in, flag_in, has_columns, id_in,
-    maybe_id_in, maybe_price_in, move_id_in, number_in, price_in, qty_in, stamp_in, status_in,
-    text_in, text_of, type_in, volume_in,
+    amount_in, cash_type_in, cents_in, charge_amount_in, check_column_count, day_in, flag_in,
+    formed_text_in, id_in, maybe_id_in, maybe_price_in, move_id_in, number_in, price_in, qty_in,
+    stamp_in, status_in, text_in, type_in, volume_in,
 };
 use crate::decode_error::DecodeError;
 use crate::record::Record;
@@ -22,16 +22,16 @@ use brk_ref::LastTrade;
 use sqlite::Row;
 
 impl Record for HoldingRow {
-    ghost cells = { λ r. holding_cells (holding_row_of r) };
+    ghost cells = { λ r. holding_cells (abstract_holding_row r) };
 
-    ghost forms = { holding_forms };
+    ghost forms = { holding_column_cell_checks };
 
     fn from_row(row: &Row) -> Result<HoldingRow, DecodeError> {
-        has_columns(row, 6)?;
+        check_column_count(row, 6)?;
         Ok(HoldingRow {
             trade: id_in(row, 0)?,
             account: id_in(row, 1)?,
-            symbol: text_of(row, 2)?,
+            symbol: formed_text_in(row, 2)?,
             stamp: stamp_in(row, 3)?,
             price: price_in(row, 4)?,
             qty: number_in(row, 5)?,
@@ -40,29 +40,29 @@ impl Record for HoldingRow {
 }
 
 impl Record for SummaryRow {
-    ghost cells = { λ r. summary_cells (summary_row_of r) };
+    ghost cells = { λ r. summary_cells (abstract_summary_row r) };
 
-    ghost forms = { summary_forms };
+    ghost forms = { summary_column_cell_checks };
 
     fn from_row(row: &Row) -> Result<SummaryRow, DecodeError> {
-        has_columns(row, 3)?;
+        check_column_count(row, 3)?;
         Ok(SummaryRow {
             account: id_in(row, 0)?,
-            symbol: text_of(row, 1)?,
+            symbol: formed_text_in(row, 1)?,
             qty: number_in(row, 2)?,
         })
     }
 }
 
 impl Record for LastTrade {
-    ghost cells = { λ r. last_trade_cells (last_trade_of r) };
+    ghost cells = { λ r. last_trade_cells (abstract_last_trade_row r) };
 
-    ghost forms = { last_trade_forms };
+    ghost forms = { last_trade_column_cell_checks };
 
     fn from_row(row: &Row) -> Result<LastTrade, DecodeError> {
-        has_columns(row, 4)?;
+        check_column_count(row, 4)?;
         Ok(LastTrade {
-            symbol: text_of(row, 0)?,
+            symbol: formed_text_in(row, 0)?,
             stamp: stamp_in(row, 1)?,
             price: price_in(row, 2)?,
             volume: volume_in(row, 3)?,
@@ -71,16 +71,16 @@ impl Record for LastTrade {
 }
 
 impl Record for RequestRow {
-    ghost cells = { λ r. request_cells (request_row_of r) };
+    ghost cells = { λ r. request_cells (abstract_request_row r) };
 
-    ghost forms = { request_forms };
+    ghost forms = { request_column_cell_checks };
 
     fn from_row(row: &Row) -> Result<RequestRow, DecodeError> {
-        has_columns(row, 6)?;
+        check_column_count(row, 6)?;
         Ok(RequestRow {
             trade: id_in(row, 0)?,
             kind: type_in(row, 1)?,
-            symbol: text_of(row, 2)?,
+            symbol: formed_text_in(row, 2)?,
             qty: qty_in(row, 3)?,
             bid: price_in(row, 4)?,
             broker: id_in(row, 5)?,
@@ -89,19 +89,19 @@ impl Record for RequestRow {
 }
 
 impl Record for TradeRow {
-    ghost cells = { λ r. trade_cells (trade_row_of r) };
+    ghost cells = { λ r. trade_cells (abstract_trade_row r) };
 
-    ghost forms = { trade_forms };
+    ghost forms = { trade_column_cell_checks };
 
     fn from_row(row: &Row) -> Result<TradeRow, DecodeError> {
-        has_columns(row, 15)?;
+        check_column_count(row, 15)?;
         Ok(TradeRow {
             id: id_in(row, 0)?,
             stamp: stamp_in(row, 1)?,
             status: status_in(row, 2)?,
             kind: type_in(row, 3)?,
             is_cash: flag_in(row, 4)?,
-            symbol: text_of(row, 5)?,
+            symbol: formed_text_in(row, 5)?,
             qty: qty_in(row, 6)?,
             bid: price_in(row, 7)?,
             account: id_in(row, 8)?,
@@ -116,12 +116,12 @@ impl Record for TradeRow {
 }
 
 impl Record for HistoryRow {
-    ghost cells = { λ r. history_cells (history_row_of r) };
+    ghost cells = { λ r. history_cells (abstract_history_row r) };
 
-    ghost forms = { history_forms };
+    ghost forms = { history_column_cell_checks };
 
     fn from_row(row: &Row) -> Result<HistoryRow, DecodeError> {
-        has_columns(row, 3)?;
+        check_column_count(row, 3)?;
         Ok(HistoryRow {
             trade: id_in(row, 0)?,
             status: status_in(row, 1)?,
@@ -131,12 +131,12 @@ impl Record for HistoryRow {
 }
 
 impl Record for LotChange {
-    ghost cells = { λ r. holding_history_cells (lot_change_of r) };
+    ghost cells = { λ r. holding_history_cells (abstract_lot_change_row r) };
 
-    ghost forms = { holding_history_forms };
+    ghost forms = { holding_history_column_cell_checks };
 
     fn from_row(row: &Row) -> Result<LotChange, DecodeError> {
-        has_columns(row, 4)?;
+        check_column_count(row, 4)?;
         Ok(LotChange {
             lot: id_in(row, 0)?,
             trade: id_in(row, 1)?,
@@ -147,12 +147,12 @@ impl Record for LotChange {
 }
 
 impl Record for SettlementRow {
-    ghost cells = { λ r. settlement_cells (settlement_row_of r) };
+    ghost cells = { λ r. settlement_cells (abstract_settlement_row r) };
 
-    ghost forms = { settlement_forms };
+    ghost forms = { settlement_column_cell_checks };
 
     fn from_row(row: &Row) -> Result<SettlementRow, DecodeError> {
-        has_columns(row, 4)?;
+        check_column_count(row, 4)?;
         Ok(SettlementRow {
             trade: id_in(row, 0)?,
             cash_type: cash_type_in(row, 1)?,
@@ -163,12 +163,12 @@ impl Record for SettlementRow {
 }
 
 impl Record for CashRow {
-    ghost cells = { λ r. cash_cells (cash_row_of r) };
+    ghost cells = { λ r. cash_cells (abstract_cash_row r) };
 
-    ghost forms = { cash_forms };
+    ghost forms = { cash_column_cell_checks };
 
     fn from_row(row: &Row) -> Result<CashRow, DecodeError> {
-        has_columns(row, 4)?;
+        check_column_count(row, 4)?;
         Ok(CashRow {
             trade: id_in(row, 0)?,
             stamp: stamp_in(row, 1)?,
@@ -179,12 +179,12 @@ impl Record for CashRow {
 }
 
 impl Record for MoveRow {
-    ghost cells = { λ r. move_cells (move_row_of r) };
+    ghost cells = { λ r. move_cells (abstract_move_row r) };
 
-    ghost forms = { move_forms };
+    ghost forms = { move_column_cell_checks };
 
     fn from_row(row: &Row) -> Result<MoveRow, DecodeError> {
-        has_columns(row, 6)?;
+        check_column_count(row, 6)?;
         Ok(MoveRow {
             id: move_id_in(row, 0)?,
             account: id_in(row, 1)?,
@@ -197,12 +197,12 @@ impl Record for MoveRow {
 }
 
 impl Record for Id {
-    ghost cells = { λ id. nat id ∷ [] };
+    ghost cells = { λ id. natural_as_value id ∷ [] };
 
-    ghost forms = { id_cell ∷ [] };
+    ghost forms = { is_id_cell ∷ [] };
 
     fn from_row(row: &Row) -> Result<Id, DecodeError> {
-        has_columns(row, 1)?;
+        check_column_count(row, 1)?;
         id_in(row, 0)
     }
 }

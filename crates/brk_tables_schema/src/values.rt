@@ -3,9 +3,9 @@
 ghost use Rattle.std.specs.Prelude.{◌≡◌, pos};
 ghost use Rattle.sqlite_value.specs.Value.{owned};
 ghost use Rattle.sqlite_value.specs.declared.value.Value.TheVariants.{Int, Text};
-ghost use Rattle.brk_money.specs.Kinds.{status_code, tax_status_number, type_code};
-ghost use Rattle.brk_changes.specs.Rows.{cash_type_word};
-ghost use Rattle.brk_tables_schema.specs.Cells.{flag, maybe};
+ghost use Rattle.brk_money.specs.Kinds.{trade_status_code, tax_status_number, trade_type_code};
+ghost use Rattle.brk_changes.specs.Rows.{cash_type_text};
+ghost use Rattle.brk_tables_schema.specs.Cells.{flag_as_value, optional_as_value};
 
 use brk_changes::{Amount, CashType};
 use brk_money::{
@@ -37,7 +37,7 @@ pub fn move_id_value<'a>(id: MoveId) -> ValueRef<'a>
 
 /// Converts an id to a statement parameter, an INTEGER, and `None` to NULL.
 pub fn maybe_id_value<'a>(id: Option<Id>) -> ValueRef<'a>
-    ensures { owned result ≡ maybe id }
+    ensures { owned result ≡ optional_as_value id }
 {
     match id {
         Some(id) => ValueRef::Int(id.get() as i64),
@@ -131,7 +131,7 @@ pub fn volume_value<'a>(volume: Volume) -> ValueRef<'a>
 
 /// Converts a trade type to a statement parameter, a TEXT: its code.
 pub fn type_value<'a>(kind: TradeType) -> ValueRef<'a>
-    ensures { owned result ≡ Text (type_code kind) }
+    ensures { owned result ≡ Text (trade_type_code kind) }
 {
     ValueRef::Text(kind.code().as_bytes())
 }
@@ -145,7 +145,7 @@ pub fn text_value(text: &str) -> ValueRef<'_>
 
 /// Converts a flag to a statement parameter, an INTEGER: 1 for true and 0 for false.
 pub fn flag_value<'a>(is: bool) -> ValueRef<'a>
-    ensures { owned result ≡ flag is }
+    ensures { owned result ≡ flag_as_value is }
 {
     if is {
         ValueRef::Int(1)
@@ -156,7 +156,7 @@ pub fn flag_value<'a>(is: bool) -> ValueRef<'a>
 
 /// Converts a price to a statement parameter, an INTEGER, and `None` to NULL.
 pub fn maybe_price_value<'a>(price: Option<Price>) -> ValueRef<'a>
-    ensures { owned result ≡ maybe price }
+    ensures { owned result ≡ optional_as_value price }
 {
     match price {
         Some(price) => ValueRef::Int(price.get() as i64),
@@ -166,14 +166,14 @@ pub fn maybe_price_value<'a>(price: Option<Price>) -> ValueRef<'a>
 
 /// Converts a status to a statement parameter, a TEXT: its code.
 pub fn status_value<'a>(status: Status) -> ValueRef<'a>
-    ensures { owned result ≡ Text (status_code status) }
+    ensures { owned result ≡ Text (trade_status_code status) }
 {
     ValueRef::Text(status.code().as_bytes())
 }
 
 /// Converts a cash type to a statement parameter, a TEXT: its text.
 pub fn cash_type_value<'a>(cash_type: CashType) -> ValueRef<'a>
-    ensures { owned result ≡ Text (cash_type_word cash_type) }
+    ensures { owned result ≡ Text (cash_type_text cash_type) }
 {
     ValueRef::Text(cash_type.word().as_bytes())
 }

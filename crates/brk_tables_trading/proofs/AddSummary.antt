@@ -7,7 +7,7 @@ use Rattle.sqlite.specs.Source.TheVariants.{Values}
 use Rattle.sqlite.specs.Command.TheVariants.{Insert}
 use Rattle.sqlite_resolve.specs.Compile.{compiled}
 use Rattle.sqlite_tied.specs.Compute.{everything}
-use Rattle.brk_sql.specs.Desk.{Stands}
+use Rattle.brk_sql.specs.Desk.{IsTableAt}
 use Rattle.brk_sql.proofs.Meant.{meant, inserts}
 use Rattle.brk_sql.proofs.Texts.{read}
 use Rattle.brk_tables_schema.specs.Shapes.{summary}
@@ -18,6 +18,6 @@ statement = codes "INSERT INTO HOLDING_SUMMARY (HS_CA_ID, HS_S_SYMB, HS_QTY) VAL
 abbrev pub terms : List Term
 terms = lit Null ∷ col 0 0 ∷ col 0 1 ∷ col 0 2 ∷ []
 
-pub understood_as : (schema : Schema) (at tree : ℕ) → Stands schema (summary tree) at → compiled schema statement ≡ Ok (meant (read statement) [] (Insert at (Values terms 4)))
+pub understood_as : (schema : Schema) (at tree : ℕ) → IsTableAt schema (summary tree) at → compiled schema statement ≡ Ok (meant (read statement) [] (Insert at (Values terms 4)))
 unfolding everything
 understood_as schema at tree h = inserts schema statement (read statement) refl refl (codes "HOLDING_SUMMARY") at (summary tree) h.named h.found _ _ _ refl refl

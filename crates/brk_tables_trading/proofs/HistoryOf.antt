@@ -16,7 +16,7 @@ use Rattle.sqlite_draft.specs.declared.join.Step.TheVariants.{Inner}
 use Rattle.sqlite_draft.specs.declared.query.Draft.{Draft}
 use Rattle.sqlite_tied.specs.Compute.{everything}
 use Rattle.brk_sql.specs.Partly.{lowering}
-use Rattle.brk_sql.specs.Desk.{whole, text, Stands}
+use Rattle.brk_sql.specs.Desk.{integer_column, text_column, IsTableAt}
 use Rattle.brk_sql.proofs.Meant.{meant, reads_or}
 use Rattle.brk_sql.proofs.Pick.{selection}
 use Rattle.brk_sql.proofs.Scoped.{column_is, heading_is}
@@ -95,7 +95,7 @@ names = codes "TH_T_ID" ∷ codes "TH_ST_ID" ∷ codes "TH_DTS" ∷ []
 abbrev after : ℕ → Carried → State
 after spent last = record (fresh 2 max_budget) { budget = max_budget - spent; last = last }
 
-module _ (schema : Schema) (at tree : ℕ) (h : Stands schema (history tree) at) where
+module _ (schema : Schema) (at tree : ℕ) (h : IsTableAt schema (history tree) at) where
   abbrev found : slice_get schema.tables at ≡ Some (history tree)
   found = h.found
 
@@ -103,25 +103,25 @@ module _ (schema : Schema) (at tree : ℕ) (h : Stands schema (history tree) at)
   unfolding lowering
   shows =
       rw (
-        column_is schema at (history tree) found (codes "TRADE_HISTORY") [] [] true true (codes "TH_T_ID") 0 (whole (codes "TH_T_ID")) refl refl,
-        heading_is schema at (history tree) found (codes "TRADE_HISTORY") [] [] true true (e.Column None (codes "TH_T_ID")) (codes "TH_T_ID") (codes "TH_T_ID") 0 (whole (codes "TH_T_ID")) refl refl refl,
-        column_is schema at (history tree) found (codes "TRADE_HISTORY") [] [] true true (codes "TH_ST_ID") 1 (text (codes "TH_ST_ID")) refl refl,
-        heading_is schema at (history tree) found (codes "TRADE_HISTORY") [] [] true true (e.Column None (codes "TH_ST_ID")) (codes "TH_ST_ID") (codes "TH_ST_ID") 1 (text (codes "TH_ST_ID")) refl refl refl,
-        column_is schema at (history tree) found (codes "TRADE_HISTORY") [] [] true true (codes "TH_DTS") 2 (whole (codes "TH_DTS")) refl refl,
-        heading_is schema at (history tree) found (codes "TRADE_HISTORY") [] [] true true (e.Column None (codes "TH_DTS")) (codes "TH_DTS") (codes "TH_DTS") 2 (whole (codes "TH_DTS")) refl refl refl,
+        column_is schema at (history tree) found (codes "TRADE_HISTORY") [] [] true true (codes "TH_T_ID") 0 (integer_column (codes "TH_T_ID")) refl refl,
+        heading_is schema at (history tree) found (codes "TRADE_HISTORY") [] [] true true (e.Column None (codes "TH_T_ID")) (codes "TH_T_ID") (codes "TH_T_ID") 0 (integer_column (codes "TH_T_ID")) refl refl refl,
+        column_is schema at (history tree) found (codes "TRADE_HISTORY") [] [] true true (codes "TH_ST_ID") 1 (text_column (codes "TH_ST_ID")) refl refl,
+        heading_is schema at (history tree) found (codes "TRADE_HISTORY") [] [] true true (e.Column None (codes "TH_ST_ID")) (codes "TH_ST_ID") (codes "TH_ST_ID") 1 (text_column (codes "TH_ST_ID")) refl refl refl,
+        column_is schema at (history tree) found (codes "TRADE_HISTORY") [] [] true true (codes "TH_DTS") 2 (integer_column (codes "TH_DTS")) refl refl,
+        heading_is schema at (history tree) found (codes "TRADE_HISTORY") [] [] true true (e.Column None (codes "TH_DTS")) (codes "TH_DTS") (codes "TH_DTS") 2 (integer_column (codes "TH_DTS")) refl refl refl,
       )
 
   matches : matching lower (outermost schema) (level_one (codes "TRADE_HISTORY") at columns) core (after 3 binary)
       ≡ Ok (record { steps = Inner tree ∷ []; filter = terms }, after 6 nothing)
   unfolding lowering
-  matches = rw (found, column_is schema at (history tree) found (codes "TRADE_HISTORY") columns [] false true (codes "TH_T_ID") 0 (whole (codes "TH_T_ID")) refl refl, found)
+  matches = rw (found, column_is schema at (history tree) found (codes "TRADE_HISTORY") columns [] false true (codes "TH_T_ID") 0 (integer_column (codes "TH_T_ID")) refl refl, found)
 
   sorted : sorts lower (inside schema (level_one (codes "TRADE_HISTORY") at columns) false) columns by (after 6 nothing) ≡ Ok ((draft tree).order, after 8 binary)
   unfolding lowering
   sorted =
       rw (
-        column_is schema at (history tree) found (codes "TRADE_HISTORY") columns [] false true (codes "TH_T_ID") 0 (whole (codes "TH_T_ID")) refl refl,
-        column_is schema at (history tree) found (codes "TRADE_HISTORY") columns [] false true (codes "TH_ST_ID") 1 (text (codes "TH_ST_ID")) refl refl,
+        column_is schema at (history tree) found (codes "TRADE_HISTORY") columns [] false true (codes "TH_T_ID") 0 (integer_column (codes "TH_T_ID")) refl refl,
+        column_is schema at (history tree) found (codes "TRADE_HISTORY") columns [] false true (codes "TH_ST_ID") 1 (text_column (codes "TH_ST_ID")) refl refl,
       )
 
   meaning_is : meaning schema select ≡ Ok ((draft tree, names, Some Binary ∷ Some Binary ∷ Some Binary ∷ []), [])

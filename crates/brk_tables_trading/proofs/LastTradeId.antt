@@ -13,7 +13,7 @@ use Rattle.sqlite_draft.specs.declared.join.Step.TheVariants.{Inner}
 use Rattle.sqlite_draft.specs.declared.query.Draft.{Draft}
 use Rattle.sqlite_tied.specs.Compute.{everything}
 use Rattle.brk_sql.specs.Partly.{lowering}
-use Rattle.brk_sql.specs.Desk.{whole, Stands}
+use Rattle.brk_sql.specs.Desk.{integer_column, IsTableAt}
 use Rattle.brk_sql.proofs.Meant.{meant, reads_or}
 use Rattle.brk_sql.proofs.Pick.{selection}
 use Rattle.brk_sql.proofs.Scoped.{column_is, heading_is}
@@ -92,7 +92,7 @@ names = codes "T_ID" ∷ []
 abbrev after : ℕ → Carried → State
 after spent last = record (fresh 2 max_budget) { budget = max_budget - spent; last = last }
 
-module _ (schema : Schema) (at tree : ℕ) (h : Stands schema (trade tree) at) where
+module _ (schema : Schema) (at tree : ℕ) (h : IsTableAt schema (trade tree) at) where
   abbrev found : slice_get schema.tables at ≡ Some (trade tree)
   found = h.found
 
@@ -100,8 +100,8 @@ module _ (schema : Schema) (at tree : ℕ) (h : Stands schema (trade tree) at) w
   unfolding lowering
   shows =
       rw (
-        column_is schema at (trade tree) found (codes "TRADE") [] [] true true (codes "T_ID") 0 (whole (codes "T_ID")) refl refl,
-        heading_is schema at (trade tree) found (codes "TRADE") [] [] true true (e.Column None (codes "T_ID")) (codes "T_ID") (codes "T_ID") 0 (whole (codes "T_ID")) refl refl refl,
+        column_is schema at (trade tree) found (codes "TRADE") [] [] true true (codes "T_ID") 0 (integer_column (codes "T_ID")) refl refl,
+        heading_is schema at (trade tree) found (codes "TRADE") [] [] true true (e.Column None (codes "T_ID")) (codes "T_ID") (codes "T_ID") 0 (integer_column (codes "T_ID")) refl refl refl,
       )
 
   matches : matching lower (outermost schema) (level_one (codes "TRADE") at columns) core (after 1 nothing)
@@ -112,7 +112,7 @@ module _ (schema : Schema) (at tree : ℕ) (h : Stands schema (trade tree) at) w
   sorted : sorts lower (inside schema (level_one (codes "TRADE") at columns) false) columns by (after 1 nothing) ≡ Ok ((draft tree).order, after 2 nothing)
   unfolding lowering
   sorted =
-      rw (column_is schema at (trade tree) found (codes "TRADE") columns [] false true (codes "T_ID") 0 (whole (codes "T_ID")) refl refl)
+      rw (column_is schema at (trade tree) found (codes "TRADE") columns [] false true (codes "T_ID") 0 (integer_column (codes "T_ID")) refl refl)
 
   meaning_is : meaning schema select ≡ Ok ((draft tree, names, None ∷ []), [])
   unfolding everything

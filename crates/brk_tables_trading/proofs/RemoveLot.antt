@@ -16,7 +16,7 @@ use Rattle.sqlite_draft.specs.declared.join.Step.TheVariants.{Inner}
 use Rattle.sqlite_draft.specs.declared.query.Draft.{Draft}
 use Rattle.sqlite_tied.specs.Compute.{everything}
 use Rattle.brk_sql.specs.Partly.{lowering}
-use Rattle.brk_sql.specs.Desk.{whole, Stands}
+use Rattle.brk_sql.specs.Desk.{integer_column, IsTableAt}
 use Rattle.brk_sql.proofs.Meant.{meant, deletes_or}
 use Rattle.brk_sql.proofs.Pick.{selection, whole_page}
 use Rattle.brk_sql.proofs.Scoped.{column_is}
@@ -40,9 +40,9 @@ draft tree = simple (Inner tree ∷ []) terms project
 
 draft_is : (schema : Schema) (at tree : ℕ) → slice_get schema.tables at ≡ Some (holding tree) → deleted schema at (holding tree) test ≡ Ok (draft tree)
 unfolding lowering
-draft_is schema at tree found = rw (column_is schema at (holding tree) found (codes "HOLDING") [] [] false true (codes "H_T_ID") 0 (whole (codes "H_T_ID")) refl refl)
+draft_is schema at tree found = rw (column_is schema at (holding tree) found (codes "HOLDING") [] [] false true (codes "H_T_ID") 0 (integer_column (codes "H_T_ID")) refl refl)
 
-pub understood_as : (schema : Schema) (at tree : ℕ) → Stands schema (holding tree) at
+pub understood_as : (schema : Schema) (at tree : ℕ) → IsTableAt schema (holding tree) at
     → (compiled schema statement ≡ Ok (meant (read statement) [] (Delete at (record { lets = []; body = selection tree terms project [] whole_page })))) ⊎ (compiled schema statement ≡ Err Mismatch)
 unfolding everything
 understood_as schema at tree h = deletes_or schema statement (read statement) refl refl (codes "HOLDING") at (holding tree) h.named h.found test (draft tree) refl (draft_is schema at tree h.found)

@@ -16,7 +16,7 @@ use Rattle.sqlite_draft.specs.declared.join.Step.TheVariants.{Inner}
 use Rattle.sqlite_draft.specs.declared.query.Draft.{Draft}
 use Rattle.sqlite_tied.specs.Compute.{everything}
 use Rattle.brk_sql.specs.Partly.{lowering}
-use Rattle.brk_sql.specs.Desk.{whole, text, Stands}
+use Rattle.brk_sql.specs.Desk.{integer_column, text_column, IsTableAt}
 use Rattle.brk_sql.proofs.Meant.{meant, reads_or}
 use Rattle.brk_sql.proofs.Pick.{selection}
 use Rattle.brk_sql.proofs.Scoped.{column_is, heading_is}
@@ -95,7 +95,7 @@ names = codes "TR_T_ID" ∷ codes "TR_TT_ID" ∷ codes "TR_S_SYMB" ∷ codes "TR
 abbrev after : ℕ → Carried → State
 after spent last = record (fresh 2 max_budget) { budget = max_budget - spent; last = last }
 
-module _ (schema : Schema) (at tree : ℕ) (h : Stands schema (request tree) at) where
+module _ (schema : Schema) (at tree : ℕ) (h : IsTableAt schema (request tree) at) where
   abbrev found : slice_get schema.tables at ≡ Some (request tree)
   found = h.found
 
@@ -103,29 +103,29 @@ module _ (schema : Schema) (at tree : ℕ) (h : Stands schema (request tree) at)
   unfolding lowering
   shows =
       rw (
-        column_is schema at (request tree) found (codes "TRADE_REQUEST") [] [] true true (codes "TR_T_ID") 0 (whole (codes "TR_T_ID")) refl refl,
-        heading_is schema at (request tree) found (codes "TRADE_REQUEST") [] [] true true (e.Column None (codes "TR_T_ID")) (codes "TR_T_ID") (codes "TR_T_ID") 0 (whole (codes "TR_T_ID")) refl refl refl,
-        column_is schema at (request tree) found (codes "TRADE_REQUEST") [] [] true true (codes "TR_TT_ID") 1 (text (codes "TR_TT_ID")) refl refl,
-        heading_is schema at (request tree) found (codes "TRADE_REQUEST") [] [] true true (e.Column None (codes "TR_TT_ID")) (codes "TR_TT_ID") (codes "TR_TT_ID") 1 (text (codes "TR_TT_ID")) refl refl refl,
-        column_is schema at (request tree) found (codes "TRADE_REQUEST") [] [] true true (codes "TR_S_SYMB") 2 (text (codes "TR_S_SYMB")) refl refl,
-        heading_is schema at (request tree) found (codes "TRADE_REQUEST") [] [] true true (e.Column None (codes "TR_S_SYMB")) (codes "TR_S_SYMB") (codes "TR_S_SYMB") 2 (text (codes "TR_S_SYMB")) refl refl refl,
-        column_is schema at (request tree) found (codes "TRADE_REQUEST") [] [] true true (codes "TR_QTY") 3 (whole (codes "TR_QTY")) refl refl,
-        heading_is schema at (request tree) found (codes "TRADE_REQUEST") [] [] true true (e.Column None (codes "TR_QTY")) (codes "TR_QTY") (codes "TR_QTY") 3 (whole (codes "TR_QTY")) refl refl refl,
-        column_is schema at (request tree) found (codes "TRADE_REQUEST") [] [] true true (codes "TR_BID_PRICE") 4 (whole (codes "TR_BID_PRICE")) refl refl,
-        heading_is schema at (request tree) found (codes "TRADE_REQUEST") [] [] true true (e.Column None (codes "TR_BID_PRICE")) (codes "TR_BID_PRICE") (codes "TR_BID_PRICE") 4 (whole (codes "TR_BID_PRICE")) refl refl refl,
-        column_is schema at (request tree) found (codes "TRADE_REQUEST") [] [] true true (codes "TR_B_ID") 5 (whole (codes "TR_B_ID")) refl refl,
-        heading_is schema at (request tree) found (codes "TRADE_REQUEST") [] [] true true (e.Column None (codes "TR_B_ID")) (codes "TR_B_ID") (codes "TR_B_ID") 5 (whole (codes "TR_B_ID")) refl refl refl,
+        column_is schema at (request tree) found (codes "TRADE_REQUEST") [] [] true true (codes "TR_T_ID") 0 (integer_column (codes "TR_T_ID")) refl refl,
+        heading_is schema at (request tree) found (codes "TRADE_REQUEST") [] [] true true (e.Column None (codes "TR_T_ID")) (codes "TR_T_ID") (codes "TR_T_ID") 0 (integer_column (codes "TR_T_ID")) refl refl refl,
+        column_is schema at (request tree) found (codes "TRADE_REQUEST") [] [] true true (codes "TR_TT_ID") 1 (text_column (codes "TR_TT_ID")) refl refl,
+        heading_is schema at (request tree) found (codes "TRADE_REQUEST") [] [] true true (e.Column None (codes "TR_TT_ID")) (codes "TR_TT_ID") (codes "TR_TT_ID") 1 (text_column (codes "TR_TT_ID")) refl refl refl,
+        column_is schema at (request tree) found (codes "TRADE_REQUEST") [] [] true true (codes "TR_S_SYMB") 2 (text_column (codes "TR_S_SYMB")) refl refl,
+        heading_is schema at (request tree) found (codes "TRADE_REQUEST") [] [] true true (e.Column None (codes "TR_S_SYMB")) (codes "TR_S_SYMB") (codes "TR_S_SYMB") 2 (text_column (codes "TR_S_SYMB")) refl refl refl,
+        column_is schema at (request tree) found (codes "TRADE_REQUEST") [] [] true true (codes "TR_QTY") 3 (integer_column (codes "TR_QTY")) refl refl,
+        heading_is schema at (request tree) found (codes "TRADE_REQUEST") [] [] true true (e.Column None (codes "TR_QTY")) (codes "TR_QTY") (codes "TR_QTY") 3 (integer_column (codes "TR_QTY")) refl refl refl,
+        column_is schema at (request tree) found (codes "TRADE_REQUEST") [] [] true true (codes "TR_BID_PRICE") 4 (integer_column (codes "TR_BID_PRICE")) refl refl,
+        heading_is schema at (request tree) found (codes "TRADE_REQUEST") [] [] true true (e.Column None (codes "TR_BID_PRICE")) (codes "TR_BID_PRICE") (codes "TR_BID_PRICE") 4 (integer_column (codes "TR_BID_PRICE")) refl refl refl,
+        column_is schema at (request tree) found (codes "TRADE_REQUEST") [] [] true true (codes "TR_B_ID") 5 (integer_column (codes "TR_B_ID")) refl refl,
+        heading_is schema at (request tree) found (codes "TRADE_REQUEST") [] [] true true (e.Column None (codes "TR_B_ID")) (codes "TR_B_ID") (codes "TR_B_ID") 5 (integer_column (codes "TR_B_ID")) refl refl refl,
       )
 
   matches : matching lower (outermost schema) (level_one (codes "TRADE_REQUEST") at columns) core (after 6 binary)
       ≡ Ok (record { steps = Inner tree ∷ []; filter = terms }, after 17 nothing)
   unfolding lowering
-  matches = rw (found, column_is schema at (request tree) found (codes "TRADE_REQUEST") columns [] false true (codes "TR_S_SYMB") 2 (text (codes "TR_S_SYMB")) refl refl, found, column_is schema at (request tree) found (codes "TRADE_REQUEST") columns [] false true (codes "TR_TT_ID") 1 (text (codes "TR_TT_ID")) refl refl, found, column_is schema at (request tree) found (codes "TRADE_REQUEST") columns [] false true (codes "TR_BID_PRICE") 4 (whole (codes "TR_BID_PRICE")) refl refl, found)
+  matches = rw (found, column_is schema at (request tree) found (codes "TRADE_REQUEST") columns [] false true (codes "TR_S_SYMB") 2 (text_column (codes "TR_S_SYMB")) refl refl, found, column_is schema at (request tree) found (codes "TRADE_REQUEST") columns [] false true (codes "TR_TT_ID") 1 (text_column (codes "TR_TT_ID")) refl refl, found, column_is schema at (request tree) found (codes "TRADE_REQUEST") columns [] false true (codes "TR_BID_PRICE") 4 (integer_column (codes "TR_BID_PRICE")) refl refl, found)
 
   sorted : sorts lower (inside schema (level_one (codes "TRADE_REQUEST") at columns) false) columns by (after 17 nothing) ≡ Ok ((draft tree).order, after 18 nothing)
   unfolding lowering
   sorted =
-      rw (column_is schema at (request tree) found (codes "TRADE_REQUEST") columns [] false true (codes "TR_T_ID") 0 (whole (codes "TR_T_ID")) refl refl)
+      rw (column_is schema at (request tree) found (codes "TRADE_REQUEST") columns [] false true (codes "TR_T_ID") 0 (integer_column (codes "TR_T_ID")) refl refl)
 
   meaning_is : meaning schema select ≡ Ok ((draft tree, names, None ∷ Some Binary ∷ Some Binary ∷ Some Binary ∷ Some Binary ∷ Some Binary ∷ []), [])
   unfolding everything

@@ -18,7 +18,7 @@ use Rattle.sqlite_draft.specs.declared.join.Step.TheVariants.{Inner}
 use Rattle.sqlite_draft.specs.declared.query.Draft.{Draft}
 use Rattle.sqlite_tied.specs.Compute.{everything}
 use Rattle.brk_sql.specs.Partly.{lowering}
-use Rattle.brk_sql.specs.Desk.{whole, Stands}
+use Rattle.brk_sql.specs.Desk.{integer_column, IsTableAt}
 use Rattle.brk_sql.proofs.Meant.{meant, updates_or}
 use Rattle.brk_sql.proofs.Pick.{selection, whole_page}
 use Rattle.brk_sql.proofs.Scoped.{column_is}
@@ -45,9 +45,9 @@ draft tree = simple (Inner tree ∷ []) terms project
 
 draft_is : (schema : Schema) (at tree : ℕ) → slice_get schema.tables at ≡ Some (broker tree) → updated schema at (broker tree) sets (Some test) ≡ Ok (draft tree)
 unfolding lowering
-draft_is schema at tree found = rw (column_is schema at (broker tree) found (codes "BROKER") [] [] false true (codes "B_ID") 0 (whole (codes "B_ID")) refl refl)
+draft_is schema at tree found = rw (column_is schema at (broker tree) found (codes "BROKER") [] [] false true (codes "B_ID") 0 (integer_column (codes "B_ID")) refl refl)
 
-pub understood_as : (schema : Schema) (at tree : ℕ) → Stands schema (broker tree) at
+pub understood_as : (schema : Schema) (at tree : ℕ) → IsTableAt schema (broker tree) at
     → (compiled schema statement ≡ Ok (meant (read statement) [] (Update at (record { lets = []; body = selection tree terms project [] whole_page })))) ⊎ (compiled schema statement ≡ Err Mismatch)
 unfolding everything
 understood_as schema at tree h = updates_or schema statement (read statement) refl refl (codes "BROKER") at (broker tree) h.named h.found sets (Some test) (draft tree) refl (draft_is schema at tree h.found)

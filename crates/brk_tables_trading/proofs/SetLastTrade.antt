@@ -17,7 +17,7 @@ use Rattle.sqlite_draft.specs.declared.join.Step.TheVariants.{Inner}
 use Rattle.sqlite_draft.specs.declared.query.Draft.{Draft}
 use Rattle.sqlite_tied.specs.Compute.{everything}
 use Rattle.brk_sql.specs.Partly.{lowering}
-use Rattle.brk_sql.specs.Desk.{text, Stands}
+use Rattle.brk_sql.specs.Desk.{text_column, IsTableAt}
 use Rattle.brk_sql.proofs.Meant.{meant, updates_or}
 use Rattle.brk_sql.proofs.Pick.{selection, whole_page}
 use Rattle.brk_sql.proofs.Scoped.{column_is}
@@ -44,9 +44,9 @@ draft tree = simple (Inner tree ∷ []) terms project
 
 draft_is : (schema : Schema) (at tree : ℕ) → slice_get schema.tables at ≡ Some (last_trade tree) → updated schema at (last_trade tree) sets (Some test) ≡ Ok (draft tree)
 unfolding lowering
-draft_is schema at tree found = rw (column_is schema at (last_trade tree) found (codes "LAST_TRADE") [] [] false true (codes "LT_S_SYMB") 0 (text (codes "LT_S_SYMB")) refl refl, found)
+draft_is schema at tree found = rw (column_is schema at (last_trade tree) found (codes "LAST_TRADE") [] [] false true (codes "LT_S_SYMB") 0 (text_column (codes "LT_S_SYMB")) refl refl, found)
 
-pub understood_as : (schema : Schema) (at tree : ℕ) → Stands schema (last_trade tree) at
+pub understood_as : (schema : Schema) (at tree : ℕ) → IsTableAt schema (last_trade tree) at
     → (compiled schema statement ≡ Ok (meant (read statement) [] (Update at (record { lets = []; body = selection tree terms project [] whole_page })))) ⊎ (compiled schema statement ≡ Err Mismatch)
 unfolding everything
 understood_as schema at tree h = updates_or schema statement (read statement) refl refl (codes "LAST_TRADE") at (last_trade tree) h.named h.found sets (Some test) (draft tree) refl (draft_is schema at tree h.found)

@@ -17,7 +17,7 @@ use Rattle.sqlite_draft.specs.declared.join.Step.TheVariants.{Inner}
 use Rattle.sqlite_draft.specs.declared.query.Draft.{Draft}
 use Rattle.sqlite_tied.specs.Compute.{everything}
 use Rattle.brk_sql.specs.Partly.{lowering}
-use Rattle.brk_sql.specs.Desk.{whole, text, Stands}
+use Rattle.brk_sql.specs.Desk.{integer_column, text_column, IsTableAt}
 use Rattle.brk_sql.proofs.Meant.{meant, updates_or}
 use Rattle.brk_sql.proofs.Pick.{selection, whole_page}
 use Rattle.brk_sql.proofs.Scoped.{column_is}
@@ -44,9 +44,9 @@ draft tree = simple (Inner tree ∷ []) terms project
 
 draft_is : (schema : Schema) (at tree : ℕ) → slice_get schema.tables at ≡ Some (summary tree) → updated schema at (summary tree) sets (Some test) ≡ Ok (draft tree)
 unfolding lowering
-draft_is schema at tree found = rw (column_is schema at (summary tree) found (codes "HOLDING_SUMMARY") [] [] false true (codes "HS_CA_ID") 0 (whole (codes "HS_CA_ID")) refl refl, found, column_is schema at (summary tree) found (codes "HOLDING_SUMMARY") [] [] false true (codes "HS_S_SYMB") 1 (text (codes "HS_S_SYMB")) refl refl, found)
+draft_is schema at tree found = rw (column_is schema at (summary tree) found (codes "HOLDING_SUMMARY") [] [] false true (codes "HS_CA_ID") 0 (integer_column (codes "HS_CA_ID")) refl refl, found, column_is schema at (summary tree) found (codes "HOLDING_SUMMARY") [] [] false true (codes "HS_S_SYMB") 1 (text_column (codes "HS_S_SYMB")) refl refl, found)
 
-pub understood_as : (schema : Schema) (at tree : ℕ) → Stands schema (summary tree) at
+pub understood_as : (schema : Schema) (at tree : ℕ) → IsTableAt schema (summary tree) at
     → (compiled schema statement ≡ Ok (meant (read statement) [] (Update at (record { lets = []; body = selection tree terms project [] whole_page })))) ⊎ (compiled schema statement ≡ Err Mismatch)
 unfolding everything
 understood_as schema at tree h = updates_or schema statement (read statement) refl refl (codes "HOLDING_SUMMARY") at (summary tree) h.named h.found sets (Some test) (draft tree) refl (draft_is schema at tree h.found)

@@ -6,7 +6,7 @@ use Rattle.std.specs.Cmp.{IsTotalOrder}
 use Rattle.std.specs.List.{AllByRecursion}
 use Rattle.sqlite_trees.specs.Tree.{IsAscending}
 use Rattle.sqlite_keyed.specs.Lists.{insert_sorted, sort_by}
-use Rattle.brk_sql.specs.Rows.{Rises}
+use Rattle.brk_sql.specs.Rows.{IsStrictlyAscending}
 use Rattle.brk_sql.proofs.Order.{rises-insert_sorted}
 
 abbrev pub flipped : {X : Type 0} → (X → X → Ordering) → X → X → Ordering
@@ -55,11 +55,11 @@ module _ {X : Type 0} (C : X → X → Ordering) (total : IsTotalOrder C) where
   all_sorted P [] all = tt
   all_sorted P (x ∷ xs) all = all_in P x (sort_by C xs) all.0 (all_sorted P xs all.1)
 
-  rises : (xs : List X) → IsAscending (λ x y. is_eq (C x y) ≡ false) xs → Rises C (sort_by C xs)
+  rises : (xs : List X) → IsAscending (λ x y. is_eq (C x y) ≡ false) xs → IsStrictlyAscending C (sort_by C xs)
   rises [] apart = tt
   rises (x ∷ xs) apart = rises-insert_sorted total x (sort_by C xs) (all_sorted (λ y. is_eq (C x y) ≡ false) xs apart.0) (rises xs apart.1)
 
-  put : (x : X) (ys : List X) → AllByRecursion (λ y. is_eq (C x y) ≡ false) ys → Rises C ys → insert_sorted (flipped C) x (reverse ys) ≡ reverse (insert_sorted C x ys)
+  put : (x : X) (ys : List X) → AllByRecursion (λ y. is_eq (C x y) ≡ false) ys → IsStrictlyAscending C ys → insert_sorted (flipped C) x (reverse ys) ≡ reverse (insert_sorted C x ys)
   put x [] apart up = refl
   put x (y ∷ ys) apart up = ap (insert_sorted (flipped C) x) (reverse-cons y ys) ∙ go (C x y) refl (put x ys apart.1 up.1)
     where

@@ -9,9 +9,9 @@ abbrev pub page_size : ℕ
 page_size = 16
 
 -- The elements of a list after the first `skipped`, at most `page_size` of them.
-abbrev pub on_page : {X : Type 0} → ℕ → List X → List X
-on_page skipped xs = take page_size (drop skipped xs)
+abbrev pub page_after : {X : Type 0} → ℕ → List X → List X
+page_after skipped xs = take page_size (drop skipped xs)
 
 -- The rows of the lots of `account` in the security `symbol`, sorted by age, the oldest first.
-abbrev pub lots_held : ℕ → Text → Tables → List HoldingRow
-lots_held account symbol t = oldest_lots_first (filter (λ r. (r.account == account) && bytes_eq r.symbol symbol) t.holdings)
+abbrev pub position_lots_by_age : ℕ → Text → Tables → List HoldingRow
+position_lots_by_age account symbol t = oldest_lots_first (filter (λ r. (r.account == account) && bytes_eq r.symbol symbol) t.holdings)

@@ -1,10 +1,10 @@
 ghost use Rattle.std.specs.Prelude.{◌≡◌, Err, OnErr};
 ghost use Rattle.brk_money.specs.declared.fault.Fault.TheVariants.{Store};
-ghost use Rattle.brk_changes.specs.Changes.{with_balance};
-ghost use Rattle.brk_tables_schema.specs.Statements.{Writes};
+ghost use Rattle.brk_changes.specs.Changes.{tables_with_balance};
+ghost use Rattle.brk_tables_schema.specs.Statements.{WritesDeskTables};
 
 use brk_money::{Cents, Fault, Id};
-use brk_tables_schema::calls::run;
+use brk_tables_schema::calls::execute_statement;
 use brk_tables_schema::values::{cents_value, id_value};
 use sqlite::{Alter, Transaction};
 
@@ -15,10 +15,10 @@ pub fn set_balance<S: Alter>(
     balance: Cents,
 ) -> Result<(), Fault>
     ensures same_reference { tx.new.conn.ghost_name ≡ tx.old.conn.ghost_name }
-    ensures step { Writes S.Store tx.old tx.new result (with_balance account balance) }
+    ensures step { WritesDeskTables S.Store tx.old tx.new result (tables_with_balance account balance) }
     ensures fault { OnErr result (result ≡ Err Store) }
 {
-    run(
+    execute_statement(
         tx,
         "UPDATE CUSTOMER_ACCOUNT SET CA_BAL = ?1 WHERE CA_ID = ?2",
         &[cents_value(balance), id_value(account)],

@@ -1,11 +1,11 @@
 ghost use Rattle.std.specs.Prelude.{◌≡◌, Err, OnErr};
 ghost use Rattle.brk_money.specs.declared.fault.Fault.TheVariants.{Store};
-ghost use Rattle.brk_changes.specs.Changes.{with_broker_numbers};
-ghost use Rattle.brk_tables_schema.specs.Statements.{Writes};
+ghost use Rattle.brk_changes.specs.Changes.{tables_with_broker_totals};
+ghost use Rattle.brk_tables_schema.specs.Statements.{WritesDeskTables};
 
 use brk_changes::Amount;
 use brk_money::{Fault, Id};
-use brk_tables_schema::calls::run;
+use brk_tables_schema::calls::execute_statement;
 use brk_tables_schema::values::{amount_value, id_value, number_value};
 use sqlite::{Alter, Transaction};
 
@@ -18,10 +18,10 @@ pub fn set_broker_numbers<S: Alter>(
     commissions: Amount,
 ) -> Result<(), Fault>
     ensures same_reference { tx.new.conn.ghost_name ≡ tx.old.conn.ghost_name }
-    ensures step { Writes S.Store tx.old tx.new result (with_broker_numbers broker trades commissions) }
+    ensures step { WritesDeskTables S.Store tx.old tx.new result (tables_with_broker_totals broker trades commissions) }
     ensures fault { OnErr result (result ≡ Err Store) }
 {
-    run(
+    execute_statement(
         tx,
         "UPDATE BROKER SET B_NUM_TRADES = ?1, B_COMM_TOTAL = ?2 WHERE B_ID = ?3",
         &[

@@ -1,12 +1,12 @@
 ghost use Rattle.std.specs.Prelude.{◌≡◌, Err, OnErr};
 ghost use Rattle.brk_money.specs.declared.fault.Fault.TheVariants.{Store};
-ghost use Rattle.brk_changes.specs.Changes.{with_history};
-ghost use Rattle.brk_changes.specs.Rows.{history_row_of};
-ghost use Rattle.brk_tables_schema.specs.Statements.{Writes};
+ghost use Rattle.brk_changes.specs.Changes.{tables_with_history_row};
+ghost use Rattle.brk_changes.specs.Rows.{abstract_history_row};
+ghost use Rattle.brk_tables_schema.specs.Statements.{WritesDeskTables};
 
 use brk_changes::HistoryRow;
 use brk_money::Fault;
-use brk_tables_schema::calls::run;
+use brk_tables_schema::calls::execute_statement;
 use brk_tables_schema::values::{id_value, stamp_value, status_value};
 use sqlite::{Alter, Transaction};
 
@@ -17,10 +17,10 @@ pub fn add_trade_history<S: Alter>(
     mark: &HistoryRow,
 ) -> Result<(), Fault>
     ensures same_reference { tx.new.conn.ghost_name ≡ tx.old.conn.ghost_name }
-    ensures step { Writes S.Store tx.old tx.new result (with_history (history_row_of mark.now)) }
+    ensures step { WritesDeskTables S.Store tx.old tx.new result (tables_with_history_row (abstract_history_row mark.now)) }
     ensures fault { OnErr result (result ≡ Err Store) }
 {
-    run(
+    execute_statement(
         tx,
         "INSERT INTO TRADE_HISTORY (TH_T_ID, TH_ST_ID, TH_DTS) VALUES (?1, ?2, ?3)",
         &[

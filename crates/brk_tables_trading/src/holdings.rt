@@ -4,17 +4,17 @@ ghost use Rattle.std.specs.Prelude.{◌≡◌, ◌==◌, ◌&&◌, Err, IfErr, O
 ghost use Rattle.sqlite_value.specs.Value.{owned};
 ghost use Rattle.sqlite_value.specs.declared.value.Value.TheVariants.{Int};
 ghost use Rattle.brk_money.specs.declared.fault.Fault.TheVariants.{Store};
-ghost use Rattle.brk_model.specs.Run.{MayFail};
-ghost use Rattle.brk_changes.specs.Rows.{holding_row_of, summary_row_of};
+ghost use Rattle.brk_model.specs.Run.{IsCallFault};
+ghost use Rattle.brk_changes.specs.Rows.{abstract_holding_row, abstract_summary_row};
 ghost use Rattle.brk_tables_schema.specs.Desk.{Summaries};
-ghost use Rattle.brk_tables_schema.specs.Statements.{Finds, Lists, Reads};
-ghost use Rattle.brk_tables_trading.specs.Pages.{lots_held, on_page};
+ghost use Rattle.brk_tables_schema.specs.Statements.{ReadsFirstMatch, ReadsMatchingRows, ReadsDeskTables};
+ghost use Rattle.brk_tables_trading.specs.Pages.{position_lots_by_age, page_after};
 
 use brk_changes::{HoldingRow, SummaryRow};
 use brk_money::{Fault, Id};
 use brk_ref::Symbol;
-use brk_tables_schema::calls::select;
-use brk_tables_schema::record::{all_rows, first_row};
+use brk_tables_schema::calls::select_rows;
+use brk_tables_schema::record::{decode_first_row, decode_rows};
 use brk_tables_schema::values::{id_value, text_value};
 use sqlite::{Alter, Transaction};
 use sqlite_value::value::ValueRef;
@@ -38,10 +38,10 @@ pub fn oldest_lots<S: Alter>(
     skipped: u32,
 ) -> Result<Vec<HoldingRow>, Fault>
     ensures same_reference { tx.new.conn.ghost_name ≡ tx.old.conn.ghost_name }
-    ensures step { Reads S.Store tx.old tx.new result (λ all t. map holding_row_of all.items ≡ on_page skipped (lots_held account symbol.now t)) }
-    ensures fault { IfErr result MayFail }
+    ensures step { ReadsDeskTables S.Store tx.old tx.new result (λ all t. map abstract_holding_row all.items ≡ page_after skipped (position_lots_by_age account symbol.now t)) }
+    ensures fault { IfErr result IsCallFault }
 {
-    let rows = select(
+    let rows = select_rows(
         tx,
         "SELECT H_T_ID, H_CA_ID, H_S_SYMB, H_DTS, H_PRICE, H_QTY FROM HOLDING WHERE H_CA_ID = ?1 AND H_S_SYMB = ?2 ORDER BY H_DTS, H_T_ID LIMIT 16 OFFSET ?3",
         &[
@@ -50,7 +50,7 @@ pub fn oldest_lots<S: Alter>(
             skip_value(skipped),
         ],
     )?;
-    all_rows(alloc, &rows)
+    decode_rows(alloc, &rows)
 }
 
 /// Returns a page of the lots of an account in a security: at most 16 lots after the first
@@ -64,10 +64,10 @@ pub fn newest_lots<S: Alter>(
     skipped: u32,
 ) -> Result<Vec<HoldingRow>, Fault>
     ensures same_reference { tx.new.conn.ghost_name ≡ tx.old.conn.ghost_name }
-    ensures step { Reads S.Store tx.old tx.new result (λ all t. map holding_row_of all.items ≡ on_page skipped (reverse (lots_held account symbol.now t))) }
-    ensures fault { IfErr result MayFail }
+    ensures step { ReadsDeskTables S.Store tx.old tx.new result (λ all t. map abstract_holding_row all.items ≡ page_after skipped (reverse (position_lots_by_age account symbol.now t))) }
+    ensures fault { IfErr result IsCallFault }
 {
-    let rows = select(
+    let rows = select_rows(
         tx,
         "SELECT H_T_ID, H_CA_ID, H_S_SYMB, H_DTS, H_PRICE, H_QTY FROM HOLDING WHERE H_CA_ID = ?1 AND H_S_SYMB = ?2 ORDER BY H_DTS DESC, H_T_ID DESC LIMIT 16 OFFSET ?3",
         &[
@@ -76,7 +76,7 @@ pub fn newest_lots<S: Alter>(
             skip_value(skipped),
         ],
     )?;
-    all_rows(alloc, &rows)
+    decode_rows(alloc, &rows)
 }
 
 /// Returns the holding summaries of an account, sorted by symbol, ascending. Changes nothing. Fails
@@ -87,15 +87,15 @@ pub fn summaries_of<S: Alter>(
     account: Id,
 ) -> Result<Vec<SummaryRow>, Fault>
     ensures same_reference { tx.new.conn.ghost_name ≡ tx.old.conn.ghost_name }
-    ensures step { Lists S.Store tx.old tx.new result Summaries summary_row_of (λ r. r.account == account) }
-    ensures fault { IfErr result MayFail }
+    ensures step { ReadsMatchingRows S.Store tx.old tx.new result Summaries abstract_summary_row (λ r. r.account == account) }
+    ensures fault { IfErr result IsCallFault }
 {
-    let rows = select(
+    let rows = select_rows(
         tx,
         "SELECT HS_CA_ID, HS_S_SYMB, HS_QTY FROM HOLDING_SUMMARY WHERE HS_CA_ID = ?1 ORDER BY HS_CA_ID, HS_S_SYMB",
         &[id_value(account)],
     )?;
-    all_rows(alloc, &rows)
+    decode_rows(alloc, &rows)
 }
 
 /// Returns the holding summary of an account in a security, or `None` if there is none. Changes
@@ -106,13 +106,13 @@ pub fn summary_of<S: Alter>(
     symbol: &Symbol,
 ) -> Result<Option<SummaryRow>, Fault>
     ensures same_reference { tx.new.conn.ghost_name ≡ tx.old.conn.ghost_name }
-    ensures step { Finds S.Store tx.old tx.new result Summaries summary_row_of (λ r. (r.account == account) && bytes_eq r.symbol symbol.now) }
+    ensures step { ReadsFirstMatch S.Store tx.old tx.new result Summaries abstract_summary_row (λ r. (r.account == account) && bytes_eq r.symbol symbol.now) }
     ensures fault { OnErr result (result ≡ Err Store) }
 {
-    let rows = select(
+    let rows = select_rows(
         tx,
         "SELECT HS_CA_ID, HS_S_SYMB, HS_QTY FROM HOLDING_SUMMARY WHERE HS_CA_ID = ?1 AND HS_S_SYMB = ?2 ORDER BY HS_CA_ID, HS_S_SYMB",
         &[id_value(account), text_value(symbol.as_str())],
     )?;
-    first_row(&rows)
+    decode_first_row(&rows)
 }

@@ -2,73 +2,73 @@
 //! their statuses.
 
 ghost use Rattle.std.specs.Prelude.{◌≡◌, ◌==◌, IfErr, map, take};
-ghost use Rattle.brk_model.specs.Joins.{recent_first, trades_in};
-ghost use Rattle.brk_model.specs.Run.{MayFail};
-ghost use Rattle.brk_changes.specs.Rows.{history_row_of, trade_row_of};
+ghost use Rattle.brk_model.specs.Joins.{trade_rows_recent_first, trade_rows_of_account};
+ghost use Rattle.brk_model.specs.Run.{IsCallFault};
+ghost use Rattle.brk_changes.specs.Rows.{abstract_history_row, abstract_trade_row};
 ghost use Rattle.brk_tables_schema.specs.Desk.{TradeHistory};
-ghost use Rattle.brk_tables_schema.specs.Statements.{Lists, Reads};
+ghost use Rattle.brk_tables_schema.specs.Statements.{ReadsMatchingRows, ReadsDeskTables};
 
 use brk_changes::{HistoryRow, TradeRow};
 use brk_money::{Fault, Id};
-use brk_tables_schema::calls::select;
-use brk_tables_schema::record::all_rows;
+use brk_tables_schema::calls::select_rows;
+use brk_tables_schema::record::decode_rows;
 use brk_tables_schema::values::id_value;
 use sqlite::{Alter, Transaction};
 use std::alloc::Global;
 
 /// Returns the last ten trades of an account, the most recent first. Changes nothing. Fails with
 /// `Memory` or `Store`.
-pub fn last_ten_of_account<S: Alter>(
+pub fn last_ten_trades_of_account<S: Alter>(
     tx: &mut Transaction<'_, S>,
     alloc: Global,
     account: Id,
 ) -> Result<Vec<TradeRow>, Fault>
     ensures same_reference { tx.new.conn.ghost_name ≡ tx.old.conn.ghost_name }
-    ensures step { Reads S.Store tx.old tx.new result (λ all t. map trade_row_of all.items ≡ take 10 (recent_first (trades_in t account))) }
-    ensures fault { IfErr result MayFail }
+    ensures step { ReadsDeskTables S.Store tx.old tx.new result (λ all t. map abstract_trade_row all.items ≡ take 10 (trade_rows_recent_first (trade_rows_of_account t account))) }
+    ensures fault { IfErr result IsCallFault }
 {
-    let rows = select(
+    let rows = select_rows(
         tx,
         "SELECT T_ID, T_DTS, T_ST_ID, T_TT_ID, T_IS_CASH, T_S_SYMB, T_QTY, T_BID_PRICE, T_CA_ID, T_EXEC_NAME, T_TRADE_PRICE, T_CHRG, T_COMM, T_TAX, T_LIFO FROM TRADE WHERE T_CA_ID = ?1 ORDER BY T_DTS DESC, T_ID DESC LIMIT 10",
         &[id_value(account)],
     )?;
-    all_rows(alloc, &rows)
+    decode_rows(alloc, &rows)
 }
 
 /// Returns the last fifty trades of an account, the most recent first. Changes nothing. Fails with
 /// `Memory` or `Store`.
-pub fn last_fifty_of_account<S: Alter>(
+pub fn last_fifty_trades_of_account<S: Alter>(
     tx: &mut Transaction<'_, S>,
     alloc: Global,
     account: Id,
 ) -> Result<Vec<TradeRow>, Fault>
     ensures same_reference { tx.new.conn.ghost_name ≡ tx.old.conn.ghost_name }
-    ensures step { Reads S.Store tx.old tx.new result (λ all t. map trade_row_of all.items ≡ take 50 (recent_first (trades_in t account))) }
-    ensures fault { IfErr result MayFail }
+    ensures step { ReadsDeskTables S.Store tx.old tx.new result (λ all t. map abstract_trade_row all.items ≡ take 50 (trade_rows_recent_first (trade_rows_of_account t account))) }
+    ensures fault { IfErr result IsCallFault }
 {
-    let rows = select(
+    let rows = select_rows(
         tx,
         "SELECT T_ID, T_DTS, T_ST_ID, T_TT_ID, T_IS_CASH, T_S_SYMB, T_QTY, T_BID_PRICE, T_CA_ID, T_EXEC_NAME, T_TRADE_PRICE, T_CHRG, T_COMM, T_TAX, T_LIFO FROM TRADE WHERE T_CA_ID = ?1 ORDER BY T_DTS DESC, T_ID DESC LIMIT 50",
         &[id_value(account)],
     )?;
-    all_rows(alloc, &rows)
+    decode_rows(alloc, &rows)
 }
 
 /// Returns the statuses that a trade reached, sorted by code, ascending. Changes nothing. Fails
 /// with `Memory` or `Store`.
-pub fn history_of<S: Alter>(
+pub fn history_of_trade<S: Alter>(
     tx: &mut Transaction<'_, S>,
     alloc: Global,
     trade: Id,
 ) -> Result<Vec<HistoryRow>, Fault>
     ensures same_reference { tx.new.conn.ghost_name ≡ tx.old.conn.ghost_name }
-    ensures step { Lists S.Store tx.old tx.new result TradeHistory history_row_of (λ r. r.trade == trade) }
-    ensures fault { IfErr result MayFail }
+    ensures step { ReadsMatchingRows S.Store tx.old tx.new result TradeHistory abstract_history_row (λ r. r.trade == trade) }
+    ensures fault { IfErr result IsCallFault }
 {
-    let rows = select(
+    let rows = select_rows(
         tx,
         "SELECT TH_T_ID, TH_ST_ID, TH_DTS FROM TRADE_HISTORY WHERE TH_T_ID = ?1 ORDER BY TH_T_ID, TH_ST_ID",
         &[id_value(trade)],
     )?;
-    all_rows(alloc, &rows)
+    decode_rows(alloc, &rows)
 }

@@ -2,23 +2,23 @@
 
 ghost use Rattle.std.specs.Prelude.{◌≡◌, Err, OnErr};
 ghost use Rattle.brk_money.specs.declared.fault.Fault.TheVariants.{Store};
-ghost use Rattle.brk_changes.specs.Changes.{with_lot, with_lot_change, with_lot_set, without_lot};
-ghost use Rattle.brk_changes.specs.Rows.{holding_row_of, lot_change_of};
-ghost use Rattle.brk_tables_schema.specs.Statements.{Writes};
+ghost use Rattle.brk_changes.specs.Changes.{tables_with_lot, tables_with_lot_change, tables_with_lot_quantity, tables_without_lot};
+ghost use Rattle.brk_changes.specs.Rows.{abstract_holding_row, abstract_lot_change_row};
+ghost use Rattle.brk_tables_schema.specs.Statements.{WritesDeskTables};
 
 use brk_changes::{HoldingRow, LotChange};
 use brk_money::{Fault, Id};
-use brk_tables_schema::calls::run;
+use brk_tables_schema::calls::execute_statement;
 use brk_tables_schema::values::{id_value, number_value, price_value, stamp_value, text_value};
 use sqlite::{Alter, Transaction};
 
 /// Inserts the lot that a trade opened. Fails with `Store` only, also if the trade has one.
 pub fn add_lot<S: Alter>(tx: &mut Transaction<'_, S>, lot: &HoldingRow) -> Result<(), Fault>
     ensures same_reference { tx.new.conn.ghost_name ≡ tx.old.conn.ghost_name }
-    ensures step { Writes S.Store tx.old tx.new result (with_lot (holding_row_of lot.now)) }
+    ensures step { WritesDeskTables S.Store tx.old tx.new result (tables_with_lot (abstract_holding_row lot.now)) }
     ensures fault { OnErr result (result ≡ Err Store) }
 {
-    run(
+    execute_statement(
         tx,
         "INSERT INTO HOLDING (H_T_ID, H_CA_ID, H_S_SYMB, H_DTS, H_PRICE, H_QTY) VALUES (?1, ?2, ?3, ?4, ?5, ?6)",
         &[
@@ -33,12 +33,16 @@ pub fn add_lot<S: Alter>(tx: &mut Transaction<'_, S>, lot: &HoldingRow) -> Resul
 }
 
 /// Sets the quantity of the lot that a trade opened. Fails with `Store` only.
-pub fn set_lot<S: Alter>(tx: &mut Transaction<'_, S>, trade: Id, qty: i64) -> Result<(), Fault>
+pub fn set_lot_quantity<S: Alter>(
+    tx: &mut Transaction<'_, S>,
+    trade: Id,
+    qty: i64,
+) -> Result<(), Fault>
     ensures same_reference { tx.new.conn.ghost_name ≡ tx.old.conn.ghost_name }
-    ensures step { Writes S.Store tx.old tx.new result (with_lot_set trade qty) }
+    ensures step { WritesDeskTables S.Store tx.old tx.new result (tables_with_lot_quantity trade qty) }
     ensures fault { OnErr result (result ≡ Err Store) }
 {
-    run(
+    execute_statement(
         tx,
         "UPDATE HOLDING SET H_QTY = ?1 WHERE H_T_ID = ?2",
         &[number_value(qty), id_value(trade)],
@@ -48,10 +52,10 @@ pub fn set_lot<S: Alter>(tx: &mut Transaction<'_, S>, trade: Id, qty: i64) -> Re
 /// Deletes the lot that a trade opened. Fails with `Store` only.
 pub fn remove_lot<S: Alter>(tx: &mut Transaction<'_, S>, trade: Id) -> Result<(), Fault>
     ensures same_reference { tx.new.conn.ghost_name ≡ tx.old.conn.ghost_name }
-    ensures step { Writes S.Store tx.old tx.new result (without_lot trade) }
+    ensures step { WritesDeskTables S.Store tx.old tx.new result (tables_without_lot trade) }
     ensures fault { OnErr result (result ≡ Err Store) }
 {
-    run(
+    execute_statement(
         tx,
         "DELETE FROM HOLDING WHERE H_T_ID = ?1",
         &[id_value(trade)],
@@ -65,10 +69,10 @@ pub fn add_lot_change<S: Alter>(
     change: &LotChange,
 ) -> Result<(), Fault>
     ensures same_reference { tx.new.conn.ghost_name ≡ tx.old.conn.ghost_name }
-    ensures step { Writes S.Store tx.old tx.new result (with_lot_change (lot_change_of change.now)) }
+    ensures step { WritesDeskTables S.Store tx.old tx.new result (tables_with_lot_change (abstract_lot_change_row change.now)) }
     ensures fault { OnErr result (result ≡ Err Store) }
 {
-    run(
+    execute_statement(
         tx,
         "INSERT INTO HOLDING_HISTORY (HH_H_T_ID, HH_T_ID, HH_BEFORE_QTY, HH_AFTER_QTY) VALUES (?1, ?2, ?3, ?4)",
         &[

@@ -1,17 +1,17 @@
 ghost use Rattle.std.specs.Prelude.{◌≡◌, ◌&&◌, Err, IfErr, OnErr, bytes_eq, nat_le};
-ghost use Rattle.brk_money.specs.Kinds.{same_type};
+ghost use Rattle.brk_money.specs.Kinds.{is_same_trade_type};
 ghost use Rattle.brk_money.specs.declared.fault.Fault.TheVariants.{Store};
-ghost use Rattle.brk_model.specs.Run.{MayFail};
-ghost use Rattle.brk_changes.specs.Changes.{with_request, without_request};
-ghost use Rattle.brk_changes.specs.Rows.{request_row_of};
+ghost use Rattle.brk_model.specs.Run.{IsCallFault};
+ghost use Rattle.brk_changes.specs.Changes.{tables_with_request, tables_without_request};
+ghost use Rattle.brk_changes.specs.Rows.{abstract_request_row};
 ghost use Rattle.brk_tables_schema.specs.Desk.{Requests};
-ghost use Rattle.brk_tables_schema.specs.Statements.{Lists, Writes};
+ghost use Rattle.brk_tables_schema.specs.Statements.{ReadsMatchingRows, WritesDeskTables};
 
 use brk_changes::RequestRow;
 use brk_money::{Fault, Id, Price, TradeType};
 use brk_ref::Symbol;
-use brk_tables_schema::calls::{run, select};
-use brk_tables_schema::record::all_rows;
+use brk_tables_schema::calls::{execute_statement, select_rows};
+use brk_tables_schema::record::decode_rows;
 use brk_tables_schema::values::{id_value, price_value, qty_value, text_value, type_value};
 use sqlite::{Alter, Transaction};
 use std::alloc::Global;
@@ -19,10 +19,10 @@ use std::alloc::Global;
 /// Inserts the request of a trade. Fails with `Store` only, also if the trade has one.
 pub fn add_request<S: Alter>(tx: &mut Transaction<'_, S>, request: &RequestRow) -> Result<(), Fault>
     ensures same_reference { tx.new.conn.ghost_name ≡ tx.old.conn.ghost_name }
-    ensures step { Writes S.Store tx.old tx.new result (with_request (request_row_of request.now)) }
+    ensures step { WritesDeskTables S.Store tx.old tx.new result (tables_with_request (abstract_request_row request.now)) }
     ensures fault { OnErr result (result ≡ Err Store) }
 {
-    run(
+    execute_statement(
         tx,
         "INSERT INTO TRADE_REQUEST (TR_T_ID, TR_TT_ID, TR_S_SYMB, TR_QTY, TR_BID_PRICE, TR_B_ID) VALUES (?1, ?2, ?3, ?4, ?5, ?6)",
         &[
@@ -39,10 +39,10 @@ pub fn add_request<S: Alter>(tx: &mut Transaction<'_, S>, request: &RequestRow) 
 /// Deletes the request of a trade. Fails with `Store` only.
 pub fn remove_request<S: Alter>(tx: &mut Transaction<'_, S>, trade: Id) -> Result<(), Fault>
     ensures same_reference { tx.new.conn.ghost_name ≡ tx.old.conn.ghost_name }
-    ensures step { Writes S.Store tx.old tx.new result (without_request trade) }
+    ensures step { WritesDeskTables S.Store tx.old tx.new result (tables_without_request trade) }
     ensures fault { OnErr result (result ≡ Err Store) }
 {
-    run(
+    execute_statement(
         tx,
         "DELETE FROM TRADE_REQUEST WHERE TR_T_ID = ?1",
         &[id_value(trade)],
@@ -59,10 +59,10 @@ pub fn requests_at_or_above<S: Alter>(
     price: Price,
 ) -> Result<Vec<RequestRow>, Fault>
     ensures same_reference { tx.new.conn.ghost_name ≡ tx.old.conn.ghost_name }
-    ensures step { Lists S.Store tx.old tx.new result Requests request_row_of (λ r. bytes_eq r.symbol symbol.now && (same_type r.kind kind && nat_le price r.bid)) }
-    ensures fault { IfErr result MayFail }
+    ensures step { ReadsMatchingRows S.Store tx.old tx.new result Requests abstract_request_row (λ r. bytes_eq r.symbol symbol.now && (is_same_trade_type r.kind kind && nat_le price r.bid)) }
+    ensures fault { IfErr result IsCallFault }
 {
-    let rows = select(
+    let rows = select_rows(
         tx,
         "SELECT TR_T_ID, TR_TT_ID, TR_S_SYMB, TR_QTY, TR_BID_PRICE, TR_B_ID FROM TRADE_REQUEST WHERE TR_S_SYMB = ?1 AND TR_TT_ID = ?2 AND TR_BID_PRICE >= ?3 ORDER BY TR_T_ID",
         &[
@@ -71,7 +71,7 @@ pub fn requests_at_or_above<S: Alter>(
             price_value(price),
         ],
     )?;
-    all_rows(alloc, &rows)
+    decode_rows(alloc, &rows)
 }
 
 /// Returns the requests of a symbol and a type whose bid is at most `price`, sorted by trade,
@@ -84,10 +84,10 @@ pub fn requests_at_or_below<S: Alter>(
     price: Price,
 ) -> Result<Vec<RequestRow>, Fault>
     ensures same_reference { tx.new.conn.ghost_name ≡ tx.old.conn.ghost_name }
-    ensures step { Lists S.Store tx.old tx.new result Requests request_row_of (λ r. bytes_eq r.symbol symbol.now && (same_type r.kind kind && nat_le r.bid price)) }
-    ensures fault { IfErr result MayFail }
+    ensures step { ReadsMatchingRows S.Store tx.old tx.new result Requests abstract_request_row (λ r. bytes_eq r.symbol symbol.now && (is_same_trade_type r.kind kind && nat_le r.bid price)) }
+    ensures fault { IfErr result IsCallFault }
 {
-    let rows = select(
+    let rows = select_rows(
         tx,
         "SELECT TR_T_ID, TR_TT_ID, TR_S_SYMB, TR_QTY, TR_BID_PRICE, TR_B_ID FROM TRADE_REQUEST WHERE TR_S_SYMB = ?1 AND TR_TT_ID = ?2 AND TR_BID_PRICE <= ?3 ORDER BY TR_T_ID",
         &[
@@ -96,5 +96,5 @@ pub fn requests_at_or_below<S: Alter>(
             price_value(price),
         ],
     )?;
-    all_rows(alloc, &rows)
+    decode_rows(alloc, &rows)
 }

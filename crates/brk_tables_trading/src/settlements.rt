@@ -2,13 +2,13 @@
 
 ghost use Rattle.std.specs.Prelude.{◌≡◌, Err, OnErr};
 ghost use Rattle.brk_money.specs.declared.fault.Fault.TheVariants.{Store};
-ghost use Rattle.brk_changes.specs.Changes.{with_settlement};
-ghost use Rattle.brk_changes.specs.Rows.{settlement_row_of};
-ghost use Rattle.brk_tables_schema.specs.Statements.{Writes};
+ghost use Rattle.brk_changes.specs.Changes.{tables_with_settlement};
+ghost use Rattle.brk_changes.specs.Rows.{abstract_settlement_row};
+ghost use Rattle.brk_tables_schema.specs.Statements.{WritesDeskTables};
 
 use brk_changes::SettlementRow;
 use brk_money::Fault;
-use brk_tables_schema::calls::run;
+use brk_tables_schema::calls::execute_statement;
 use brk_tables_schema::values::{cash_type_value, cents_value, day_value, id_value};
 use sqlite::{Alter, Transaction};
 
@@ -18,10 +18,10 @@ pub fn add_settlement<S: Alter>(
     settlement: &SettlementRow,
 ) -> Result<(), Fault>
     ensures same_reference { tx.new.conn.ghost_name ≡ tx.old.conn.ghost_name }
-    ensures step { Writes S.Store tx.old tx.new result (with_settlement (settlement_row_of settlement.now)) }
+    ensures step { WritesDeskTables S.Store tx.old tx.new result (tables_with_settlement (abstract_settlement_row settlement.now)) }
     ensures fault { OnErr result (result ≡ Err Store) }
 {
-    run(
+    execute_statement(
         tx,
         "INSERT INTO SETTLEMENT (SE_T_ID, SE_CASH_TYPE, SE_CASH_DUE_DATE, SE_AMT) VALUES (?1, ?2, ?3, ?4)",
         &[

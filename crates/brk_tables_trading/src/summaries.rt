@@ -2,14 +2,14 @@
 
 ghost use Rattle.std.specs.Prelude.{◌≡◌, Err, OnErr};
 ghost use Rattle.brk_money.specs.declared.fault.Fault.TheVariants.{Store};
-ghost use Rattle.brk_changes.specs.Changes.{with_summary, with_summary_set, without_summary};
-ghost use Rattle.brk_changes.specs.Rows.{summary_row_of};
-ghost use Rattle.brk_tables_schema.specs.Statements.{Writes};
+ghost use Rattle.brk_changes.specs.Changes.{tables_with_summary, tables_with_summary_quantity, tables_without_summary};
+ghost use Rattle.brk_changes.specs.Rows.{abstract_summary_row};
+ghost use Rattle.brk_tables_schema.specs.Statements.{WritesDeskTables};
 
 use brk_changes::SummaryRow;
 use brk_money::{Fault, Id};
 use brk_ref::Symbol;
-use brk_tables_schema::calls::run;
+use brk_tables_schema::calls::execute_statement;
 use brk_tables_schema::values::{id_value, number_value, text_value};
 use sqlite::{Alter, Transaction};
 
@@ -17,10 +17,10 @@ use sqlite::{Alter, Transaction};
 /// is one.
 pub fn add_summary<S: Alter>(tx: &mut Transaction<'_, S>, summary: &SummaryRow) -> Result<(), Fault>
     ensures same_reference { tx.new.conn.ghost_name ≡ tx.old.conn.ghost_name }
-    ensures step { Writes S.Store tx.old tx.new result (with_summary (summary_row_of summary.now)) }
+    ensures step { WritesDeskTables S.Store tx.old tx.new result (tables_with_summary (abstract_summary_row summary.now)) }
     ensures fault { OnErr result (result ≡ Err Store) }
 {
-    run(
+    execute_statement(
         tx,
         "INSERT INTO HOLDING_SUMMARY (HS_CA_ID, HS_S_SYMB, HS_QTY) VALUES (?1, ?2, ?3)",
         &[
@@ -35,10 +35,10 @@ pub fn add_summary<S: Alter>(tx: &mut Transaction<'_, S>, summary: &SummaryRow) 
 /// only.
 pub fn set_summary<S: Alter>(tx: &mut Transaction<'_, S>, summary: &SummaryRow) -> Result<(), Fault>
     ensures same_reference { tx.new.conn.ghost_name ≡ tx.old.conn.ghost_name }
-    ensures step { Writes S.Store tx.old tx.new result (with_summary_set (summary_row_of summary.now)) }
+    ensures step { WritesDeskTables S.Store tx.old tx.new result (tables_with_summary_quantity (abstract_summary_row summary.now)) }
     ensures fault { OnErr result (result ≡ Err Store) }
 {
-    run(
+    execute_statement(
         tx,
         "UPDATE HOLDING_SUMMARY SET HS_QTY = ?1 WHERE HS_CA_ID = ?2 AND HS_S_SYMB = ?3",
         &[
@@ -56,10 +56,10 @@ pub fn remove_summary<S: Alter>(
     symbol: &Symbol,
 ) -> Result<(), Fault>
     ensures same_reference { tx.new.conn.ghost_name ≡ tx.old.conn.ghost_name }
-    ensures step { Writes S.Store tx.old tx.new result (without_summary account symbol.now) }
+    ensures step { WritesDeskTables S.Store tx.old tx.new result (tables_without_summary account symbol.now) }
     ensures fault { OnErr result (result ≡ Err Store) }
 {
-    run(
+    execute_statement(
         tx,
         "DELETE FROM HOLDING_SUMMARY WHERE HS_CA_ID = ?1 AND HS_S_SYMB = ?2",
         &[id_value(account), text_value(symbol.as_str())],

@@ -1,17 +1,17 @@
 ghost use Rattle.std.specs.Prelude.{◌≡◌, ◌==◌, Err, IfErr, OnErr, option_map, reverse, slice_get};
-ghost use Rattle.brk_money.specs.Kinds.{same_status};
+ghost use Rattle.brk_money.specs.Kinds.{is_same_trade_status};
 ghost use Rattle.brk_money.specs.declared.fault.Fault.TheVariants.{Store};
 ghost use Rattle.brk_money.specs.declared.status.Status.TheVariants.{Submitted};
-ghost use Rattle.brk_model.specs.Run.{MayFail};
-ghost use Rattle.brk_changes.specs.Changes.{with_completion, with_status, with_trade};
-ghost use Rattle.brk_changes.specs.Rows.{trade_row_of};
+ghost use Rattle.brk_model.specs.Run.{IsCallFault};
+ghost use Rattle.brk_changes.specs.Changes.{tables_with_trade_completed, tables_with_trade_status, tables_with_trade};
+ghost use Rattle.brk_changes.specs.Rows.{abstract_trade_row};
 ghost use Rattle.brk_tables_schema.specs.Desk.{Trades};
-ghost use Rattle.brk_tables_schema.specs.Statements.{Finds, Lists, Reads, Writes};
+ghost use Rattle.brk_tables_schema.specs.Statements.{ReadsFirstMatch, ReadsMatchingRows, ReadsDeskTables, WritesDeskTables};
 
 use brk_changes::{Amount, TradeRow};
 use brk_money::{Fault, Id, Price, Stamp, Status};
-use brk_tables_schema::calls::{run, select};
-use brk_tables_schema::record::{all_rows, first_row};
+use brk_tables_schema::calls::{execute_statement, select_rows};
+use brk_tables_schema::record::{decode_first_row, decode_rows};
 use brk_tables_schema::values::{
     amount_value, charge_amount_value, flag_value, id_value, maybe_price_value, price_value,
     qty_value, stamp_value, status_value, text_value, type_value,
@@ -22,10 +22,10 @@ use std::alloc::Global;
 /// Inserts the row of a trade. Fails with `Store` only, also if the id exists.
 pub fn add_trade<S: Alter>(tx: &mut Transaction<'_, S>, trade: &TradeRow) -> Result<(), Fault>
     ensures same_reference { tx.new.conn.ghost_name ≡ tx.old.conn.ghost_name }
-    ensures step { Writes S.Store tx.old tx.new result (with_trade (trade_row_of trade.now)) }
+    ensures step { WritesDeskTables S.Store tx.old tx.new result (tables_with_trade (abstract_trade_row trade.now)) }
     ensures fault { OnErr result (result ≡ Err Store) }
 {
-    run(
+    execute_statement(
         tx,
         "INSERT INTO TRADE (T_ID, T_DTS, T_ST_ID, T_TT_ID, T_IS_CASH, T_S_SYMB, T_QTY, T_BID_PRICE, T_CA_ID, T_EXEC_NAME, T_TRADE_PRICE, T_CHRG, T_COMM, T_TAX, T_LIFO) VALUES (?1, ?2, ?3, ?4, ?5, ?6, ?7, ?8, ?9, ?10, ?11, ?12, ?13, ?14, ?15)",
         &[
@@ -56,10 +56,10 @@ pub fn set_status<S: Alter>(
     stamp: Stamp,
 ) -> Result<(), Fault>
     ensures same_reference { tx.new.conn.ghost_name ≡ tx.old.conn.ghost_name }
-    ensures step { Writes S.Store tx.old tx.new result (with_status id status stamp) }
+    ensures step { WritesDeskTables S.Store tx.old tx.new result (tables_with_trade_status id status stamp) }
     ensures fault { OnErr result (result ≡ Err Store) }
 {
-    run(
+    execute_statement(
         tx,
         "UPDATE TRADE SET T_ST_ID = ?1, T_DTS = ?2 WHERE T_ID = ?3",
         &[status_value(status), stamp_value(stamp), id_value(id)],
@@ -77,10 +77,10 @@ pub fn complete_trade<S: Alter>(
     tax: Amount,
 ) -> Result<(), Fault>
     ensures same_reference { tx.new.conn.ghost_name ≡ tx.old.conn.ghost_name }
-    ensures step { Writes S.Store tx.old tx.new result (with_completion trade stamp price commission tax) }
+    ensures step { WritesDeskTables S.Store tx.old tx.new result (tables_with_trade_completed trade stamp price commission tax) }
     ensures fault { OnErr result (result ≡ Err Store) }
 {
-    run(
+    execute_statement(
         tx,
         "UPDATE TRADE SET T_ST_ID = ?1, T_DTS = ?2, T_TRADE_PRICE = ?3, T_COMM = ?4, T_TAX = ?5 WHERE T_ID = ?6",
         &[
@@ -98,26 +98,26 @@ pub fn complete_trade<S: Alter>(
 /// only.
 pub fn trade_by_id<S: Alter>(tx: &mut Transaction<'_, S>, id: Id) -> Result<Option<TradeRow>, Fault>
     ensures same_reference { tx.new.conn.ghost_name ≡ tx.old.conn.ghost_name }
-    ensures step { Finds S.Store tx.old tx.new result Trades trade_row_of (λ r. r.id == id) }
+    ensures step { ReadsFirstMatch S.Store tx.old tx.new result Trades abstract_trade_row (λ r. r.id == id) }
     ensures fault { OnErr result (result ≡ Err Store) }
 {
-    let rows = select(
+    let rows = select_rows(
         tx,
         "SELECT T_ID, T_DTS, T_ST_ID, T_TT_ID, T_IS_CASH, T_S_SYMB, T_QTY, T_BID_PRICE, T_CA_ID, T_EXEC_NAME, T_TRADE_PRICE, T_CHRG, T_COMM, T_TAX, T_LIFO FROM TRADE WHERE T_ID = ?1 ORDER BY T_ID",
         &[id_value(id)],
     )?;
-    first_row(&rows)
+    decode_first_row(&rows)
 }
 
 /// Returns the greatest id of a trade, or `None` if there is no trade. Changes nothing. Fails with
 /// `Store` only.
 pub fn last_trade_id<S: Alter>(tx: &mut Transaction<'_, S>) -> Result<Option<Id>, Fault>
     ensures same_reference { tx.new.conn.ghost_name ≡ tx.old.conn.ghost_name }
-    ensures step { Reads S.Store tx.old tx.new result (λ o t. o ≡ option_map (λ r. r.id) (slice_get (reverse t.trades) 0)) }
+    ensures step { ReadsDeskTables S.Store tx.old tx.new result (λ o t. o ≡ option_map (λ r. r.id) (slice_get (reverse t.trades) 0)) }
     ensures fault { OnErr result (result ≡ Err Store) }
 {
-    let rows = select(tx, "SELECT T_ID FROM TRADE ORDER BY T_ID DESC LIMIT 1", &[])?;
-    first_row(&rows)
+    let rows = select_rows(tx, "SELECT T_ID FROM TRADE ORDER BY T_ID DESC LIMIT 1", &[])?;
+    decode_first_row(&rows)
 }
 
 /// Returns the submitted trades, sorted by id, ascending. Changes nothing. Fails with `Memory` or
@@ -127,13 +127,13 @@ pub fn submitted_trades<S: Alter>(
     alloc: Global,
 ) -> Result<Vec<TradeRow>, Fault>
     ensures same_reference { tx.new.conn.ghost_name ≡ tx.old.conn.ghost_name }
-    ensures step { Lists S.Store tx.old tx.new result Trades trade_row_of (λ r. same_status r.status Submitted) }
-    ensures fault { IfErr result MayFail }
+    ensures step { ReadsMatchingRows S.Store tx.old tx.new result Trades abstract_trade_row (λ r. is_same_trade_status r.status Submitted) }
+    ensures fault { IfErr result IsCallFault }
 {
-    let rows = select(
+    let rows = select_rows(
         tx,
         "SELECT T_ID, T_DTS, T_ST_ID, T_TT_ID, T_IS_CASH, T_S_SYMB, T_QTY, T_BID_PRICE, T_CA_ID, T_EXEC_NAME, T_TRADE_PRICE, T_CHRG, T_COMM, T_TAX, T_LIFO FROM TRADE WHERE T_ST_ID = ?1 ORDER BY T_ID",
         &[status_value(Status::Submitted)],
     )?;
-    all_rows(alloc, &rows)
+    decode_rows(alloc, &rows)
 }

@@ -2,18 +2,18 @@
 
 ghost use Rattle.std.specs.Prelude.{◌≡◌, ◌==◌, Err, IfErr, OnErr, map};
 ghost use Rattle.brk_money.specs.declared.fault.Fault.TheVariants.{Store};
-ghost use Rattle.brk_model.specs.Run.{MayFail};
-ghost use Rattle.brk_changes.specs.Changes.{with_cash_type, with_executor};
+ghost use Rattle.brk_model.specs.Run.{IsCallFault};
+ghost use Rattle.brk_changes.specs.Changes.{tables_with_cash_type, tables_with_executor_name};
 ghost use Rattle.brk_changes.specs.Chosen as chosen;
-ghost use Rattle.brk_changes.specs.Rows.{cash_type_word, settlement_row_of, trade_row_of};
+ghost use Rattle.brk_changes.specs.Rows.{cash_type_text, abstract_settlement_row, abstract_trade_row};
 ghost use Rattle.brk_tables_schema.specs.Desk.{Settlements};
-ghost use Rattle.brk_tables_schema.specs.Statements.{Finds, Reads, Writes};
+ghost use Rattle.brk_tables_schema.specs.Statements.{ReadsFirstMatch, ReadsDeskTables, WritesDeskTables};
 
 use brk_changes::{CashType, SettlementRow, TradeRow};
 use brk_money::{Fault, Id, Stamp, Status};
 use brk_ref::Symbol;
-use brk_tables_schema::calls::{run, select};
-use brk_tables_schema::record::{all_rows, first_row};
+use brk_tables_schema::calls::{execute_statement, select_rows};
+use brk_tables_schema::record::{decode_first_row, decode_rows};
 use brk_tables_schema::values::{
     cash_type_value, flag_value, id_value, stamp_value, status_value, text_value,
 };
@@ -30,10 +30,10 @@ pub fn completed_of_account<S: Alter>(
     last: Stamp,
 ) -> Result<Vec<TradeRow>, Fault>
     ensures same_reference { tx.new.conn.ghost_name ≡ tx.old.conn.ghost_name }
-    ensures step { Reads S.Store tx.old tx.new result (λ all t. map trade_row_of all.items ≡ chosen.completed_of_account account first last t) }
-    ensures fault { IfErr result MayFail }
+    ensures step { ReadsDeskTables S.Store tx.old tx.new result (λ all t. map abstract_trade_row all.items ≡ chosen.completed_trades_of_account account first last t) }
+    ensures fault { IfErr result IsCallFault }
 {
-    let rows = select(
+    let rows = select_rows(
         tx,
         "SELECT T_ID, T_DTS, T_ST_ID, T_TT_ID, T_IS_CASH, T_S_SYMB, T_QTY, T_BID_PRICE, T_CA_ID, T_EXEC_NAME, T_TRADE_PRICE, T_CHRG, T_COMM, T_TAX, T_LIFO FROM TRADE WHERE T_ST_ID = ?1 AND T_CA_ID = ?2 AND T_DTS >= ?3 AND T_DTS <= ?4 ORDER BY T_DTS, T_ID LIMIT 20",
         &[
@@ -43,7 +43,7 @@ pub fn completed_of_account<S: Alter>(
             stamp_value(last),
         ],
     )?;
-    all_rows(alloc, &rows)
+    decode_rows(alloc, &rows)
 }
 
 /// Returns the first twenty cash trades of a symbol that were completed between two stamps, both
@@ -56,10 +56,10 @@ pub fn completed_cash_of_symbol<S: Alter>(
     last: Stamp,
 ) -> Result<Vec<TradeRow>, Fault>
     ensures same_reference { tx.new.conn.ghost_name ≡ tx.old.conn.ghost_name }
-    ensures step { Reads S.Store tx.old tx.new result (λ all t. map trade_row_of all.items ≡ chosen.completed_cash_of_symbol symbol.now first last t) }
-    ensures fault { IfErr result MayFail }
+    ensures step { ReadsDeskTables S.Store tx.old tx.new result (λ all t. map abstract_trade_row all.items ≡ chosen.completed_cash_trades_of_symbol symbol.now first last t) }
+    ensures fault { IfErr result IsCallFault }
 {
-    let rows = select(
+    let rows = select_rows(
         tx,
         "SELECT T_ID, T_DTS, T_ST_ID, T_TT_ID, T_IS_CASH, T_S_SYMB, T_QTY, T_BID_PRICE, T_CA_ID, T_EXEC_NAME, T_TRADE_PRICE, T_CHRG, T_COMM, T_TAX, T_LIFO FROM TRADE WHERE T_ST_ID = ?1 AND T_IS_CASH = ?2 AND T_S_SYMB = ?3 AND T_DTS >= ?4 AND T_DTS <= ?5 ORDER BY T_DTS, T_ID LIMIT 20",
         &[
@@ -70,7 +70,7 @@ pub fn completed_cash_of_symbol<S: Alter>(
             stamp_value(last),
         ],
     )?;
-    all_rows(alloc, &rows)
+    decode_rows(alloc, &rows)
 }
 
 /// Returns the settlement of a trade, or `None` if it has none. Changes nothing. Fails with `Store`
@@ -80,15 +80,15 @@ pub fn settlement_by_trade<S: Alter>(
     trade: Id,
 ) -> Result<Option<SettlementRow>, Fault>
     ensures same_reference { tx.new.conn.ghost_name ≡ tx.old.conn.ghost_name }
-    ensures step { Finds S.Store tx.old tx.new result Settlements settlement_row_of (λ r. r.trade == trade) }
+    ensures step { ReadsFirstMatch S.Store tx.old tx.new result Settlements abstract_settlement_row (λ r. r.trade == trade) }
     ensures fault { OnErr result (result ≡ Err Store) }
 {
-    let rows = select(
+    let rows = select_rows(
         tx,
         "SELECT SE_T_ID, SE_CASH_TYPE, SE_CASH_DUE_DATE, SE_AMT FROM SETTLEMENT WHERE SE_T_ID = ?1 ORDER BY SE_T_ID",
         &[id_value(trade)],
     )?;
-    first_row(&rows)
+    decode_first_row(&rows)
 }
 
 /// Sets the name of a trade's executor (T_EXEC_NAME). Fails with `Store` only.
@@ -98,10 +98,10 @@ pub fn set_executor<S: Alter>(
     executor: &str,
 ) -> Result<(), Fault>
     ensures same_reference { tx.new.conn.ghost_name ≡ tx.old.conn.ghost_name }
-    ensures step { Writes S.Store tx.old tx.new result (with_executor trade executor.now) }
+    ensures step { WritesDeskTables S.Store tx.old tx.new result (tables_with_executor_name trade executor.now) }
     ensures fault { OnErr result (result ≡ Err Store) }
 {
-    run(
+    execute_statement(
         tx,
         "UPDATE TRADE SET T_EXEC_NAME = ?1 WHERE T_ID = ?2",
         &[text_value(executor), id_value(trade)],
@@ -115,10 +115,10 @@ pub fn set_cash_type<S: Alter>(
     cash_type: CashType,
 ) -> Result<(), Fault>
     ensures same_reference { tx.new.conn.ghost_name ≡ tx.old.conn.ghost_name }
-    ensures step { Writes S.Store tx.old tx.new result (with_cash_type trade (cash_type_word cash_type)) }
+    ensures step { WritesDeskTables S.Store tx.old tx.new result (tables_with_cash_type trade (cash_type_text cash_type)) }
     ensures fault { OnErr result (result ≡ Err Store) }
 {
-    run(
+    execute_statement(
         tx,
         "UPDATE SETTLEMENT SET SE_CASH_TYPE = ?1 WHERE SE_T_ID = ?2",
         &[cash_type_value(cash_type), id_value(trade)],

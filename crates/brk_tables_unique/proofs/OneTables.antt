@@ -15,12 +15,12 @@ use Rattle.brk_model.specs.Schemas.{Schema, third_schema}
 use Rattle.brk_model.specs.Tables.{Tables}
 use Rattle.brk_changes.specs.declared.schema.Schema as known
 use Rattle.brk_changes.specs.declared.schema.Schema.TheVariants.{First, Second, Third}
-use Rattle.brk_changes.specs.Schemas.{schema_of}
-use Rattle.brk_sql.specs.Desk.{Stands}
-use Rattle.brk_sql.specs.Rows.{TreeHolds, Rises, cells}
+use Rattle.brk_changes.specs.Schemas.{abstract_schema}
+use Rattle.brk_sql.specs.Desk.{IsTableAt}
+use Rattle.brk_sql.specs.Rows.{TreeHoldsRecords, IsStrictlyAscending, cells_in_column_order}
 use Rattle.brk_sql.proofs.Order.{has_permuted}
-use Rattle.brk_tables_schema.specs.Desk.{Item, Which, encode, key, order, placed, shape, TheDesk, list_in, has_table}
-use Rattle.brk_tables_schema.specs.Made.{HasRows, HasRowsIn, IsOf}
+use Rattle.brk_tables_schema.specs.Desk.{Item, Which, encode, key, order, placed, shape, TheDesk, rows_in_schema, has_table}
+use Rattle.brk_tables_schema.specs.Made.{HasRows, HasRowsInSchema, IsTableOfSchema}
 use Rattle.brk_tables_schema.proofs.Order.{key_total}
 use Rattle.brk_tables_unique.proofs.Decode.{decode, decodes, named_alike}
 use Rattle.brk_tables_unique.proofs.SameTables.{same_tables}
@@ -72,7 +72,7 @@ module _ {X : Type 0} (cmp : X → X → Ordering) (total : IsTotalOrder cmp) wh
       behind (inl f) = absurd (not_itself x z (e ∙ sym f) c.0)
       behind (inr m) = m
 
-  same_members : (xs ys : List X) → Rises cmp xs → Rises cmp ys → AllByRecursion (λ x. Has ys x) xs → AllByRecursion (λ y. Has xs y) ys → xs ≡ ys
+  same_members : (xs ys : List X) → IsStrictlyAscending cmp xs → IsStrictlyAscending cmp ys → AllByRecursion (λ x. Has ys x) xs → AllByRecursion (λ y. Has xs y) ys → xs ≡ ys
   same_members [] [] c d f g = refl
   same_members [] (y ∷ ys) c d f g = absurd g.0
   same_members (x ∷ xs) [] c d f g = absurd f.0
@@ -81,16 +81,16 @@ module _ {X : Type 0} (cmp : X → X → Ordering) (total : IsTotalOrder cmp) wh
       let t : xs ≡ ys = same_members xs ys c.1 d.1 (tails x y ys xs e c.0 f.1) (tails y x xs ys (sym e) d.0 g.1) in
       λ i. e i ∷ t i
 
-  permuted : (xs ys : List X) → IsPermutation xs ys → Rises cmp xs → Rises cmp ys → xs ≡ ys
+  permuted : (xs ys : List X) → IsPermutation xs ys → IsStrictlyAscending cmp xs → IsStrictlyAscending cmp ys → xs ≡ ys
   permuted xs ys p c d =
       same_members xs ys c d (all_map (Has xs) (Has ys) xs (λ x h. has_permuted ys xs x (IsPermutation-sym xs ys p) h) (each_has xs))
       (all_map (Has ys) (Has xs) ys (λ y h. has_permuted xs ys y p h) (each_has ys))
 
 -- ---- one table
 
-held_alike : (w : Which) (table : Table) (xs ys : List (Item w)) (rows : List Row) → TreeHolds table (encode w) (order w) xs rows → TreeHolds table (encode w) (order w) ys rows → xs ≡ ys
+held_alike : (w : Which) (table : Table) (xs ys : List (Item w)) (rows : List Row) → TreeHoldsRecords table (encode w) (order w) xs rows → TreeHoldsRecords table (encode w) (order w) ys rows → xs ≡ ys
 held_alike w table xs ys rows h k =
-    let cellsOf : List Row = map (cells table) rows in
+    let cellsOf : List Row = map (cells_in_column_order table) rows in
     let p : IsPermutation (map (encode w) xs) (map (encode w) ys) =
     IsPermutation-trans (map (encode w) xs) cellsOf (map (encode w) ys) h.shown (IsPermutation-sym (map (encode w) ys) cellsOf k.shown) in
     let q = IsPermutation-map (decode w) (map (encode w) xs) (map (encode w) ys) p in
@@ -101,18 +101,18 @@ some_same : {X : Type 0} (x y : X) → Some x ≡ Some y → x ≡ y
 some_same x y e = cc
 
 -- a table stands at one tree
-tree_alike : (w : Which) (db : Database) (m n at by : ℕ) → Stands db.schema (shape w m) at → Stands db.schema (shape w n) by → m ≡ n
+tree_alike : (w : Which) (db : Database) (m n at by : ℕ) → IsTableAt db.schema (shape w m) at → IsTableAt db.schema (shape w n) by → m ≡ n
 tree_alike w db m n at by h k =
     let e : at ≡ by = some_same at by (sym h.named ∙ ap (λ name. table_named db.schema name) (named_alike w m n) ∙ k.named) in
     let f : shape w m ≡ shape w n = some_same (shape w m) (shape w n) (sym h.found ∙ ap (slice_get db.schema.tables) e ∙ k.found) in
     sym (placed w m) ∙ ap (λ (t : Table). t.tree) f ∙ placed w n
 
 -- a table of a desk, in whichever schemas, shows one list
-alike : (w : Which) (s r : Schema) (t u : Tables) (db : Database) (m n at by : ℕ) → Stands db.schema (shape w m) at → Stands db.schema (shape w n) by → TreeHolds (shape w m) (encode w) (order w) (list_in s w t) (db.trees m)
-    → TreeHolds (shape w n) (encode w) (order w) (list_in r w u) (db.trees n) → list_in s w t ≡ list_in r w u
+alike : (w : Which) (s r : Schema) (t u : Tables) (db : Database) (m n at by : ℕ) → IsTableAt db.schema (shape w m) at → IsTableAt db.schema (shape w n) by → TreeHoldsRecords (shape w m) (encode w) (order w) (rows_in_schema s w t) (db.trees m)
+    → TreeHoldsRecords (shape w n) (encode w) (order w) (rows_in_schema r w u) (db.trees n) → rows_in_schema s w t ≡ rows_in_schema r w u
 alike w s r t u db m n at by h k some more =
     let e : m ≡ n = tree_alike w db m n at by h k in
-    held_alike w (shape w m) (list_in s w t) (list_in r w u) (db.trees m) some (subst (λ (q : ℕ). TreeHolds (shape w q) (encode w) (order w) (list_in r w u) (db.trees q)) (sym e) more)
+    held_alike w (shape w m) (rows_in_schema s w t) (rows_in_schema r w u) (db.trees m) some (subst (λ (q : ℕ). TreeHoldsRecords (shape w q) (encode w) (order w) (rows_in_schema r w u) (db.trees q)) (sym e) more)
 
 pub one_tables : (t u : Tables) → (db : Database) → HasRows t db → HasRows u db → t ≡ u
 one_tables t u db h k =
@@ -125,17 +125,17 @@ by_case true f g = f refl
 by_case false f g = g refl
 
 -- where both schemas have a table
-both_alike : (w : Which) (s r : Schema) (t u : Tables) (db : Database) → HasRowsIn s t db → HasRowsIn r u db → IsOf s w → IsOf r w → list_in s w t ≡ list_in r w u
+both_alike : (w : Which) (s r : Schema) (t u : Tables) (db : Database) → HasRowsInSchema s t db → HasRowsInSchema r u db → IsTableOfSchema s w → IsTableOfSchema r w → rows_in_schema s w t ≡ rows_in_schema r w u
 both_alike w s r t u db h k a b = alike w s r t u db (h.0 w) (k.0 w) (h.1.place w) (k.1.place w) (h.1.stands w a) (k.1.stands w b) (h.1.rows w a) (k.1.rows w b)
 
-one_of_schema : (s : Schema) (t u : Tables) (db : Database) → HasRowsIn s t db → HasRowsIn s u db → t ≡ u
+one_of_schema : (s : Schema) (t u : Tables) (db : Database) → HasRowsInSchema s t db → HasRowsInSchema s u db → t ≡ u
 one_of_schema s t u db h k = same_tables s t u each
   where
-    each : (w : Which) → list_in s w t ≡ list_in s w u
+    each : (w : Which) → rows_in_schema s w t ≡ rows_in_schema s w u
     each w = by_case (has_table s w) (λ there. both_alike w s s t u db h k there there) (λ none. (h.2 w none).1 ∙ sym (k.2 w none).1)
 
 -- the number tells the schema
-same_schema : (a b : known.Schema) → (schema_of a).number ≡ (schema_of b).number → a ≡ b
+same_schema : (a b : known.Schema) → (abstract_schema a).number ≡ (abstract_schema b).number → a ≡ b
 same_schema First First e = refl
 same_schema First Second e = absurd (let f : 1 ≡ 2 = e in cc)
 same_schema First Third e = absurd (let f : 1 ≡ 3 = e in cc)
@@ -146,7 +146,7 @@ same_schema Third First e = absurd (let f : 3 ≡ 1 = e in cc)
 same_schema Third Second e = absurd (let f : 3 ≡ 2 = e in cc)
 same_schema Third Third e = refl
 
-pub one_schema : (a b : known.Schema) → (t u : Tables) → (db : Database) → HasRowsIn (schema_of a) t db → HasRowsIn (schema_of b) u db → (a ≡ b) × (t ≡ u)
+pub one_schema : (a b : known.Schema) → (t u : Tables) → (db : Database) → HasRowsInSchema (abstract_schema a) t db → HasRowsInSchema (abstract_schema b) u db → (a ≡ b) × (t ≡ u)
 one_schema a b t u db h k =
-    let e : a ≡ b = same_schema a b (number_alike (schema_of a) (schema_of b) t u (both_alike TheDesk (schema_of a) (schema_of b) t u db h k refl refl)) in
-    (e, one_of_schema (schema_of a) t u db h (subst (λ (c : known.Schema). HasRowsIn (schema_of c) u db) (sym e) k))
+    let e : a ≡ b = same_schema a b (number_alike (abstract_schema a) (abstract_schema b) t u (both_alike TheDesk (abstract_schema a) (abstract_schema b) t u db h k refl refl)) in
+    (e, one_of_schema (abstract_schema a) t u db h (subst (λ (c : known.Schema). HasRowsInSchema (abstract_schema c) u db) (sym e) k))

@@ -4,16 +4,16 @@ ghost use Rattle.std.specs.Prelude.{◌≡◌};
 ghost use Rattle.sqlite.specs.Effect.{Database};
 ghost use Rattle.brk_model.specs.Tables.{Tables};
 ghost use Rattle.brk_changes.specs.declared.schema.Schema.{Schema};
-ghost use Rattle.brk_changes.specs.Schemas.{schema_of};
-ghost use Rattle.brk_tables_schema.specs.Made.{HasRows, HasRowsIn};
+ghost use Rattle.brk_changes.specs.Schemas.{abstract_schema};
+ghost use Rattle.brk_tables_schema.specs.Made.{HasRows, HasRowsInSchema};
 
 /// Proves that the rows of a database encode at most one set of tables of a desk.
-pub fn a_database_has_one_tables()
+pub fn database_rows_determine_tables()
     ensures { (t u : Tables) → (db : Database) → HasRows t db → HasRows u db → t ≡ u }
 {}
 
 /// Proves that the rows of a database encode the tables of a desk in at most one schema, and at
 /// most one set of them.
-pub fn a_database_has_one_schema()
-    ensures { (a b : Schema) → (t u : Tables) → (db : Database) → HasRowsIn (schema_of a) t db → HasRowsIn (schema_of b) u db → (a ≡ b) × (t ≡ u) }
+pub fn database_rows_determine_schema()
+    ensures { (a b : Schema) → (t u : Tables) → (db : Database) → HasRowsInSchema (abstract_schema a) t db → HasRowsInSchema (abstract_schema b) u db → (a ≡ b) × (t ≡ u) }
 {}

@@ -13,7 +13,7 @@ use Rattle.sqlite_draft.specs.declared.join.Step.TheVariants.{Inner}
 use Rattle.sqlite_draft.specs.declared.query.Draft.{Draft}
 use Rattle.sqlite_tied.specs.Compute.{everything}
 use Rattle.brk_sql.specs.Partly.{lowering}
-use Rattle.brk_sql.specs.Desk.{whole, text, Stands}
+use Rattle.brk_sql.specs.Desk.{integer_column, text_column, IsTableAt}
 use Rattle.brk_sql.proofs.Meant.{meant, reads_or}
 use Rattle.brk_sql.proofs.Pick.{selection}
 use Rattle.brk_sql.proofs.Scoped.{column_is, heading_is}
@@ -92,7 +92,7 @@ names = codes "CT_T_ID" ∷ codes "CT_DTS" ∷ codes "CT_AMT" ∷ codes "CT_NAME
 abbrev after : ℕ → Carried → State
 after spent last = record (fresh 2 max_budget) { budget = max_budget - spent; last = last }
 
-module _ (schema : Schema) (at tree : ℕ) (h : Stands schema (cash tree) at) where
+module _ (schema : Schema) (at tree : ℕ) (h : IsTableAt schema (cash tree) at) where
   abbrev found : slice_get schema.tables at ≡ Some (cash tree)
   found = h.found
 
@@ -100,14 +100,14 @@ module _ (schema : Schema) (at tree : ℕ) (h : Stands schema (cash tree) at) wh
   unfolding lowering
   shows =
       rw (
-        column_is schema at (cash tree) found (codes "CASH_TRANSACTION") [] [] true true (codes "CT_T_ID") 0 (whole (codes "CT_T_ID")) refl refl,
-        heading_is schema at (cash tree) found (codes "CASH_TRANSACTION") [] [] true true (e.Column None (codes "CT_T_ID")) (codes "CT_T_ID") (codes "CT_T_ID") 0 (whole (codes "CT_T_ID")) refl refl refl,
-        column_is schema at (cash tree) found (codes "CASH_TRANSACTION") [] [] true true (codes "CT_DTS") 1 (whole (codes "CT_DTS")) refl refl,
-        heading_is schema at (cash tree) found (codes "CASH_TRANSACTION") [] [] true true (e.Column None (codes "CT_DTS")) (codes "CT_DTS") (codes "CT_DTS") 1 (whole (codes "CT_DTS")) refl refl refl,
-        column_is schema at (cash tree) found (codes "CASH_TRANSACTION") [] [] true true (codes "CT_AMT") 2 (whole (codes "CT_AMT")) refl refl,
-        heading_is schema at (cash tree) found (codes "CASH_TRANSACTION") [] [] true true (e.Column None (codes "CT_AMT")) (codes "CT_AMT") (codes "CT_AMT") 2 (whole (codes "CT_AMT")) refl refl refl,
-        column_is schema at (cash tree) found (codes "CASH_TRANSACTION") [] [] true true (codes "CT_NAME") 3 (text (codes "CT_NAME")) refl refl,
-        heading_is schema at (cash tree) found (codes "CASH_TRANSACTION") [] [] true true (e.Column None (codes "CT_NAME")) (codes "CT_NAME") (codes "CT_NAME") 3 (text (codes "CT_NAME")) refl refl refl,
+        column_is schema at (cash tree) found (codes "CASH_TRANSACTION") [] [] true true (codes "CT_T_ID") 0 (integer_column (codes "CT_T_ID")) refl refl,
+        heading_is schema at (cash tree) found (codes "CASH_TRANSACTION") [] [] true true (e.Column None (codes "CT_T_ID")) (codes "CT_T_ID") (codes "CT_T_ID") 0 (integer_column (codes "CT_T_ID")) refl refl refl,
+        column_is schema at (cash tree) found (codes "CASH_TRANSACTION") [] [] true true (codes "CT_DTS") 1 (integer_column (codes "CT_DTS")) refl refl,
+        heading_is schema at (cash tree) found (codes "CASH_TRANSACTION") [] [] true true (e.Column None (codes "CT_DTS")) (codes "CT_DTS") (codes "CT_DTS") 1 (integer_column (codes "CT_DTS")) refl refl refl,
+        column_is schema at (cash tree) found (codes "CASH_TRANSACTION") [] [] true true (codes "CT_AMT") 2 (integer_column (codes "CT_AMT")) refl refl,
+        heading_is schema at (cash tree) found (codes "CASH_TRANSACTION") [] [] true true (e.Column None (codes "CT_AMT")) (codes "CT_AMT") (codes "CT_AMT") 2 (integer_column (codes "CT_AMT")) refl refl refl,
+        column_is schema at (cash tree) found (codes "CASH_TRANSACTION") [] [] true true (codes "CT_NAME") 3 (text_column (codes "CT_NAME")) refl refl,
+        heading_is schema at (cash tree) found (codes "CASH_TRANSACTION") [] [] true true (e.Column None (codes "CT_NAME")) (codes "CT_NAME") (codes "CT_NAME") 3 (text_column (codes "CT_NAME")) refl refl refl,
       )
 
   matches : matching lower (outermost schema) (level_one (codes "CASH_TRANSACTION") at columns) core (after 4 binary)
@@ -118,7 +118,7 @@ module _ (schema : Schema) (at tree : ℕ) (h : Stands schema (cash tree) at) wh
   sorted : sorts lower (inside schema (level_one (codes "CASH_TRANSACTION") at columns) false) columns by (after 4 binary) ≡ Ok ((draft tree).order, after 5 nothing)
   unfolding lowering
   sorted =
-      rw (column_is schema at (cash tree) found (codes "CASH_TRANSACTION") columns [] false true (codes "CT_T_ID") 0 (whole (codes "CT_T_ID")) refl refl)
+      rw (column_is schema at (cash tree) found (codes "CASH_TRANSACTION") columns [] false true (codes "CT_T_ID") 0 (integer_column (codes "CT_T_ID")) refl refl)
 
   meaning_is : meaning schema select ≡ Ok ((draft tree, names, None ∷ Some Binary ∷ Some Binary ∷ Some Binary ∷ []), [])
   unfolding everything

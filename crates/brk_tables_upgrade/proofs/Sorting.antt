@@ -2,10 +2,10 @@
 use Rattle.std.proofs.Common.{◌≡◌, List, [], ◌∷◌, map, Bool, inl, inr, refl, sym, ap, ◌∙◌}
 use Rattle.std.specs.Prelude.{nat_lt}
 use Rattle.std.proofs.lemmas.Bool.{cases_Bool}
-use Rattle.brk_changes.specs.Rows.{cash_row_of}
+use Rattle.brk_changes.specs.Rows.{abstract_cash_row}
 use Rattle.brk_changes.specs.declared.cash_row.CashRow as code
-use Rattle.brk_model.specs.Adopted.{posting_of_cash}
-use Rattle.brk_model.specs.Derived.{Posting, in_turn}
+use Rattle.brk_model.specs.Adopted.{posting_of_cash_row}
+use Rattle.brk_model.specs.Derived.{Posting, postings_sorted_by_stamp}
 use Rattle.brk_model.specs.Lists.{insert_by, sort_by, sort_by_key}
 use Rattle.brk_model.specs.Tables.{Tables, CashRow}
 
@@ -24,9 +24,9 @@ map_sorted before after f [] h = refl
 map_sorted before after f (x ∷ xs) h = ap (insert_by after (f x)) (map_sorted before after f xs h) ∙ map_put before after f x (sort_by before xs) h
 
 -- the rows in code by stamp are those of the model by stamp
-pub rows_in_order : (rows : List code.CashRow) → map cash_row_of (sort_by_key (λ (r : code.CashRow). r.stamp) rows) ≡ sort_by_key (λ (r : CashRow). r.stamp) (map cash_row_of rows)
-rows_in_order rows = sym (map_sorted (λ (a b : code.CashRow). nat_lt a.stamp b.stamp) (λ (a b : CashRow). nat_lt a.stamp b.stamp) cash_row_of rows (λ a b. refl))
+pub rows_in_order : (rows : List code.CashRow) → map abstract_cash_row (sort_by_key (λ (r : code.CashRow). r.stamp) rows) ≡ sort_by_key (λ (r : CashRow). r.stamp) (map abstract_cash_row rows)
+rows_in_order rows = sym (map_sorted (λ (a b : code.CashRow). nat_lt a.stamp b.stamp) (λ (a b : CashRow). nat_lt a.stamp b.stamp) abstract_cash_row rows (λ a b. refl))
 
 -- the postings of rows, in turn, are those of the rows by stamp
-pub posted_in_turn : (t : Tables) (xs : List CashRow) → in_turn (map (posting_of_cash t) xs) ≡ map (posting_of_cash t) (sort_by_key (λ (r : CashRow). r.stamp) xs)
-posted_in_turn t xs = map_sorted (λ (a b : CashRow). nat_lt a.stamp b.stamp) (λ (a b : Posting). nat_lt a.stamp b.stamp) (posting_of_cash t) xs (λ a b. refl)
+pub posted_in_turn : (t : Tables) (xs : List CashRow) → postings_sorted_by_stamp (map (posting_of_cash_row t) xs) ≡ map (posting_of_cash_row t) (sort_by_key (λ (r : CashRow). r.stamp) xs)
+posted_in_turn t xs = map_sorted (λ (a b : CashRow). nat_lt a.stamp b.stamp) (λ (a b : Posting). nat_lt a.stamp b.stamp) (posting_of_cash_row t) xs (λ a b. refl)

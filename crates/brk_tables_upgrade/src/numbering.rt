@@ -1,27 +1,27 @@
 //! Cash rows of schema 1, inserted under numbers.
 
 ghost use Rattle.std.specs.Prelude.{◌≡◌, IfErr, map};
-ghost use Rattle.brk_model.specs.Run.{MayFail};
-ghost use Rattle.brk_changes.specs.Rows.{cash_row_of};
-ghost use Rattle.brk_tables_schema.specs.Statements.{Writes};
-ghost use Rattle.brk_tables_upgrade.specs.Upgrade.{with_cash_from, with_numbered};
+ghost use Rattle.brk_model.specs.Run.{IsCallFault};
+ghost use Rattle.brk_changes.specs.Rows.{abstract_cash_row};
+ghost use Rattle.brk_tables_schema.specs.Statements.{WritesDeskTables};
+ghost use Rattle.brk_tables_upgrade.specs.Upgrade.{with_cash_numbered_from, with_numbered_cash_row};
 
 use crate::reading::account_of_trade;
 use brk_changes::{CashRow, MoveRow};
 use brk_money::{Fault, MoveId};
-use brk_tables_cash::add_move;
+use brk_tables_cash::add_cash_row;
 use sqlite::{Alter, Transaction};
 
 // Inserts the cash row of a trade into CASH_MOVE under a number. Fails with `Memory` or `Store`
 // only; with `Store` also if the number exists or the trade does not.
-fn add_numbered<S: Alter>(
+fn add_numbered_cash_row<S: Alter>(
     tx: &mut Transaction<'_, S>,
     id: MoveId,
     row: &CashRow,
 ) -> Result<(), Fault>
     ensures same_reference { tx.new.conn.ghost_name ≡ tx.old.conn.ghost_name }
-    ensures step { Writes S.Store tx.old tx.new result (with_numbered id (cash_row_of row.now)) }
-    ensures fault { IfErr result MayFail }
+    ensures step { WritesDeskTables S.Store tx.old tx.new result (with_numbered_cash_row id (abstract_cash_row row.now)) }
+    ensures fault { IfErr result IsCallFault }
 {
     let Some(account) = account_of_trade(tx, row.trade)? else {
         return Err(Fault::Store);
@@ -34,22 +34,25 @@ fn add_numbered<S: Alter>(
         amount: row.amount,
         name: row.name.clone()?,
     };
-    add_move(tx, &numbered)
+    add_cash_row(tx, &numbered)
 }
 
 /// Inserts the cash rows of trades into CASH_MOVE, in order, numbered from 1. Fails with `Memory`
 /// or `Store` only.
-pub fn add_all<S: Alter>(tx: &mut Transaction<'_, S>, rows: &[CashRow]) -> Result<(), Fault>
+pub fn add_all_cash_rows<S: Alter>(
+    tx: &mut Transaction<'_, S>,
+    rows: &[CashRow],
+) -> Result<(), Fault>
     ensures same_reference { tx.new.conn.ghost_name ≡ tx.old.conn.ghost_name }
-    ensures step { Writes S.Store tx.old tx.new result (with_cash_from 1 (map cash_row_of rows.now)) }
-    ensures fault { IfErr result MayFail }
+    ensures step { WritesDeskTables S.Store tx.old tx.new result (with_cash_numbered_from 1 (map abstract_cash_row rows.now)) }
+    ensures fault { IfErr result IsCallFault }
 {
     let mut number: u64 = 1;
     for row in rows {
         let Some(id) = MoveId::new(number) else {
             return Err(Fault::Store);
         };
-        add_numbered(tx, id, row)?;
+        add_numbered_cash_row(tx, id, row)?;
         number = id.get() + 1;
     }
     Ok(())

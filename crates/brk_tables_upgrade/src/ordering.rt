@@ -9,7 +9,7 @@ use brk_money::Fault;
 
 /// Returns the cash rows sorted by stamp, ascending. Rows of one stamp stay in their order. Fails
 /// with `Memory` only.
-pub fn in_order(rows: Vec<CashRow>) -> Result<Vec<CashRow>, Fault>
+pub fn sort_cash_rows_by_stamp(rows: Vec<CashRow>) -> Result<Vec<CashRow>, Fault>
     ensures order { IfOk result (λ ordered. ordered.items ≡ sort_by_key (λ r. r.stamp) rows.items) }
     ensures fault { OnErr result (result ≡ Err Memory) }
 {

@@ -2,15 +2,15 @@
 
 ghost use Rattle.std.specs.Prelude.{◌≡◌, Err, IfErr, OnErr, map, option_map};
 ghost use Rattle.brk_money.specs.declared.fault.Fault.TheVariants.{Store};
-ghost use Rattle.brk_model.specs.Run.{MayFail};
-ghost use Rattle.brk_model.specs.Joins.{trade_in};
-ghost use Rattle.brk_changes.specs.Rows.{cash_row_of};
-ghost use Rattle.brk_tables_schema.specs.Statements.{Reads};
+ghost use Rattle.brk_model.specs.Run.{IsCallFault};
+ghost use Rattle.brk_model.specs.Joins.{trade_row_with_id};
+ghost use Rattle.brk_changes.specs.Rows.{abstract_cash_row};
+ghost use Rattle.brk_tables_schema.specs.Statements.{ReadsDeskTables};
 
 use brk_changes::CashRow;
 use brk_money::{Fault, Id};
-use brk_tables_schema::calls::select;
-use brk_tables_schema::record::{all_rows, first_row};
+use brk_tables_schema::calls::select_rows;
+use brk_tables_schema::record::{decode_first_row, decode_rows};
 use brk_tables_schema::values::id_value;
 use sqlite::{Alter, Transaction};
 use std::alloc::Global;
@@ -22,15 +22,15 @@ pub fn cash_rows<S: Alter>(
     alloc: Global,
 ) -> Result<Vec<CashRow>, Fault>
     ensures same_reference { tx.new.conn.ghost_name ≡ tx.old.conn.ghost_name }
-    ensures step { Reads S.Store tx.old tx.new result (λ all t. map cash_row_of all.items ≡ t.cash) }
-    ensures fault { IfErr result MayFail }
+    ensures step { ReadsDeskTables S.Store tx.old tx.new result (λ all t. map abstract_cash_row all.items ≡ t.cash) }
+    ensures fault { IfErr result IsCallFault }
 {
-    let rows = select(
+    let rows = select_rows(
         tx,
         "SELECT CT_T_ID, CT_DTS, CT_AMT, CT_NAME FROM CASH_TRANSACTION ORDER BY CT_T_ID",
         &[],
     )?;
-    all_rows(alloc, &rows)
+    decode_rows(alloc, &rows)
 }
 
 /// Returns the account of a trade, or `None` if the trade does not exist. Changes nothing. Fails
@@ -40,13 +40,13 @@ pub fn account_of_trade<S: Alter>(
     trade: Id,
 ) -> Result<Option<Id>, Fault>
     ensures same_reference { tx.new.conn.ghost_name ≡ tx.old.conn.ghost_name }
-    ensures step { Reads S.Store tx.old tx.new result (λ account t. account ≡ option_map (λ r. r.account) (trade_in t trade)) }
+    ensures step { ReadsDeskTables S.Store tx.old tx.new result (λ account t. account ≡ option_map (λ r. r.account) (trade_row_with_id t trade)) }
     ensures fault { OnErr result (result ≡ Err Store) }
 {
-    let rows = select(
+    let rows = select_rows(
         tx,
         "SELECT T_CA_ID FROM TRADE WHERE T_ID = ?1 ORDER BY T_ID",
         &[id_value(trade)],
     )?;
-    first_row(&rows)
+    decode_first_row(&rows)
 }

@@ -8,20 +8,20 @@ use Rattle.sqlite_value.specs.Order.{Row, column, value_cmp}
 use Rattle.sqlite_keyed.specs.Lists.{sort_by}
 use Rattle.sqlite_tied.proofs.RuleLemmas.{and_true}
 use Rattle.sqlite.specs.State.{State, Shown}
-use Rattle.brk_model.specs.Joins.{oldest_first_rows, trades_in}
-use Rattle.brk_model.specs.Keys.{KeyPart, number, by_key, insert_row}
+use Rattle.brk_model.specs.Joins.{trade_rows_oldest_first, trade_rows_of_account}
+use Rattle.brk_model.specs.Keys.{KeyPart, number, rows_sorted_by_key, insert_row_by_key}
 use Rattle.brk_model.specs.Lists as model
-use Rattle.brk_model.specs.LookupView.{is_between}
+use Rattle.brk_model.specs.LookupView.{row_stamp_is_between}
 use Rattle.brk_model.specs.Tables.{TradeRow}
-use Rattle.brk_sql.specs.Desk.{Tells}
-use Rattle.brk_sql.specs.Rows.{cells}
+use Rattle.brk_sql.specs.Desk.{TablesSatisfy}
+use Rattle.brk_sql.specs.Rows.{cells_in_column_order}
 use Rattle.brk_sql.proofs.Answer.{limited_map}
 use Rattle.brk_sql.proofs.Looks.{tells_sorted}
 use Rattle.brk_sql.proofs.Pick.{sorted_by}
 use Rattle.brk_sql.proofs.Texts.{read}
-use Rattle.brk_tables_schema.specs.Cells.{nat, trade_cells}
+use Rattle.brk_tables_schema.specs.Cells.{natural_as_value, trade_cells}
 use Rattle.brk_tables_schema.specs.Desk.{Trades, desk}
-use Rattle.brk_tables_schema.specs.Order.{by_key_values}
+use Rattle.brk_tables_schema.specs.Order.{ordering_by_key}
 use Rattle.brk_tables_schema.specs.Shapes.{trade}
 use Rattle.brk_tables_schema.proofs.Compared.{at_least, at_most}
 use Rattle.brk_tables_schema.proofs.Order.{key_total, inserted}
@@ -37,18 +37,18 @@ abbrev trade_age : TradeRow → List KeyPart
 trade_age r = number r.stamp ∷ number r.id ∷ []
 
 abbrev rising : TradeRow → TradeRow → Ordering
-rising = by_key_values trade_age
+rising = ordering_by_key trade_age
 
 by_numbers : (m n j k : ℕ) → nat_lt m n || ((m == n) && nat_lt j k) ≡ nat_lt m n || (not (nat_lt n m) && (nat_lt j k || (not (nat_lt k j) && false)))
 by_numbers m n j k = grind (arith, nat_tests)
 
 -- the order of the model and that of the database are one
-sorted : {X : Type 0} (key : X → List KeyPart) (xs : List X) → by_key key xs ≡ sort_by (by_key_values key) xs
+sorted : {X : Type 0} (key : X → List KeyPart) (xs : List X) → rows_sorted_by_key key xs ≡ sort_by (ordering_by_key key) xs
 unfolding Rattle.brk_model.specs.Lists.sort_by
 sorted key [] = refl
-sorted key (x ∷ xs) = ap (insert_row key x) (sorted key xs) ∙ inserted key x (sort_by (by_key_values key) xs)
+sorted key (x ∷ xs) = ap (insert_row_by_key key x) (sorted key xs) ∙ inserted key x (sort_by (ordering_by_key key) xs)
 
-oldest_are : (rows : List TradeRow) → oldest_first_rows rows ≡ sort_by rising rows
+oldest_are : (rows : List TradeRow) → trade_rows_oldest_first rows ≡ sort_by rising rows
 oldest_are rows = (λ i. model.sort_by (λ (a b : TradeRow). by_numbers a.stamp b.stamp a.id b.id i) rows) ∙ sorted trade_age rows
 
 -- trades of one moment and one id are one
@@ -58,54 +58,54 @@ second Equal b h = h
 second Greater b h = absurd (let f = h in cc)
 
 -- the three statements have one order, which is that of these moments
-by_age : (params : Row) (tree : ℕ) (a b : Row) (x y : TradeRow) → cells (trade tree) a ≡ trade_cells x → cells (trade tree) b ≡ trade_cells y → sorted_by params TwentyOfAccount.order a b ≡ rising x y
+by_age : (params : Row) (tree : ℕ) (a b : Row) (x y : TradeRow) → cells_in_column_order (trade tree) a ≡ trade_cells x → cells_in_column_order (trade tree) b ≡ trade_cells y → sorted_by params TwentyOfAccount.order a b ≡ rising x y
 by_age params tree a b x y e f =
-    let p0 : column a 2 ≡ nat x.stamp = ap (λ row. column row 1) e in
-    let q0 : column b 2 ≡ nat y.stamp = ap (λ row. column row 1) f in
-    let p1 : column a 0 ≡ nat x.id = ap (λ row. column row 0) e in
-    let q1 : column b 0 ≡ nat y.id = ap (λ row. column row 0) f in
+    let p0 : column a 2 ≡ natural_as_value x.stamp = ap (λ row. column row 1) e in
+    let q0 : column b 2 ≡ natural_as_value y.stamp = ap (λ row. column row 1) f in
+    let p1 : column a 0 ≡ natural_as_value x.id = ap (λ row. column row 0) e in
+    let q1 : column b 0 ≡ natural_as_value y.id = ap (λ row. column row 0) f in
     rw (p0, q0, p1, q1) refl
 
 -- the first of those that are shown are the first of those that there are
-first_shown : (n : ℕ) (rows : List TradeRow) → take n (map trade_cells (sort_by rising rows)) ≡ map trade_cells (take n (oldest_first_rows rows))
+first_shown : (n : ℕ) (rows : List TradeRow) → take n (map trade_cells (sort_by rising rows)) ≡ map trade_cells (take n (trade_rows_oldest_first rows))
 first_shown n rows = limited_map trade_cells (Some n) (sort_by rising rows) ∙ ap (λ rs. map trade_cells (take n rs)) (sym (oldest_are rows))
 
 -- ---- between two stamps
 
 pub tells_twenty_of_account : (old new : State) (account first last : ℕ) (rows : List Row)
-    → Shown TwentyOfAccount.statement (nat account ∷ nat first ∷ nat last ∷ []) old new rows
-    → Tells desk (λ t. rows ≡ map trade_cells (take 20 (oldest_first_rows (filter (λ r. (r.account == account) && is_between first last r) t.trades)))) old.now
+    → Shown TwentyOfAccount.statement (natural_as_value account ∷ natural_as_value first ∷ natural_as_value last ∷ []) old new rows
+    → TablesSatisfy desk (λ t. rows ≡ map trade_cells (take 20 (trade_rows_oldest_first (filter (λ r. (r.account == account) && row_stamp_is_between first last r) t.trades)))) old.now
 tells_twenty_of_account old new account first last rows shown = λ t tree h.
-    let test : TradeRow → Bool = λ r. (r.account == account) && is_between first last r in
-    let params : Row = nat account ∷ nat first ∷ nat last ∷ [] in
+    let test : TradeRow → Bool = λ r. (r.account == account) && row_stamp_is_between first last r in
+    let params : Row = natural_as_value account ∷ natural_as_value first ∷ natural_as_value last ∷ [] in
     tells_sorted desk Trades TwentyOfAccount.statement params (read TwentyOfAccount.statement)
     TwentyOfAccount.terms TwentyOfAccount.project TwentyOfAccount.order TwentyOfAccount.paging TwentyOfAccount.names TwentyOfAccount.understood_as
     test
     (λ tree r x e.
-    let a9 : column r 9 ≡ nat x.account = ap (λ row. column row 8) e in
-    let a2 : column r 2 ≡ nat x.stamp = ap (λ row. column row 1) e in
+    let a9 : column r 9 ≡ natural_as_value x.account = ap (λ row. column row 8) e in
+    let a2 : column r 2 ≡ natural_as_value x.stamp = ap (λ row. column row 1) e in
     rw (a9, a2, same_number x.account account, at_least x.stamp first, at_most x.stamp last)
     (ap (λ c. (x.account == account) && (nat_le first x.stamp && c)) (and_true _)))
     trade_cells (λ tree r x e. e) rising (key_total trade_age) (by_age params)
-    old new rows shown (λ x y e. second (value_cmp (nat x.stamp) (nat y.stamp)) _ e) t tree h
+    old new rows shown (λ x y e. second (value_cmp (natural_as_value x.stamp) (natural_as_value y.stamp)) _ e) t tree h
     ∙ first_shown 20 (filter test t.trades)
 
 pub tells_twenty_of_symbol : (old new : State) (symbol : List ℕ) (first last : ℕ) (rows : List Row)
-    → Shown TwentyOfSymbol.statement (Words symbol ∷ nat first ∷ nat last ∷ []) old new rows
-    → Tells desk (λ t. rows ≡ map trade_cells (take 20 (oldest_first_rows (filter (λ r. bytes_eq r.symbol symbol && is_between first last r) t.trades)))) old.now
+    → Shown TwentyOfSymbol.statement (Words symbol ∷ natural_as_value first ∷ natural_as_value last ∷ []) old new rows
+    → TablesSatisfy desk (λ t. rows ≡ map trade_cells (take 20 (trade_rows_oldest_first (filter (λ r. bytes_eq r.symbol symbol && row_stamp_is_between first last r) t.trades)))) old.now
 tells_twenty_of_symbol old new symbol first last rows shown = λ t tree h.
-    let test : TradeRow → Bool = λ r. bytes_eq r.symbol symbol && is_between first last r in
-    let params : Row = Words symbol ∷ nat first ∷ nat last ∷ [] in
+    let test : TradeRow → Bool = λ r. bytes_eq r.symbol symbol && row_stamp_is_between first last r in
+    let params : Row = Words symbol ∷ natural_as_value first ∷ natural_as_value last ∷ [] in
     tells_sorted desk Trades TwentyOfSymbol.statement params (read TwentyOfSymbol.statement)
     TwentyOfSymbol.terms TwentyOfSymbol.project TwentyOfSymbol.order TwentyOfSymbol.paging TwentyOfSymbol.names TwentyOfSymbol.understood_as
     test
     (λ tree r x e.
     let a6 : column r 6 ≡ Words x.symbol = ap (λ row. column row 5) e in
-    let a2 : column r 2 ≡ nat x.stamp = ap (λ row. column row 1) e in
+    let a2 : column r 2 ≡ natural_as_value x.stamp = ap (λ row. column row 1) e in
     rw (a6, a2, same_text x.symbol symbol, at_least x.stamp first, at_most x.stamp last)
     (ap (λ c. bytes_eq x.symbol symbol && (nat_le first x.stamp && c)) (and_true _)))
     trade_cells (λ tree r x e. e) rising (key_total trade_age) (by_age params)
-    old new rows shown (λ x y e. second (value_cmp (nat x.stamp) (nat y.stamp)) _ e) t tree h
+    old new rows shown (λ x y e. second (value_cmp (natural_as_value x.stamp) (natural_as_value y.stamp)) _ e) t tree h
     ∙ first_shown 20 (filter test t.trades)
 
 -- ---- at or after a stamp
@@ -120,20 +120,20 @@ filter_twice {X} p q (x ∷ xs) = by_test (q x) (filter_twice p q xs)
     by_test true h = ap (λ ys. cond (p x) (x ∷ ys) ys) h
     by_test false h = h
 
-pub tells_first_since : (old new : State) (account first : ℕ) (rows : List Row) → Shown FirstSince.statement (nat account ∷ nat first ∷ []) old new rows
-    → Tells desk (λ t. rows ≡ map trade_cells (take 1 (oldest_first_rows (filter (λ r. nat_le first r.stamp) (trades_in t account))))) old.now
+pub tells_first_since : (old new : State) (account first : ℕ) (rows : List Row) → Shown FirstSince.statement (natural_as_value account ∷ natural_as_value first ∷ []) old new rows
+    → TablesSatisfy desk (λ t. rows ≡ map trade_cells (take 1 (trade_rows_oldest_first (filter (λ r. nat_le first r.stamp) (trade_rows_of_account t account))))) old.now
 tells_first_since old new account first rows shown = λ t tree h.
     let test : TradeRow → Bool = λ r. (r.account == account) && nat_le first r.stamp in
-    let params : Row = nat account ∷ nat first ∷ [] in
+    let params : Row = natural_as_value account ∷ natural_as_value first ∷ [] in
     tells_sorted desk Trades FirstSince.statement params (read FirstSince.statement)
     FirstSince.terms FirstSince.project FirstSince.order FirstSince.paging FirstSince.names FirstSince.understood_as
     test
     (λ tree r x e.
-    let a9 : column r 9 ≡ nat x.account = ap (λ row. column row 8) e in
-    let a2 : column r 2 ≡ nat x.stamp = ap (λ row. column row 1) e in
+    let a9 : column r 9 ≡ natural_as_value x.account = ap (λ row. column row 8) e in
+    let a2 : column r 2 ≡ natural_as_value x.stamp = ap (λ row. column row 1) e in
     rw (a9, a2, same_number x.account account, at_least x.stamp first)
     (ap (λ c. (x.account == account) && c) (and_true _)))
     trade_cells (λ tree r x e. e) rising (key_total trade_age) (by_age params)
-    old new rows shown (λ x y e. second (value_cmp (nat x.stamp) (nat y.stamp)) _ e) t tree h
+    old new rows shown (λ x y e. second (value_cmp (natural_as_value x.stamp) (natural_as_value y.stamp)) _ e) t tree h
     ∙ first_shown 1 (filter test t.trades)
-    ∙ ap (λ (rs : List TradeRow). map trade_cells (take 1 (oldest_first_rows rs))) (filter_twice (λ (r : TradeRow). nat_le first r.stamp) (λ (r : TradeRow). r.account == account) t.trades)
+    ∙ ap (λ (rs : List TradeRow). map trade_cells (take 1 (trade_rows_oldest_first rs))) (filter_twice (λ (r : TradeRow). nat_le first r.stamp) (λ (r : TradeRow). r.account == account) t.trades)

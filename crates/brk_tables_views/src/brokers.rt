@@ -1,17 +1,17 @@
 //! Brokers by name, which several brokers may share, and the requests of a broker.
 
 ghost use Rattle.std.specs.Prelude.{◌≡◌, ◌==◌, IfErr, bytes_eq};
-ghost use Rattle.brk_model.specs.Run.{MayFail};
-ghost use Rattle.brk_ref.specs.Records.{broker_row_of};
-ghost use Rattle.brk_changes.specs.Rows.{request_row_of};
+ghost use Rattle.brk_model.specs.Run.{IsCallFault};
+ghost use Rattle.brk_ref.specs.Records.{abstract_broker_row};
+ghost use Rattle.brk_changes.specs.Rows.{abstract_request_row};
 ghost use Rattle.brk_tables_schema.specs.Desk.{Brokers, Requests};
-ghost use Rattle.brk_tables_schema.specs.Statements.{Lists};
+ghost use Rattle.brk_tables_schema.specs.Statements.{ReadsMatchingRows};
 
 use brk_changes::RequestRow;
 use brk_money::{Fault, Id};
 use brk_ref::{BrokerRow, Name};
-use brk_tables_schema::calls::select;
-use brk_tables_schema::record::all_rows;
+use brk_tables_schema::calls::select_rows;
+use brk_tables_schema::record::decode_rows;
 use brk_tables_schema::values::{id_value, text_value};
 use sqlite::{Alter, Transaction};
 use std::alloc::Global;
@@ -24,15 +24,15 @@ pub fn brokers_named<S: Alter>(
     name: &Name,
 ) -> Result<Vec<BrokerRow>, Fault>
     ensures same_reference { tx.new.conn.ghost_name ≡ tx.old.conn.ghost_name }
-    ensures step { Lists S.Store tx.old tx.new result Brokers broker_row_of (λ r. bytes_eq r.name name.now) }
-    ensures fault { IfErr result MayFail }
+    ensures step { ReadsMatchingRows S.Store tx.old tx.new result Brokers abstract_broker_row (λ r. bytes_eq r.name name.now) }
+    ensures fault { IfErr result IsCallFault }
 {
-    let rows = select(
+    let rows = select_rows(
         tx,
         "SELECT B_ID, B_NAME, B_NUM_TRADES, B_COMM_TOTAL FROM BROKER WHERE B_NAME = ?1 ORDER BY B_ID",
         &[text_value(name.as_str())],
     )?;
-    all_rows(alloc, &rows)
+    decode_rows(alloc, &rows)
 }
 
 /// Returns the requests of a broker, sorted by trade, ascending. Changes nothing. Fails with
@@ -43,13 +43,13 @@ pub fn requests_of_broker<S: Alter>(
     broker: Id,
 ) -> Result<Vec<RequestRow>, Fault>
     ensures same_reference { tx.new.conn.ghost_name ≡ tx.old.conn.ghost_name }
-    ensures step { Lists S.Store tx.old tx.new result Requests request_row_of (λ r. r.broker == broker) }
-    ensures fault { IfErr result MayFail }
+    ensures step { ReadsMatchingRows S.Store tx.old tx.new result Requests abstract_request_row (λ r. r.broker == broker) }
+    ensures fault { IfErr result IsCallFault }
 {
-    let rows = select(
+    let rows = select_rows(
         tx,
         "SELECT TR_T_ID, TR_TT_ID, TR_S_SYMB, TR_QTY, TR_BID_PRICE, TR_B_ID FROM TRADE_REQUEST WHERE TR_B_ID = ?1 ORDER BY TR_T_ID",
         &[id_value(broker)],
     )?;
-    all_rows(alloc, &rows)
+    decode_rows(alloc, &rows)
 }

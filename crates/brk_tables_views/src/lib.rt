@@ -10,5 +10,5 @@ pub mod lot_changes;
 pub mod moments;
 
 pub use brokers::{brokers_named, requests_of_broker};
-pub use lot_changes::{changes_by, changes_of};
-pub use moments::{first_since, twenty_of_account, twenty_of_symbol};
+pub use lot_changes::{lot_changes_by_trade, lot_changes_of_lot};
+pub use moments::{first_trade_since, twenty_trades_of_account, twenty_trades_of_symbol};

@@ -2,24 +2,24 @@
 
 ghost use Rattle.std.specs.Prelude.{◌≡◌, ◌==◌, ◌&&◌, Err, IfErr, OnErr, bytes_eq, filter, map, nat_le, option_map, option_to_list, take};
 ghost use Rattle.brk_money.specs.declared.fault.Fault.TheVariants.{Store};
-ghost use Rattle.brk_model.specs.Joins.{oldest_first_rows, trades_in};
-ghost use Rattle.brk_model.specs.LookupView.{is_between};
-ghost use Rattle.brk_model.specs.Run.{MayFail};
-ghost use Rattle.brk_changes.specs.Rows.{trade_row_of};
-ghost use Rattle.brk_tables_schema.specs.Statements.{Reads};
+ghost use Rattle.brk_model.specs.Joins.{trade_rows_oldest_first, trade_rows_of_account};
+ghost use Rattle.brk_model.specs.LookupView.{row_stamp_is_between};
+ghost use Rattle.brk_model.specs.Run.{IsCallFault};
+ghost use Rattle.brk_changes.specs.Rows.{abstract_trade_row};
+ghost use Rattle.brk_tables_schema.specs.Statements.{ReadsDeskTables};
 
 use brk_changes::TradeRow;
 use brk_money::{Fault, Id, Stamp};
 use brk_ref::Symbol;
-use brk_tables_schema::calls::select;
-use brk_tables_schema::record::{all_rows, first_row};
+use brk_tables_schema::calls::select_rows;
+use brk_tables_schema::record::{decode_first_row, decode_rows};
 use brk_tables_schema::values::{id_value, stamp_value, text_value};
 use sqlite::{Alter, Transaction};
 use std::alloc::Global;
 
 /// Returns the first twenty trades of an account between two stamps, both included, the oldest
 /// first. Changes nothing. Fails with `Memory` or `Store`.
-pub fn twenty_of_account<S: Alter>(
+pub fn twenty_trades_of_account<S: Alter>(
     tx: &mut Transaction<'_, S>,
     alloc: Global,
     account: Id,
@@ -27,20 +27,20 @@ pub fn twenty_of_account<S: Alter>(
     last: Stamp,
 ) -> Result<Vec<TradeRow>, Fault>
     ensures same_reference { tx.new.conn.ghost_name ≡ tx.old.conn.ghost_name }
-    ensures step { Reads S.Store tx.old tx.new result (λ all t. map trade_row_of all.items ≡ take 20 (oldest_first_rows (filter (λ r. (r.account == account) && is_between first last r) t.trades))) }
-    ensures fault { IfErr result MayFail }
+    ensures step { ReadsDeskTables S.Store tx.old tx.new result (λ all t. map abstract_trade_row all.items ≡ take 20 (trade_rows_oldest_first (filter (λ r. (r.account == account) && row_stamp_is_between first last r) t.trades))) }
+    ensures fault { IfErr result IsCallFault }
 {
-    let rows = select(
+    let rows = select_rows(
         tx,
         "SELECT T_ID, T_DTS, T_ST_ID, T_TT_ID, T_IS_CASH, T_S_SYMB, T_QTY, T_BID_PRICE, T_CA_ID, T_EXEC_NAME, T_TRADE_PRICE, T_CHRG, T_COMM, T_TAX, T_LIFO FROM TRADE WHERE T_CA_ID = ?1 AND T_DTS >= ?2 AND T_DTS <= ?3 ORDER BY T_DTS, T_ID LIMIT 20",
         &[id_value(account), stamp_value(first), stamp_value(last)],
     )?;
-    all_rows(alloc, &rows)
+    decode_rows(alloc, &rows)
 }
 
 /// Returns the first twenty trades in a security between two stamps, both included, the oldest
 /// first. Changes nothing. Fails with `Memory` or `Store`.
-pub fn twenty_of_symbol<S: Alter>(
+pub fn twenty_trades_of_symbol<S: Alter>(
     tx: &mut Transaction<'_, S>,
     alloc: Global,
     symbol: &Symbol,
@@ -48,10 +48,10 @@ pub fn twenty_of_symbol<S: Alter>(
     last: Stamp,
 ) -> Result<Vec<TradeRow>, Fault>
     ensures same_reference { tx.new.conn.ghost_name ≡ tx.old.conn.ghost_name }
-    ensures step { Reads S.Store tx.old tx.new result (λ all t. map trade_row_of all.items ≡ take 20 (oldest_first_rows (filter (λ r. bytes_eq r.symbol symbol.now && is_between first last r) t.trades))) }
-    ensures fault { IfErr result MayFail }
+    ensures step { ReadsDeskTables S.Store tx.old tx.new result (λ all t. map abstract_trade_row all.items ≡ take 20 (trade_rows_oldest_first (filter (λ r. bytes_eq r.symbol symbol.now && row_stamp_is_between first last r) t.trades))) }
+    ensures fault { IfErr result IsCallFault }
 {
-    let rows = select(
+    let rows = select_rows(
         tx,
         "SELECT T_ID, T_DTS, T_ST_ID, T_TT_ID, T_IS_CASH, T_S_SYMB, T_QTY, T_BID_PRICE, T_CA_ID, T_EXEC_NAME, T_TRADE_PRICE, T_CHRG, T_COMM, T_TAX, T_LIFO FROM TRADE WHERE T_S_SYMB = ?1 AND T_DTS >= ?2 AND T_DTS <= ?3 ORDER BY T_DTS, T_ID LIMIT 20",
         &[
@@ -60,24 +60,24 @@ pub fn twenty_of_symbol<S: Alter>(
             stamp_value(last),
         ],
     )?;
-    all_rows(alloc, &rows)
+    decode_rows(alloc, &rows)
 }
 
 /// Returns the oldest trade of an account at or after the stamp `first`, or `None` if there is
 /// none. Changes nothing. Fails with `Store` only.
-pub fn first_since<S: Alter>(
+pub fn first_trade_since<S: Alter>(
     tx: &mut Transaction<'_, S>,
     account: Id,
     first: Stamp,
 ) -> Result<Option<TradeRow>, Fault>
     ensures same_reference { tx.new.conn.ghost_name ≡ tx.old.conn.ghost_name }
-    ensures step { Reads S.Store tx.old tx.new result (λ o t. option_to_list (option_map trade_row_of o) ≡ take 1 (oldest_first_rows (filter (λ r. nat_le first r.stamp) (trades_in t account)))) }
+    ensures step { ReadsDeskTables S.Store tx.old tx.new result (λ o t. option_to_list (option_map abstract_trade_row o) ≡ take 1 (trade_rows_oldest_first (filter (λ r. nat_le first r.stamp) (trade_rows_of_account t account)))) }
     ensures fault { OnErr result (result ≡ Err Store) }
 {
-    let rows = select(
+    let rows = select_rows(
         tx,
         "SELECT T_ID, T_DTS, T_ST_ID, T_TT_ID, T_IS_CASH, T_S_SYMB, T_QTY, T_BID_PRICE, T_CA_ID, T_EXEC_NAME, T_TRADE_PRICE, T_CHRG, T_COMM, T_TAX, T_LIFO FROM TRADE WHERE T_CA_ID = ?1 AND T_DTS >= ?2 ORDER BY T_DTS, T_ID LIMIT 1",
         &[id_value(account), stamp_value(first)],
     )?;
-    first_row(&rows)
+    decode_first_row(&rows)
 }

@@ -11,7 +11,7 @@ use Rattle.sqlite_resolve.specs.declared.error.CompileError.TheVariants.{Mismatc
 use Rattle.sqlite.specs.State.{State, Shown, Begins, IsUnchanged}
 use Rattle.sqlite.specs.Clock.{timed}
 use Rattle.sqlite.proofs.Callers.{EndsIn, begins_shown}
-use Rattle.brk_sql.specs.Desk.{Desk, Stands, Tells}
+use Rattle.brk_sql.specs.Desk.{Desk, IsTableAt, TablesSatisfy}
 use Rattle.brk_sql.proofs.Effects.{same_value}
 use Rattle.brk_sql.proofs.Meant.{meant, known, when_understood}
 use Rattle.brk_sql.proofs.Pick.{selection}
@@ -21,10 +21,10 @@ pub still : (s : State) → IsTrue s.is_open → IsUnchanged s s
 still s unshut = (record { was_open = unshut; is_open = unshut; now_is = refl; committed_is = refl; mode = refl }, record { changes = refl; last_rowid = refl }, refl)
 
 module _ {W T : Type 0} (desk : Desk W T) (w : W) (text : List ℕ) (params : Row) (p : Parsed) (terms project : List Term) (order : List (Term × Key)) (paging : Term × Term) (names : List (List ℕ))
-    (either : (schema : Schema) (at tree : ℕ) → Stands schema (desk.shape w tree) at
+    (either : (schema : Schema) (at tree : ℕ) → IsTableAt schema (desk.shape w tree) at
     → (compiled schema text ≡ Ok (meant p [] (Select (record { lets = []; body = selection tree terms project order paging }) names))) ⊎ (compiled schema text ≡ Err Mismatch))
     (s : State) (rows : List Row) (begins : Begins text params s rows) (unshut : IsTrue s.is_open) where
-  pub begins_whole : (at tree : ℕ) → Stands s.now.schema (desk.shape w tree) at → (tail : List Row) × Shown text params s s (rows ++ tail)
+  pub begins_whole : (at tree : ℕ) → IsTableAt s.now.schema (desk.shape w tree) at → (tail : List Row) × Shown text params s s (rows ++ tail)
   unfolding Begins
   begins_whole at tree h =
       let c = meant p [] (Select (record { lets = []; body = selection tree terms project order paging }) names) in
@@ -33,7 +33,7 @@ module _ {W T : Type 0} (desk : Desk W T) (w : W) (text : List ℕ) (params : Ro
       (λ d db it from. subst (λ k. EndsIn k.command db (timed params k.formats it.now)) (same_value (sym sure.0 ∙ it.is)) tt)
 
   -- what is told of each answer is told of one that begins so
-  pub tells_start : (P : T → List Row → Type 0) → ((all : List Row) → Shown text params s s all → Tells desk (λ t. P t all) s.now) → Tells desk (λ t. (tail : List Row) × P t (rows ++ tail)) s.now
+  pub tells_start : (P : T → List Row → Type 0) → ((all : List Row) → Shown text params s s all → TablesSatisfy desk (λ t. P t all) s.now) → TablesSatisfy desk (λ t. (tail : List Row) × P t (rows ++ tail)) s.now
   tells_start P tells t tree h =
       let whole = begins_whole (h.place w) (tree w) (h.stands w) in
       (whole.0, tells (rows ++ whole.0) whole.1 t tree h)

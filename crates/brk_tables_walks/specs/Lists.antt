@@ -1,20 +1,20 @@
 -- The rows of each walk, in order. The sort key ends with the key of the row, so it is unique.
 use Rattle.std.specs.Prelude.{ℕ, Bool, ◌==◌, ◌&&◌, nat_le, List, [], ◌∷◌, filter}
-use Rattle.brk_model.specs.Keys.{KeyPart, number, word, by_key}
+use Rattle.brk_model.specs.Keys.{KeyPart, number, word, rows_sorted_by_key}
 use Rattle.brk_model.specs.Tables.{Tables, HoldingRow, MoveRow}
 
 -- The sort key of a lot: its symbol, then the stamp at which it was opened, then the trade that
 -- opened it.
-abbrev pub symbol_key : HoldingRow → List KeyPart
-symbol_key r = word r.symbol ∷ number r.stamp ∷ number r.trade ∷ []
+abbrev pub lot_sort_key : HoldingRow → List KeyPart
+lot_sort_key r = word r.symbol ∷ number r.stamp ∷ number r.trade ∷ []
 
 -- The lots of an account, sorted by symbol, then by opening stamp, then by trade, ascending.
 abbrev pub lots_by_symbol : ℕ → Tables → List HoldingRow
-lots_by_symbol account t = by_key symbol_key (filter (λ row. row.account == account) t.holdings)
+lots_by_symbol account t = rows_sorted_by_key lot_sort_key (filter (λ row. row.account == account) t.holdings)
 
 -- The sort key of a cash row: its stamp, then its number.
-abbrev pub stamp_key : MoveRow → List KeyPart
-stamp_key r = number r.stamp ∷ number r.id ∷ []
+abbrev pub cash_sort_key : MoveRow → List KeyPart
+cash_sort_key r = number r.stamp ∷ number r.id ∷ []
 
 -- True if the cash row is of `account` and its stamp is from `from` to `to`, both included.
 abbrev pub is_cash_between : ℕ → ℕ → ℕ → MoveRow → Bool
@@ -22,5 +22,5 @@ is_cash_between account from to row = (row.account == account) && (nat_le from r
 
 -- The cash rows of `account` with stamps from `from` to `to`, both included, sorted by stamp and
 -- then by number, ascending.
-abbrev pub cash_between : ℕ → ℕ → ℕ → Tables → List MoveRow
-cash_between account from to t = by_key stamp_key (filter (is_cash_between account from to) t.moves)
+abbrev pub cash_rows_between : ℕ → ℕ → ℕ → Tables → List MoveRow
+cash_rows_between account from to t = rows_sorted_by_key cash_sort_key (filter (is_cash_between account from to) t.moves)

@@ -6,7 +6,7 @@ use Rattle.sqlite_resolve.specs.declared.compiled.Compiled.{Compiled}
 use Rattle.sqlite_value.specs.Order.{Row}
 use Rattle.sqlite.specs.Listing.{understood}
 use Rattle.sqlite.specs.State.{State, Shown, Begins}
-use Rattle.brk_model.specs.Run.{MayFail}
+use Rattle.brk_model.specs.Run.{IsCallFault}
 use Rattle.brk_tables_walks.specs.declared.walking.WalkError.{WalkError}
 use Rattle.brk_tables_walks.specs.declared.walking.WalkError.TheVariants.{Failed, Cause}
 
@@ -16,9 +16,9 @@ IsQuery sql = (schema : Schema) (c : Compiled) → understood schema sql ≡ Ok 
 
 -- The error is `Failed` with the fault `Memory` or `Store`, or it is the error with which the
 -- visitor stopped at some record and became `after`.
-abbrev pub EndsBy : {V X E : Type 0} → (V → X → E → V → Type 0) → V → WalkError E → Type 0
-EndsBy stops after (Failed fault) = MayFail fault
-EndsBy {V} {X} stops after (Cause e) = (at : V) × (next : X) × stops at next e after
+abbrev pub IsWalkError : {V X E : Type 0} → (V → X → E → V → Type 0) → V → WalkError E → Type 0
+IsWalkError stops after (Failed fault) = IsCallFault fault
+IsWalkError {V} {X} stops after (Cause e) = (at : V) × (next : X) × stops at next e after
 
 module _ {V X : Type 0} (cells : X → Row) (takes : V → X → V → Type 0) where
   -- The database was open, and the visitor took all records of the query's result, in order.
@@ -48,5 +48,5 @@ module _ {V X : Type 0} (cells : X → Row) (takes : V → X → V → Type 0) w
   -- The walk failed. At a fault, which is `Memory` or `Store`, the visitor had taken a prefix of
   -- the records; at the visitor's error it had stopped at a record (`StopsAt`).
   abbrev pub EndsEarly : {E : Type 0} → (V → X → E → V → Type 0) → List ℕ → Row → State → V → V → WalkError E → Type 0
-  EndsEarly stops sql params db old new (Failed fault) = MayFail fault × TakesFirst sql params db old new
+  EndsEarly stops sql params db old new (Failed fault) = IsCallFault fault × TakesFirst sql params db old new
   EndsEarly stops sql params db old new (Cause e) = StopsAt stops sql params db old e new

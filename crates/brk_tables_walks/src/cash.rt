@@ -1,9 +1,9 @@
 //! A walk over the cash rows of an account.
 
 ghost use Rattle.std.specs.Prelude.{◌≡◌, false};
-ghost use Rattle.brk_changes.specs.Rows.{move_row_of};
-ghost use Rattle.brk_tables_walks.specs.Lists.{cash_between};
-ghost use Rattle.brk_tables_walks.specs.Walks.{Walks};
+ghost use Rattle.brk_changes.specs.Rows.{abstract_move_row};
+ghost use Rattle.brk_tables_walks.specs.Lists.{cash_rows_between};
+ghost use Rattle.brk_tables_walks.specs.Walks.{TableWalkPost};
 
 use crate::visitor::Visitor;
 use crate::walking::{WalkError, walk};
@@ -29,7 +29,7 @@ pub fn walk_cash_between<S: Alter, E, V: Visitor<MoveRow, E>>(
     ensures mode { conn.new.in_transaction ≡ false }
     ensures ready { V.ready visitor.new }
     ensures leads { V.leads visitor.old visitor.new }
-    ensures walked { Walks S.Store conn.old conn.new move_row_of (cash_between account from to) V.takes V.stops visitor.old visitor.new result }
+    ensures walked { TableWalkPost S.Store conn.old conn.new abstract_move_row (cash_rows_between account from to) V.takes V.stops visitor.old visitor.new result }
 {
     let _settled = conn.is_autocommit();
     walk::<S, MoveRow, E, V>(

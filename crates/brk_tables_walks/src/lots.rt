@@ -1,9 +1,9 @@
 //! A walk over the lots of an account.
 
 ghost use Rattle.std.specs.Prelude.{◌≡◌, false};
-ghost use Rattle.brk_changes.specs.Rows.{holding_row_of};
+ghost use Rattle.brk_changes.specs.Rows.{abstract_holding_row};
 ghost use Rattle.brk_tables_walks.specs.Lists.{lots_by_symbol};
-ghost use Rattle.brk_tables_walks.specs.Walks.{Walks};
+ghost use Rattle.brk_tables_walks.specs.Walks.{TableWalkPost};
 
 use crate::visitor::Visitor;
 use crate::walking::{WalkError, walk};
@@ -27,7 +27,7 @@ pub fn walk_lots<S: Alter, E, V: Visitor<HoldingRow, E>>(
     ensures mode { conn.new.in_transaction ≡ false }
     ensures ready { V.ready visitor.new }
     ensures leads { V.leads visitor.old visitor.new }
-    ensures walked { Walks S.Store conn.old conn.new holding_row_of (lots_by_symbol account) V.takes V.stops visitor.old visitor.new result }
+    ensures walked { TableWalkPost S.Store conn.old conn.new abstract_holding_row (lots_by_symbol account) V.takes V.stops visitor.old visitor.new result }
 {
     let _settled = conn.is_autocommit();
     walk::<S, HoldingRow, E, V>(

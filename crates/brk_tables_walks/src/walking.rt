@@ -2,8 +2,8 @@ ghost use Rattle.std.specs.Prelude.{◌≡◌, ◌⊎◌, IfErr, IfOk, OnOk, fal
 ghost use Rattle.sqlite.specs.Held.{state};
 ghost use Rattle.sqlite.specs.State.{HasCleanDisk, IsRolledBack, IsUnchanged, Survives};
 ghost use Rattle.sqlite.specs.Values.{bound};
-ghost use Rattle.brk_model.specs.Run.{MayFail};
-ghost use Rattle.brk_tables_walks.specs.Walk.{EndsBy, EndsEarly, IsQuery, TakesAll};
+ghost use Rattle.brk_model.specs.Run.{IsCallFault};
+ghost use Rattle.brk_tables_walks.specs.Walk.{IsWalkError, EndsEarly, IsQuery, TakesAll};
 
 use crate::visitor::Visitor;
 use brk_money::Fault;
@@ -22,9 +22,9 @@ pub enum WalkError<E> {
 }
 
 // Decodes the record in a row. Fails with `Memory` or `Store` only.
-fn record_in<R: Record>(row: &Row) -> Result<R, Fault>
+fn decode_record<R: Record>(row: &Row) -> Result<R, Fault>
     ensures value { IfOk result (λ r. R.cells r ≡ row.now) }
-    ensures fault { IfErr result MayFail }
+    ensures fault { IfErr result IsCallFault }
 {
     match R::from_row(row) {
         Ok(record) => Ok(record),
@@ -53,7 +53,7 @@ pub fn walk<S: Alter, R: Record, E, V: Visitor<R, E>>(
     ensures early { HasCleanDisk (state S.Store conn.new) → IfErr result (EndsEarly R.cells V.takes V.stops sql.now (bound params.now) (state S.Store conn.old) visitor.old visitor.new) }
     // The error is `Memory` or `Store`, or that of the visitor, whether or not the disk assumption
     // holds.
-    ensures fault { IfErr result (EndsBy V.stops visitor.new) }
+    ensures fault { IfErr result (IsWalkError V.stops visitor.new) }
     ensures same { HasCleanDisk (state S.Store conn.new) → OnOk result (IsUnchanged (state S.Store conn.old) (state S.Store conn.new)) }
     ensures kept { HasCleanDisk (state S.Store conn.new) → IsUnchanged (state S.Store conn.old) (state S.Store conn.new) ⊎ IsRolledBack (state S.Store conn.old) (state S.Store conn.new) }
     ensures mode { conn.old.in_transaction ≡ false → conn.new.in_transaction ≡ false }
@@ -69,7 +69,7 @@ pub fn walk<S: Alter, R: Record, E, V: Visitor<R, E>>(
             Ok(None) => return Ok(()),
             Err(_) => return Err(WalkError::Failed(Fault::Store)),
         };
-        let item = match record_in::<R>(row) {
+        let item = match decode_record::<R>(row) {
             Ok(item) => item,
             Err(fault) => return Err(WalkError::Failed(fault)),
         };

@@ -1,8 +1,8 @@
 //! Tests of runs of calls on a desk.
 
-use crate::desks::{new_desk, set_desk};
-use crate::fields::fields_of;
-use crate::row_calls::{ask, call_of, keyed};
+use crate::desks::{desk_with_reference_data, new_desk_in_memory};
+use crate::fields::split_fields;
+use crate::row_calls::{parse_keyed_row_call, parse_query_call, parse_row_call};
 use brk_import::brk_desk::{Answer, Call, Desk, Outcome};
 use brk_money::Stamp;
 use brk_trade::Reply;
@@ -14,7 +14,7 @@ use std::test::Fail;
 
 // Returns the text of an outcome: of a command its answer, of a query its refusal or the number of
 // its trades.
-fn told(alloc: Global, outcome: &Outcome) -> Result<String, AllocError> {
+fn format_outcome(alloc: Global, outcome: &Outcome) -> Result<String, AllocError> {
     match outcome {
         Outcome::Did(Answer::Done(Reply::Booked(stamp))) => {
             format!(in alloc; "ok,{}", stamp.get())
@@ -28,7 +28,7 @@ fn told(alloc: Global, outcome: &Outcome) -> Result<String, AllocError> {
 }
 
 // Runs calls on a desk, and checks the texts of their outcomes.
-fn expect_run(
+fn expect_run_outcomes(
     rt: &impl Abort,
     alloc: Global,
     desk: &mut Desk<MemStore>,
@@ -39,7 +39,7 @@ fn expect_run(
     desk.run(alloc, calls, &mut out)?;
     assert!(rt; out.len() == wanted.len());
     for (outcome, wanted) in out.iter().zip(wanted) {
-        let told = told(alloc, outcome)?;
+        let told = format_outcome(alloc, outcome)?;
         assert!(rt; told.as_str() == *wanted, "{told}");
     }
     Ok(())
@@ -47,20 +47,20 @@ fn expect_run(
 
 // Checks that a run executes the calls after a refused one.
 #[test]
-fn a_run_goes_on_after_a_refusal(rt: HostRuntime) -> Result<(), Fail> {
+fn a_run_continues_after_a_refusal(rt: HostRuntime) -> Result<(), Fail> {
     let alloc = rt.alloc();
     let mut calls = Vec::new(alloc);
     for row in ["broker,1,Bo", "broker,1,Cy", "broker,2,Cy"] {
-        calls.push(call_of(alloc, row, None)?)?;
+        calls.push(parse_row_call(alloc, row, None)?)?;
     }
     let wanted = ["ok,1709251200000", "no,15", "ok,1709251200001"];
-    expect_run(&rt, alloc, &mut new_desk(alloc)?, &calls, &wanted)
+    expect_run_outcomes(&rt, alloc, &mut new_desk_in_memory(alloc)?, &calls, &wanted)
 }
 
 // Checks that a run returns the stored reply for a repeated row, and refuses another row under its
 // key with 19.
 #[test]
-fn a_run_answers_a_kept_key_again(rt: HostRuntime) -> Result<(), Fail> {
+fn a_run_repeats_the_stored_reply(rt: HostRuntime) -> Result<(), Fail> {
     let alloc = rt.alloc();
     let mut calls = Vec::new(alloc);
     for (row, n) in [
@@ -69,20 +69,26 @@ fn a_run_answers_a_kept_key_again(rt: HostRuntime) -> Result<(), Fail> {
         ("broker,2,Cy", 1),
         ("broker,1,Bo", 2),
     ] {
-        calls.push(keyed(alloc, b"A", n, row)?)?;
+        calls.push(parse_keyed_row_call(alloc, b"A", n, row)?)?;
     }
     let wanted = ["ok,1709251200000", "again,1709251200000", "no,19", "no,15"];
-    expect_run(&rt, alloc, &mut new_desk(alloc)?, &calls, &wanted)
+    expect_run_outcomes(&rt, alloc, &mut new_desk_in_memory(alloc)?, &calls, &wanted)
 }
 
 // Checks that a run executes queries and returns their views and refusals.
 #[test]
-fn a_run_tells_what_it_is_asked(rt: HostRuntime) -> Result<(), Fail> {
+fn a_run_answers_queries(rt: HostRuntime) -> Result<(), Fail> {
     let alloc = rt.alloc();
-    let stranger = fields_of(alloc, "101,TMB,ABC,100,,cash,fifo,Ann,Lee,T10")?;
+    let stranger = split_fields(alloc, "101,TMB,ABC,100,,cash,fifo,Ann,Lee,T10")?;
     let mut calls = Vec::new(alloc);
-    calls.push(ask(alloc, "submitted", &[])?)?;
-    calls.push(ask(alloc, "estimate", &stranger)?)?;
+    calls.push(parse_query_call(alloc, "submitted", &[])?)?;
+    calls.push(parse_query_call(alloc, "estimate", &stranger)?)?;
     let wanted = ["0 trades", "no,1"];
-    expect_run(&rt, alloc, &mut set_desk(alloc)?, &calls, &wanted)
+    expect_run_outcomes(
+        &rt,
+        alloc,
+        &mut desk_with_reference_data(alloc)?,
+        &calls,
+        &wanted,
+    )
 }

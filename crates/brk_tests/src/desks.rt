@@ -17,7 +17,7 @@ pub struct Still {
 
 impl Still {
     /// Returns the clock that always returns 2024-03-01 00:00 UTC.
-    pub fn first() -> Still {
+    pub fn at_first_moment() -> Still {
         Still {
             at: Stamp::nearest(FIRST_MOMENT),
         }
@@ -38,7 +38,7 @@ pub struct Step<'a> {
 }
 
 /// Returns a new desk in memory, with empty tables.
-pub fn new_desk(alloc: Global) -> Result<Desk<MemStore>, Fail> {
+pub fn new_desk_in_memory(alloc: Global) -> Result<Desk<MemStore>, Fail> {
     let Ok(store) = Store::create(Connection::open_in_memory(alloc)?) else {
         return Err("no store")?;
     };
@@ -46,29 +46,35 @@ pub fn new_desk(alloc: Global) -> Result<Desk<MemStore>, Fail> {
 }
 
 /// Returns a desk in memory after the batch `SET`.
-pub fn set_desk(alloc: Global) -> Result<Desk<MemStore>, Fail> {
-    let mut desk = new_desk(alloc)?;
+pub fn desk_with_reference_data(alloc: Global) -> Result<Desk<MemStore>, Fail> {
+    let mut desk = new_desk_in_memory(alloc)?;
     let set = Step {
         batch: SET,
         lines: SET_LINES,
     };
-    expect(alloc, &mut desk, "set", set)?;
+    expect_batch_result(alloc, &mut desk, "set", set)?;
     Ok(desk)
 }
 
 /// Runs a batch on a desk. Returns its lines and its result.
-pub fn answer(
+pub fn run_batch_at_desk(
     alloc: Global,
     desk: &mut Desk<MemStore>,
     input: &[u8],
 ) -> (Vec<u8>, Result<Counts, BatchFault>) {
     let mut lines = Vec::new(alloc);
-    let ended = run_batch(alloc, input, &mut lines, &mut Still::first(), desk);
+    let ended = run_batch(
+        alloc,
+        input,
+        &mut lines,
+        &mut Still::at_first_moment(),
+        desk,
+    );
     (lines, ended)
 }
 
 // Checks the lines of a batch, one by one.
-fn expect_lines(name: &str, told: &[u8], wanted: &str) -> Result<(), Fail> {
+fn expect_batch_lines(name: &str, told: &[u8], wanted: &str) -> Result<(), Fail> {
     let told = str::from_utf8(told).map_err(|_| "no text")?;
     let mut row = 0u64;
     for (line, want) in told.lines().zip(wanted.lines()) {
@@ -84,7 +90,7 @@ fn expect_lines(name: &str, told: &[u8], wanted: &str) -> Result<(), Fail> {
 }
 
 // Checks that a batch completed, and that its end line has its counts.
-fn expect_ending(
+fn expect_batch_counts(
     alloc: Global,
     name: &str,
     ended: Result<Counts, BatchFault>,
@@ -102,13 +108,13 @@ fn expect_ending(
 }
 
 /// Runs a batch on a desk, and checks its lines and its counts.
-pub fn expect(
+pub fn expect_batch_result(
     alloc: Global,
     desk: &mut Desk<MemStore>,
     name: &str,
     step: Step<'_>,
 ) -> Result<(), Fail> {
-    let (lines, ended) = answer(alloc, desk, step.batch);
-    expect_lines(name, &lines, step.lines)?;
-    expect_ending(alloc, name, ended, step.lines)
+    let (lines, ended) = run_batch_at_desk(alloc, desk, step.batch);
+    expect_batch_lines(name, &lines, step.lines)?;
+    expect_batch_counts(alloc, name, ended, step.lines)
 }

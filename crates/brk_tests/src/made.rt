@@ -4,15 +4,15 @@ use sqlite::{Connection, MemStore};
 use std::test::Fail;
 
 // Creates a store over a connection.
-fn made(conn: Connection<MemStore>) -> Result<Store<MemStore>, Fail> {
+fn create_store(conn: Connection<MemStore>) -> Result<Store<MemStore>, Fail> {
     Ok(Store::create(conn).map_err(|_| "no store")?)
 }
 
 // Checks that creating a store over the tables of another one fails with `NotEmpty` and leaves no
 // transaction open.
 #[test]
-fn a_desk_is_made_once(rt: HostRuntime) -> Result<(), Fail> {
-    let conn = made(Connection::open_in_memory(rt.alloc())?)?.into_conn();
+fn a_second_creation_is_refused(rt: HostRuntime) -> Result<(), Fail> {
+    let conn = create_store(Connection::open_in_memory(rt.alloc())?)?.into_conn();
     match Store::create(conn) {
         Ok(_made) => assert!(rt; false, "made twice"),
         Err((conn, fault)) => {
@@ -25,12 +25,12 @@ fn a_desk_is_made_once(rt: HostRuntime) -> Result<(), Fail> {
 
 // Checks that creating a store changes no other table.
 #[test]
-fn a_desk_stands_among_strangers(rt: HostRuntime) -> Result<(), Fail> {
+fn creation_preserves_other_tables(rt: HostRuntime) -> Result<(), Fail> {
     let mut conn = Connection::open_in_memory(rt.alloc())?;
     conn.execute_batch(
         "CREATE TABLE FIRST (A TEXT UNIQUE, B INTEGER); INSERT INTO FIRST VALUES ('x', 1); CREATE VIEW SEEN AS SELECT A FROM FIRST",
     )?;
-    let mut conn = made(conn)?.into_conn();
+    let mut conn = create_store(conn)?.into_conn();
     let count: i64 = conn
         .query_row("SELECT count(*) FROM FIRST WHERE B = 1", &[])?
         .get(0)?;
@@ -41,7 +41,7 @@ fn a_desk_stands_among_strangers(rt: HostRuntime) -> Result<(), Fail> {
 // Checks that creating a store beside a table with the name of a desk's table fails with
 // `NotEmpty`.
 #[test]
-fn one_table_is_too_many(rt: HostRuntime) -> Result<(), Fail> {
+fn creation_beside_a_desk_table_is_refused(rt: HostRuntime) -> Result<(), Fail> {
     let mut conn = Connection::open_in_memory(rt.alloc())?;
     conn.execute_batch("CREATE TABLE Cash_Transaction (A TEXT)")?;
     match Store::create(conn) {

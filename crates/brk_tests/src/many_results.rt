@@ -1,7 +1,7 @@
 //! A batch of five hundred orders and their results, compared with one run of the same calls.
 
-use crate::desks::{answer, set_desk};
-use crate::row_calls::keyed;
+use crate::desks::{desk_with_reference_data, run_batch_at_desk};
+use crate::row_calls::parse_keyed_row_call;
 use brk_import::Counts;
 use brk_import::brk_desk::brk_store::Store;
 use brk_import::brk_desk::{Answer, Call, Desk, Outcome, line_text};
@@ -15,29 +15,29 @@ const TRADES: u64 = 500;
 
 // Returns the row of an order of `n` shares: every third is a sale, every second closes the last
 // lots first.
-fn order(alloc: Global, n: u64) -> Result<String, Fail> {
+fn order_row(alloc: Global, n: u64) -> Result<String, Fail> {
     let kind = if n % 3 == 0 { "TMS" } else { "TMB" };
     let end = if n % 2 == 0 { "lifo" } else { "fifo" };
     Ok(format!(in alloc; "order,100,{kind},ABC,{n},,cash,{end},Ann,Lee,T10")?)
 }
 
 // Returns the row of the result of trade `n`, at 10.00.
-fn result(alloc: Global, n: u64) -> Result<String, Fail> {
+fn result_row(alloc: Global, n: u64) -> Result<String, Fail> {
     Ok(format!(in alloc; "result,{n},10.00")?)
 }
 
 // Returns the rows of all trades, each order followed by its result.
-fn rows(alloc: Global) -> Result<Vec<String>, Fail> {
+fn rows_of_all_trades(alloc: Global) -> Result<Vec<String>, Fail> {
     let mut rows = Vec::new(alloc);
     for n in 1..=TRADES {
-        rows.push(order(alloc, n)?)?;
-        rows.push(result(alloc, n)?)?;
+        rows.push(order_row(alloc, n)?)?;
+        rows.push(result_row(alloc, n)?)?;
     }
     Ok(rows)
 }
 
 // Returns the text of a batch L with these rows.
-fn batch_of(alloc: Global, rows: &[String]) -> Result<String, Fail> {
+fn format_batch_of_rows(alloc: Global, rows: &[String]) -> Result<String, Fail> {
     let mut batch = String::from_str(alloc, "batch,L\n")?;
     for row in rows {
         writeln!(batch, "{row}")?;
@@ -48,7 +48,11 @@ fn batch_of(alloc: Global, rows: &[String]) -> Result<String, Fail> {
 
 // Checks the holding and the broker totals after all trades, of which 83,667 shares were bought and
 // 41,583 sold, and that the audit passes.
-fn expect_sums(rt: &impl Abort, alloc: Global, store: &mut Store<MemStore>) -> Result<(), Fail> {
+fn expect_totals_after_trades(
+    rt: &impl Abort,
+    alloc: Global,
+    store: &mut Store<MemStore>,
+) -> Result<(), Fail> {
     let account = Id::new(100).ok_or("account")?;
     let broker = Id::new(1).ok_or("broker")?;
     let summaries = store.summaries_of(alloc, account)?;
@@ -67,10 +71,10 @@ fn expect_sums(rt: &impl Abort, alloc: Global, store: &mut Store<MemStore>) -> R
 
 // Runs the rows as one batch. Checks that every row is accepted, the last line and the totals, and
 // returns the lines.
-fn expect_batch(rt: &impl Abort, alloc: Global, rows: &[String]) -> Result<Vec<u8>, Fail> {
-    let batch = batch_of(alloc, rows)?;
-    let mut desk = set_desk(alloc)?;
-    let (lines, ended) = answer(alloc, &mut desk, batch.as_bytes());
+fn run_and_check_batch(rt: &impl Abort, alloc: Global, rows: &[String]) -> Result<Vec<u8>, Fail> {
+    let batch = format_batch_of_rows(alloc, rows)?;
+    let mut desk = desk_with_reference_data(alloc)?;
+    let (lines, ended) = run_batch_at_desk(alloc, &mut desk, batch.as_bytes());
     let all = Counts {
         ok: 1_000,
         again: 0,
@@ -82,33 +86,38 @@ fn expect_batch(rt: &impl Abort, alloc: Global, rows: &[String]) -> Result<Vec<u
             b"\n1000,ok,1709251201015,50.00,0.00,-5055.00,2024-03-03,0.00,0.00,-425865.00\nend,1000,0,0\n"
         )
     );
-    expect_sums(rt, alloc, &mut desk.into_store())?;
+    expect_totals_after_trades(rt, alloc, &mut desk.into_store())?;
     Ok(lines)
 }
 
 // Returns the calls of all rows, each under its key.
-fn calls(alloc: Global, rows: &[String]) -> Result<Vec<(Stamp, Call)>, Fail> {
+fn keyed_calls_of_rows(alloc: Global, rows: &[String]) -> Result<Vec<(Stamp, Call)>, Fail> {
     let mut calls = Vec::new(alloc);
     for (row, n) in rows.iter().zip(1..=2 * TRADES) {
-        calls.push(keyed(alloc, b"L", n, row.as_str())?)?;
+        calls.push(parse_keyed_row_call(alloc, b"L", n, row.as_str())?)?;
     }
     Ok(calls)
 }
 
 // Executes the calls of all rows in one run of the desk, and returns their outcomes.
-fn outcomes(
+fn run_calls_of_rows(
     alloc: Global,
     desk: &mut Desk<MemStore>,
     rows: &[String],
 ) -> Result<Vec<Outcome>, Fail> {
-    let calls = calls(alloc, rows)?;
+    let calls = keyed_calls_of_rows(alloc, rows)?;
     let mut out = Vec::new(alloc);
     desk.run(alloc, &calls, &mut out)?;
     Ok(out)
 }
 
 // Appends the line of an accepted row, as a batch writes it. Fails if the row was not accepted.
-fn add_line(alloc: Global, lines: &mut String, n: u64, outcome: &Outcome) -> Result<(), Fail> {
+fn append_accepted_line(
+    alloc: Global,
+    lines: &mut String,
+    n: u64,
+    outcome: &Outcome,
+) -> Result<(), Fail> {
     let Outcome::Did(Answer::Done(reply)) = outcome else {
         return Err("not accepted")?;
     };
@@ -118,29 +127,33 @@ fn add_line(alloc: Global, lines: &mut String, n: u64, outcome: &Outcome) -> Res
 }
 
 // Returns the lines of the rows with these outcomes.
-fn lines_of(alloc: Global, outcomes: &[Outcome]) -> Result<String, Fail> {
+fn lines_of_outcomes(alloc: Global, outcomes: &[Outcome]) -> Result<String, Fail> {
     let mut lines = String::new(alloc);
     for (outcome, n) in outcomes.iter().zip(1..=2 * TRADES) {
-        add_line(alloc, &mut lines, n, outcome)?;
+        append_accepted_line(alloc, &mut lines, n, outcome)?;
     }
     Ok(lines)
 }
 
 // Executes the calls of all rows in one run, checks the totals, and returns the lines of the rows.
-fn lines_of_run(rt: &impl Abort, alloc: Global, rows: &[String]) -> Result<String, Fail> {
-    let mut desk = set_desk(alloc)?;
-    let lines = lines_of(alloc, &outcomes(alloc, &mut desk, rows)?)?;
-    expect_sums(rt, alloc, &mut desk.into_store())?;
+fn run_rows_and_check_totals(
+    rt: &impl Abort,
+    alloc: Global,
+    rows: &[String],
+) -> Result<String, Fail> {
+    let mut desk = desk_with_reference_data(alloc)?;
+    let lines = lines_of_outcomes(alloc, &run_calls_of_rows(alloc, &mut desk, rows)?)?;
+    expect_totals_after_trades(rt, alloc, &mut desk.into_store())?;
     Ok(lines)
 }
 
 // Checks that a batch of five hundred trades and one run of its calls have equal lines.
 #[test]
-fn five_hundred_trades(rt: HostRuntime) -> Result<(), Fail> {
+fn a_batch_equals_one_run_of_its_calls(rt: HostRuntime) -> Result<(), Fail> {
     let alloc = rt.alloc();
-    let rows = rows(alloc)?;
-    let batch = expect_batch(&rt, alloc, &rows)?;
-    let mut run = lines_of_run(&rt, alloc, &rows)?;
+    let rows = rows_of_all_trades(alloc)?;
+    let batch = run_and_check_batch(&rt, alloc, &rows)?;
+    let mut run = run_rows_and_check_totals(&rt, alloc, &rows)?;
     run.push_str("end,1000,0,0\n")?;
     assert!(rt; batch.as_slice() == run.as_bytes());
     Ok(())

@@ -1,6 +1,6 @@
 //! Parsing of rows and queries into calls.
 
-use crate::fields::fields_of;
+use crate::fields::split_fields;
 use crate::worked::FIRST_MOMENT;
 use brk_import::brk_desk::{Call, parse_query, parse_row};
 use brk_money::Stamp;
@@ -9,15 +9,15 @@ use std::alloc::Global;
 use std::test::Fail;
 
 // Returns the key of row `row` of this batch.
-fn key_of(alloc: Global, batch: &[u8], row: u64) -> Result<Key, Fail> {
+fn key_of_row(alloc: Global, batch: &[u8], row: u64) -> Result<Key, Fail> {
     let row = RowNumber::new(row).ok_or("a row's number")?;
     let batch = BatchName::parse(alloc, batch)?.ok_or("a batch's name")?;
     Ok(Key { batch, row })
 }
 
 /// Parses a row and returns its call at 2024-03-01 00:00 UTC, with this key or none.
-pub fn call_of(alloc: Global, row: &str, key: Option<Key>) -> Result<(Stamp, Call), Fail> {
-    let fields = fields_of(alloc, row)?;
+pub fn parse_row_call(alloc: Global, row: &str, key: Option<Key>) -> Result<(Stamp, Call), Fail> {
+    let fields = split_fields(alloc, row)?;
     match parse_row(alloc, &fields)? {
         Ok(command) => Ok((Stamp::nearest(FIRST_MOMENT), Call::Do(command, key))),
         Err(_) => Err("out of form")?,
@@ -25,14 +25,23 @@ pub fn call_of(alloc: Global, row: &str, key: Option<Key>) -> Result<(Stamp, Cal
 }
 
 /// Parses row `n` of a batch and returns its call at 2024-03-01 00:00 UTC, under its key.
-pub fn keyed(alloc: Global, batch: &[u8], n: u64, row: &str) -> Result<(Stamp, Call), Fail> {
-    let key = key_of(alloc, batch, n)?;
-    call_of(alloc, row, Some(key))
+pub fn parse_keyed_row_call(
+    alloc: Global,
+    batch: &[u8],
+    n: u64,
+    row: &str,
+) -> Result<(Stamp, Call), Fail> {
+    let key = key_of_row(alloc, batch, n)?;
+    parse_row_call(alloc, row, Some(key))
 }
 
 /// Parses a query from a view's name and its arguments, and returns its call at 2024-03-01 00:00
 /// UTC.
-pub fn ask(alloc: Global, view: &str, arguments: &[&[u8]]) -> Result<(Stamp, Call), Fail> {
+pub fn parse_query_call(
+    alloc: Global,
+    view: &str,
+    arguments: &[&[u8]],
+) -> Result<(Stamp, Call), Fail> {
     match parse_query(alloc, view, arguments)? {
         Ok(query) => Ok((Stamp::nearest(FIRST_MOMENT), Call::Ask(query))),
         Err(_) => Err("out of form")?,

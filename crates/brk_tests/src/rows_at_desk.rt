@@ -2,7 +2,10 @@
 //! no more than for one of a single lot.
 
 use crate::desks::Still;
-use crate::files::machine::{Held, Sent, Stop, desk_in, files_of, run, set_files};
+use crate::files::machine::{
+    Held, Sent, Stop, failing_files_with_bytes, files_with_reference_data, open_desk_in_files,
+    run_batch_until_crash,
+};
 use brk_import::run_batch;
 use sqlite::Options;
 use std::alloc::Global;
@@ -11,7 +14,7 @@ use std::test::Fail;
 const LOTS: u64 = 100;
 
 // Returns a batch of purchases of two shares each: `LOTS` for account 100, and one for account 101.
-fn purchases(alloc: Global) -> Result<String, Fail> {
+fn purchases_of_two_shares_each(alloc: Global) -> Result<String, Fail> {
     let mut batch = String::from_str(alloc, "batch,P\naccount,101,10,1,Side,1,10000.00\n")?;
     for n in 1..=LOTS {
         writeln!(batch, "order,100,TMB,ABC,2,,cash,fifo,Ann,Lee,T10")?;
@@ -24,10 +27,15 @@ fn purchases(alloc: Global) -> Result<String, Fail> {
 }
 
 // Returns the files of a desk with `LOTS` lots of account 100 and one of account 101.
-fn files_of_lots(alloc: Global) -> Result<Held, Fail> {
-    let set = set_files(alloc)?;
-    let batch = purchases(alloc)?;
-    let Sent { seen, held, .. } = run(alloc, &set, Stop::NEVER, batch.as_bytes())?;
+fn files_with_hundred_lots(alloc: Global) -> Result<Held, Fail> {
+    let set = files_with_reference_data(alloc)?;
+    let batch = purchases_of_two_shares_each(alloc)?;
+    let Sent { seen, held, .. } = run_batch_until_crash(
+        alloc,
+        &set,
+        Stop::NEVER,
+        batch.as_bytes(),
+    )?;
     if !seen.lines.ends_with(b"end,203,0,0\n") {
         return Err("the purchases")?;
     }
@@ -35,7 +43,7 @@ fn files_of_lots(alloc: Global) -> Result<Held, Fail> {
 }
 
 // Returns a batch with the order and the result of a sale.
-fn sale(alloc: Global, account: u64, shares: u64) -> Result<String, Fail> {
+fn batch_of_one_sale(alloc: Global, account: u64, shares: u64) -> Result<String, Fail> {
     let trade = LOTS + 2;
     Ok(format!(in alloc;
         "batch,S\norder,{account},TMS,ABC,{shares},,cash,fifo,Ann,Lee,T10\nresult,{trade},10.00\nend,2\n"
@@ -44,24 +52,24 @@ fn sale(alloc: Global, account: u64, shares: u64) -> Result<String, Fail> {
 
 // Returns true if a desk completes a sale when its database file accepts this number of calls. The
 // desk caches one page of the file, so it reads each page anew.
-fn is_booked(
+fn sale_completes_within_calls(
     alloc: Global,
     held: &Held,
     account: u64,
     shares: u64,
     calls: u64,
 ) -> Result<bool, Fail> {
-    let batch = sale(alloc, account, shares)?;
-    let files = files_of(alloc, held, u64::MAX, calls)?;
+    let batch = batch_of_one_sale(alloc, account, shares)?;
+    let files = failing_files_with_bytes(alloc, held, u64::MAX, calls)?;
     let mut options = Options::new(1);
     options.cache_pages = 1;
     let mut lines = Vec::new(alloc);
-    if let Some(mut desk) = desk_in(alloc, files, options) {
+    if let Some(mut desk) = open_desk_in_files(alloc, files, options) {
         drop(run_batch(
             alloc,
             batch.as_bytes(),
             &mut lines,
-            &mut Still::first(),
+            &mut Still::at_first_moment(),
             &mut desk,
         ));
     }
@@ -69,11 +77,11 @@ fn is_booked(
 }
 
 // Returns the least number of calls of the database file that suffice for the sale of one share.
-fn calls_of_sale(alloc: Global, held: &Held, account: u64) -> Result<u64, Fail> {
+fn least_calls_of_sale(alloc: Global, held: &Held, account: u64) -> Result<u64, Fail> {
     let mut most = 0u64;
     for bit in [4_096, 2_048, 1_024, 512, 256, 128, 64, 32, 16, 8, 4, 2, 1] {
         let more = most.saturating_add(bit);
-        if !is_booked(alloc, held, account, 1, more)? {
+        if !sale_completes_within_calls(alloc, held, account, 1, more)? {
             most = more;
         }
     }
@@ -83,12 +91,21 @@ fn calls_of_sale(alloc: Global, held: &Held, account: u64) -> Result<u64, Fail> 
 // Checks that the sale of a share needs no more calls with 100 lots than with one, and that a sale
 // of 33 shares needs more.
 #[test]
-fn sells_a_share_of_many_lots_as_one_of_a_single_lot(rt: HostRuntime) -> Result<(), Fail> {
+fn calls_of_a_sale_do_not_grow_with_lots(rt: HostRuntime) -> Result<(), Fail> {
     let alloc = rt.alloc();
-    let held = files_of_lots(alloc)?;
-    let calls = calls_of_sale(alloc, &held, 101)?;
-    assert!(rt; is_booked(alloc, &held, 101, 1, calls)?, "{calls}");
-    assert!(rt; is_booked(alloc, &held, 100, 1, calls)?, "{calls}");
-    assert!(rt; !is_booked(alloc, &held, 100, 33, calls)?, "{calls}");
+    let held = files_with_hundred_lots(alloc)?;
+    let calls = least_calls_of_sale(alloc, &held, 101)?;
+    assert!(rt;
+        sale_completes_within_calls(alloc, &held, 101, 1, calls)?,
+        "{calls}"
+    );
+    assert!(rt;
+        sale_completes_within_calls(alloc, &held, 100, 1, calls)?,
+        "{calls}"
+    );
+    assert!(rt;
+        !sale_completes_within_calls(alloc, &held, 100, 33, calls)?,
+        "{calls}"
+    );
     Ok(())
 }

@@ -1,6 +1,6 @@
 //! Tests of the number of rows that a sale reads, on a position of forty lots of one share each.
 
-use crate::desks::{answer, set_desk};
+use crate::desks::{desk_with_reference_data, run_batch_at_desk};
 use crate::worked::FIRST_MOMENT;
 use brk_import::brk_desk::brk_store::Store;
 use brk_lots::close;
@@ -13,7 +13,7 @@ use std::test::Fail;
 const LOTS: u64 = 40;
 
 // Returns a batch of the orders and results of forty purchases of one share each.
-fn purchases(alloc: Global) -> Result<String, Fail> {
+fn purchases_of_one_share_each(alloc: Global) -> Result<String, Fail> {
     let mut batch = String::from_str(alloc, "batch,P\n")?;
     for n in 1..=LOTS {
         writeln!(batch, "order,100,TMB,ABC,1,,cash,fifo,Ann,Lee,T10")?;
@@ -24,10 +24,10 @@ fn purchases(alloc: Global) -> Result<String, Fail> {
 }
 
 // Returns a store whose account 100 has forty lots of one share each.
-fn store_of_lots(alloc: Global) -> Result<Store<MemStore>, Fail> {
-    let batch = purchases(alloc)?;
-    let mut desk = set_desk(alloc)?;
-    let (_, ended) = answer(alloc, &mut desk, batch.as_bytes());
+fn store_with_forty_lots(alloc: Global) -> Result<Store<MemStore>, Fail> {
+    let batch = purchases_of_one_share_each(alloc)?;
+    let mut desk = desk_with_reference_data(alloc)?;
+    let (_, ended) = run_batch_at_desk(alloc, &mut desk, batch.as_bytes());
     match ended {
         Ok(_) => Ok(desk.into_store()),
         Err(_) => Err("the purchases")?,
@@ -36,7 +36,7 @@ fn store_of_lots(alloc: Global) -> Result<Store<MemStore>, Fail> {
 
 // Closes lots of account 100 with a sale of this quantity. Returns the number of touched lots and
 // of rows read.
-fn sale(
+fn lots_touched_and_rows_read(
     alloc: Global,
     store: &mut Store<MemStore>,
     count: u32,
@@ -72,12 +72,12 @@ const SALES: [(u32, usize, u64); 5] = [
 
 // Checks that a sale reads only the pages of 16 rows that its lots are on, from both ends.
 #[test]
-fn reads_as_many_pages_as_it_needs(rt: HostRuntime) -> Result<(), Fail> {
+fn a_sale_reads_only_the_pages_it_needs(rt: HostRuntime) -> Result<(), Fail> {
     let alloc = rt.alloc();
-    let mut store = store_of_lots(alloc)?;
+    let mut store = store_with_forty_lots(alloc)?;
     for lifo in [false, true] {
         for (count, touched, read) in SALES {
-            let found = sale(alloc, &mut store, count, lifo)?;
+            let found = lots_touched_and_rows_read(alloc, &mut store, count, lifo)?;
             assert!(rt; found == (touched, read), "{count}");
         }
     }

@@ -63,7 +63,7 @@ pub struct Unread;
 
 // Appends the value of a cell; a null is an empty text. Fails for any value that is neither a whole
 // number nor UTF-8 text.
-fn add_value(lines: &mut String, value: ValueRef<'_>) -> Result<(), Unread> {
+fn append_cell(lines: &mut String, value: ValueRef<'_>) -> Result<(), Unread> {
     match value {
         ValueRef::Null => Ok(()),
         ValueRef::Int(number) => write!(lines, "{number}").map_err(|_| Unread),
@@ -76,19 +76,19 @@ fn add_value(lines: &mut String, value: ValueRef<'_>) -> Result<(), Unread> {
 }
 
 // Appends the line of a row: its values, separated by commas.
-fn add_row(lines: &mut String, row: &Row) -> Result<(), Unread> {
+fn append_row(lines: &mut String, row: &Row) -> Result<(), Unread> {
     for at in 0..row.column_count() {
         if at > 0 {
             lines.push_str(",").map_err(|_| Unread)?;
         }
         let value = row.get_ref(at).map_err(|_| Unread)?;
-        add_value(lines, value)?;
+        append_cell(lines, value)?;
     }
     lines.push_str("\n").map_err(|_| Unread)
 }
 
 // Appends the name of a table and its rows, sorted by their first two columns.
-fn add_table<S: Alter>(
+fn append_table<S: Alter>(
     alloc: Global,
     lines: &mut String,
     conn: &mut Connection<S>,
@@ -98,34 +98,37 @@ fn add_table<S: Alter>(
     let sql = format!(in alloc; "SELECT * FROM {table} ORDER BY 1, 2").map_err(|_| Unread)?;
     let rows = conn.query_all(sql.as_str(), &[]).map_err(|_| Unread)?;
     for row in &rows {
-        add_row(lines, row)?;
+        append_row(lines, row)?;
     }
     Ok(())
 }
 
 // Appends the names and the rows of these tables.
-fn add_tables<S: Alter>(
+fn append_tables<S: Alter>(
     alloc: Global,
     lines: &mut String,
     conn: &mut Connection<S>,
     tables: &[&str],
 ) -> Result<(), Unread> {
     for table in tables {
-        add_table(alloc, lines, conn, table)?;
+        append_table(alloc, lines, conn, table)?;
     }
     Ok(())
 }
 
 /// Returns the names and the rows of all tables.
-pub fn all_tables<S: Alter>(alloc: Global, conn: &mut Connection<S>) -> Result<String, Unread> {
+pub fn read_all_tables<S: Alter>(
+    alloc: Global,
+    conn: &mut Connection<S>,
+) -> Result<String, Unread> {
     let mut lines = String::new(alloc);
-    add_tables(alloc, &mut lines, conn, &REFERENCE)?;
-    add_tables(alloc, &mut lines, conn, &TRADING)?;
+    append_tables(alloc, &mut lines, conn, &REFERENCE)?;
+    append_tables(alloc, &mut lines, conn, &TRADING)?;
     Ok(lines)
 }
 
 // Checks the names and the rows of these tables.
-fn expect_rows(
+fn expect_rows_of_tables(
     alloc: Global,
     conn: &mut Connection<MemStore>,
     name: &str,
@@ -133,7 +136,7 @@ fn expect_rows(
     wanted: &str,
 ) -> Result<(), Fail> {
     let mut told = String::new(alloc);
-    add_tables(alloc, &mut told, conn, tables).map_err(|_| "tables that cannot be read")?;
+    append_tables(alloc, &mut told, conn, tables).map_err(|_| "tables that cannot be read")?;
     let mut at = 0u64;
     for (row, want) in told.lines().zip(wanted.lines()) {
         at = at.saturating_add(1);
@@ -149,13 +152,13 @@ fn expect_rows(
 
 /// Checks all tables of a store: the reference tables as after the batch `SET`, and the other
 /// tables as wanted.
-pub fn expect_tables(
+pub fn expect_all_tables(
     alloc: Global,
     store: Store<MemStore>,
     name: &str,
     wanted: &str,
 ) -> Result<(), Fail> {
     let mut conn = store.into_conn();
-    expect_rows(alloc, &mut conn, name, &REFERENCE, SET_TABLES)?;
-    expect_rows(alloc, &mut conn, name, &TRADING, wanted)
+    expect_rows_of_tables(alloc, &mut conn, name, &REFERENCE, SET_TABLES)?;
+    expect_rows_of_tables(alloc, &mut conn, name, &TRADING, wanted)
 }

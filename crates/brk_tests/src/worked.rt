@@ -89,7 +89,7 @@ pub const LAST_FIRST_LINES: [&str; 6] = [
 ];
 
 /// Returns the text of a batch T with these rows.
-pub fn batch_of(alloc: Global, rows: &[&str]) -> Result<String, Fail> {
+pub fn format_batch(alloc: Global, rows: &[&str]) -> Result<String, Fail> {
     let mut batch = String::from_str(alloc, "batch,T\n")?;
     for row in rows {
         writeln!(batch, "{row}")?;
@@ -100,7 +100,12 @@ pub fn batch_of(alloc: Global, rows: &[&str]) -> Result<String, Fail> {
 
 /// Appends a line for each reply: its number, counted from the given first one, the word, and the
 /// reply.
-pub fn add_lines(told: &mut String, first: u64, word: &str, lines: &[&str]) -> Result<(), Fail> {
+pub fn append_reply_lines(
+    told: &mut String,
+    first: u64,
+    word: &str,
+    lines: &[&str],
+) -> Result<(), Fail> {
     let mut number = first;
     for line in lines {
         writeln!(told, "{number},{word},{line}")?;
@@ -110,17 +115,17 @@ pub fn add_lines(told: &mut String, first: u64, word: &str, lines: &[&str]) -> R
 }
 
 /// Returns the lines of a batch with these replies if all its rows are accepted.
-pub fn accepted(alloc: Global, lines: &[&str]) -> Result<String, Fail> {
+pub fn lines_if_all_accepted(alloc: Global, lines: &[&str]) -> Result<String, Fail> {
     let mut told = String::new(alloc);
-    add_lines(&mut told, 1, "ok", lines)?;
+    append_reply_lines(&mut told, 1, "ok", lines)?;
     writeln!(told, "end,{},0,0", lines.len())?;
     Ok(told)
 }
 
 /// Returns the lines of a batch with these replies if all its rows were accepted before.
-pub fn repeated(alloc: Global, lines: &[&str]) -> Result<String, Fail> {
+pub fn lines_if_all_repeated(alloc: Global, lines: &[&str]) -> Result<String, Fail> {
     let mut told = String::new(alloc);
-    add_lines(&mut told, 1, "again", lines)?;
+    append_reply_lines(&mut told, 1, "again", lines)?;
     writeln!(told, "end,0,{},0", lines.len())?;
     Ok(told)
 }

@@ -3,11 +3,11 @@
 use crate::failed::Failed;
 use crate::folder;
 use brk_exit::end_with;
-use brk_jobs::run;
+use brk_jobs::execute_arguments;
 use std::alloc::{AllocError, Global};
 
 // Returns the command-line arguments of a command, split at spaces, the program's own name first.
-fn words_of(alloc: Global, text: &str) -> Result<Vec<String>, AllocError> {
+fn split_command_line(alloc: Global, text: &str) -> Result<Vec<String>, AllocError> {
     let mut words = Vec::new(alloc);
     words.push(String::from_str(alloc, "brk")?)?;
     for word in text.split(' ') {
@@ -18,7 +18,7 @@ fn words_of(alloc: Global, text: &str) -> Result<Vec<String>, AllocError> {
 
 // Appends the lines that were written to a stream, each after the mark of the stream. A last line
 // without a line feed ends in a backslash.
-fn add_lines(out: &mut String, mark: char, bytes: &[u8]) -> Result<(), Failed> {
+fn append_marked_lines(out: &mut String, mark: char, bytes: &[u8]) -> Result<(), Failed> {
     let text = str::from_utf8(bytes).unwrap_or("not UTF-8");
     for line in text.split_inclusive('\n') {
         match line.strip_suffix('\n') {
@@ -31,7 +31,7 @@ fn add_lines(out: &mut String, mark: char, bytes: &[u8]) -> Result<(), Failed> {
 
 // Runs the program with these arguments and this input, and appends its output, its errors and its
 // exit status.
-fn run_program(
+fn run_and_append_output(
     rt: &HostRuntime,
     out: &mut String,
     words: &str,
@@ -40,16 +40,16 @@ fn run_program(
     let alloc = rt.alloc();
     let mut printed = Vec::new(alloc);
     let mut errors = Vec::new(alloc);
-    let ending = run(rt, words_of(alloc, words)?, input, &mut printed);
+    let ending = execute_arguments(rt, split_command_line(alloc, words)?, input, &mut printed);
     let status = end_with(&ending, &mut errors);
-    add_lines(out, '>', &printed)?;
-    add_lines(out, '!', &errors)?;
+    append_marked_lines(out, '>', &printed)?;
+    append_marked_lines(out, '!', &errors)?;
     writeln!(out, "= {status}")?;
     Ok(())
 }
 
 // Changes a file without the program, and appends whether that succeeded.
-fn change(
+fn change_file_and_append(
     rt: &HostRuntime,
     out: &mut String,
     verb: &str,
@@ -57,10 +57,10 @@ fn change(
     input: &[u8],
 ) -> Result<(), Failed> {
     let done = match verb {
-        "write" => folder::write(rt, words, input),
-        "copy" => folder::copy(rt, words),
-        "cut" => folder::cut(rt, words),
-        "sql" => folder::execute(rt, words, input),
+        "write" => folder::write_file(rt, words, input),
+        "copy" => folder::copy_file(rt, words),
+        "cut" => folder::cut_file_in_half(rt, words),
+        "sql" => folder::execute_sql_in_file(rt, words, input),
         _ => false,
     };
     writeln!(out, "= {}", if done { "done" } else { "failed" })?;
@@ -68,7 +68,7 @@ fn change(
 }
 
 /// Executes a command with its input, and appends its output lines.
-pub fn execute(
+pub fn execute_transcript_command(
     rt: &HostRuntime,
     out: &mut String,
     command: &str,
@@ -76,7 +76,7 @@ pub fn execute(
 ) -> Result<(), Failed> {
     let (verb, words) = command.split_once(' ').unwrap_or((command, ""));
     match verb {
-        "$" => run_program(rt, out, words, input),
-        _ => change(rt, out, verb, words, input),
+        "$" => run_and_append_output(rt, out, words, input),
+        _ => change_file_and_append(rt, out, verb, words, input),
     }
 }

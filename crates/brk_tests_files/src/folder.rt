@@ -4,12 +4,12 @@ use sqlite::Connection;
 use std::fs;
 
 /// Writes these bytes as the file at a path. Returns true if that succeeds.
-pub fn write(rt: &HostRuntime, path: &str, bytes: &[u8]) -> bool {
+pub fn write_file(rt: &HostRuntime, path: &str, bytes: &[u8]) -> bool {
     fs::write(rt, path, bytes).is_ok()
 }
 
 /// Copies a file: `paths` has the two paths, separated by a space. Returns true if that succeeds.
-pub fn copy(rt: &HostRuntime, paths: &str) -> bool {
+pub fn copy_file(rt: &HostRuntime, paths: &str) -> bool {
     match paths.split_once(' ') {
         Some((from, to)) => fs::copy(rt, from, to).is_ok(),
         None => false,
@@ -17,15 +17,15 @@ pub fn copy(rt: &HostRuntime, paths: &str) -> bool {
 }
 
 /// Removes the second half of a file. Returns true if that succeeds.
-pub fn cut(rt: &HostRuntime, path: &str) -> bool {
+pub fn cut_file_in_half(rt: &HostRuntime, path: &str) -> bool {
     match fs::read(rt, path) {
-        Ok(whole) => write(rt, path, &whole[..whole.len() / 2]),
+        Ok(whole) => write_file(rt, path, &whole[..whole.len() / 2]),
         Err(_) => false,
     }
 }
 
 /// Executes an SQL statement on the database in a file. Returns true if that and closing succeed.
-pub fn execute(rt: &HostRuntime, path: &str, sql: &[u8]) -> bool {
+pub fn execute_sql_in_file(rt: &HostRuntime, path: &str, sql: &[u8]) -> bool {
     let Ok(sql) = str::from_utf8(sql) else {
         return false;
     };

@@ -1,6 +1,6 @@
 //! The replay of a transcript over files, line by line.
 
-use crate::commands::execute;
+use crate::commands::execute_transcript_command;
 use crate::failed::Failed;
 use std::alloc::{AllocError, Global};
 
@@ -12,20 +12,24 @@ struct Due<'a> {
 }
 
 // Executes the pending command, if there is one, and appends its output lines.
-fn settle(rt: &HostRuntime, out: &mut String, due: Option<Due<'_>>) -> Result<(), Failed> {
+fn execute_due_command(
+    rt: &HostRuntime,
+    out: &mut String,
+    due: Option<Due<'_>>,
+) -> Result<(), Failed> {
     match due {
-        Some(due) => execute(rt, out, due.command, &due.input),
+        Some(due) => execute_transcript_command(rt, out, due.command, &due.input),
         None => Ok(()),
     }
 }
 
 // Returns true if a line is an output line.
-fn is_output(line: &str) -> bool {
+fn is_output_line(line: &str) -> bool {
     line.starts_with("> ") || line.starts_with("! ") || line.starts_with("= ")
 }
 
 // Returns the command that a line begins, or `None` if it is a comment or empty.
-fn begun(alloc: Global, line: &str) -> Option<Due<'_>> {
+fn command_of_line(alloc: Global, line: &str) -> Option<Due<'_>> {
     if line.is_empty() || line.starts_with('#') {
         return None;
     }
@@ -36,7 +40,7 @@ fn begun(alloc: Global, line: &str) -> Option<Due<'_>> {
 }
 
 // Adds an input line to the pending command, if there is one.
-fn with_input<'a>(due: Option<Due<'a>>, text: &str) -> Result<Option<Due<'a>>, AllocError> {
+fn add_input_to_due<'a>(due: Option<Due<'a>>, text: &str) -> Result<Option<Due<'a>>, AllocError> {
     let Some(mut due) = due else {
         return Ok(None);
     };
@@ -46,7 +50,7 @@ fn with_input<'a>(due: Option<Due<'a>>, text: &str) -> Result<Option<Due<'a>>, A
 }
 
 // Processes a line that is no output line, and returns the command that is pending after it.
-fn take<'a>(
+fn process_transcript_line<'a>(
     rt: &HostRuntime,
     out: &mut String,
     due: Option<Due<'a>>,
@@ -55,26 +59,26 @@ fn take<'a>(
     match line.strip_prefix("| ") {
         Some(text) => {
             writeln!(out, "{line}")?;
-            Ok(with_input(due, text)?)
+            Ok(add_input_to_due(due, text)?)
         }
         None => {
-            settle(rt, out, due)?;
+            execute_due_command(rt, out, due)?;
             writeln!(out, "{line}")?;
-            Ok(begun(rt.alloc(), line))
+            Ok(command_of_line(rt.alloc(), line))
         }
     }
 }
 
 /// Returns the transcript with the output lines that its commands have now in place of the old
 /// ones.
-pub fn replayed(rt: &HostRuntime, text: &str) -> Result<String, Failed> {
+pub fn replay_file_transcript(rt: &HostRuntime, text: &str) -> Result<String, Failed> {
     let mut out = String::new(rt.alloc());
     let mut due = None;
     for line in text.strip_suffix('\n').unwrap_or(text).split('\n') {
-        if !is_output(line) {
-            due = take(rt, &mut out, due, line)?;
+        if !is_output_line(line) {
+            due = process_transcript_line(rt, &mut out, due, line)?;
         }
     }
-    settle(rt, &mut out, due)?;
+    execute_due_command(rt, &mut out, due)?;
     Ok(out)
 }

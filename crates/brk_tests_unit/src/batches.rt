@@ -156,7 +156,7 @@ struct Long {
 
 impl Long {
     // Returns the byte at position `at`.
-    fn byte(&self, at: u64) -> u8 {
+    fn byte_at_position(&self, at: u64) -> u8 {
         let header = b"batch,A\n";
         if at < 8 {
             return header[at as usize];
@@ -179,7 +179,7 @@ impl Read for Long {
         }
         let mut at = self.at;
         for place in buf.iter_mut() {
-            *place = self.byte(at);
+            *place = self.byte_at_position(at);
             at = at.saturating_add(1);
         }
         let n = buf.len().min(MOST_BYTES.saturating_sub(self.at) as usize);
@@ -216,7 +216,7 @@ impl Write for Choppy {
 }
 
 // Runs a batch on a new test desk at timestamp 7. Returns the result and the output.
-fn ran<R: Read + Drop>(
+fn run_batch_on_new_desk<R: Read + Drop>(
     alloc: Global,
     reader: R,
 ) -> Result<(Result<Counts, BatchFault>, Vec<u8>), Fail> {
@@ -230,7 +230,7 @@ fn ran<R: Read + Drop>(
 }
 
 // Returns the result of a batch that failed with this fault after `rows` decided rows.
-fn fault(rows: u64, kind: FaultKind) -> Result<Counts, BatchFault> {
+fn batch_fault_result(rows: u64, kind: FaultKind) -> Result<Counts, BatchFault> {
     Err(BatchFault { rows, kind })
 }
 
@@ -241,8 +241,8 @@ const LINES: &[u8] = b"1,ok,7\n2,again,5,CNCL\n3,no,14,accounts\n4,no,18\n5,no,8
 
 // Checks the lines of a batch with every kind of answer, read at once and byte by byte.
 #[test]
-fn a_batch_is_answered_line_by_line(rt: HostRuntime) -> Result<(), Fail> {
-    let (done, out) = ran(rt.alloc(), WHOLE)?;
+fn each_row_of_a_batch_gets_a_line(rt: HostRuntime) -> Result<(), Fail> {
+    let (done, out) = run_batch_on_new_desk(rt.alloc(), WHOLE)?;
     assert!(rt;
         done == Ok(Counts {
             ok: 1,
@@ -257,7 +257,7 @@ fn a_batch_is_answered_line_by_line(rt: HostRuntime) -> Result<(), Fail> {
         cut: usize::MAX,
         kind: io::ErrorKind::Other,
     };
-    let (done, out) = ran(rt.alloc(), slow)?;
+    let (done, out) = run_batch_on_new_desk(rt.alloc(), slow)?;
     assert!(rt; done.is_ok());
     assert!(rt; out.as_slice() == LINES);
     Ok(())
@@ -265,8 +265,8 @@ fn a_batch_is_answered_line_by_line(rt: HostRuntime) -> Result<(), Fail> {
 
 // Checks that a batch without rows gets the end line alone.
 #[test]
-fn a_batch_of_no_rows_has_its_last_line(rt: HostRuntime) -> Result<(), Fail> {
-    let (done, out) = ran(rt.alloc(), b"batch,Z\nend,0".as_slice())?;
+fn an_empty_batch_gets_an_end_line(rt: HostRuntime) -> Result<(), Fail> {
+    let (done, out) = run_batch_on_new_desk(rt.alloc(), b"batch,Z\nend,0".as_slice())?;
     assert!(rt;
         done == Ok(Counts {
             ok: 0,
@@ -280,20 +280,20 @@ fn a_batch_of_no_rows_has_its_last_line(rt: HostRuntime) -> Result<(), Fail> {
 
 // Checks that a row without a record after it is refused and not executed.
 #[test]
-fn the_last_row_of_a_cut_input_does_not_act(rt: HostRuntime) -> Result<(), Fail> {
+fn the_last_row_of_a_cut_input_is_refused(rt: HostRuntime) -> Result<(), Fail> {
     let cut = b"batch,C\nbroker,2,Cy\nbroker,3\nbroker,4,D".as_slice();
-    let (done, out) = ran(rt.alloc(), cut)?;
-    assert!(rt; done == fault(3, FaultKind::NoEnd));
+    let (done, out) = run_batch_on_new_desk(rt.alloc(), cut)?;
+    assert!(rt; done == batch_fault_result(3, FaultKind::NoEnd));
     assert!(rt; out.as_slice() == b"1,ok,7\n2,no,18\n3,no,18\n".as_slice());
-    let (done, out) = ran(rt.alloc(), b"batch,C\n".as_slice())?;
-    assert!(rt; done == fault(0, FaultKind::NoEnd));
+    let (done, out) = run_batch_on_new_desk(rt.alloc(), b"batch,C\n".as_slice())?;
+    assert!(rt; done == batch_fault_result(0, FaultKind::NoEnd));
     assert!(rt; out.is_empty());
     Ok(())
 }
 
 // Checks that a batch without a correct header fails with `BadHeader` and writes nothing.
 #[test]
-fn what_is_no_header_is_refused(rt: HostRuntime) -> Result<(), Fail> {
+fn a_batch_with_a_wrong_header_is_refused(rt: HostRuntime) -> Result<(), Fail> {
     let bad: [&[u8]; 13] = [
         b"",
         b"\n\r\n",
@@ -310,8 +310,8 @@ fn what_is_no_header_is_refused(rt: HostRuntime) -> Result<(), Fail> {
         b"batch,12345678901234567890123456789012345678901\nend,0\n",
     ];
     for text in bad {
-        let (done, out) = ran(rt.alloc(), text)?;
-        assert!(rt; done == fault(0, FaultKind::BadHeader));
+        let (done, out) = run_batch_on_new_desk(rt.alloc(), text)?;
+        assert!(rt; done == batch_fault_result(0, FaultKind::BadHeader));
         assert!(rt; out.is_empty());
     }
     let good: [&[u8]; 2] = [
@@ -319,7 +319,7 @@ fn what_is_no_header_is_refused(rt: HostRuntime) -> Result<(), Fail> {
         b"batch,1234567890123456789012345678901234567890\nend,0\n",
     ];
     for text in good {
-        let (done, _) = ran(rt.alloc(), text)?;
+        let (done, _) = run_batch_on_new_desk(rt.alloc(), text)?;
         assert!(rt; done.is_ok());
     }
     Ok(())
@@ -327,7 +327,7 @@ fn what_is_no_header_is_refused(rt: HostRuntime) -> Result<(), Fail> {
 
 // Checks that a wrong end record fails with `BadEnd`, after the lines of the rows.
 #[test]
-fn a_wrong_end_is_told_after_the_lines(rt: HostRuntime) -> Result<(), Fail> {
+fn a_wrong_end_record_is_a_fault(rt: HostRuntime) -> Result<(), Fail> {
     let bad: [&[u8]; 5] = [
         b"batch,A\nput,1,2\nend,01\n",
         b"batch,A\nput,1,2\nend,1,\n",
@@ -336,8 +336,8 @@ fn a_wrong_end_is_told_after_the_lines(rt: HostRuntime) -> Result<(), Fail> {
         b"batch,A\nput,1,2\nend,",
     ];
     for text in bad {
-        let (done, out) = ran(rt.alloc(), text)?;
-        assert!(rt; done == fault(1, FaultKind::BadEnd));
+        let (done, out) = run_batch_on_new_desk(rt.alloc(), text)?;
+        assert!(rt; done == batch_fault_result(1, FaultKind::BadEnd));
         assert!(rt; out.as_slice() == b"1,ok,7\n".as_slice());
     }
     Ok(())
@@ -345,7 +345,7 @@ fn a_wrong_end_is_told_after_the_lines(rt: HostRuntime) -> Result<(), Fail> {
 
 // Checks the decided rows and the lines if the reader fails at several positions.
 #[test]
-fn a_read_that_fails_ends_it(rt: HostRuntime) -> Result<(), Fail> {
+fn a_failed_read_ends_the_batch(rt: HostRuntime) -> Result<(), Fail> {
     let text = b"batch,A\nput,1,2\nput,3,4\nend,2\n".as_slice();
     let cuts: [(usize, u64, &[u8], io::ErrorKind); 5] = [
         (0, 0, b"", io::ErrorKind::Other),
@@ -361,8 +361,8 @@ fn a_read_that_fails_ends_it(rt: HostRuntime) -> Result<(), Fail> {
             cut,
             kind,
         };
-        let (done, out) = ran(rt.alloc(), reader)?;
-        assert!(rt; done == fault(rows, FaultKind::Read));
+        let (done, out) = run_batch_on_new_desk(rt.alloc(), reader)?;
+        assert!(rt; done == batch_fault_result(rows, FaultKind::Read));
         assert!(rt; out.as_slice() == lines);
     }
     Ok(())
@@ -370,7 +370,7 @@ fn a_read_that_fails_ends_it(rt: HostRuntime) -> Result<(), Fail> {
 
 // Checks the decided rows and the lines if the writer fails at several positions.
 #[test]
-fn a_write_that_fails_ends_it(rt: HostRuntime) -> Result<(), Fail> {
+fn a_failed_write_ends_the_batch(rt: HostRuntime) -> Result<(), Fail> {
     let cuts: [(usize, u64, Option<io::ErrorKind>); 6] = [
         (0, 1, None),
         (3, 1, Some(io::ErrorKind::Interrupted)),
@@ -396,7 +396,7 @@ fn a_write_that_fails_ends_it(rt: HostRuntime) -> Result<(), Fail> {
             &mut clock,
             &mut desk,
         );
-        assert!(rt; done == fault(rows, FaultKind::Write));
+        assert!(rt; done == batch_fault_result(rows, FaultKind::Write));
         assert!(rt; Some(out.got.as_slice()) == LINES.get(..most));
     }
     Ok(())
@@ -405,26 +405,26 @@ fn a_write_that_fails_ends_it(rt: HostRuntime) -> Result<(), Fail> {
 // Checks that a fault of the desk, in a call or in parsing, ends the batch after the lines of the
 // rows before.
 #[test]
-fn a_fault_of_the_desk_ends_it(rt: HostRuntime) -> Result<(), Fail> {
+fn a_fault_of_the_desk_ends_the_batch(rt: HostRuntime) -> Result<(), Fail> {
     let called = b"batch,A\nput,1,2\nbreak,,,,,\nput,3,4\nend,3\n".as_slice();
-    let (done, out) = ran(rt.alloc(), called)?;
-    assert!(rt; done == fault(1, FaultKind::Desk(Fault::Store)));
+    let (done, out) = run_batch_on_new_desk(rt.alloc(), called)?;
+    assert!(rt; done == batch_fault_result(1, FaultKind::Desk(Fault::Store)));
     assert!(rt; out.as_slice() == b"1,ok,7\n".as_slice());
     let parsed = b"batch,A\nput,1,2\nparse,,,,,,,,\nend,2\n".as_slice();
-    let (done, out) = ran(rt.alloc(), parsed)?;
-    assert!(rt; done == fault(1, FaultKind::Desk(Fault::Memory)));
+    let (done, out) = run_batch_on_new_desk(rt.alloc(), parsed)?;
+    assert!(rt; done == batch_fault_result(1, FaultKind::Desk(Fault::Memory)));
     assert!(rt; out.as_slice() == b"1,ok,7\n".as_slice());
     Ok(())
 }
 
 // Checks that no byte beyond the limit of an input is read.
 #[test]
-fn only_the_first_bytes_are_read(rt: HostRuntime) -> Result<(), Fail> {
+fn input_beyond_the_limit_is_not_read(rt: HostRuntime) -> Result<(), Fail> {
     let whole = Long {
         at: 0,
         tail: b"put,1,2\nend,1",
     };
-    let (done, out) = ran(rt.alloc(), whole)?;
+    let (done, out) = run_batch_on_new_desk(rt.alloc(), whole)?;
     assert!(rt; done.is_ok());
     assert!(rt; out.as_slice() == b"1,ok,7\nend,1,0,0\n".as_slice());
     Ok(())

@@ -26,7 +26,7 @@ const PAST: i64 = 1_709_251_200_000;
 
 // Checks that a clock with a fixed timestamp returns it at every reading.
 #[test]
-fn a_given_timestamp_is_every_reading(rt: HostRuntime) {
+fn a_fixed_clock_returns_its_timestamp(rt: HostRuntime) {
     let mut clock = Moments::new(&rt, Some(Stamp::nearest(PAST)));
     assert_eq!(rt; clock.now().get(), PAST);
     assert_eq!(rt; clock.now().get(), PAST);
@@ -34,7 +34,7 @@ fn a_given_timestamp_is_every_reading(rt: HostRuntime) {
 
 // Checks that a reading of the machine's clock drops the part below a millisecond.
 #[test]
-fn a_reading_is_the_time_in_whole_milliseconds(rt: HostRuntime) {
+fn clock_readings_are_whole_milliseconds(rt: HostRuntime) {
     let machine = Stopped(Some(Duration::new(1_709_251_200, 123_999_999)));
     let mut clock = Moments::new(&machine, None);
     assert_eq!(rt; clock.now().get(), PAST + 123);
@@ -44,7 +44,7 @@ fn a_reading_is_the_time_in_whole_milliseconds(rt: HostRuntime) {
 // Checks that a time after the last stamp is read as the last stamp. 10000-01-01 00:00 UTC is in
 // second 253_402_300_800.
 #[test]
-fn a_late_reading_is_the_last_stamp(rt: HostRuntime) {
+fn clock_readings_end_at_the_last_stamp(rt: HostRuntime) {
     let last = Stopped(Some(Duration::new(253_402_300_799, 999_000_000)));
     assert_eq!(rt; Moments::new(&last, None).now().get(), Stamp::GREATEST);
     let late = Stopped(Some(Duration::from_secs(253_402_300_800)));
@@ -53,7 +53,7 @@ fn a_late_reading_is_the_last_stamp(rt: HostRuntime) {
 
 // Checks that the reading is 0 if the machine's clock cannot be read.
 #[test]
-fn a_clock_that_cannot_be_read_gives_zero(rt: HostRuntime) {
+fn an_unreadable_clock_reads_as_zero(rt: HostRuntime) {
     let machine = Stopped(None);
     assert_eq!(rt; Moments::new(&machine, None).now().get(), 0);
 }

@@ -11,12 +11,12 @@ use std::process::Abort;
 use std::test::Fail;
 
 // Returns the ending of a batch that failed with this fault.
-fn batch(kind: FaultKind) -> Ending {
+fn ending_of_batch_fault(kind: FaultKind) -> Ending {
     Ending::Batch(BatchFault { rows: 3, kind })
 }
 
 // Checks the exit status of an ending and the text that it writes.
-fn expect_ending(rt: &impl Abort, alloc: Global, ending: &Ending, status: u8, text: &str) {
+fn expect_status_and_line(rt: &impl Abort, alloc: Global, ending: &Ending, status: u8, text: &str) {
     let mut errors = Vec::new(alloc);
     assert!(rt; end_with(ending, &mut errors) == status, "{text}");
     assert!(rt; errors.as_slice() == text.as_bytes(), "{text}");
@@ -34,24 +34,24 @@ const BATCHES: [(FaultKind, u8, &str); 7] = [
 
 // Checks the exit status and the line of each fault of a batch.
 #[test]
-fn tells_how_a_batch_ended(rt: HostRuntime) {
+fn exit_status_and_line_of_batch_faults(rt: HostRuntime) {
     for (kind, status, text) in BATCHES {
-        expect_ending(&rt, rt.alloc(), &batch(kind), status, text);
+        expect_status_and_line(&rt, rt.alloc(), &ending_of_batch_fault(kind), status, text);
     }
 }
 
 // Checks the exit status and the line of refusals and faults of a statement.
 #[test]
-fn tells_how_a_statement_ended(rt: HostRuntime) {
+fn exit_status_and_line_of_report_faults(rt: HostRuntime) {
     let alloc = rt.alloc();
     let stranger = Ending::Report(ReportFault::Refused(Refusal::NoAccount));
-    expect_ending(&rt, alloc, &stranger, 1, "brk: refused: 1\n");
+    expect_status_and_line(&rt, alloc, &stranger, 1, "brk: refused: 1\n");
     let days = Ending::Report(ReportFault::Refused(Refusal::BadText));
-    expect_ending(&rt, alloc, &days, 1, "brk: refused: 18\n");
+    expect_status_and_line(&rt, alloc, &days, 1, "brk: refused: 18\n");
     let store = Ending::Report(ReportFault::Desk(Fault::Store));
-    expect_ending(&rt, alloc, &store, 3, "brk: fault: store\n");
+    expect_status_and_line(&rt, alloc, &store, 3, "brk: fault: store\n");
     let writer = Ending::Report(ReportFault::Write);
-    expect_ending(&rt, alloc, &writer, 3, "brk: fault: write\n");
+    expect_status_and_line(&rt, alloc, &writer, 3, "brk: fault: write\n");
 }
 
 const OPENS: [(Fault, u8, &str); 3] = [
@@ -66,38 +66,38 @@ const OPENS: [(Fault, u8, &str); 3] = [
 
 // Checks the exit status and the line of each fault of opening a desk.
 #[test]
-fn tells_why_a_desk_is_not_opened(rt: HostRuntime) {
+fn exit_status_and_line_of_open_faults(rt: HostRuntime) {
     for (fault, status, text) in OPENS {
-        expect_ending(&rt, rt.alloc(), &Ending::Open(fault), status, text);
+        expect_status_and_line(&rt, rt.alloc(), &Ending::Open(fault), status, text);
     }
 }
 
 // Checks the exit status and the text of each usage fault.
 #[test]
-fn tells_what_words_ask_for_no_job(rt: HostRuntime) -> Result<(), Fail> {
+fn exit_status_and_line_of_usage_faults(rt: HostRuntime) -> Result<(), Fail> {
     let alloc = rt.alloc();
     let words = Ending::Usage(UsageFault::Words(String::from_str(alloc, "error: no\n")?));
-    expect_ending(&rt, alloc, &words, 2, "error: no\n");
+    expect_status_and_line(&rt, alloc, &words, 2, "error: no\n");
     let help = Ending::Usage(UsageFault::Help(String::from_str(alloc, "help\n")?));
-    expect_ending(&rt, alloc, &help, 0, "");
+    expect_status_and_line(&rt, alloc, &help, 0, "");
     let day = Ending::Usage(UsageFault::Day);
-    expect_ending(&rt, alloc, &day, 2, "brk: usage: day\n");
+    expect_status_and_line(&rt, alloc, &day, 2, "brk: usage: day\n");
     let memory = Ending::Usage(UsageFault::Memory);
-    expect_ending(&rt, alloc, &memory, 3, "brk: fault: memory\n");
+    expect_status_and_line(&rt, alloc, &memory, 3, "brk: fault: memory\n");
     Ok(())
 }
 
 // Checks the exit status and the line of the remaining endings.
 #[test]
-fn tells_the_other_endings(rt: HostRuntime) {
+fn exit_status_and_line_of_other_endings(rt: HostRuntime) {
     let unserved = ServeFault {
         done: 2,
         kind: StreamFault::Memory,
     };
-    expect_ending(&rt, rt.alloc(), &Ending::Done, 0, "");
-    expect_ending(&rt, rt.alloc(), &Ending::Output, 3, "brk: fault: write\n");
-    expect_ending(&rt, rt.alloc(), &Ending::Net, 3, "brk: fault: net\n");
-    expect_ending(
+    expect_status_and_line(&rt, rt.alloc(), &Ending::Done, 0, "");
+    expect_status_and_line(&rt, rt.alloc(), &Ending::Output, 3, "brk: fault: write\n");
+    expect_status_and_line(&rt, rt.alloc(), &Ending::Net, 3, "brk: fault: net\n");
+    expect_status_and_line(
         &rt,
         rt.alloc(),
         &Ending::Serve(unserved),
@@ -122,7 +122,10 @@ impl Write for Closed {
 
 // Checks that the exit status does not depend on a failed write of the line.
 #[test]
-fn answers_its_status_to_a_closed_stream(rt: HostRuntime) {
-    assert_eq!(rt; end_with(&batch(FaultKind::NoEnd), &mut Closed), 1);
+fn exit_status_with_a_closed_error_stream(rt: HostRuntime) {
+    assert_eq!(rt;
+        end_with(&ending_of_batch_fault(FaultKind::NoEnd), &mut Closed),
+        1
+    );
     assert_eq!(rt; end_with(&Ending::Done, &mut Closed), 0);
 }

@@ -1,4 +1,4 @@
-use crate::told::told_plan;
+use crate::told::format_planned_reply;
 use brk_money::{Cents, Day, Id, MoveId, Stamp};
 use brk_orders::{Direction, Movement};
 use brk_ref::MovedAmount;
@@ -18,7 +18,7 @@ struct Case {
 }
 
 // Returns the facts that the tables hold for the movement of a case.
-fn found(case: Case) -> Result<MoveFound, Fail> {
+fn movement_facts(case: Case) -> Result<MoveFound, Fail> {
     let balance = match case.balance {
         Some(balance) => Some(Cents::new(balance).ok_or("balance")?),
         None => None,
@@ -31,24 +31,29 @@ fn found(case: Case) -> Result<MoveFound, Fail> {
 }
 
 // Checks the reply to the movement of a case, at the stamp after @21.
-fn expect_move(rt: &impl Abort, alloc: Global, case: Case, wanted: &str) -> Result<(), Fail> {
+fn expect_movement_reply(
+    rt: &impl Abort,
+    alloc: Global,
+    case: Case,
+    wanted: &str,
+) -> Result<(), Fail> {
     let movement = Movement {
         direction: case.direction,
         account: Id::new(100).ok_or("account")?,
         amount: MovedAmount::new(case.cents).ok_or("amount")?,
     };
-    let found = found(case)?;
+    let found = movement_facts(case)?;
     let last = Stamp::new(1_709_251_200_021);
     let now = Stamp::nearest(1_709_251_200_000);
     let planned = plan_move(alloc, &movement, &found, last, now)?;
-    let told = told_plan(alloc, planned)?;
+    let told = format_planned_reply(alloc, planned)?;
     assert_eq!(rt; told.as_str(), wanted);
     Ok(())
 }
 
 // Checks the replies to movements, with number and balance, and their refusals.
 #[test]
-fn movements_with_their_numbers_and_balances(rt: HostRuntime) -> Result<(), Fail> {
+fn movement_replies_and_refusals(rt: HostRuntime) -> Result<(), Fail> {
     let alloc = rt.alloc();
     let deposit = Case {
         direction: Direction::Deposit,
@@ -83,14 +88,14 @@ fn movements_with_their_numbers_and_balances(rt: HostRuntime) -> Result<(), Fail
         (unknown, "no,1"),
         (full, "no,14,moves"),
     ] {
-        expect_move(&rt, alloc, case, wanted)?;
+        expect_movement_reply(&rt, alloc, case, wanted)?;
     }
     Ok(())
 }
 
 // Checks the reply to a settlement day at the first midnight of 2024-03-01, on a desk that has the
 // settlement day `rule` or none.
-fn expect_day(
+fn expect_settlement_day_reply(
     rt: &impl Abort,
     alloc: Global,
     days: i32,
@@ -105,21 +110,21 @@ fn expect_day(
     let last = Stamp::new(1_709_251_200_015);
     let now = Stamp::nearest(1_709_251_200_000);
     let planned = plan_oneday(alloc, day, set, last, now)?;
-    let told = told_plan(alloc, planned)?;
+    let told = format_planned_reply(alloc, planned)?;
     assert_eq!(rt; told.as_str(), wanted);
     Ok(())
 }
 
 // Checks that a settlement day is accepted only after the day of its stamp, and only once.
 #[test]
-fn a_settlement_day_after_that_of_its_stamp(rt: HostRuntime) -> Result<(), Fail> {
+fn a_settlement_day_must_be_in_the_future(rt: HostRuntime) -> Result<(), Fail> {
     let alloc = rt.alloc();
     for (days, rule, wanted) in [
         (19_783, None, "no,22"),
         (19_784, None, "1709251200016"),
         (19_783, Some(19_784), "no,15"),
     ] {
-        expect_day(&rt, alloc, days, rule, wanted)?;
+        expect_settlement_day_reply(&rt, alloc, days, rule, wanted)?;
     }
     Ok(())
 }

@@ -1,18 +1,18 @@
 //! Plans at limits that no desk of the tests reaches: the greatest volume and the last number of a
 //! trade. Also which price triggers which type of order.
 
-use crate::told::told_plan;
+use crate::told::format_planned_reply;
 use brk_lots::Position;
 use brk_money::{Id, Price, Rate, Stamp, TaxRate, TaxStatus, TradeType, Wide};
 use brk_orders::{check_feed, check_order};
 use brk_ref::{ChargeAmount, LastTrade, Symbol, Volume};
-use brk_trade::{OrderAccount, OrderFound, Quote, plan_feed, plan_order, triggers};
+use brk_trade::{OrderAccount, OrderFound, Quote, plan_feed, plan_order, price_triggers_trade};
 use std::alloc::Global;
 use std::process::Abort;
 use std::test::Fail;
 
 // Returns the quote of ABC, of which 100 more shares may be traded until the volume limit.
-fn quotes(alloc: Global) -> Result<Vec<Quote>, Fail> {
+fn quote_with_100_shares_left(alloc: Global) -> Result<Vec<Quote>, Fail> {
     let price = Price::new(1_000).ok_or("price")?;
     let volume = Volume::new(99_999_999_999_999_900).ok_or("volume")?;
     let last = LastTrade {
@@ -26,14 +26,14 @@ fn quotes(alloc: Global) -> Result<Vec<Quote>, Fail> {
 }
 
 // Returns the reply to a feed of these ticks, or its refusal.
-fn feed_told(alloc: Global, ticks: &[&[u8]]) -> Result<String, Fail> {
+fn reply_to_feed(alloc: Global, ticks: &[&[u8]]) -> Result<String, Fail> {
     let now = Stamp::nearest(1_709_251_200_019);
-    let quotes = quotes(alloc)?;
+    let quotes = quote_with_100_shares_left(alloc)?;
     let planned = match check_feed(alloc, ticks)? {
         Ok(feed) => plan_feed(alloc, &feed, quotes, None, now),
         Err(_) => return Err("a feed")?,
     };
-    Ok(told_plan(alloc, planned?)?)
+    Ok(format_planned_reply(alloc, planned?)?)
 }
 
 // The fields of a feed, and the reply to it.
@@ -49,9 +49,9 @@ const FEEDS: [(&[&[u8]], &str); 4] = [
 
 // Checks that a feed whose ticks exceed the volume limit is refused with `volume`.
 #[test]
-fn a_volume_ends_at_its_limit(rt: HostRuntime) -> Result<(), Fail> {
+fn a_feed_beyond_volume_limit_is_refused(rt: HostRuntime) -> Result<(), Fail> {
     for (ticks, wanted) in FEEDS {
-        let told = feed_told(rt.alloc(), ticks)?;
+        let told = reply_to_feed(rt.alloc(), ticks)?;
         assert!(rt; told.as_str() == wanted, "{wanted}: {told}");
     }
     Ok(())
@@ -59,7 +59,7 @@ fn a_volume_ends_at_its_limit(rt: HostRuntime) -> Result<(), Fail> {
 
 // Returns the facts for a purchase while ABC is at 10.00, after `trades` trades: a commission rate
 // of one percent and a charge of 5.00.
-fn found(trades: u64) -> Result<OrderFound, Fail> {
+fn purchase_facts(trades: u64) -> Result<OrderFound, Fail> {
     let broker = Id::new(1).ok_or("broker")?;
     let rates = TaxRate::new(20_000).ok_or("rates")?;
     let account = OrderAccount {
@@ -84,7 +84,7 @@ const PURCHASE: [&[u8]; 10] = [
 ];
 
 // Returns the reply to a purchase with these facts, or its refusal.
-fn purchase_told(alloc: Global, found: &OrderFound) -> Result<String, Fail> {
+fn reply_to_purchase(alloc: Global, found: &OrderFound) -> Result<String, Fail> {
     let order = match check_order(alloc, &PURCHASE)? {
         Ok(order) => order,
         Err(_) => return Err("an order")?,
@@ -93,29 +93,34 @@ fn purchase_told(alloc: Global, found: &OrderFound) -> Result<String, Fail> {
     let mut end = position.from_end(false);
     let now = Stamp::nearest(1_709_251_200_020);
     let planned = plan_order(alloc, &order, found, &mut end, None, now)?;
-    Ok(told_plan(alloc, planned)?)
+    Ok(format_planned_reply(alloc, planned)?)
 }
 
 // Checks the reply to a purchase after `trades` trades.
-fn expect_purchase(rt: &impl Abort, alloc: Global, trades: u64, wanted: &str) -> Result<(), Fail> {
-    let found = found(trades)?;
-    let told = purchase_told(alloc, &found)?;
+fn expect_purchase_reply(
+    rt: &impl Abort,
+    alloc: Global,
+    trades: u64,
+    wanted: &str,
+) -> Result<(), Fail> {
+    let found = purchase_facts(trades)?;
+    let told = reply_to_purchase(alloc, &found)?;
     assert!(rt; told.as_str() == wanted, "{trades}: {told}");
     Ok(())
 }
 
 // Checks that no order is accepted after the last number of a trade.
 #[test]
-fn trades_end_at_their_limit(rt: HostRuntime) -> Result<(), Fail> {
+fn an_order_beyond_last_trade_is_refused(rt: HostRuntime) -> Result<(), Fail> {
     let alloc = rt.alloc();
     let last = "1709251200020,1000000000000,SBMT,10.00,0.00,0.00,0.00,10.00,5.00,10000.00";
-    expect_purchase(&rt, alloc, 999_999_999_999, last)?;
-    expect_purchase(&rt, alloc, 1_000_000_000_000, "no,14,trades")
+    expect_purchase_reply(&rt, alloc, 999_999_999_999, last)?;
+    expect_purchase_reply(&rt, alloc, 1_000_000_000_000, "no,14,trades")
 }
 
 // Checks, for each type of order, whether a price below, at and above its bid triggers it.
 #[test]
-fn a_price_triggers_what_waits_for_it(rt: HostRuntime) -> Result<(), Fail> {
+fn prices_trigger_pending_trades(rt: HostRuntime) -> Result<(), Fail> {
     let below = Price::new(999).ok_or("price")?;
     let bid = Price::new(1_000).ok_or("bid")?;
     let above = Price::new(1_001).ok_or("price")?;
@@ -127,9 +132,18 @@ fn a_price_triggers_what_waits_for_it(rt: HostRuntime) -> Result<(), Fail> {
         (TradeType::MarketSell, false, false, false),
     ] {
         let code = kind.code();
-        assert!(rt; triggers(kind, bid, below) == is_below, "{code} below");
-        assert!(rt; triggers(kind, bid, bid) == is_at, "{code} at its bid");
-        assert!(rt; triggers(kind, bid, above) == is_above, "{code} above");
+        assert!(rt;
+            price_triggers_trade(kind, bid, below) == is_below,
+            "{code} below"
+        );
+        assert!(rt;
+            price_triggers_trade(kind, bid, bid) == is_at,
+            "{code} at its bid"
+        );
+        assert!(rt;
+            price_triggers_trade(kind, bid, above) == is_above,
+            "{code} above"
+        );
     }
     Ok(())
 }

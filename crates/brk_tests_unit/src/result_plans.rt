@@ -1,4 +1,4 @@
-use crate::told::told_plan;
+use crate::told::format_planned_reply;
 use brk_lots::Position;
 use brk_money::{
     Cents, Id, MoveId, Price, Qty, Rate, Stamp, Status, TaxRate, TaxStatus, TradeType,
@@ -27,7 +27,7 @@ struct Case {
 
 // Returns the case of a cash purchase of 100 shares at a balance of 10000.00, with a commission
 // rate of one percent.
-fn purchase() -> Case {
+fn submitted_cash_purchase() -> Case {
     Case {
         kind: TradeType::MarketBuy,
         qty: 100,
@@ -42,7 +42,7 @@ fn purchase() -> Case {
 }
 
 // Returns the trade row of a case.
-fn trade(alloc: Global, case: Case) -> Result<TradeRow, Fail> {
+fn trade_row_of_case(alloc: Global, case: Case) -> Result<TradeRow, Fail> {
     let id = Id::new(1).ok_or("trade")?;
     let qty = Qty::new(case.qty).ok_or("quantity")?;
     let bid = Price::new(1_000).ok_or("bid")?;
@@ -72,7 +72,7 @@ fn trade(alloc: Global, case: Case) -> Result<TradeRow, Fail> {
 }
 
 // Returns the account of a case.
-fn account(case: Case) -> Result<ResultAccount, Fail> {
+fn account_of_case(case: Case) -> Result<ResultAccount, Fail> {
     Ok(ResultAccount {
         broker: Id::new(1).ok_or("broker")?,
         tax_status: TaxStatus::Withheld,
@@ -81,7 +81,7 @@ fn account(case: Case) -> Result<ResultAccount, Fail> {
 }
 
 // Returns the broker totals of a case.
-fn broker(case: Case) -> Result<BrokerNumbers, Fail> {
+fn broker_totals_of_case(case: Case) -> Result<BrokerNumbers, Fail> {
     Ok(BrokerNumbers {
         trades: TradeCount::new(0).ok_or("trades")?,
         commissions: Amount::new(case.commissions).ok_or("commissions")?,
@@ -89,12 +89,12 @@ fn broker(case: Case) -> Result<BrokerNumbers, Fail> {
 }
 
 // Returns the facts that the tables hold for the result of a case.
-fn found(alloc: Global, case: Case) -> Result<ResultFound, Fail> {
-    let account = account(case)?;
-    let broker = broker(case)?;
+fn result_facts(alloc: Global, case: Case) -> Result<ResultFound, Fail> {
+    let account = account_of_case(case)?;
+    let broker = broker_totals_of_case(case)?;
     let rates = TaxRate::new(20_000).ok_or("rates")?;
     let security = Name::parse(alloc, b"Acme")?.ok_or("security")?;
-    let trade = trade(alloc, case)?;
+    let trade = trade_row_of_case(alloc, case)?;
     let next = MoveId::new(1).ok_or("number")?;
     Ok(ResultFound {
         trade,
@@ -111,7 +111,7 @@ fn found(alloc: Global, case: Case) -> Result<ResultFound, Fail> {
 
 // Returns the reply to a result at 10.10 with these facts, on a position without lots, or its
 // refusal.
-fn told_of(
+fn reply_to_result(
     alloc: Global,
     found: Option<&ResultFound>,
     last: Option<Stamp>,
@@ -120,35 +120,40 @@ fn told_of(
     let position = Position::from_lots(Vec::new(alloc)).ok_or("lots")?;
     let now = Stamp::nearest(1_709_251_200_000);
     if let Some(found) = found {
-        if !position.takes(found.trade.id, now) {
+        if !position.accepts_trade(found.trade.id, now) {
             return Err("a lot of its own")?;
         }
     }
     let mut end = position.from_end(false);
     let planned = plan_result(alloc, found, price, &mut end, last, now)?;
-    Ok(told_plan(alloc, planned)?)
+    Ok(format_planned_reply(alloc, planned)?)
 }
 
 // Checks the reply to the result of a case.
-fn expect_result(rt: &impl Abort, alloc: Global, case: Case, wanted: &str) -> Result<(), Fail> {
+fn expect_result_reply(
+    rt: &impl Abort,
+    alloc: Global,
+    case: Case,
+    wanted: &str,
+) -> Result<(), Fail> {
     let last = Stamp::new(case.last);
-    let found = found(alloc, case)?;
-    let told = told_of(alloc, Some(&found), last)?;
+    let found = result_facts(alloc, case)?;
+    let told = reply_to_result(alloc, Some(&found), last)?;
     assert!(rt; told.as_str() == wanted, "{wanted}: {told}");
     Ok(())
 }
 
 // Checks that a result for a trade that does not exist is refused with 5.
 #[test]
-fn a_result_of_no_trade(rt: HostRuntime) -> Result<(), Fail> {
-    let told = told_of(rt.alloc(), None, None)?;
+fn a_result_without_a_trade_is_refused(rt: HostRuntime) -> Result<(), Fail> {
+    let told = reply_to_result(rt.alloc(), None, None)?;
     assert_eq!(rt; told.as_str(), "no,5");
     Ok(())
 }
 
 // Returns the purchase with no later stamp left. Each of the next cases has one more cause to be
 // refused.
-fn late() -> Case {
+fn case_without_later_stamp() -> Case {
     Case {
         last: Stamp::GREATEST,
         ..purchase()
@@ -156,7 +161,7 @@ fn late() -> Case {
 }
 
 // Returns the last case, with the broker's commissions at their limit as well.
-fn beyond_broker() -> Case {
+fn case_beyond_broker_limit() -> Case {
     Case {
         commissions: 100_000_000_000_000_000,
         ..late()
@@ -164,7 +169,7 @@ fn beyond_broker() -> Case {
 }
 
 // Returns the last case, with the balance at its lower limit as well.
-fn beyond_balance() -> Case {
+fn case_beyond_balance_limit() -> Case {
     Case {
         held: Some(9_999_999_899),
         balance: -100_000_000_000_000_000,
@@ -173,7 +178,7 @@ fn beyond_balance() -> Case {
 }
 
 // Returns the last case, with a holding of 99 shares below its limit as well.
-fn beyond_summary() -> Case {
+fn case_beyond_summary_limit() -> Case {
     Case {
         held: Some(9_999_999_900),
         ..beyond_balance()
@@ -181,7 +186,7 @@ fn beyond_summary() -> Case {
 }
 
 // Returns the last case, with no commission band as well.
-fn without_band() -> Case {
+fn case_without_commission_band() -> Case {
     Case {
         rate: None,
         ..beyond_summary()
@@ -189,7 +194,7 @@ fn without_band() -> Case {
 }
 
 // Returns the last case, with a trade of another status as well.
-fn unfit(status: Status) -> Case {
+fn case_of_wrong_status(status: Status) -> Case {
     Case {
         status,
         ..without_band()
@@ -200,20 +205,20 @@ const TOLD: &str = "1709251200017,10.10,0.00,-1025.10,2024-03-03,0.00,0.00,8974.
 
 // Checks that a result is refused by the first cause that applies.
 #[test]
-fn the_first_cause_refuses_a_result(rt: HostRuntime) -> Result<(), Fail> {
+fn results_are_refused_by_the_first_cause(rt: HostRuntime) -> Result<(), Fail> {
     for (case, wanted) in [
-        (purchase(), TOLD),
-        (late(), "no,21"),
-        (beyond_broker(), "no,14,broker"),
-        (beyond_balance(), "no,14,balance"),
-        (beyond_summary(), "no,14,summary"),
-        (without_band(), "no,11"),
-        (unfit(Status::Completed), "no,13,CMPT"),
-        (unfit(Status::Pending), "no,13,PNDG"),
-        (unfit(Status::Canceled), "no,13,CNCL"),
-        (unfit(Status::Active), "no,13,ACTV"),
+        (submitted_cash_purchase(), TOLD),
+        (case_without_later_stamp(), "no,21"),
+        (case_beyond_broker_limit(), "no,14,broker"),
+        (case_beyond_balance_limit(), "no,14,balance"),
+        (case_beyond_summary_limit(), "no,14,summary"),
+        (case_without_commission_band(), "no,11"),
+        (case_of_wrong_status(Status::Completed), "no,13,CMPT"),
+        (case_of_wrong_status(Status::Pending), "no,13,PNDG"),
+        (case_of_wrong_status(Status::Canceled), "no,13,CNCL"),
+        (case_of_wrong_status(Status::Active), "no,13,ACTV"),
     ] {
-        expect_result(&rt, rt.alloc(), case, wanted)?;
+        expect_result_reply(&rt, rt.alloc(), case, wanted)?;
     }
     Ok(())
 }
@@ -221,7 +226,7 @@ fn the_first_cause_refuses_a_result(rt: HostRuntime) -> Result<(), Fail> {
 // Checks that a result is accepted up to the limit of the broker's commissions and refused beyond
 // it. A margin trade does not change the balance, so its limit does not apply.
 #[test]
-fn sums_at_their_limits(rt: HostRuntime) -> Result<(), Fail> {
+fn broker_and_balance_limits_of_results(rt: HostRuntime) -> Result<(), Fail> {
     let last_cent = Case {
         commissions: 99_999_999_999_998_990,
         ..purchase()
@@ -242,7 +247,7 @@ fn sums_at_their_limits(rt: HostRuntime) -> Result<(), Fail> {
         (one_more, "no,14,broker"),
         (on_margin, told),
     ] {
-        expect_result(&rt, rt.alloc(), case, wanted)?;
+        expect_result_reply(&rt, rt.alloc(), case, wanted)?;
     }
     Ok(())
 }
@@ -250,7 +255,7 @@ fn sums_at_their_limits(rt: HostRuntime) -> Result<(), Fail> {
 // Checks that a result is accepted up to the limits of a holding, long and short, and refused
 // beyond them.
 #[test]
-fn summaries_at_their_limits(rt: HostRuntime) -> Result<(), Fail> {
+fn summary_limits_of_results(rt: HostRuntime) -> Result<(), Fail> {
     let alloc = rt.alloc();
     let bought = "1709251200017,100.90,0.00,-10195.80,2024-03-03,0.00,0.00,-195.80";
     let sold = "1709251200017,100.90,0.00,9984.00,2024-03-03,0.00,0.00,19984.00";
@@ -266,7 +271,7 @@ fn summaries_at_their_limits(rt: HostRuntime) -> Result<(), Fail> {
             held: Some(held),
             ..purchase()
         };
-        expect_result(&rt, alloc, case, wanted)?;
+        expect_result_reply(&rt, alloc, case, wanted)?;
     }
     Ok(())
 }

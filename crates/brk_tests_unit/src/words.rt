@@ -5,7 +5,7 @@ use std::process::Abort;
 use std::test::Fail;
 
 // Returns the path, or `-` if there is none.
-fn file(db: &Option<String>) -> &str {
+fn path_or_hyphen(db: &Option<String>) -> &str {
     match db {
         Some(path) => path.as_str(),
         None => "-",
@@ -13,7 +13,7 @@ fn file(db: &Option<String>) -> &str {
 }
 
 // Returns the milliseconds of a timestamp, or -1 if there is none.
-fn millis(at: Option<Stamp>) -> i64 {
+fn millis_or_minus_one(at: Option<Stamp>) -> i64 {
     match at {
         Some(stamp) => stamp.get(),
         None => -1,
@@ -21,7 +21,7 @@ fn millis(at: Option<Stamp>) -> i64 {
 }
 
 // Appends each word to the text, after a space.
-fn with_words(mut text: String, words: &[String]) -> Result<String, AllocError> {
+fn append_words(mut text: String, words: &[String]) -> Result<String, AllocError> {
     for word in words {
         text.push_str(" ")?;
         text.push_str(word.as_str())?;
@@ -30,9 +30,13 @@ fn with_words(mut text: String, words: &[String]) -> Result<String, AllocError> 
 }
 
 // Returns the text of a job: its name and its values, separated by spaces.
-fn told_job(alloc: Global, job: &Job) -> Result<String, AllocError> {
+fn format_job(alloc: Global, job: &Job) -> Result<String, AllocError> {
     match job {
-        Job::Batch { db, at } => format!(in alloc; "batch {} {}", file(db), millis(*at)),
+        Job::Batch { db, at } => format!(in alloc;
+            "batch {} {}",
+            path_or_hyphen(db),
+            millis_or_minus_one(*at)
+        ),
         Job::Statement {
             db,
             account,
@@ -50,29 +54,35 @@ fn told_job(alloc: Global, job: &Job) -> Result<String, AllocError> {
             arguments,
         } => {
             let text = format!(in alloc; "ask {db} {json} {heads} {view}")?;
-            with_words(text, arguments)
+            append_words(text, arguments)
         }
-        Job::Explain { db, words } => with_words(format!(in alloc; "explain {db}")?, words),
+        Job::Explain { db, words } => append_words(format!(in alloc; "explain {db}")?, words),
         Job::Audit { db } => format!(in alloc; "audit {db}"),
         Job::Serve {
             port,
             db,
             at,
             streams,
-        } => { format!(in alloc; "serve {port} {} {} {streams}", file(db), millis(*at)) }
+        } => {
+            format!(in alloc;
+                "serve {port} {} {} {streams}",
+                path_or_hyphen(db),
+                millis_or_minus_one(*at)
+            )
+        }
     }
 }
 
 // Returns the text of the job that these arguments, after the program's name, give, or the text of
 // their usage fault.
-fn told(alloc: Global, words: &[&str]) -> Result<String, Fail> {
+fn format_parsed_arguments(alloc: Global, words: &[&str]) -> Result<String, Fail> {
     let mut all = Vec::new(alloc);
     all.push(String::from_str(alloc, "brk")?)?;
     for word in words {
         all.push(String::from_str(alloc, word)?)?;
     }
     match read_words(all) {
-        Ok(job) => Ok(told_job(alloc, &job)?),
+        Ok(job) => Ok(format_job(alloc, &job)?),
         Err(UsageFault::Words(text)) => Ok(format!(in alloc; "wrong: {text}")?),
         Err(UsageFault::Help(text)) => Ok(format!(in alloc; "help: {text}")?),
         Err(UsageFault::Day) => Ok(String::from_str(alloc, "day")?),
@@ -192,9 +202,9 @@ const JOBS: [(&[&str], &str); 16] = [
 
 // Checks the job of the arguments of each subcommand.
 #[test]
-fn reads_each_job(rt: HostRuntime) -> Result<(), Fail> {
+fn parses_the_arguments_of_each_job(rt: HostRuntime) -> Result<(), Fail> {
     for (words, job) in JOBS {
-        let read = told(rt.alloc(), words)?;
+        let read = format_parsed_arguments(rt.alloc(), words)?;
         assert!(rt; read.as_str() == job, "{words:?}: {read}");
     }
     Ok(())
@@ -390,13 +400,13 @@ const WRONG_SERVES: [(&[&str], &str, &str); 6] = [
 ];
 
 // Checks the whole text of each usage fault.
-fn expect_faults(
+fn expect_usage_faults(
     rt: &impl Abort,
     alloc: Global,
     faults: &[(&[&str], &str, &str)],
 ) -> Result<(), Fail> {
     for (words, cause, usage) in faults {
-        let read = told(alloc, words)?;
+        let read = format_parsed_arguments(alloc, words)?;
         let text = format!(in alloc;
             "wrong: error: {cause}\n\n{usage}For more information, try '--help'.\n"
         )?;
@@ -407,11 +417,11 @@ fn expect_faults(
 
 // Checks the error text of wrong arguments of each subcommand.
 #[test]
-fn refuses_wrong_words(rt: HostRuntime) -> Result<(), Fail> {
-    expect_faults(&rt, rt.alloc(), &WRONG_BATCHES)?;
-    expect_faults(&rt, rt.alloc(), &WRONG_STATEMENTS)?;
-    expect_faults(&rt, rt.alloc(), &WRONG_AUDITS)?;
-    expect_faults(&rt, rt.alloc(), &WRONG_SERVES)
+fn refuses_wrong_arguments(rt: HostRuntime) -> Result<(), Fail> {
+    expect_usage_faults(&rt, rt.alloc(), &WRONG_BATCHES)?;
+    expect_usage_faults(&rt, rt.alloc(), &WRONG_STATEMENTS)?;
+    expect_usage_faults(&rt, rt.alloc(), &WRONG_AUDITS)?;
+    expect_usage_faults(&rt, rt.alloc(), &WRONG_SERVES)
 }
 
 const HELP: &str = "A brokerage back office\n\nUsage: brk <COMMAND>\n\nCommands:\n\
@@ -449,9 +459,9 @@ const TEXTS: [(&[&str], &str); 3] = [
 // Checks the texts that are printed for the version, for an unknown subcommand and for the help of
 // `audit`.
 #[test]
-fn tells_what_there_is(rt: HostRuntime) -> Result<(), Fail> {
+fn prints_version_help_and_errors(rt: HostRuntime) -> Result<(), Fail> {
     for (words, text) in TEXTS {
-        let read = told(rt.alloc(), words)?;
+        let read = format_parsed_arguments(rt.alloc(), words)?;
         assert!(rt; read.as_str() == text, "{words:?}: {read}");
     }
     Ok(())
@@ -466,15 +476,15 @@ const HELPS: [(&[&str], &str); 4] = [
 
 // Checks the help of the program and of the subcommand for a batch.
 #[test]
-fn shows_help(rt: HostRuntime) -> Result<(), Fail> {
+fn prints_help_of_commands(rt: HostRuntime) -> Result<(), Fail> {
     for (words, text) in HELPS {
-        let read = told(rt.alloc(), words)?;
+        let read = format_parsed_arguments(rt.alloc(), words)?;
         assert!(rt;
             read.as_str().strip_prefix("help: ") == Some(text),
             "{words:?}: {read}"
         );
     }
-    let read = told(rt.alloc(), &[])?;
+    let read = format_parsed_arguments(rt.alloc(), &[])?;
     assert!(rt;
         read.as_str().strip_prefix("wrong: ") == Some(HELP),
         "no words: {read}"

@@ -2,19 +2,19 @@
 use Rattle.std.proofs.Common.{◌≡◌, ℕ, ◌+◌, List, length, refl, sym, ap, ◌∙◌}
 use Rattle.std.specs.Prelude.{Option, Some, None, unwrap_or, option_map}
 use Rattle.std.specs.Option.{option_map_or}
-use Rattle.brk_money.specs.OrderTypes.{kind_of}
+use Rattle.brk_money.specs.OrderTypes.{trade_type_of_order}
 use Rattle.brk_money.specs.Amounts.{commission}
-use Rattle.brk_model.specs.Base.{Base, completed, tier_of, exchange_of, band_with, charge_with}
+use Rattle.brk_model.specs.Base.{Base, completed_trades, tier_of_account, exchange_of_security, commission_band_for, charge_for_type_and_tier}
 use Rattle.brk_model.specs.Commands.{Order}
-use Rattle.brk_model.specs.Derived.{shares_in}
-use Rattle.brk_model.specs.Orders.{deal_at, tax_on_deal, commission_of, requested_price, estimate_upon, estimate}
+use Rattle.brk_model.specs.Derived.{shares_of_position}
+use Rattle.brk_model.specs.Orders.{deal_of_order, tax_on_deal, commission_by_band, requested_price, estimate_against_shares, estimate}
 use Rattle.brk_model.specs.Shares.{Share, Deal, buy_value, sell_value}
 use Rattle.brk_plans.specs.declared.estimate.Estimate.{Estimate}
 use Rattle.brk_trade.specs.declared.estimate.Terms.{Terms}
 use Rattle.brk_lots.specs.declared.values.Values.{Values}
-use Rattle.brk_trade.specs.Estimates.{AreTerms, commission_by, tax_at}
-use Rattle.brk_lots.specs.Values.{values_of}
-use Rattle.brk_plans.specs.Replies.{estimate_with}
+use Rattle.brk_trade.specs.Estimates.{AreOrderTermsInBase, commission_from_terms, tax_on_gain_at_status}
+use Rattle.brk_lots.specs.Values.{closing_values_of_deal}
+use Rattle.brk_plans.specs.Replies.{estimate_from_model}
 
 -- a number of a record that was found
 rate_found : {X : Type 0} (f : X → ℕ) (h : ℕ → ℕ) (n : ℕ) (x : Option X) → option_map f x ≡ Some n → h n ≡ unwrap_or (option_map (λ a. h (f a)) x) 0
@@ -35,28 +35,28 @@ made_of terms values = record {
   price = terms.price;
   buy_value = values.buy_value;
   sell_value = values.sell_value;
-  tax = tax_at terms.tax_status terms.rates values;
-  commission = commission_by terms;
+  tax = tax_on_gain_at_status terms.tax_status terms.rates values;
+  commission = commission_from_terms terms;
   charge = terms.charge;
   assets = terms.assets;
 }
 
-made_upon : (base : Base) (o : Order) (us : List Share) (terms : Terms) (values : Values) → AreTerms base o terms
-    → values ≡ values_of (deal_by base o terms) us → made_of terms values ≡ estimate_with (estimate_upon us base o)
+made_upon : (base : Base) (o : Order) (us : List Share) (terms : Terms) (values : Values) → AreOrderTermsInBase base o terms
+    → values ≡ closing_values_of_deal (deal_by base o terms) us → made_of terms values ≡ estimate_from_model (estimate_against_shares us base o)
 made_upon base o us terms values h v =
-    let same : deal_by base o terms ≡ deal_at base o = rw (h.side, h.qty, h.price) refl in
-    let vs : values ≡ values_of (deal_at base o) us = v ∙ ap (λ d. values_of d us) same in
-    let bought : values.buy_value ≡ buy_value (deal_at base o) us = ap (λ (x : Values). x.buy_value) vs in
-    let sold : values.sell_value ≡ sell_value (deal_at base o) us = ap (λ (x : Values). x.sell_value) vs in
-    let taxed : tax_at terms.tax_status terms.rates values ≡ tax_on_deal base o.account (deal_at base o) us = rw (h.tax_status, h.rates, vs) refl in
-    let rated : commission_by terms ≡ unwrap_or (commission_of base o.account (kind_of o.order_type) o.symbol o.qty (requested_price base o)) 0 =
-    rw (h.qty, h.price) (rate_found (λ b. b.rate) (λ r. commission r o.qty (requested_price base o)) terms.rate (band_with base (tier_of base o.account) (kind_of o.order_type) (exchange_of base o.symbol) o.qty) h.rate) in
-    let charged : terms.charge ≡ option_map_or (λ c. c.amount) (charge_with base (kind_of o.order_type) (tier_of base o.account)) 0 =
-    amount_found (λ c. c.amount) terms.charge (charge_with base (kind_of o.order_type) (tier_of base o.account)) h.charge in
+    let same : deal_by base o terms ≡ deal_of_order base o = rw (h.side, h.qty, h.price) refl in
+    let vs : values ≡ closing_values_of_deal (deal_of_order base o) us = v ∙ ap (λ d. closing_values_of_deal d us) same in
+    let bought : values.buy_value ≡ buy_value (deal_of_order base o) us = ap (λ (x : Values). x.buy_value) vs in
+    let sold : values.sell_value ≡ sell_value (deal_of_order base o) us = ap (λ (x : Values). x.sell_value) vs in
+    let taxed : tax_on_gain_at_status terms.tax_status terms.rates values ≡ tax_on_deal base o.account (deal_of_order base o) us = rw (h.tax_status, h.rates, vs) refl in
+    let rated : commission_from_terms terms ≡ unwrap_or (commission_by_band base o.account (trade_type_of_order o.order_type) o.symbol o.qty (requested_price base o)) 0 =
+    rw (h.qty, h.price) (rate_found (λ b. b.rate) (λ r. commission r o.qty (requested_price base o)) terms.rate (commission_band_for base (tier_of_account base o.account) (trade_type_of_order o.order_type) (exchange_of_security base o.symbol) o.qty) h.rate) in
+    let charged : terms.charge ≡ option_map_or (λ c. c.amount) (charge_for_type_and_tier base (trade_type_of_order o.order_type) (tier_of_account base o.account)) 0 =
+    amount_found (λ c. c.amount) terms.charge (charge_for_type_and_tier base (trade_type_of_order o.order_type) (tier_of_account base o.account)) h.charge in
     rw (taxed, rated, bought, sold, charged, h.price, h.assets) refl
 
 -- upon the shares that the base has it is the estimate of the order
-pub made_is : (base : Base) (o : Order) (us : List Share) (terms : Terms) (values : Values) → AreTerms base o terms → shares_in (completed base) o.account o.symbol ≡ us
-    → values ≡ values_of (deal_by base o terms) us → made_of terms values ≡ estimate_with (estimate base o)
+pub made_is : (base : Base) (o : Order) (us : List Share) (terms : Terms) (values : Values) → AreOrderTermsInBase base o terms → shares_of_position (completed_trades base) o.account o.symbol ≡ us
+    → values ≡ closing_values_of_deal (deal_by base o terms) us → made_of terms values ≡ estimate_from_model (estimate base o)
 unfolding estimate
 made_is base o us terms values h e v = rw e (made_upon base o us terms values h v)

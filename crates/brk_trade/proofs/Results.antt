@@ -1,61 +1,61 @@
 -- What a result comes to does not hang on the moment, and what is closed tells it.
 use Rattle.std.proofs.Common.{◌≡◌, ℕ, nat_abs, List, [], ◌∷◌, ◌++◌, refl, sym, ap, ◌∙◌, Option, Some, None}
 use Rattle.std.proofs.lemmas.List.{append_assoc}
-use Rattle.brk_lots.specs.Values.{values_of}
-use Rattle.brk_lots.specs.Closing.{IsClosing}
-use Rattle.brk_lots.specs.Lots.{shares_of}
+use Rattle.brk_lots.specs.Values.{closing_values_of_deal}
+use Rattle.brk_lots.specs.Closing.{IsClosingOfDeal}
+use Rattle.brk_lots.specs.Lots.{shares_of_lots}
 use Rattle.brk_lots.specs.declared.closing.Closing.{Closing}
 use Rattle.brk_lots.specs.declared.lot.Lot.{Lot}
 use Rattle.brk_lots.specs.declared.values.Values.{Values}
-use Rattle.brk_model.specs.Shares.{Deal, Share, buy_value, buy_value_by, sell_value, sell_value_by}
-use Rattle.brk_model.specs.Tests.{Test, first_refusal}
-use Rattle.brk_money.specs.Kinds.{side_of}
+use Rattle.brk_model.specs.Shares.{Deal, Share, buy_value, buy_value_for_side, sell_value, sell_value_for_side}
+use Rattle.brk_model.specs.Tests.{RefusalCheck, first_refusal}
+use Rattle.brk_money.specs.Kinds.{side_of_trade_type}
 use Rattle.brk_money.specs.declared.refusal.Refusal.{Refusal}
 use Rattle.brk_money.specs.declared.side.Side.{Side}
 use Rattle.brk_money.specs.declared.side.Side.TheVariants.{Buy, Sell}
 use Rattle.brk_plans.proofs.Refusals.{first_joined, first_of}
-use Rattle.brk_trade.specs.Outcomes.{deal_of_row, first_tests, last_tests, all_result_tests, values_in}
+use Rattle.brk_trade.specs.Outcomes.{deal_of_trade_row, checks_before_reading_lots, checks_after_reading_lots, result_checks, values_of_closing}
 use Rattle.brk_trade.specs.declared.result_found.ResultFound.{ResultFound}
 use Rattle.brk_changes.specs.declared.trade_row.TradeRow.{TradeRow}
 
 -- where the first tests find no cause, the first refusal is that of the others
-pub first_after : (ts us : List Test) → first_refusal ts ≡ None → first_refusal (ts ++ us) ≡ first_refusal us
+pub first_after : (ts us : List RefusalCheck) → first_refusal ts ≡ None → first_refusal (ts ++ us) ≡ first_refusal us
 first_after ts us e = first_joined ts us ∙ ap (λ refusal. first_of refusal (first_refusal us)) e
 
 -- what the first tests refuse is refused for their reason
 pub first_refuses : (found : ResultFound) (price : ℕ) (values : Values) (clock : Option ℕ) (refusal : Refusal)
-    → first_refusal (first_tests found) ≡ Some refusal → first_refusal (all_result_tests found price values clock) ≡ Some refusal
+    → first_refusal (checks_before_reading_lots found) ≡ Some refusal → first_refusal (result_checks found price values clock) ≡ Some refusal
 first_refuses found price values clock refusal e =
-    first_joined (first_tests found) (last_tests found price values clock) ∙ ap (λ cause. first_of cause (first_refusal (last_tests found price values clock))) e
+    first_joined (checks_before_reading_lots found) (checks_after_reading_lots found price values clock) ∙ ap (λ cause. first_of cause (first_refusal (checks_after_reading_lots found price values clock))) e
 
 -- the values of the shares that a trade closes are the same at any moment
 same_bought : (side : Side) (t : TradeRow) (price stamp other : ℕ) (us : List Share)
-    → buy_value_by side (deal_of_row t price stamp) us ≡ buy_value_by side (deal_of_row t price other) us
+    → buy_value_for_side side (deal_of_trade_row t price stamp) us ≡ buy_value_for_side side (deal_of_trade_row t price other) us
 same_bought Buy t price stamp other us = refl
 same_bought Sell t price stamp other us = refl
 
 same_sold : (side : Side) (t : TradeRow) (price stamp other : ℕ) (us : List Share)
-    → sell_value_by side (deal_of_row t price stamp) us ≡ sell_value_by side (deal_of_row t price other) us
+    → sell_value_for_side side (deal_of_trade_row t price stamp) us ≡ sell_value_for_side side (deal_of_trade_row t price other) us
 same_sold Buy t price stamp other us = refl
 same_sold Sell t price stamp other us = refl
 
-pub at_any_moment : (t : TradeRow) (price stamp other : ℕ) (us : List Share) → values_of (deal_of_row t price stamp) us ≡ values_of (deal_of_row t price other) us
+pub at_any_moment : (t : TradeRow) (price stamp other : ℕ) (us : List Share) → closing_values_of_deal (deal_of_trade_row t price stamp) us ≡ closing_values_of_deal (deal_of_trade_row t price other) us
 unfolding buy_value sell_value
-at_any_moment t price stamp other us = rw (same_bought (side_of t.kind) t price stamp other us, same_sold (side_of t.kind) t price stamp other us) refl
+at_any_moment t price stamp other us = rw (same_bought (side_of_trade_type t.kind) t price stamp other us, same_sold (side_of_trade_type t.kind) t price stamp other us) refl
 
 -- what is closed has these values
-pub closing_values : (d : Deal) (ls : List Lot) (closing : Closing) → IsClosing d ls closing → values_in closing ≡ values_of d (shares_of ls)
+pub closing_values : (d : Deal) (ls : List Lot) (closing : Closing) → IsClosingOfDeal d ls closing → values_of_closing closing ≡ closing_values_of_deal d (shares_of_lots ls)
 closing_values d ls closing k = λ i. record { buy_value = nat_abs (k.bought i); sell_value = nat_abs (k.sold i) }
 
 -- a refusal that the values tell, over the lots of a position, after the first tests found no cause
 pub refused_by_values : (found : ResultFound) (price : ℕ) (ls : List Lot) (at stamp : ℕ) (closing : Closing) (clock : _) (refusal : Refusal)
-    → IsClosing (deal_of_row found.trade price at) ls closing → first_refusal (first_tests found) ≡ None
-    → first_refusal (last_tests found price (values_in closing) clock) ≡ Some refusal
-    → first_refusal (all_result_tests found price (values_of (deal_of_row found.trade price stamp) (shares_of ls)) clock) ≡ Some refusal
+    → IsClosingOfDeal (deal_of_trade_row found.trade price at) ls closing → first_refusal (checks_before_reading_lots found) ≡ None
+    → first_refusal (checks_after_reading_lots found price (values_of_closing closing) clock) ≡ Some refusal
+    → first_refusal (result_checks found price (closing_values_of_deal (deal_of_trade_row found.trade price stamp) (shares_of_lots ls)) clock) ≡ Some refusal
 refused_by_values found price ls at stamp closing clock refusal k first last =
-    let same = closing_values (deal_of_row found.trade price at) ls closing k ∙ at_any_moment found.trade price at stamp (shares_of ls) in
-    first_after (first_tests found) (last_tests found price (values_of (deal_of_row found.trade price stamp) (shares_of ls)) clock) first
-    ∙ ap (λ values. first_refusal (last_tests found price values clock)) (sym same) ∙ last
+    let same = closing_values (deal_of_trade_row found.trade price at) ls closing k ∙ at_any_moment found.trade price at stamp (shares_of_lots ls) in
+    first_after (checks_before_reading_lots found) (checks_after_reading_lots found price (closing_values_of_deal (deal_of_trade_row found.trade price stamp) (shares_of_lots ls)) clock) first
+    ∙ ap (λ values. first_refusal (checks_after_reading_lots found price values clock)) (sym same) ∙ last
 
 -- three elements added one after another
 pub three_added : {X : Type 0} (old one two three : List X) (x y z a b d : X) → one ≡ old ++ x ∷ [] → two ≡ one ++ y ∷ [] → three ≡ two ++ z ∷ []

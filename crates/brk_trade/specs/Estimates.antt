@@ -1,53 +1,53 @@
 -- The terms of an order, from which it is estimated.
 use Rattle.std.specs.Prelude.{◌≡◌, ℕ, ◌+◌, ◌≤◌, Bool, List, length, pos, ◌-ℤ◌, Some, option_map, if◌then◌else◌}
-use Rattle.brk_money.specs.OrderTypes.{kind_of}
+use Rattle.brk_money.specs.OrderTypes.{trade_type_of_order}
 use Rattle.brk_money.specs.Amounts.{commission, tax}
-use Rattle.brk_money.specs.Kinds.{side_of}
+use Rattle.brk_money.specs.Kinds.{side_of_trade_type}
 use Rattle.brk_money.specs.declared.tax_status.TaxStatus.{TaxStatus}
-use Rattle.brk_model.specs.Base.{Base, bears_tax, tax_status_in, rates_of, customer_of_account, tier_of, exchange_of, band_with, charge_with}
+use Rattle.brk_model.specs.Base.{Base, is_taxable_status, tax_status_in_accounts, tax_rate_sum_of_customer, customer_id_of_account, tier_of_account, exchange_of_security, commission_band_for, charge_for_type_and_tier}
 use Rattle.brk_model.specs.Commands.{Order}
-use Rattle.brk_model.specs.Orders.{requested_price, assets_of}
+use Rattle.brk_model.specs.Orders.{requested_price, assets_of_account}
 use Rattle.brk_trade.specs.declared.estimate.Terms.{Terms}
-use Rattle.brk_model.specs.Shares.{Deal, touches}
-use Rattle.brk_lots.specs.Lots.{shares_of}
-use Rattle.brk_lots.specs.Position.{IsNew}
-use Rattle.brk_lots.specs.Sources.{AreGiven}
+use Rattle.brk_model.specs.Shares.{Deal, touches_of_existing_lots}
+use Rattle.brk_lots.specs.Lots.{shares_of_lots}
+use Rattle.brk_lots.specs.Position.{AreOpenedByOtherTrades}
+use Rattle.brk_lots.specs.Sources.{YieldsPosition}
 use Rattle.brk_lots.specs.declared.lot.Lot.{Lot}
 use Rattle.brk_lots.specs.declared.values.Values.{Values}
 
 -- The tax on the realised gain of `values` at the sum of rates `rates`, in cents; 0 if gains are
 -- not taxable at the tax status `status`.
-abbrev pub tax_at : TaxStatus → ℕ → Values → ℕ
-tax_at status rates values = if bears_tax status then tax (pos values.sell_value -ℤ pos values.buy_value) rates else 0
+abbrev pub tax_on_gain_at_status : TaxStatus → ℕ → Values → ℕ
+tax_on_gain_at_status status rates values = if is_taxable_status status then tax (pos values.sell_value -ℤ pos values.buy_value) rates else 0
 
 -- The commission of an order with the terms `terms`, in cents.
-abbrev pub commission_by : Terms → ℕ
-commission_by terms = commission terms.rate terms.qty terms.price
+abbrev pub commission_from_terms : Terms → ℕ
+commission_from_terms terms = commission terms.rate terms.qty terms.price
 
 -- `terms` are those of the order `o` in `base`: its side, quantity and price, the tax status and
 -- the assets of its account, and the tax rates, the commission rate and the charge that apply.
 -- Nothing is said of `held`.
-pub record AreTerms (base : Base) (o : Order) (terms : Terms) : Type 0 where
-  pub side : terms.side ≡ side_of (kind_of o.order_type)
+pub record AreOrderTermsInBase (base : Base) (o : Order) (terms : Terms) : Type 0 where
+  pub side : terms.side ≡ side_of_trade_type (trade_type_of_order o.order_type)
   pub qty : terms.qty ≡ o.qty
   pub price : terms.price ≡ requested_price base o
-  pub tax_status : terms.tax_status ≡ tax_status_in base.accounts o.account
-  pub rates : terms.rates ≡ rates_of base (customer_of_account base o.account)
+  pub tax_status : terms.tax_status ≡ tax_status_in_accounts base.accounts o.account
+  pub rates : terms.rates ≡ tax_rate_sum_of_customer base (customer_id_of_account base o.account)
   -- The rate is that of the band that the model finds.
-  pub rate : option_map (λ b. b.rate) (band_with base (tier_of base o.account) (kind_of o.order_type) (exchange_of base o.symbol) o.qty) ≡ Some terms.rate
+  pub rate : option_map (λ b. b.rate) (commission_band_for base (tier_of_account base o.account) (trade_type_of_order o.order_type) (exchange_of_security base o.symbol) o.qty) ≡ Some terms.rate
   -- The charge is the one that the model finds.
-  pub charge : option_map (λ c. c.amount) (charge_with base (kind_of o.order_type) (tier_of base o.account)) ≡ Some terms.charge
-  pub assets : terms.assets ≡ assets_of base o.account
+  pub charge : option_map (λ c. c.amount) (charge_for_type_and_tier base (trade_type_of_order o.order_type) (tier_of_account base o.account)) ≡ Some terms.charge
+  pub assets : terms.assets ≡ assets_of_account base o.account
 
 -- The deal of an order with the terms `terms`, as the trade `trade` at `stamp`, which closes the
 -- newest lots first if `lifo`.
-abbrev pub deal_by : Terms → (trade stamp : ℕ) → Bool → Deal
-deal_by terms trade stamp lifo = record { trade = trade; side = terms.side; qty = terms.qty; price = terms.price; stamp = stamp; is_lifo = lifo }
+abbrev pub deal_from_terms : Terms → (trade stamp : ℕ) → Bool → Deal
+deal_from_terms terms trade stamp lifo = record { trade = trade; side = terms.side; qty = terms.qty; price = terms.price; stamp = stamp; is_lifo = lifo }
 
 -- From `before` to `after`, the number of reads of the source grew by at most one more than the
 -- number of lots that an order with the terms `terms` touches, for any lots that the source may
 -- have (`given`), none of them opened by its trade. Vacuous if there are no such lots.
-abbrev pub OrderAsksFew : Terms → (List Lot → Type 0) → (before after : ℕ) → Type 0
-OrderAsksFew terms given before after =
-    (ls : List Lot) (trade stamp : ℕ) (lifo : Bool) → AreGiven given lifo ls → IsNew trade ls
-    → after ≤ before + length (touches (deal_by terms trade stamp lifo) (shares_of ls)) + 1
+abbrev pub OrderReadsFewLots : Terms → (List Lot → Type 0) → (before after : ℕ) → Type 0
+OrderReadsFewLots terms given before after =
+    (ls : List Lot) (trade stamp : ℕ) (lifo : Bool) → YieldsPosition given lifo ls → AreOpenedByOtherTrades trade ls
+    → after ≤ before + length (touches_of_existing_lots (deal_from_terms terms trade stamp lifo) (shares_of_lots ls)) + 1

@@ -1,32 +1,32 @@
 -- Orders: their checks, their estimates, and the plan of an accepted one.
 use Rattle.std.specs.Prelude.{◌≡◌, ℕ, ◌+◌, Bool, not, nat_le, is_none, unwrap_or, if◌then◌else◌, pos, List, [], ◌∷◌, ◌++◌, map, Option, Some, None, option_to_list}
 use Rattle.std.specs.Option.{option_map_or}
-use Rattle.brk_trade.specs.Estimates.{AreTerms, commission_by}
-use Rattle.brk_plans.specs.Replies.{estimate_with}
+use Rattle.brk_trade.specs.Estimates.{AreOrderTermsInBase, commission_from_terms}
+use Rattle.brk_plans.specs.Replies.{estimate_from_model}
 use Rattle.brk_plans.specs.declared.estimate.Estimate.{Estimate}
 use Rattle.brk_trade.specs.declared.estimate.Terms.{Terms}
-use Rattle.brk_lots.specs.Lots.{shares_of}
-use Rattle.brk_lots.specs.Books.{lots_total}
-use Rattle.brk_lots.specs.Sources.{AreGiven}
+use Rattle.brk_lots.specs.Lots.{shares_of_lots}
+use Rattle.brk_lots.specs.Books.{lot_quantity_sum}
+use Rattle.brk_lots.specs.Sources.{YieldsPosition}
 use Rattle.brk_lots.specs.declared.lot.Lot.{Lot}
-use Rattle.brk_model.specs.Base.{Base, completed}
+use Rattle.brk_model.specs.Base.{Base, completed_trades}
 use Rattle.brk_model.specs.Commands as model
-use Rattle.brk_model.specs.Derived.{shares_in}
+use Rattle.brk_model.specs.Derived.{shares_of_position}
 use Rattle.brk_model.specs.Orders as model_orders
 use Rattle.brk_model.specs.Limits.{greatest_id}
 use Rattle.brk_model.specs.Tables as tables
-use Rattle.brk_model.specs.Tests.{Test, first_refusal}
-use Rattle.brk_money.specs.OrderTypes.{kind_of, price_asked}
-use Rattle.brk_money.specs.Kinds.{side_of, is_market}
+use Rattle.brk_model.specs.Tests.{RefusalCheck, first_refusal}
+use Rattle.brk_money.specs.OrderTypes.{trade_type_of_order, price_of_order}
+use Rattle.brk_money.specs.Kinds.{side_of_trade_type, is_market_type}
 use Rattle.brk_money.specs.Moments.{stamp_after}
 use Rattle.brk_money.specs.Spelling.{Text}
 use Rattle.brk_money.specs.declared.refusal.Limit.TheVariants as limit
 use Rattle.brk_money.specs.declared.refusal.Refusal.TheVariants.{NoAccount, NoSecurity, NotPermitted, NoCharge, NoRate, Range}
 use Rattle.brk_money.specs.declared.tax_status.TaxStatus.TheVariants.{Untaxed}
 use Rattle.brk_orders.specs.declared.order.Order.{Order}
-use Rattle.brk_ref.specs.Records.{executor_of}
-use Rattle.brk_plans.specs.Reference.{clock_test}
-use Rattle.brk_changes.specs.Rows.{trade_row_of}
+use Rattle.brk_ref.specs.Records.{abstract_executor}
+use Rattle.brk_plans.specs.Reference.{later_stamp_check}
+use Rattle.brk_changes.specs.Rows.{abstract_trade_row}
 use Rattle.brk_changes.specs.declared.change.Change.{Change}
 use Rattle.brk_changes.specs.declared.change.Change.TheVariants as change
 use Rattle.brk_trade.specs.declared.order.Placement.{Placement}
@@ -38,22 +38,22 @@ use Rattle.brk_changes.specs.declared.trade_row.TradeRow.{TradeRow}
 
 -- The checks of an order against the facts `found`: its account and its security exist, its
 -- executor is permitted, and a charge and a commission rate apply.
-abbrev pub order_fact_tests : OrderFound → List Test
-order_fact_tests found =
+abbrev pub order_checks : OrderFound → List RefusalCheck
+order_checks found =
     (is_none found.account, NoAccount) ∷ (is_none found.last_price, NoSecurity) ∷ (not found.is_permitted, NotPermitted)
     ∷ (is_none found.charge, NoCharge) ∷ (is_none found.rate, NoRate) ∷ []
 
 -- The price that `order` asks for, or `last` if it asks for none, both in cents.
-abbrev pub price_requested : Order → ℕ → ℕ
-price_requested order last = unwrap_or (price_asked order.order_type) last
+abbrev pub requested_price_or_last : Order → ℕ → ℕ
+requested_price_or_last order last = unwrap_or (price_of_order order.order_type) last
 
 -- The terms of `order` from the facts `found`. A number that is missing counts as 0, and a missing
 -- account as untaxed.
-abbrev pub terms_of : Order → OrderFound → Terms
-terms_of order found = record {
-  side = side_of (kind_of order.order_type);
+abbrev pub terms_of_order : Order → OrderFound → Terms
+terms_of_order order found = record {
+  side = side_of_trade_type (trade_type_of_order order.order_type);
   qty = order.qty;
-  price = price_requested order (unwrap_or found.last_price 0);
+  price = requested_price_or_last order (unwrap_or found.last_price 0);
   tax_status = option_map_or (λ a. a.tax_status) found.account Untaxed;
   rates = found.rates;
   rate = unwrap_or found.rate 0;
@@ -64,42 +64,42 @@ terms_of order found = record {
 
 -- `order` passes its checks against the facts `found`, and `placement` has its terms and the broker
 -- of its account.
-pub record IsPlacement (order : Order) (found : OrderFound) (placement : Placement) : Type 0 where
-  pub tested : first_refusal (order_fact_tests found) ≡ None
-  pub terms : placement.terms ≡ terms_of order found
+pub record IsCheckedPlacement (order : Order) (found : OrderFound) (placement : Placement) : Type 0 where
+  pub tested : first_refusal (order_checks found) ≡ None
+  pub terms : placement.terms ≡ terms_of_order order found
   pub broker : placement.broker ≡ option_map_or (λ a. a.broker) found.account 0
 
 -- `estimate` equals the model's estimate of every order in every base that has the terms `terms`
 -- and exactly the shares of lots `ls` that the source may have (`given`). Vacuous if the quantities
 -- of these lots do not add up to the shares held.
-abbrev pub IsEstimate : Terms → (List Lot → Type 0) → Estimate → Type 0
-IsEstimate terms given estimate =
-    (base : Base) (o : model.Order) (ls : List Lot) → AreTerms base o terms → shares_in (completed base) o.account o.symbol ≡ shares_of ls
-    → AreGiven given o.is_lifo ls → terms.held ≡ lots_total ls → estimate ≡ estimate_with (model_orders.estimate base o)
+abbrev pub MatchesModelEstimate : Terms → (List Lot → Type 0) → Estimate → Type 0
+MatchesModelEstimate terms given estimate =
+    (base : Base) (o : model.Order) (ls : List Lot) → AreOrderTermsInBase base o terms → shares_of_position (completed_trades base) o.account o.symbol ≡ shares_of_lots ls
+    → YieldsPosition given o.is_lifo ls → terms.held ≡ lot_quantity_sum ls → estimate ≡ estimate_from_model (model_orders.estimate base o)
 
 -- `order` passes its checks against the facts `found`, and `estimate` is one from its terms and the
--- lots of the source (`IsEstimate`).
-pub record IsEstimated (order : Order) (found : OrderFound) (given : List Lot → Type 0) (estimate : Estimate) : Type 0 where
-  pub accepted : first_refusal (order_fact_tests found) ≡ None
-  pub estimated : IsEstimate (terms_of order found) given estimate
+-- lots of the source (`MatchesModelEstimate`).
+pub record EstimatesCheckedOrder (order : Order) (found : OrderFound) (given : List Lot → Type 0) (estimate : Estimate) : Type 0 where
+  pub accepted : first_refusal (order_checks found) ≡ None
+  pub estimated : MatchesModelEstimate (terms_of_order order found) given estimate
 
 -- The check that an id is left for a new trade, where `last` is the greatest id in use. Trades are
 -- numbered from 1 without a gap.
-abbrev pub trades_test : Option ℕ → Test
-trades_test last = (nat_le greatest_id (unwrap_or last 0), Range limit.Trades)
+abbrev pub trade_id_is_left_check : Option ℕ → RefusalCheck
+trade_id_is_left_check last = (nat_le greatest_id (unwrap_or last 0), Range limit.Trades)
 
 -- The id of the next trade: `last` plus 1, or 1 if there are no trades.
-abbrev pub next_trade : Option ℕ → ℕ
-next_trade last = unwrap_or last 0 + 1
+abbrev pub next_trade_id : Option ℕ → ℕ
+next_trade_id last = unwrap_or last 0 + 1
 
 -- The TRADE row of `order` with the terms `terms`, its id, stamp and texts. It has its first
 -- status, no price, and tax 0.
-abbrev pub row_named : Order → Terms → (trade stamp : ℕ) → (symbol executor : Text) → tables.TradeRow
-row_named order terms trade stamp symbol executor = record {
+abbrev pub trade_row_with_texts : Order → Terms → (trade stamp : ℕ) → (symbol executor : Text) → tables.TradeRow
+trade_row_with_texts order terms trade stamp symbol executor = record {
   id = trade;
   stamp = stamp;
-  status = model_orders.first_status (kind_of order.order_type);
-  kind = kind_of order.order_type;
+  status = model_orders.first_status (trade_type_of_order order.order_type);
+  kind = trade_type_of_order order.order_type;
   is_cash = order.is_cash;
   symbol = symbol;
   qty = order.qty;
@@ -108,26 +108,26 @@ row_named order terms trade stamp symbol executor = record {
   executor = executor;
   price = None;
   charge = terms.charge;
-  commission = commission_by terms;
+  commission = commission_from_terms terms;
   tax = 0;
   is_lifo = order.is_lifo;
 }
 
 -- The TRADE row of `order` with the terms `terms`, its id and stamp, its symbol, and the name of
 -- its executor.
-abbrev pub ordered_row : Order → Terms → (trade stamp : ℕ) → tables.TradeRow
-ordered_row order terms trade stamp = row_named order terms trade stamp order.symbol (model_orders.executor_name (executor_of order.executor))
+abbrev pub trade_row_of_order : Order → Terms → (trade stamp : ℕ) → tables.TradeRow
+trade_row_of_order order terms trade stamp = trade_row_with_texts order terms trade stamp order.symbol (model_orders.executor_name (abstract_executor order.executor))
 
 -- The TRADE_REQUEST row of `trade`, which `order` placed, or none if it is a market order.
-abbrev pub ordered_request : Order → Terms → (broker trade : ℕ) → Option RequestRow
-ordered_request order terms broker trade =
-    if is_market (kind_of order.order_type) then None
-    else Some (record { trade = trade; kind = kind_of order.order_type; symbol = order.symbol; qty = order.qty; bid = terms.price; broker = broker })
+abbrev pub request_of_order : Order → Terms → (broker trade : ℕ) → Option RequestRow
+request_of_order order terms broker trade =
+    if is_market_type (trade_type_of_order order.order_type) then None
+    else Some (record { trade = trade; kind = trade_type_of_order order.order_type; symbol = order.symbol; qty = order.qty; bid = terms.price; broker = broker })
 
 -- The row changes that add a trade: its TRADE row `row`, its first TRADE_HISTORY row, its
 -- `request`, if any, and the last stamp.
-abbrev pub changes_of_order : TradeRow → Option RequestRow → List Change
-changes_of_order row request =
+abbrev pub row_changes_of_order : TradeRow → Option RequestRow → List Change
+row_changes_of_order row request =
     change.AddTrade row ∷ change.AddHistory (record { trade = row.id; status = row.status; stamp = row.stamp })
     ∷ map change.AddRequest (option_to_list request) ++ change.SetLast row.stamp ∷ []
 
@@ -135,17 +135,18 @@ changes_of_order row request =
 -- `stamp`.
 pub record AreOrderChanges (order : Order) (terms : Terms) (broker trade stamp : ℕ) (changes : List Change) : Type 0 where
   pub row : TradeRow
-  pub added : trade_row_of row ≡ ordered_row order terms trade stamp
-  pub changed : changes ≡ changes_of_order row (ordered_request order terms broker trade)
+  pub added : abstract_trade_row row ≡ trade_row_of_order order terms trade stamp
+  pub changed : changes ≡ row_changes_of_order row (request_of_order order terms broker trade)
 
 -- `plan` adds the trade of `order` at the stamp of the command, with the next id. The order passes
 -- its checks against the facts `found`, an id and a later stamp are left, and the reply has the
--- stamp, the id, the first status and the estimate from the lots of the source (`IsEstimate`).
-pub record IsOrdered (order : Order) (found : OrderFound) (given : List Lot → Type 0) (last : Option ℕ) (now : ℕ) (plan : Plan) : Type 0 where
+-- stamp, the id, the first status and the estimate from the lots of the source
+-- (`MatchesModelEstimate`).
+pub record IsOrderPlan (order : Order) (found : OrderFound) (given : List Lot → Type 0) (last : Option ℕ) (now : ℕ) (plan : Plan) : Type 0 where
   pub stamp : ℕ
   pub estimate : Estimate
-  pub accepted : first_refusal (order_fact_tests found ++ trades_test found.last_trade ∷ clock_test last now ∷ []) ≡ None
+  pub accepted : first_refusal (order_checks found ++ trade_id_is_left_check found.last_trade ∷ later_stamp_check last now ∷ []) ≡ None
   pub stamped : stamp_after last now ≡ Some stamp
-  pub estimated : IsEstimate (terms_of order found) given estimate
-  pub told : plan.reply ≡ Ordered (record { stamp = stamp; trade = next_trade found.last_trade; status = model_orders.first_status (kind_of order.order_type); estimate = estimate })
-  pub changes : AreOrderChanges order (terms_of order found) (option_map_or (λ a. a.broker) found.account 0) (next_trade found.last_trade) stamp plan.changes.items
+  pub estimated : MatchesModelEstimate (terms_of_order order found) given estimate
+  pub told : plan.reply ≡ Ordered (record { stamp = stamp; trade = next_trade_id found.last_trade; status = model_orders.first_status (trade_type_of_order order.order_type); estimate = estimate })
+  pub changes : AreOrderChanges order (terms_of_order order found) (option_map_or (λ a. a.broker) found.account 0) (next_trade_id found.last_trade) stamp plan.changes.items

@@ -4,7 +4,7 @@ ghost use Rattle.std.specs.Prelude.{◌≡◌, ◌++◌, flat_map, option_map, o
 ghost use Rattle.brk_money.specs.declared.fault.Fault.TheVariants.{Memory};
 ghost use Rattle.brk_trade.specs.Results as spec;
 ghost use Rattle.brk_trade.specs.Results.{AreResultChanges};
-ghost use Rattle.brk_changes.specs.Rows.{move_row_of};
+ghost use Rattle.brk_changes.specs.Rows.{abstract_move_row};
 
 use crate::outcome::ResultNumbers;
 use crate::result_found::ResultFound;
@@ -19,13 +19,13 @@ use std::alloc::{AllocError, Global};
 
 // Appends the row changes of the completed trade itself: the values of its completion, and its
 // history row. Fails with `Memory` only.
-fn complete_trade(
+fn append_completed_trade_changes(
     trade: Id,
     price: Price,
     outcome: &ResultNumbers,
     changes: &mut Vec<Change>,
 ) -> Result<(), Fault>
-    ensures changes { OnOk result (changes.new.items ≡ changes.old.items ++ spec.trade_changes trade price outcome.now) }
+    ensures changes { OnOk result (changes.new.items ≡ changes.old.items ++ spec.row_changes_of_completed_trade trade price outcome.now) }
     ensures fault { OnErr result (result ≡ Err Memory) }
 {
     changes.push(Change::CompleteTrade {
@@ -45,8 +45,8 @@ fn complete_trade(
 
 // Returns the row change of a touched lot: it is deleted if no share is left of it, and otherwise
 // its quantity is set.
-fn lot_left(touch: &Touch) -> Change
-    ensures { result ≡ spec.lot_left touch.now }
+fn create_touched_lot_change(touch: &Touch) -> Change
+    ensures { result ≡ spec.row_change_of_touched_lot touch.now }
 {
     if touch.after == 0 {
         Change::RemoveLot(touch.lot)
@@ -59,8 +59,8 @@ fn lot_left(touch: &Touch) -> Change
 }
 
 // Returns the row change that adds the history row of a lot that `trade` touched.
-fn lot_change(trade: Id, touch: &Touch) -> Change
-    ensures { result ≡ spec.lot_change trade touch.now }
+fn create_lot_history_change(trade: Id, touch: &Touch) -> Change
+    ensures { result ≡ spec.row_change_adding_lot_history trade touch.now }
 {
     Change::AddLotChange(LotChange {
         lot: touch.lot,
@@ -72,31 +72,43 @@ fn lot_change(trade: Id, touch: &Touch) -> Change
 
 // Appends the row changes of a lot that `trade` touched, and of its history. Fails with `Memory`
 // only.
-fn touch_lot(trade: Id, touch: &Touch, changes: &mut Vec<Change>) -> Result<(), Fault>
-    ensures changes { OnOk result (changes.new.items ≡ changes.old.items ++ spec.touched_changes trade touch.now) }
+fn append_touched_lot_changes(
+    trade: Id,
+    touch: &Touch,
+    changes: &mut Vec<Change>,
+) -> Result<(), Fault>
+    ensures changes { OnOk result (changes.new.items ≡ changes.old.items ++ spec.row_changes_of_touched_lot trade touch.now) }
     ensures fault { OnErr result (result ≡ Err Memory) }
 {
-    changes.push(lot_left(touch))?;
-    changes.push(lot_change(trade, touch))?;
+    changes.push(create_touched_lot_change(touch))?;
+    changes.push(create_lot_history_change(trade, touch))?;
     Ok(())
 }
 
 // Appends the row changes of all lots that `trade` touched, and of their histories. Fails with
 // `Memory` only.
-fn close_lots(trade: Id, touched: &[Touch], changes: &mut Vec<Change>) -> Result<(), Fault>
-    ensures changes { OnOk result (changes.new.items ≡ changes.old.items ++ flat_map (spec.touched_changes trade) touched.now) }
+fn append_changes_of_touched_lots(
+    trade: Id,
+    touched: &[Touch],
+    changes: &mut Vec<Change>,
+) -> Result<(), Fault>
+    ensures changes { OnOk result (changes.new.items ≡ changes.old.items ++ flat_map (spec.row_changes_of_touched_lot trade) touched.now) }
     ensures fault { OnErr result (result ≡ Err Memory) }
 {
     for touch in touched {
-        touch_lot(trade, touch, changes)?;
+        append_touched_lot_changes(trade, touch, changes)?;
     }
     Ok(())
 }
 
 // Appends the row changes that add the lot that the trade opens and its history row, or nothing if
 // it opens none. Fails with `Memory` only.
-fn open_lot(trade: &TradeRow, opened: Option<Lot>, changes: &mut Vec<Change>) -> Result<(), Fault>
-    ensures changes { OnOk result (changes.new.items ≡ changes.old.items ++ flat_map (spec.opened_changes trade.now) (option_to_list opened)) }
+fn append_opened_lot_changes(
+    trade: &TradeRow,
+    opened: Option<Lot>,
+    changes: &mut Vec<Change>,
+) -> Result<(), Fault>
+    ensures changes { OnOk result (changes.new.items ≡ changes.old.items ++ flat_map (spec.row_changes_of_opened_lot trade.now) (option_to_list opened)) }
     ensures fault { OnErr result (result ≡ Err Memory) }
 {
     let Some(lot) = opened else {
@@ -121,8 +133,8 @@ fn open_lot(trade: &TradeRow, opened: Option<Lot>, changes: &mut Vec<Change>) ->
 
 // Returns the row change of the summary of the trade's account and symbol: it is added if there was
 // none, deleted if its quantity is 0 now, and otherwise set. Fails with `Memory` only.
-fn summary_change(found: &ResultFound, outcome: &ResultNumbers) -> Result<Change, Fault>
-    ensures change { IfOk result (λ change. change ≡ spec.summary_change found.now.summary found.now.trade outcome.now.summary) }
+fn create_summary_change(found: &ResultFound, outcome: &ResultNumbers) -> Result<Change, Fault>
+    ensures change { IfOk result (λ change. change ≡ spec.row_change_of_summary found.now.summary found.now.trade outcome.now.summary) }
     ensures fault { OnErr result (result ≡ Err Memory) }
 {
     let account = found.trade.account;
@@ -147,7 +159,7 @@ fn summary_change(found: &ResultFound, outcome: &ResultNumbers) -> Result<Change
 
 // Returns the settlement text of a newly completed cash trade (`is_cash`) or margin trade.
 fn first_cash_type(is_cash: bool) -> CashType
-    ensures { result ≡ spec.settlement_type is_cash }
+    ensures { result ≡ spec.first_cash_type_of_trade is_cash }
 {
     if is_cash {
         CashType::CashAccount
@@ -158,8 +170,8 @@ fn first_cash_type(is_cash: bool) -> CashType
 
 // Returns the row change of the totals of the account's broker: one more completed trade, and its
 // new commissions.
-fn broker_change(found: &ResultFound, commissions: Amount) -> Change
-    ensures { result ≡ spec.broker_change found.now commissions }
+fn create_broker_totals_change(found: &ResultFound, commissions: Amount) -> Change
+    ensures { result ≡ spec.row_change_of_broker_totals found.now commissions }
 {
     Change::SetBrokerNumbers {
         broker: found.account.broker,
@@ -169,8 +181,8 @@ fn broker_change(found: &ResultFound, commissions: Amount) -> Change
 }
 
 // Returns the row change that adds the settlement.
-fn settlement_change(trade: &TradeRow, outcome: &ResultNumbers) -> Change
-    ensures { result ≡ spec.settlement_change trade.now outcome.now }
+fn create_settlement_change(trade: &TradeRow, outcome: &ResultNumbers) -> Change
+    ensures { result ≡ spec.row_change_adding_settlement trade.now outcome.now }
 {
     Change::AddSettlement(SettlementRow {
         trade: trade.id,
@@ -182,48 +194,52 @@ fn settlement_change(trade: &TradeRow, outcome: &ResultNumbers) -> Change
 
 // Appends the row changes of the account's summary, of the broker's totals and of the settlement.
 // Fails with `Memory` only.
-fn settle(
+fn append_summary_and_settlement_changes(
     found: &ResultFound,
     outcome: &ResultNumbers,
     changes: &mut Vec<Change>,
 ) -> Result<(), Fault>
-    ensures changes { OnOk result (changes.new.items ≡ changes.old.items ++ spec.sum_changes found.now outcome.now) }
+    ensures changes { OnOk result (changes.new.items ≡ changes.old.items ++ spec.summary_broker_settlement_changes found.now outcome.now) }
     ensures fault { OnErr result (result ≡ Err Memory) }
 {
-    let summary = summary_change(found, outcome)?;
+    let summary = create_summary_change(found, outcome)?;
     changes.push(summary)?;
-    changes.push(broker_change(found, outcome.commissions))?;
-    changes.push(settlement_change(&found.trade, outcome))?;
+    changes.push(create_broker_totals_change(found, outcome.commissions))?;
+    changes.push(create_settlement_change(&found.trade, outcome))?;
     Ok(())
 }
 
 // Appends the quantity, and the words after it, to the cash text of a trade. Fails if memory runs
 // out.
-fn add_shares(name: &mut String, qty: Qty) -> Result<(), AllocError>
-    ensures { OnOk result (string_bytes name.new ≡ string_bytes name.old ++ spec.shares_text qty) }
+fn append_quantity_text(name: &mut String, qty: Qty) -> Result<(), AllocError>
+    ensures { OnOk result (string_bytes name.new ≡ string_bytes name.old ++ spec.quantity_in_cash_text qty) }
 {
     write!(name, " {} shares of ", qty.get())
 }
 
 // Returns the cash text of a trade: the name of its type, its quantity, " shares of " and the name
 // of its security. Fails if memory runs out.
-fn cash_name(alloc: Global, trade: &TradeRow, security: &Name) -> Result<String, AllocError>
-    ensures { IfOk result (λ name. string_bytes name ≡ spec.cash_name trade.now security.now) }
+fn format_trade_cash_text(
+    alloc: Global,
+    trade: &TradeRow,
+    security: &Name,
+) -> Result<String, AllocError>
+    ensures { IfOk result (λ name. string_bytes name ≡ spec.cash_text_of_trade trade.now security.now) }
 {
     let mut name = String::from_str(alloc, trade.kind.name())?;
-    add_shares(&mut name, trade.qty)?;
+    append_quantity_text(&mut name, trade.qty)?;
     name.push_str(security.as_str())?;
     Ok(name)
 }
 
 // Returns the cash row of the completed trade, or `None` if it is a margin trade. Fails if memory
 // runs out.
-fn cash_row(
+fn create_result_cash_row(
     alloc: Global,
     found: &ResultFound,
     outcome: &ResultNumbers,
 ) -> Result<Option<MoveRow>, AllocError>
-    ensures { IfOk result (λ cash. option_map move_row_of cash ≡ spec.cash_row_posted found.now outcome.now) }
+    ensures { IfOk result (λ cash. option_map abstract_move_row cash ≡ spec.cash_row_of_result found.now outcome.now) }
 {
     if !found.trade.is_cash {
         return Ok(None);
@@ -234,19 +250,19 @@ fn cash_row(
         trade: Some(found.trade.id),
         stamp: outcome.stamp,
         amount: outcome.amount,
-        name: cash_name(alloc, &found.trade, &found.security)?,
+        name: format_trade_cash_text(alloc, &found.trade, &found.security)?,
     }))
 }
 
 // Appends the row changes of the cash row, if any: it is added, and the balance of the account is
 // set. Fails with `Memory` only.
-fn move_cash(
+fn append_cash_row_changes(
     account: Id,
     outcome: &ResultNumbers,
     cash: Option<MoveRow>,
     changes: &mut Vec<Change>,
 ) -> Result<(), Fault>
-    ensures changes { OnOk result (changes.new.items ≡ changes.old.items ++ flat_map (spec.cash_changes account outcome.now.balance) (option_to_list cash)) }
+    ensures changes { OnOk result (changes.new.items ≡ changes.old.items ++ flat_map (spec.row_changes_of_cash_row account outcome.now.balance) (option_to_list cash)) }
     ensures fault { OnErr result (result ≡ Err Memory) }
 {
     let Some(row) = cash else {
@@ -262,7 +278,7 @@ fn move_cash(
 
 // Returns all row changes of a completion, in sequence, with those of the cash row, if any. Fails
 // with `Memory` only.
-fn changes_of(
+fn create_result_changes(
     alloc: Global,
     found: &ResultFound,
     price: Price,
@@ -270,16 +286,16 @@ fn changes_of(
     outcome: &ResultNumbers,
     cash: Option<MoveRow>,
 ) -> Result<Vec<Change>, Fault>
-    ensures changes { IfOk result (λ changes. changes.items ≡ spec.changes_of_result found.now price closing.now outcome.now cash) }
+    ensures changes { IfOk result (λ changes. changes.items ≡ spec.row_changes_of_result found.now price closing.now outcome.now cash) }
     ensures fault { OnErr result (result ≡ Err Memory) }
 {
     let trade = &found.trade;
     let mut changes = Vec::new(alloc);
-    complete_trade(trade.id, price, outcome, &mut changes)?;
-    close_lots(trade.id, &closing.touched, &mut changes)?;
-    open_lot(trade, closing.opened, &mut changes)?;
-    settle(found, outcome, &mut changes)?;
-    move_cash(trade.account, outcome, cash, &mut changes)?;
+    append_completed_trade_changes(trade.id, price, outcome, &mut changes)?;
+    append_changes_of_touched_lots(trade.id, &closing.touched, &mut changes)?;
+    append_opened_lot_changes(trade, closing.opened, &mut changes)?;
+    append_summary_and_settlement_changes(found, outcome, &mut changes)?;
+    append_cash_row_changes(trade.account, outcome, cash, &mut changes)?;
     changes.push(Change::SetLast(outcome.stamp))?;
     Ok(changes)
 }
@@ -296,7 +312,7 @@ pub(crate) fn completion_changes(
     ensures changes { IfOk result (λ changes. AreResultChanges found.now price closing.now outcome.now changes.items) }
     ensures fault { OnErr result (result ≡ Err Memory) }
 {
-    let cash = cash_row(alloc, found, outcome)?;
-    let changes = changes_of(alloc, found, price, closing, outcome, cash)?;
+    let cash = create_result_cash_row(alloc, found, outcome)?;
+    let changes = create_result_changes(alloc, found, price, closing, outcome, cash)?;
     Ok(changes)
 }

@@ -1,19 +1,19 @@
 ghost use Rattle.std.specs.Prelude.{◌≡◌, ◌-ℤ◌, ℕ, Bool, List, drop, false, IfOk, IfErr, pos};
 ghost use Rattle.brk_model.specs.Base as spec;
-ghost use Rattle.brk_model.specs.Base.{Base, completed};
+ghost use Rattle.brk_model.specs.Base.{Base, completed_trades};
 ghost use Rattle.brk_model.specs.Commands.{Order};
-ghost use Rattle.brk_model.specs.Derived.{shares_in};
+ghost use Rattle.brk_model.specs.Derived.{shares_of_position};
 ghost use Rattle.brk_model.specs.Orders as spec_orders;
 ghost use Rattle.brk_lots.specs.declared.lot.Lot.{Lot};
-ghost use Rattle.brk_lots.specs.Lots.{shares_of};
+ghost use Rattle.brk_lots.specs.Lots.{shares_of_lots};
 ghost use Rattle.brk_lots.specs.Against.{closes_lots};
-ghost use Rattle.brk_lots.specs.Books.{lots_total};
-ghost use Rattle.brk_lots.specs.Sources.{AreGiven, AsTold};
-ghost use Rattle.brk_lots.specs.Values.{values_of};
-ghost use Rattle.brk_trade.specs.Estimates.{AreTerms, OrderAsksFew, commission_by, deal_by, tax_at};
-ghost use Rattle.brk_plans.specs.Replies.{estimate_with};
+ghost use Rattle.brk_lots.specs.Books.{lot_quantity_sum};
+ghost use Rattle.brk_lots.specs.Sources.{YieldsPosition, IsFaithfulRemainder};
+ghost use Rattle.brk_lots.specs.Values.{closing_values_of_deal};
+ghost use Rattle.brk_trade.specs.Estimates.{AreOrderTermsInBase, OrderReadsFewLots, commission_from_terms, deal_from_terms, tax_on_gain_at_status};
+ghost use Rattle.brk_plans.specs.Replies.{estimate_from_model};
 
-use brk_lots::{LotSource, Values, closes_lots, estimate_values, no_values};
+use brk_lots::{LotSource, Values, closes_lots, estimate_values, zero_values};
 use brk_money::{
     Amount, Cents, Fault, Price, Qty, Rate, Side, TaxRate, TaxStatus, Wide, commission, tax,
 };
@@ -41,8 +41,8 @@ pub struct Terms {
 }
 
 // Returns true if gains are taxable at the tax status.
-fn bears_tax(status: TaxStatus) -> bool
-    ensures { result ≡ spec.bears_tax status }
+fn is_taxable_status(status: TaxStatus) -> bool
+    ensures { result ≡ spec.is_taxable_status status }
 {
     match status {
         TaxStatus::Untaxed => false,
@@ -52,7 +52,7 @@ fn bears_tax(status: TaxStatus) -> bool
 
 // Returns the realised gain of shares in cents, below 0 for a loss: their sell value minus their
 // buy value.
-fn gain(values: Values) -> Cents
+fn realised_gain_of_values(values: Values) -> Cents
     ensures { result ≡ pos values.sell_value -ℤ pos values.buy_value }
 {
     Cents::new(values.sell_value.get() as i64 - values.buy_value.get() as i64).unwrap()
@@ -60,11 +60,11 @@ fn gain(values: Values) -> Cents
 
 /// Returns the tax on the realised gain of shares, at the sum of the rates that the account's
 /// customer pays; 0 if gains are not taxable at the tax status.
-pub fn tax_on(values: Values, status: TaxStatus, rates: TaxRate) -> Amount
-    ensures { result ≡ tax_at status rates values }
+pub fn tax_on_realised_gain(values: Values, status: TaxStatus, rates: TaxRate) -> Amount
+    ensures { result ≡ tax_on_gain_at_status status rates values }
 {
-    if bears_tax(status) {
-        tax(gain(values), rates).unsigned_abs()
+    if is_taxable_status(status) {
+        tax(realised_gain_of_values(values), rates).unsigned_abs()
     } else {
         Amount::new(0).unwrap()
     }
@@ -72,21 +72,21 @@ pub fn tax_on(values: Values, status: TaxStatus, rates: TaxRate) -> Amount
 
 // Returns the buy value and the sell value of the shares that an order would close. Fails only with
 // a fault of the source. Reads no lot if the account holds no shares that the order would close.
-fn values_upon<L: LotSource>(source: &mut L, terms: &Terms) -> Result<Values, Fault>
+fn values_of_shares_to_close<L: LotSource>(source: &mut L, terms: &Terms) -> Result<Values, Fault>
     ensures leads { L.leads source.old source.new }
     ensures values { IfOk result (λ values. (ls : List Lot) (trade stamp : ℕ) (lifo : Bool) →
-        AreGiven (AsTold (L.reads_faithfully source.new) (L.remaining source.old)) lifo ls → terms.now.held ≡ lots_total ls →
-        values ≡ values_of (deal_by terms.now trade stamp lifo) (shares_of ls)) }
-    ensures asked { OrderAsksFew terms.now (AsTold (L.reads_faithfully source.new) (L.remaining source.old)) (L.asked source.old) (L.asked source.new) }
+        YieldsPosition (IsFaithfulRemainder (L.reads_faithfully source.new) (L.remaining source.old)) lifo ls → terms.now.held ≡ lot_quantity_sum ls →
+        values ≡ closing_values_of_deal (deal_from_terms terms.now trade stamp lifo) (shares_of_lots ls)) }
+    ensures asked { OrderReadsFewLots terms.now (IsFaithfulRemainder (L.reads_faithfully source.new) (L.remaining source.old)) (L.asked source.old) (L.asked source.new) }
     ensures unmet { closes_lots terms.now.side terms.now.held ≡ false → source.new ≡ source.old }
     ensures faulted { IfOk result (λ values. L.faulted source.new ≡ L.faulted source.old) }
     ensures fault { IfErr result (λ fault. (before : L) × L.fails before fault source.new) }
-    ensures rest { (ls : List Lot) → AsTold (L.reads_faithfully source.new) (L.remaining source.old) ls → (n : ℕ) × L.remaining source.new (drop n ls) }
+    ensures rest { (ls : List Lot) → IsFaithfulRemainder (L.reads_faithfully source.new) (L.remaining source.old) ls → (n : ℕ) × L.remaining source.new (drop n ls) }
 {
     if closes_lots(terms.side, terms.held) {
         estimate_values(source, terms.side, terms.qty, terms.price)
     } else {
-        Ok(no_values())
+        Ok(zero_values())
     }
 }
 
@@ -100,24 +100,24 @@ pub fn estimate_order<L: LotSource>(source: &mut L, terms: &Terms) -> Result<Est
     // The estimate equals the model's estimate, in a base that has the terms and the shares of the
     // lots.
     ensures estimate { IfOk result (λ estimate. (base : Base) (o : Order) (ls : List Lot) →
-        AreTerms base o terms.now → shares_in (completed base) o.account o.symbol ≡ shares_of ls → AreGiven (AsTold (L.reads_faithfully source.new) (L.remaining source.old)) o.is_lifo ls →
-        terms.now.held ≡ lots_total ls → estimate ≡ estimate_with (spec_orders.estimate base o)) }
-    ensures commission { IfOk result (λ estimate. estimate.commission ≡ commission_by terms.now) }
-    // It asks for at most one lot more than the order would touch, also if it fails, and for none if
-    // it would close none.
-    ensures asked { OrderAsksFew terms.now (AsTold (L.reads_faithfully source.new) (L.remaining source.old)) (L.asked source.old) (L.asked source.new) }
+        AreOrderTermsInBase base o terms.now → shares_of_position (completed_trades base) o.account o.symbol ≡ shares_of_lots ls → YieldsPosition (IsFaithfulRemainder (L.reads_faithfully source.new) (L.remaining source.old)) o.is_lifo ls →
+        terms.now.held ≡ lot_quantity_sum ls → estimate ≡ estimate_from_model (spec_orders.estimate base o)) }
+    ensures commission { IfOk result (λ estimate. estimate.commission ≡ commission_from_terms terms.now) }
+    // It asks for at most one lot more than the order would touch, also if it fails, and for none
+    // if it would close none.
+    ensures asked { OrderReadsFewLots terms.now (IsFaithfulRemainder (L.reads_faithfully source.new) (L.remaining source.old)) (L.asked source.old) (L.asked source.new) }
     ensures unmet { closes_lots terms.now.side terms.now.held ≡ false → source.new ≡ source.old }
     // No fault of the source is ignored, and each is returned as it came.
     ensures faulted { IfOk result (λ estimate. L.faulted source.new ≡ L.faulted source.old) }
     ensures fault { IfErr result (λ fault. (before : L) × L.fails before fault source.new) }
-    ensures rest { (ls : List Lot) → AsTold (L.reads_faithfully source.new) (L.remaining source.old) ls → (n : ℕ) × L.remaining source.new (drop n ls) }
+    ensures rest { (ls : List Lot) → IsFaithfulRemainder (L.reads_faithfully source.new) (L.remaining source.old) ls → (n : ℕ) × L.remaining source.new (drop n ls) }
 {
-    let values = values_upon(source, terms)?;
+    let values = values_of_shares_to_close(source, terms)?;
     Ok(Estimate {
         price: terms.price,
         buy_value: values.buy_value,
         sell_value: values.sell_value,
-        tax: tax_on(values, terms.tax_status, terms.rates),
+        tax: tax_on_realised_gain(values, terms.tax_status, terms.rates),
         commission: commission(terms.rate, terms.qty, terms.price).unsigned_abs(),
         charge: Amount::new(u64::from(terms.charge.get())).unwrap(),
         assets: terms.assets,

@@ -18,10 +18,10 @@ pub use brk_changes::{
 };
 pub use brk_plans::{
     CashText, Completed, Estimate, MoveFound, Ordered, Plan, Quote, Reference, ReferenceFacts,
-    Reply, SettlementText, Span, TextUpdate, has_no_quote, plan_cancel, plan_feed, plan_move,
-    plan_oneday, plan_reference, plan_update, quote_with, span_of, triggers,
+    Reply, SettlementText, Span, TextUpdate, create_quote, has_no_quote, plan_cancel, plan_feed,
+    plan_move, plan_oneday, plan_reference, plan_update, price_span_of_ticks, price_triggers_trade,
 };
-pub use estimate::{Terms, estimate_order, tax_on};
+pub use estimate::{Terms, estimate_order, tax_on_realised_gain};
 pub use order::{OrderAccount, OrderFound, plan_estimate, plan_order};
 pub use outcome::ResultNumbers;
 pub use permitting::permitted;

@@ -1,18 +1,18 @@
 ghost use Rattle.std.specs.Prelude.{◌≡◌, ◌⊎◌, ◌++◌, ◌∷◌, [], ℕ, List, drop, IfOk, IfErr, OnErr, MatchResult, MatchOption, Some, None, false, string_bytes};
 ghost use Rattle.brk_lots.specs.declared.lot.Lot.{Lot};
 ghost use Rattle.brk_lots.specs.Against.{closes_lots};
-ghost use Rattle.brk_lots.specs.Sources.{AsTold};
+ghost use Rattle.brk_lots.specs.Sources.{IsFaithfulRemainder};
 ghost use Rattle.brk_model.specs.Orders as model;
 ghost use Rattle.brk_model.specs.Tests.{first_refusal};
 ghost use Rattle.brk_money.specs.declared.fault.Fault.{Fault};
-ghost use Rattle.brk_ref.specs.Records.{executor_of};
+ghost use Rattle.brk_ref.specs.Records.{abstract_executor};
 ghost use Rattle.brk_money.specs.declared.refusal.Limit.TheVariants as limit;
 ghost use Rattle.brk_money.specs.declared.refusal.Refusal.TheVariants.{Range};
-ghost use Rattle.brk_trade.specs.Estimates.{OrderAsksFew, commission_by};
+ghost use Rattle.brk_trade.specs.Estimates.{OrderReadsFewLots, commission_from_terms};
 ghost use Rattle.brk_trade.specs.Orders as spec;
-ghost use Rattle.brk_plans.specs.Reference.{clock_test};
-ghost use Rattle.brk_changes.specs.Rows.{trade_row_of};
-ghost use Rattle.brk_trade.specs.Orders.{AreOrderChanges, IsEstimated, IsOrdered, IsPlacement, order_fact_tests, terms_of, trades_test};
+ghost use Rattle.brk_plans.specs.Reference.{later_stamp_check};
+ghost use Rattle.brk_changes.specs.Rows.{abstract_trade_row};
+ghost use Rattle.brk_trade.specs.Orders.{AreOrderChanges, EstimatesCheckedOrder, IsOrderPlan, IsCheckedPlacement, order_checks, terms_of_order, trade_id_is_left_check};
 
 use crate::estimate::{Terms, estimate_order};
 use brk_changes::{Amount, Change, HistoryRow, RequestRow, TradeRow};
@@ -69,17 +69,17 @@ struct Placement {
 
 // Returns the price that the order asks for, or `last` if it asks for none.
 fn requested_price(order: &Order, last: Price) -> Price
-    ensures { result ≡ spec.price_requested order.now last }
+    ensures { result ≡ spec.requested_price_or_last order.now last }
 {
     order.order_type.price().unwrap_or(last)
 }
 
 // Returns the terms of an order and the broker of its account, or the first refusal that applies of
 // `NoAccount`, `NoSecurity`, `NotPermitted`, `NoCharge` and `NoRate`.
-fn placement_of(order: &Order, found: &OrderFound) -> Result<Placement, Refusal>
+fn checked_placement(order: &Order, found: &OrderFound) -> Result<Placement, Refusal>
     ensures { MatchResult result
-        (IsPlacement order.now found.now)
-        (λ refusal. first_refusal (order_fact_tests found.now) ≡ Some refusal) }
+        (IsCheckedPlacement order.now found.now)
+        (λ refusal. first_refusal (order_checks found.now) ≡ Some refusal) }
 {
     let Some(account) = found.account else {
         return Err(Refusal::NoAccount);
@@ -125,19 +125,19 @@ pub fn plan_estimate<L: LotSource>(
 ) -> Planned<Estimate>
     ensures leads { L.leads source.old source.new }
     ensures planned { IfOk result (λ planned. MatchResult planned
-        (IsEstimated order.now found.now (AsTold (L.reads_faithfully source.new) (L.remaining source.old)))
-        (λ refusal. first_refusal (order_fact_tests found.now) ≡ Some refusal)) }
+        (EstimatesCheckedOrder order.now found.now (IsFaithfulRemainder (L.reads_faithfully source.new) (L.remaining source.old)))
+        (λ refusal. first_refusal (order_checks found.now) ≡ Some refusal)) }
     ensures refused { IfOk result (λ planned. OnErr planned (source.new ≡ source.old)) }
     // It asks for at most one lot more than the order would touch, also if it fails.
-    ensures asked { OrderAsksFew (terms_of order.now found.now) (AsTold (L.reads_faithfully source.new) (L.remaining source.old)) (L.asked source.old) (L.asked source.new) }
+    ensures asked { OrderReadsFewLots (terms_of_order order.now found.now) (IsFaithfulRemainder (L.reads_faithfully source.new) (L.remaining source.old)) (L.asked source.old) (L.asked source.new) }
     // It asks for no lot if the account holds no shares that the order would close.
-    ensures unmet { closes_lots (terms_of order.now found.now).side (terms_of order.now found.now).held ≡ false → source.new ≡ source.old }
+    ensures unmet { closes_lots (terms_of_order order.now found.now).side (terms_of_order order.now found.now).held ≡ false → source.new ≡ source.old }
     // No fault of the source is ignored, and each is returned as it came.
     ensures faulted { IfOk result (λ planned. L.faulted source.new ≡ L.faulted source.old) }
     ensures fault { IfErr result (λ fault. (before : L) × L.fails before fault source.new) }
-    ensures rest { (ls : List Lot) → AsTold (L.reads_faithfully source.new) (L.remaining source.old) ls → (n : ℕ) × L.remaining source.new (drop n ls) }
+    ensures rest { (ls : List Lot) → IsFaithfulRemainder (L.reads_faithfully source.new) (L.remaining source.old) ls → (n : ℕ) × L.remaining source.new (drop n ls) }
 {
-    let placement = match placement_of(order, found) {
+    let placement = match checked_placement(order, found) {
         Ok(placement) => placement,
         Err(refusal) => return Ok(Err(refusal)),
     };
@@ -147,10 +147,10 @@ pub fn plan_estimate<L: LotSource>(
 
 // Returns the id of the next trade: `last` plus 1, or 1 if there are no trades. Returns `None` if
 // no id is left.
-fn next_trade(last: Option<Id>) -> Option<Id>
+fn next_free_trade_id(last: Option<Id>) -> Option<Id>
     ensures { MatchOption result
-        (first_refusal (trades_test last ∷ []) ≡ Some (Range limit.Trades))
-        (λ trade. (first_refusal (trades_test last ∷ []) ≡ None) × (trade ≡ spec.next_trade last)) }
+        (first_refusal (trade_id_is_left_check last ∷ []) ≡ Some (Range limit.Trades))
+        (λ trade. (first_refusal (trade_id_is_left_check last ∷ []) ≡ None) × (trade ≡ spec.next_trade_id last)) }
 {
     match last {
         Some(last) => Id::new(last.get() + 1),
@@ -172,7 +172,7 @@ fn first_status(kind: TradeType) -> Status
 // Returns the executor's name as a trade stores it: the first name, a space, the last name. Fails
 // if memory runs out.
 fn executor_name(alloc: Global, executor: &Executor) -> Result<String, AllocError>
-    ensures { IfOk result (λ name. string_bytes name ≡ model.executor_name (executor_of executor.now)) }
+    ensures { IfOk result (λ name. string_bytes name ≡ model.executor_name (abstract_executor executor.now)) }
 {
     let mut name = String::from_str(alloc, executor.first_name.as_str())?;
     name.push_str(" ")?;
@@ -182,7 +182,7 @@ fn executor_name(alloc: Global, executor: &Executor) -> Result<String, AllocErro
 
 // Returns the TRADE row of a new order with this commission, id, stamp and these texts: in its
 // first status, without a price, with tax 0.
-fn row_named(
+fn create_trade_row_with_texts(
     order: &Order,
     terms: &Terms,
     commission: Amount,
@@ -191,8 +191,8 @@ fn row_named(
     symbol: Symbol,
     executor: String,
 ) -> TradeRow
-    requires { commission ≡ commission_by terms.now }
-    ensures { trade_row_of result ≡ spec.row_named order.now terms.now trade stamp symbol (string_bytes executor) }
+    requires { commission ≡ commission_from_terms terms.now }
+    ensures { abstract_trade_row result ≡ spec.trade_row_with_texts order.now terms.now trade stamp symbol (string_bytes executor) }
 {
     TradeRow {
         id: trade,
@@ -215,7 +215,7 @@ fn row_named(
 
 // Returns the TRADE row of a new order with this commission, id and stamp. Fails if memory runs
 // out.
-fn trade_row(
+fn create_order_trade_row(
     alloc: Global,
     order: &Order,
     terms: &Terms,
@@ -223,22 +223,22 @@ fn trade_row(
     trade: Id,
     stamp: Stamp,
 ) -> Result<TradeRow, AllocError>
-    requires { commission ≡ commission_by terms.now }
-    ensures { IfOk result (λ row. trade_row_of row ≡ spec.ordered_row order.now terms.now trade stamp) }
+    requires { commission ≡ commission_from_terms terms.now }
+    ensures { IfOk result (λ row. abstract_trade_row row ≡ spec.trade_row_of_order order.now terms.now trade stamp) }
 {
     let symbol = order.symbol.clone()?;
     let executor = executor_name(alloc, &order.executor)?;
-    Ok(row_named(order, terms, commission, trade, stamp, symbol, executor))
+    Ok(create_trade_row_with_texts(order, terms, commission, trade, stamp, symbol, executor))
 }
 
 // Returns the TRADE_REQUEST row of a new trade, or `None` if it is of a market order. Fails if
 // memory runs out.
-fn request_row(
+fn create_order_request_row(
     order: &Order,
     placement: &Placement,
     trade: Id,
 ) -> Result<Option<RequestRow>, AllocError>
-    ensures { IfOk result (λ request. request ≡ spec.ordered_request order.now placement.now.terms placement.now.broker trade) }
+    ensures { IfOk result (λ request. request ≡ spec.request_of_order order.now placement.now.terms placement.now.broker trade) }
 {
     if order.order_type.kind().is_market() {
         return Ok(None);
@@ -255,12 +255,12 @@ fn request_row(
 
 // Returns the row changes that add a trade: its row, its first history row and its request, if any;
 // and that set the last stamp. Fails if memory runs out.
-fn changes_of(
+fn create_new_trade_changes(
     alloc: Global,
     row: TradeRow,
     request: Option<RequestRow>,
 ) -> Result<Vec<Change>, AllocError>
-    ensures { IfOk result (λ changes. changes.items ≡ spec.changes_of_order row request) }
+    ensures { IfOk result (λ changes. changes.items ≡ spec.row_changes_of_order row request) }
 {
     let stamp = row.stamp;
     let history = HistoryRow {
@@ -280,7 +280,7 @@ fn changes_of(
 
 // Returns the row changes of an accepted order with this commission, id and stamp. Fails if memory
 // runs out.
-fn order_changes(
+fn create_order_changes(
     alloc: Global,
     order: &Order,
     placement: &Placement,
@@ -288,13 +288,13 @@ fn order_changes(
     trade: Id,
     stamp: Stamp,
 ) -> Result<Vec<Change>, AllocError>
-    requires { commission ≡ commission_by placement.now.terms }
+    requires { commission ≡ commission_from_terms placement.now.terms }
     ensures { IfOk result (λ changes. AreOrderChanges order.now placement.now.terms placement.now.broker trade stamp changes.items) }
 {
     let terms = &placement.terms;
-    let row = trade_row(alloc, order, terms, commission, trade, stamp)?;
-    let request = request_row(order, placement, trade)?;
-    let changes = changes_of(alloc, row, request)?;
+    let row = create_order_trade_row(alloc, order, terms, commission, trade, stamp)?;
+    let request = create_order_request_row(order, placement, trade)?;
+    let changes = create_new_trade_changes(alloc, row, request)?;
     Ok(changes)
 }
 
@@ -319,30 +319,37 @@ pub fn plan_order<L: LotSource>(
 ) -> Planned<Plan>
     ensures leads { L.leads source.old source.new }
     ensures planned { IfOk result (λ planned. MatchResult planned
-        (IsOrdered order.now found.now (AsTold (L.reads_faithfully source.new) (L.remaining source.old)) last now)
-        (λ refusal. first_refusal (order_fact_tests found.now ++ trades_test found.now.last_trade ∷ clock_test last now ∷ []) ≡ Some refusal)) }
+        (IsOrderPlan order.now found.now (IsFaithfulRemainder (L.reads_faithfully source.new) (L.remaining source.old)) last now)
+        (λ refusal. first_refusal (order_checks found.now ++ trade_id_is_left_check found.now.last_trade ∷ later_stamp_check last now ∷ []) ≡ Some refusal)) }
     ensures refused { IfOk result (λ planned. OnErr planned (source.new ≡ source.old)) }
     // It asks for at most one lot more than the order would touch, also if it fails.
-    ensures asked { OrderAsksFew (terms_of order.now found.now) (AsTold (L.reads_faithfully source.new) (L.remaining source.old)) (L.asked source.old) (L.asked source.new) }
+    ensures asked { OrderReadsFewLots (terms_of_order order.now found.now) (IsFaithfulRemainder (L.reads_faithfully source.new) (L.remaining source.old)) (L.asked source.old) (L.asked source.new) }
     // It asks for no lot if the account holds no shares that the order would close.
-    ensures unmet { closes_lots (terms_of order.now found.now).side (terms_of order.now found.now).held ≡ false → source.new ≡ source.old }
+    ensures unmet { closes_lots (terms_of_order order.now found.now).side (terms_of_order order.now found.now).held ≡ false → source.new ≡ source.old }
     // No fault of the source is ignored, and each is returned as it came.
     ensures faulted { IfOk result (λ planned. L.faulted source.new ≡ L.faulted source.old) }
     ensures fault { IfErr result (λ fault. (fault ≡ Fault.Memory) ⊎ ((before : L) × L.fails before fault source.new)) }
-    ensures rest { (ls : List Lot) → AsTold (L.reads_faithfully source.new) (L.remaining source.old) ls → (n : ℕ) × L.remaining source.new (drop n ls) }
+    ensures rest { (ls : List Lot) → IsFaithfulRemainder (L.reads_faithfully source.new) (L.remaining source.old) ls → (n : ℕ) × L.remaining source.new (drop n ls) }
 {
-    let placement = match placement_of(order, found) {
+    let placement = match checked_placement(order, found) {
         Ok(placement) => placement,
         Err(refusal) => return Ok(Err(refusal)),
     };
-    let Some(trade) = next_trade(found.last_trade) else {
+    let Some(trade) = next_free_trade_id(found.last_trade) else {
         return Ok(Err(Refusal::Range(Limit::Trades)));
     };
     let Some(stamp) = stamp_after(last, now) else {
         return Ok(Err(Refusal::ClockEnd));
     };
     let estimate = estimate_order(source, &placement.terms)?;
-    let changes = order_changes(alloc, order, &placement, estimate.commission, trade, stamp)?;
+    let changes = create_order_changes(
+        alloc,
+        order,
+        &placement,
+        estimate.commission,
+        trade,
+        stamp,
+    )?;
     let reply = Reply::Ordered(Ordered {
         stamp,
         trade,

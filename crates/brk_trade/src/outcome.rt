@@ -5,11 +5,13 @@ ghost use Rattle.brk_model.specs.Limits.{greatest_price, greatest_summary};
 ghost use Rattle.brk_model.specs.Shares as shares;
 ghost use Rattle.brk_model.specs.Tests.{first_refusal};
 ghost use Rattle.brk_trade.specs.Outcomes as spec;
-ghost use Rattle.brk_trade.specs.Outcomes.{first_tests, last_tests, numbers_of_result, values_in};
+ghost use Rattle.brk_trade.specs.Outcomes.{checks_before_reading_lots, checks_after_reading_lots, figures_of_result, values_of_closing};
 
 use crate::result_found::ResultFound;
 use crate::settling::{
-    amount_of, balance_after, commission_at, commissions_after, due_day, tax_upon, values_of,
+    amounts_of_closing, balance_within_limit_after, commission_of_trade_at,
+    commissions_within_limit_after, due_day_in_calendar, settlement_amount_of_trade,
+    tax_on_closed_shares,
 };
 use brk_changes::{Amount, is_submitted};
 use brk_lots::Closing;
@@ -51,8 +53,8 @@ pub(crate) struct RateAndSummary {
 }
 
 // Returns the quantity, negated for a sale.
-fn signed(side: Side, qty: u32) -> i128
-    ensures { result ≡ shares.signed side qty }
+fn signed_quantity_of_side(side: Side, qty: u32) -> i128
+    ensures { result ≡ shares.signed_by_side side qty }
 {
     match side {
         Side::Buy => i128::from(qty),
@@ -62,13 +64,13 @@ fn signed(side: Side, qty: u32) -> i128
 
 // Returns the number of shares of the trade's security that its account holds after it, below 0 if
 // sold short, or `None` if it exceeds the limit.
-fn summary_after(found: &ResultFound) -> Option<i64>
+fn summary_within_limit_after(found: &ResultFound) -> Option<i64>
     ensures { MatchOption result
-        (nat_lt greatest_summary (nat_abs (spec.summary_after found.now)) ≡ true)
-        (λ summary. (summary ≡ spec.summary_after found.now) × (nat_lt greatest_summary (nat_abs (spec.summary_after found.now)) ≡ false)) }
+        (nat_lt greatest_summary (nat_abs (spec.shares_held_after_trade found.now)) ≡ true)
+        (λ summary. (summary ≡ spec.shares_held_after_trade found.now) × (nat_lt greatest_summary (nat_abs (spec.shares_held_after_trade found.now)) ≡ false)) }
 {
     let held = i128::from(found.summary.unwrap_or(0));
-    let after = held + signed(found.trade.kind.side(), found.trade.qty.get());
+    let after = held + signed_quantity_of_side(found.trade.kind.side(), found.trade.qty.get());
     if after.unsigned_abs() > GREATEST_SUMMARY {
         return None;
     }
@@ -77,10 +79,10 @@ fn summary_after(found: &ResultFound) -> Option<i64>
 
 // Returns the commission rate and the shares held after the trade, or the first refusal that
 // applies before lots are read: `WrongStatus`, `NoRate` or `Range(Summary)`.
-pub(crate) fn rate_and_summary(found: &ResultFound) -> Result<RateAndSummary, Refusal>
+pub(crate) fn checked_rate_and_summary(found: &ResultFound) -> Result<RateAndSummary, Refusal>
     ensures { MatchResult result
-        (λ known. (first_refusal (first_tests found.now) ≡ None) × (found.now.rate ≡ Some known.rate) × (known.summary ≡ spec.summary_after found.now))
-        (λ refusal. first_refusal (first_tests found.now) ≡ Some refusal) }
+        (λ known. (first_refusal (checks_before_reading_lots found.now) ≡ None) × (found.now.rate ≡ Some known.rate) × (known.summary ≡ spec.shares_held_after_trade found.now))
+        (λ refusal. first_refusal (checks_before_reading_lots found.now) ≡ Some refusal) }
 {
     if !is_submitted(&found.trade) {
         return Err(Refusal::WrongStatus(found.trade.status));
@@ -88,7 +90,7 @@ pub(crate) fn rate_and_summary(found: &ResultFound) -> Result<RateAndSummary, Re
     let Some(rate) = found.rate else {
         return Err(Refusal::NoRate);
     };
-    let Some(summary) = summary_after(found) else {
+    let Some(summary) = summary_within_limit_after(found) else {
         return Err(Refusal::Range(Limit::Summary));
     };
     Ok(RateAndSummary { rate, summary })
@@ -96,7 +98,7 @@ pub(crate) fn rate_and_summary(found: &ResultFound) -> Result<RateAndSummary, Re
 
 // Returns the figures of the completion, or the first refusal that applies with the values of the
 // closed shares: `Range(Balance)`, `Range(Broker)` or `ClockEnd`.
-pub(crate) fn complete(
+pub(crate) fn checked_result_figures(
     found: &ResultFound,
     price: Price,
     known: &RateAndSummary,
@@ -106,27 +108,27 @@ pub(crate) fn complete(
     requires bought { (pos 0 ≤ℤ closing.now.buy_value) × (closing.now.buy_value ≤ℤ pos (found.now.trade.qty * greatest_price)) }
     requires sold { (pos 0 ≤ℤ closing.now.sell_value) × (closing.now.sell_value ≤ℤ pos (found.now.trade.qty * greatest_price)) }
     requires rate { found.now.rate ≡ Some known.now.rate }
-    requires summary { known.now.summary ≡ spec.summary_after found.now }
+    requires summary { known.now.summary ≡ spec.shares_held_after_trade found.now }
     ensures { MatchResult result
-        (λ outcome. (first_refusal (last_tests found.now price (values_in closing.now) stamp) ≡ None) × (stamp ≡ Some outcome.stamp) × (outcome ≡ numbers_of_result found.now price (values_in closing.now) outcome.stamp))
-        (λ refusal. first_refusal (last_tests found.now price (values_in closing.now) stamp) ≡ Some refusal) }
+        (λ outcome. (first_refusal (checks_after_reading_lots found.now price (values_of_closing closing.now) stamp) ≡ None) × (stamp ≡ Some outcome.stamp) × (outcome ≡ figures_of_result found.now price (values_of_closing closing.now) outcome.stamp))
+        (λ refusal. first_refusal (checks_after_reading_lots found.now price (values_of_closing closing.now) stamp) ≡ Some refusal) }
 {
-    let values = values_of(found.trade.qty, closing);
+    let values = amounts_of_closing(found.trade.qty, closing);
     let buy_value = values.buy_value;
     let sell_value = values.sell_value;
-    let commission = commission_at(&found.trade, price, known.rate);
-    let tax = tax_upon(found, values);
-    let amount = amount_of(found, price, commission, tax);
-    let Some(balance) = balance_after(found, amount) else {
+    let commission = commission_of_trade_at(&found.trade, price, known.rate);
+    let tax = tax_on_closed_shares(found, values);
+    let amount = settlement_amount_of_trade(found, price, commission, tax);
+    let Some(balance) = balance_within_limit_after(found, amount) else {
         return Err(Refusal::Range(Limit::Balance));
     };
-    let Some(commissions) = commissions_after(found.broker, commission) else {
+    let Some(commissions) = commissions_within_limit_after(found.broker, commission) else {
         return Err(Refusal::Range(Limit::Broker));
     };
     let Some(stamp) = stamp else {
         return Err(Refusal::ClockEnd);
     };
-    let Some(due_day) = due_day(found.rule, stamp) else {
+    let Some(due_day) = due_day_in_calendar(found.rule, stamp) else {
         return Err(Refusal::ClockEnd);
     };
     Ok(ResultNumbers {

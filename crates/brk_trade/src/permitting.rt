@@ -2,13 +2,13 @@
 
 ghost use Rattle.std.specs.Prelude.{◌≡◌, map};
 ghost use Rattle.brk_model.specs.Orders as orders;
-ghost use Rattle.brk_ref.specs.Records.{customer_of, executor_of, permission_of};
+ghost use Rattle.brk_ref.specs.Records.{abstract_customer, abstract_executor, abstract_permission};
 
 use brk_ref::{Customer, Executor, Name, Permission, TaxId};
 
 // Returns true if the executor has this first name, last name and tax id.
 fn is_person(executor: &Executor, first_name: &Name, last_name: &Name, tax_id: &TaxId) -> bool
-    ensures { result ≡ orders.is_person (executor_of executor.now) first_name.now last_name.now tax_id.now }
+    ensures { result ≡ orders.executor_has_identity (abstract_executor executor.now) first_name.now last_name.now tax_id.now }
 {
     executor.first_name.as_str() == first_name.as_str()
         && executor.last_name.as_str() == last_name.as_str()
@@ -16,8 +16,8 @@ fn is_person(executor: &Executor, first_name: &Name, last_name: &Name, tax_id: &
 }
 
 // Returns true if the permission has the first name, the last name and the tax id of the executor.
-fn names(permission: &Permission, executor: &Executor) -> bool
-    ensures { result ≡ orders.is_person (executor_of executor.now) permission.now.first_name permission.now.last_name permission.now.tax_id }
+fn permission_names_executor(permission: &Permission, executor: &Executor) -> bool
+    ensures { result ≡ orders.executor_has_identity (abstract_executor executor.now) permission.now.first_name permission.now.last_name permission.now.tax_id }
 {
     is_person(
         executor,
@@ -30,14 +30,12 @@ fn names(permission: &Permission, executor: &Executor) -> bool
 /// Returns true if the executor may place orders for an account (Trade-Order). First name, last
 /// name and tax id must be those of `customer` or of one of `permissions`.
 pub fn permitted(customer: &Customer, permissions: &[Permission], executor: &Executor) -> bool
-    ensures { result ≡ orders.permitted (customer_of customer.now) (map permission_of permissions.now) (executor_of executor.now) }
+    ensures { result ≡ orders.permitted (abstract_customer customer.now) (map abstract_permission permissions.now) (abstract_executor executor.now) }
 {
     is_person(
         executor,
         &customer.first_name,
         &customer.last_name,
         &customer.tax_id,
-    ) || permissions
-        .iter()
-        .any(|permission| names(permission, executor))
+    ) || permissions.iter().any(|permission| permission_names_executor(permission, executor))
 }

@@ -1,17 +1,17 @@
 ghost use Rattle.std.specs.Prelude.{◌≡◌, ◌⊎◌, ◌+◌, ◌*◌, ◌≤◌, ◌≤ℤ◌, ℕ, List, drop, length, option_map, pos, IfOk, IfErr, IfSome, MatchResult};
 ghost use Rattle.brk_lots.specs.declared.lot.Lot.{Lot};
-ghost use Rattle.brk_lots.specs.Closing.{IsClosing};
-ghost use Rattle.brk_lots.specs.Lots.{shares_of};
-ghost use Rattle.brk_lots.specs.Sources.{AsTold};
+ghost use Rattle.brk_lots.specs.Closing.{IsClosingOfDeal};
+ghost use Rattle.brk_lots.specs.Lots.{shares_of_lots};
+ghost use Rattle.brk_lots.specs.Sources.{IsFaithfulRemainder};
 ghost use Rattle.brk_model.specs.Limits.{greatest_price};
-ghost use Rattle.brk_model.specs.Shares.{touches};
+ghost use Rattle.brk_model.specs.Shares.{touches_of_existing_lots};
 ghost use Rattle.brk_money.specs.Moments as moments;
 ghost use Rattle.brk_money.specs.declared.fault.Fault.{Fault};
-ghost use Rattle.brk_trade.specs.Outcomes.{deal_of_row};
-ghost use Rattle.brk_trade.specs.Results.{AreMet, ResultAsksFew, IsCompleted, IsRefused, MeetsNone, opening_stamp, told_of};
+ghost use Rattle.brk_trade.specs.Outcomes.{deal_of_trade_row};
+ghost use Rattle.brk_trade.specs.Results.{AreLotsBeforeTrade, ResultReadsFewLots, CompletesExistingTrade, IsResultRefusal, ClosesNoHeldShares, stamp_or_clock_reading, reply_of_completed_result};
 
 use crate::completion::completion_changes;
-use crate::outcome::{ResultNumbers, complete, rate_and_summary};
+use crate::outcome::{ResultNumbers, checked_rate_and_summary, checked_result_figures};
 use crate::result_found::ResultFound;
 use brk_lots::{Closing, LotSource, close, closes_lots, open_without_closing};
 use brk_money::{Fault, Planned, Price, Refusal, Stamp, stamp_after};
@@ -19,8 +19,8 @@ use brk_plans::{Completed, Plan, Reply};
 use std::alloc::Global;
 
 // Returns the figures of a completed trade that its reply has.
-fn told(outcome: &ResultNumbers) -> Completed
-    ensures { result ≡ told_of outcome.now }
+fn create_completed_reply(outcome: &ResultNumbers) -> Completed
+    ensures { result ≡ reply_of_completed_result outcome.now }
 {
     Completed {
         stamp: outcome.stamp,
@@ -36,7 +36,7 @@ fn told(outcome: &ResultNumbers) -> Completed
 
 // Returns the lots that the trade closes, and the one that it opens, if any. Fails with `Memory` or
 // a fault of the source. Reads no lot if the account holds no shares that the trade would close.
-fn close_met<L: LotSource>(
+fn close_or_open_lots<L: LotSource>(
     alloc: Global,
     source: &mut L,
     found: &ResultFound,
@@ -44,16 +44,16 @@ fn close_met<L: LotSource>(
     stamp: Stamp,
 ) -> Result<Closing, Fault>
     ensures leads { L.leads source.old source.new }
-    ensures closing { IfOk result (λ closing. (ls : List Lot) → AreMet (AsTold (L.reads_faithfully source.new) (L.remaining source.old)) found.now ls →
-        IsClosing (deal_of_row found.now.trade price stamp) ls closing) }
+    ensures closing { IfOk result (λ closing. (ls : List Lot) → AreLotsBeforeTrade (IsFaithfulRemainder (L.reads_faithfully source.new) (L.remaining source.old)) found.now ls →
+        IsClosingOfDeal (deal_of_trade_row found.now.trade price stamp) ls closing) }
     ensures bought { IfOk result (λ closing. (pos 0 ≤ℤ closing.buy_value) × (closing.buy_value ≤ℤ pos (found.now.trade.qty * greatest_price))) }
     ensures sold { IfOk result (λ closing. (pos 0 ≤ℤ closing.sell_value) × (closing.sell_value ≤ℤ pos (found.now.trade.qty * greatest_price))) }
-    ensures most { (ls : List Lot) → AreMet (AsTold (L.reads_faithfully source.new) (L.remaining source.old)) found.now ls →
-        L.asked source.new ≤ L.asked source.old + length (touches (deal_of_row found.now.trade price stamp) (shares_of ls)) + 1 }
-    ensures unmet { MeetsNone found.now → source.new ≡ source.old }
+    ensures most { (ls : List Lot) → AreLotsBeforeTrade (IsFaithfulRemainder (L.reads_faithfully source.new) (L.remaining source.old)) found.now ls →
+        L.asked source.new ≤ L.asked source.old + length (touches_of_existing_lots (deal_of_trade_row found.now.trade price stamp) (shares_of_lots ls)) + 1 }
+    ensures unmet { ClosesNoHeldShares found.now → source.new ≡ source.old }
     ensures faulted { IfOk result (λ closing. L.faulted source.new ≡ L.faulted source.old) }
     ensures fault { IfErr result (λ fault. (fault ≡ Fault.Memory) ⊎ ((before : L) × L.fails before fault source.new)) }
-    ensures rest { (ls : List Lot) → AsTold (L.reads_faithfully source.new) (L.remaining source.old) ls → (n : ℕ) × L.remaining source.new (drop n ls) }
+    ensures rest { (ls : List Lot) → IsFaithfulRemainder (L.reads_faithfully source.new) (L.remaining source.old) ls → (n : ℕ) × L.remaining source.new (drop n ls) }
 {
     let trade = &found.trade;
     let side = trade.kind.side();
@@ -90,21 +90,21 @@ pub fn plan_result<L: LotSource>(
 ) -> Planned<Plan>
     ensures leads { L.leads source.old source.new }
     ensures planned { IfOk result (λ planned. MatchResult planned
-        (IsCompleted (option_map (λ f. f.now) found.entry) price (AsTold (L.reads_faithfully source.new) (L.remaining source.old)) last now)
-        (IsRefused (option_map (λ f. f.now) found.entry) price (AsTold (L.reads_faithfully source.new) (L.remaining source.old)) last now)) }
+        (CompletesExistingTrade (option_map (λ f. f.now) found.entry) price (IsFaithfulRemainder (L.reads_faithfully source.new) (L.remaining source.old)) last now)
+        (IsResultRefusal (option_map (λ f. f.now) found.entry) price (IsFaithfulRemainder (L.reads_faithfully source.new) (L.remaining source.old)) last now)) }
     // It asks for at most one lot more than the trade touches, also if it fails.
-    ensures asked { ResultAsksFew (option_map (λ f. f.now) found.entry) price (opening_stamp (moments.stamp_after last now) now) (AsTold (L.reads_faithfully source.new) (L.remaining source.old)) (L.asked source.old) (L.asked source.new) }
+    ensures asked { ResultReadsFewLots (option_map (λ f. f.now) found.entry) price (stamp_or_clock_reading (moments.stamp_after last now) now) (IsFaithfulRemainder (L.reads_faithfully source.new) (L.remaining source.old)) (L.asked source.old) (L.asked source.new) }
     // It asks for no lot if the account holds no shares that the trade would close.
-    ensures unmet { IfSome (option_map (λ f. f.now) found.entry) (λ f. MeetsNone f → source.new ≡ source.old) }
+    ensures unmet { IfSome (option_map (λ f. f.now) found.entry) (λ f. ClosesNoHeldShares f → source.new ≡ source.old) }
     // No fault of the source is ignored, and each is returned as it came.
     ensures faulted { IfOk result (λ planned. L.faulted source.new ≡ L.faulted source.old) }
     ensures fault { IfErr result (λ fault. (fault ≡ Fault.Memory) ⊎ ((before : L) × L.fails before fault source.new)) }
-    ensures rest { (ls : List Lot) → AsTold (L.reads_faithfully source.new) (L.remaining source.old) ls → (n : ℕ) × L.remaining source.new (drop n ls) }
+    ensures rest { (ls : List Lot) → IsFaithfulRemainder (L.reads_faithfully source.new) (L.remaining source.old) ls → (n : ℕ) × L.remaining source.new (drop n ls) }
 {
     let Some(found) = found else {
         return Ok(Err(Refusal::NoTrade));
     };
-    let known = match rate_and_summary(found) {
+    let known = match checked_rate_and_summary(found) {
         Ok(known) => known,
         Err(refusal) => return Ok(Err(refusal)),
     };
@@ -115,12 +115,12 @@ pub fn plan_result<L: LotSource>(
         Some(stamp) => stamp,
         None => now,
     };
-    let closing = close_met(alloc, source, found, price, at)?;
-    let outcome = match complete(found, price, &known, &closing, moved) {
+    let closing = close_or_open_lots(alloc, source, found, price, at)?;
+    let outcome = match checked_result_figures(found, price, &known, &closing, moved) {
         Ok(outcome) => outcome,
         Err(refusal) => return Ok(Err(refusal)),
     };
     let changes = completion_changes(alloc, found, price, &closing, &outcome)?;
-    let reply = Reply::Completed(told(&outcome));
+    let reply = Reply::Completed(create_completed_reply(&outcome));
     Ok(Ok(Plan { changes, reply }))
 }

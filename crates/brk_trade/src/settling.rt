@@ -2,28 +2,28 @@
 //! after it.
 
 ghost use Rattle.std.specs.Prelude.{◌≡◌, ◌+◌, ◌*◌, ◌≤◌, ◌≤ℤ◌, ◌+ℤ◌, ◌-ℤ◌, ◌&&◌, true, false, nat_lt, nat_abs, pos, if◌then◌else◌, MatchOption};
-ghost use Rattle.brk_model.specs.Base.{takes_tax_off};
+ghost use Rattle.brk_model.specs.Base.{is_withholding_status};
 ghost use Rattle.brk_model.specs.Derived as derived;
-ghost use Rattle.brk_model.specs.Derived.{proceeds};
+ghost use Rattle.brk_model.specs.Derived.{signed_proceeds};
 ghost use Rattle.brk_model.specs.Limits.{greatest_amount, greatest_price};
 ghost use Rattle.brk_money.specs.Amounts as amounts;
-ghost use Rattle.brk_money.specs.Kinds.{side_of};
-ghost use Rattle.brk_money.specs.Moments.{last_day};
+ghost use Rattle.brk_money.specs.Kinds.{side_of_trade_type};
+ghost use Rattle.brk_money.specs.Moments.{greatest_day};
 ghost use Rattle.brk_trade.specs.Outcomes as spec;
-ghost use Rattle.brk_trade.specs.Outcomes.{greatest_value, values_in};
+ghost use Rattle.brk_trade.specs.Outcomes.{greatest_trade_value, values_of_closing};
 
-use crate::estimate::tax_on;
+use crate::estimate::tax_on_realised_gain;
 use crate::result_found::ResultFound;
-use brk_changes::{Amount, BrokerNumbers, TradeRow, due_after};
+use brk_changes::{Amount, BrokerNumbers, TradeRow, due_day_after_completion};
 use brk_lots::{Closing, Values};
 use brk_money::{Cents, Day, Price, Qty, Rate, Side, Stamp, TaxStatus, Wide, commission};
-use brk_plans::added;
+use brk_plans::add_within_balance_limit;
 
 // Returns the value of closed shares, which is within 0 and the greatest value of a trade, as an
 // amount.
-fn amount(value: Wide) -> Amount
+fn value_as_amount(value: Wide) -> Amount
     requires low { pos 0 ≤ℤ value }
-    requires high { value ≤ℤ pos greatest_value }
+    requires high { value ≤ℤ pos greatest_trade_value }
     ensures { result ≡ nat_abs value }
 {
     Amount::new(value.get() as u64).unwrap()
@@ -31,25 +31,25 @@ fn amount(value: Wide) -> Amount
 
 // Returns the buy value and the sell value of the closed shares as amounts. They are at most the
 // value of a trade of `qty` at the greatest price.
-pub(crate) fn values_of(qty: Qty, closing: &Closing) -> Values
+pub(crate) fn amounts_of_closing(qty: Qty, closing: &Closing) -> Values
     requires bought { (pos 0 ≤ℤ closing.now.buy_value) × (closing.now.buy_value ≤ℤ pos (qty * greatest_price)) }
     requires sold { (pos 0 ≤ℤ closing.now.sell_value) × (closing.now.sell_value ≤ℤ pos (qty * greatest_price)) }
-    ensures values { result ≡ values_in closing.now }
-    ensures sold { result.sell_value ≤ greatest_value }
+    ensures values { result ≡ values_of_closing closing.now }
+    ensures sold { result.sell_value ≤ greatest_trade_value }
 {
     let _limit = qty.get();
     Values {
-        buy_value: amount(closing.buy_value),
-        sell_value: amount(closing.sell_value),
+        buy_value: value_as_amount(closing.buy_value),
+        sell_value: value_as_amount(closing.sell_value),
     }
 }
 
 // Returns the commission of a trade at a price and a rate, in cents, which is at most the greatest
 // value of a trade.
 #[tactic(auto, using(crate::proofs::Bounds::commission_high))]
-pub(crate) fn commission_at(trade: &TradeRow, price: Price, rate: Rate) -> Amount
+pub(crate) fn commission_of_trade_at(trade: &TradeRow, price: Price, rate: Rate) -> Amount
     ensures value { result ≡ amounts.commission rate trade.now.qty price }
-    ensures high { result ≤ greatest_value }
+    ensures high { result ≤ greatest_trade_value }
 {
     let _limits = (rate.get(), trade.qty.get(), price.get());
     commission(rate, trade.qty, price).unsigned_abs()
@@ -58,19 +58,19 @@ pub(crate) fn commission_at(trade: &TradeRow, price: Price, rate: Rate) -> Amoun
 // Returns the tax on the realised gain of the closed shares, in cents, which is at most the
 // greatest value of a trade.
 #[tactic(auto, using(crate::proofs::Bounds::tax_at_high))]
-pub(crate) fn tax_upon(found: &ResultFound, values: Values) -> Amount
-    requires { values.sell_value ≤ greatest_value }
-    ensures value { result ≡ spec.tax_upon found.now values }
-    ensures high { result ≤ greatest_value }
+pub(crate) fn tax_on_closed_shares(found: &ResultFound, values: Values) -> Amount
+    requires { values.sell_value ≤ greatest_trade_value }
+    ensures value { result ≡ spec.tax_of_result found.now values }
+    ensures high { result ≤ greatest_trade_value }
 {
     let _limit = found.rates.get();
-    tax_on(values, found.account.tax_status, found.rates)
+    tax_on_realised_gain(values, found.account.tax_status, found.rates)
 }
 
 // Returns the part of the tax that is withheld from the settlement, in cents: all of it if the tax
 // status withholds it, otherwise 0.
-fn withheld(status: TaxStatus, tax: Amount) -> u64
-    ensures { result ≡ (if takes_tax_off status then tax else 0) }
+fn withheld_part_of_tax(status: TaxStatus, tax: Amount) -> u64
+    ensures { result ≡ (if is_withholding_status status then tax else 0) }
 {
     match status {
         TaxStatus::Withheld => tax.get(),
@@ -79,10 +79,10 @@ fn withheld(status: TaxStatus, tax: Amount) -> u64
 }
 
 // Returns the value, in cents, negated for a purchase, minus `taken_off`.
-fn settled(side: Side, value: u64, taken_off: u64) -> Cents
-    requires value { value ≤ greatest_value }
-    requires taken_off { taken_off ≤ 3 * greatest_value }
-    ensures { result ≡ proceeds side value -ℤ pos taken_off }
+fn proceeds_less_costs(side: Side, value: u64, taken_off: u64) -> Cents
+    requires value { value ≤ greatest_trade_value }
+    requires taken_off { taken_off ≤ 3 * greatest_trade_value }
+    ensures { result ≡ signed_proceeds side value -ℤ pos taken_off }
 {
     let brought = match side {
         Side::Buy => -(value as i64),
@@ -93,33 +93,41 @@ fn settled(side: Side, value: u64, taken_off: u64) -> Cents
 
 // Returns the settlement amount of the trade, in cents, below 0 if the account pays: its signed
 // value minus the charge, the commission and the withheld tax.
-pub(crate) fn amount_of(found: &ResultFound, price: Price, commission: Amount, tax: Amount) -> Cents
-    requires commission { commission ≤ greatest_value }
-    requires tax { tax ≤ greatest_value }
-    ensures { result ≡ proceeds (side_of found.now.trade.kind) (found.now.trade.qty * price) -ℤ pos (found.now.trade.charge + commission + (if takes_tax_off found.now.account.tax_status then tax else 0)) }
+pub(crate) fn settlement_amount_of_trade(
+    found: &ResultFound,
+    price: Price,
+    commission: Amount,
+    tax: Amount,
+) -> Cents
+    requires commission { commission ≤ greatest_trade_value }
+    requires tax { tax ≤ greatest_trade_value }
+    ensures { result ≡ signed_proceeds (side_of_trade_type found.now.trade.kind) (found.now.trade.qty * price) -ℤ pos (found.now.trade.charge + commission + (if is_withholding_status found.now.account.tax_status then tax else 0)) }
 {
     let trade = &found.trade;
     let value = u64::from(trade.qty.get()) * u64::from(price.get());
     let charge = u64::from(trade.charge.get());
-    let taken_off = charge + commission.get() + withheld(found.account.tax_status, tax);
-    settled(trade.kind.side(), value, taken_off)
+    let taken_off = charge + commission.get() + withheld_part_of_tax(found.account.tax_status, tax);
+    proceeds_less_costs(trade.kind.side(), value, taken_off)
 }
 
 // Returns the balance of the account plus `amount` after a cash trade, or `None` if it exceeds the
 // limit. A margin trade leaves it unchanged.
-pub(crate) fn balance_after(found: &ResultFound, amount: Cents) -> Option<Cents>
+pub(crate) fn balance_within_limit_after(found: &ResultFound, amount: Cents) -> Option<Cents>
     ensures { MatchOption result
-        (found.now.trade.is_cash && nat_lt greatest_amount (nat_abs (spec.balance_with found.now amount)) ≡ true)
-        (λ after. (after ≡ spec.balance_with found.now amount) × (found.now.trade.is_cash && nat_lt greatest_amount (nat_abs (spec.balance_with found.now amount)) ≡ false)) }
+        (found.now.trade.is_cash && nat_lt greatest_amount (nat_abs (spec.balance_after_amount found.now amount)) ≡ true)
+        (λ after. (after ≡ spec.balance_after_amount found.now amount) × (found.now.trade.is_cash && nat_lt greatest_amount (nat_abs (spec.balance_after_amount found.now amount)) ≡ false)) }
 {
     if !found.trade.is_cash {
         return Some(found.account.balance);
     }
-    added(found.account.balance, amount)
+    add_within_balance_limit(found.account.balance, amount)
 }
 
 // Returns the commissions of the broker plus `commission`, or `None` if they exceed the limit.
-pub(crate) fn commissions_after(broker: BrokerNumbers, commission: Amount) -> Option<Amount>
+pub(crate) fn commissions_within_limit_after(
+    broker: BrokerNumbers,
+    commission: Amount,
+) -> Option<Amount>
     ensures { MatchOption result
         (nat_lt greatest_amount (broker.commissions + commission) ≡ true)
         (λ after. (after ≡ broker.commissions + commission) × (nat_lt greatest_amount (broker.commissions + commission) ≡ false)) }
@@ -129,10 +137,10 @@ pub(crate) fn commissions_after(broker: BrokerNumbers, commission: Amount) -> Op
 
 // Returns the due day of a trade that is completed at `stamp`, or `None` if it is after the last
 // day of the calendar.
-pub(crate) fn due_day(rule: Option<Day>, stamp: Stamp) -> Option<Day>
+pub(crate) fn due_day_in_calendar(rule: Option<Day>, stamp: Stamp) -> Option<Day>
     ensures { MatchOption result
-        (nat_lt last_day (derived.due_after rule stamp) ≡ true)
-        (λ day. (day ≡ derived.due_after rule stamp) × (nat_lt last_day (derived.due_after rule stamp) ≡ false)) }
+        (nat_lt greatest_day (derived.due_day_of_completion_stamp rule stamp) ≡ true)
+        (λ day. (day ≡ derived.due_day_of_completion_stamp rule stamp) × (nat_lt greatest_day (derived.due_day_of_completion_stamp rule stamp) ≡ false)) }
 {
-    due_after(rule, stamp)
+    due_day_after_completion(rule, stamp)
 }

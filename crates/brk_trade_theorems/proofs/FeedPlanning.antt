@@ -11,25 +11,25 @@ use Rattle.brk_model.specs.Commands.{FeedTicks, Ticked}
 use Rattle.brk_model.specs.Sheets.{sheets}
 use Rattle.brk_model.specs.Step.{step}
 use Rattle.brk_model.specs.Tables.{Tables}
-use Rattle.brk_model.specs.Tests.{first_refusal, refusal_of}
-use Rattle.brk_orders.specs.Records.{ticks_of}
+use Rattle.brk_model.specs.Tests.{first_refusal, refusal_of_command}
+use Rattle.brk_orders.specs.Records.{abstract_ticks}
 use Rattle.brk_orders.specs.declared.tick.Tick.{Tick}
-use Rattle.brk_changes.specs.Changes.{after_changes}
+use Rattle.brk_changes.specs.Changes.{tables_after_changes}
 use Rattle.brk_plans.specs.Feed as planner
-use Rattle.brk_plans.specs.Feed.{SymbolState, IsFeed, changes_of_ticks, exceeds, ids_of_ticks, is_of, lacks_quote, quotes_after, tells}
-use Rattle.brk_plans.specs.Reference.{clock_test}
-use Rattle.brk_plans.specs.Replies.{reply_of}
+use Rattle.brk_plans.specs.Feed.{SymbolState, IsFeedPlan, row_changes_of_ticks, exceeds_volume_limit, trades_triggered_by_ticks, is_state_of_symbol, lacks_state_of_symbol, states_after_ticks, IsTickedReply}
+use Rattle.brk_plans.specs.Reference.{later_stamp_check}
+use Rattle.brk_plans.specs.Replies.{abstract_reply}
 use Rattle.brk_changes.specs.declared.change.Change.TheVariants.{SetLast}
 use Rattle.brk_plans.specs.declared.plan.Plan.{Plan}
 use Rattle.brk_plans.specs.declared.reply.Reply.{Reply}
 use Rattle.brk_plans.specs.declared.reply.Reply.TheVariants as reply
-use Rattle.brk_book_theorems.specs.Steps.{base_then}
-use Rattle.brk_trade_theorems.specs.Plans.{DoesCommand}
-use Rattle.brk_trade_theorems.specs.TradePlans.{IsQuoted, IsReadForFeed, DistinctQuotes}
-use Rattle.brk_book_theorems.specs.TradeReads.{last_trade_in}
-use Rattle.brk_book_theorems.specs.Ticks.{exceeds_volume, is_unknown}
-use Rattle.brk_trade_theorems.specs.TradeTests.{feed_row_tests}
-use Rattle.brk_book_theorems.specs.Trading.{fed_trades}
+use Rattle.brk_book_theorems.specs.Steps.{base_after_command}
+use Rattle.brk_trade_theorems.specs.Plans.{PlanImplementsCommand}
+use Rattle.brk_trade_theorems.specs.TradePlans.{HasQuoteIfTraded, PlanFeedPrecondition, HasDistinctQuoteSymbols}
+use Rattle.brk_book_theorems.specs.TradeReads.{last_trade_row_of_symbol}
+use Rattle.brk_book_theorems.specs.Ticks.{exceeds_symbol_volume_limit, is_tick_of_unknown_symbol}
+use Rattle.brk_trade_theorems.specs.TradeTests.{feed_checks_on_tables}
+use Rattle.brk_book_theorems.specs.Trading.{ids_triggered_by_feed}
 use Rattle.brk_book_theorems.proofs.Same.{All-map, any-none}
 use Rattle.brk_book_theorems.proofs.Tested.{not_not}
 use Rattle.brk_book_theorems.proofs.Ticks.{base_apart}
@@ -42,56 +42,56 @@ use Rattle.brk_trade_theorems.proofs.QuotedVolumes.{quotes_exceed}
 -- ---- what is tested
 
 -- a symbol that has a last trade has a quote, and no other has
-same_known : (t : Tables) (ticks : List Tick) (quotes : List SymbolState) (tick : Tick) → AllByRecursion (IsHeld t ticks) quotes → DistinctQuotes quotes → IsQuoted t quotes tick
-    → list_any (is_of tick.symbol) quotes ≡ is_some (last_trade_in t tick.symbol)
-same_known t ticks quotes tick k d h = both_ways (list_any (is_of tick.symbol) quotes) (is_some (last_trade_in t tick.symbol)) there h
+same_known : (t : Tables) (ticks : List Tick) (quotes : List SymbolState) (tick : Tick) → AllByRecursion (IsHeld t ticks) quotes → HasDistinctQuoteSymbols quotes → HasQuoteIfTraded t quotes tick
+    → list_any (is_state_of_symbol tick.symbol) quotes ≡ is_some (last_trade_row_of_symbol t tick.symbol)
+same_known t ticks quotes tick k d h = both_ways (list_any (is_state_of_symbol tick.symbol) quotes) (is_some (last_trade_row_of_symbol t tick.symbol)) there h
   where
-    there : list_any (is_of tick.symbol) quotes ≡ true → is_some (last_trade_in t tick.symbol) ≡ true
+    there : list_any (is_state_of_symbol tick.symbol) quotes ≡ true → is_some (last_trade_row_of_symbol t tick.symbol) ≡ true
     there e =
         let q = quote_of t ticks tick.symbol quotes k d e in
-        ap is_some (sym (ap (last_trade_in t) q.same) ∙ q.read.last_trade)
+        ap is_some (sym (ap (last_trade_row_of_symbol t) q.same) ∙ q.read.last_trade)
 
-same_unknown : (t : Tables) (ticks : List Tick) (quotes : List SymbolState) → AllByRecursion (IsHeld t ticks) quotes → DistinctQuotes quotes → AllByRecursion (IsQuoted t quotes) ticks
-    → list_any (lacks_quote quotes) ticks ≡ list_any (is_unknown t) (ticks_of ticks)
+same_unknown : (t : Tables) (ticks : List Tick) (quotes : List SymbolState) → AllByRecursion (IsHeld t ticks) quotes → HasDistinctQuoteSymbols quotes → AllByRecursion (HasQuoteIfTraded t quotes) ticks
+    → list_any (lacks_state_of_symbol quotes) ticks ≡ list_any (is_tick_of_unknown_symbol t) (abstract_ticks ticks)
 same_unknown t ticks quotes k d quoted = each ticks quoted
   where
-    each : (us : List Tick) → AllByRecursion (IsQuoted t quotes) us → list_any (lacks_quote quotes) us ≡ list_any (is_unknown t) (ticks_of us)
+    each : (us : List Tick) → AllByRecursion (HasQuoteIfTraded t quotes) us → list_any (lacks_state_of_symbol quotes) us ≡ list_any (is_tick_of_unknown_symbol t) (abstract_ticks us)
     each [] h = refl
     each (u ∷ us) h = λ i. not (same_known t ticks quotes u k d h.0 i) || each us h.1 i
 
 -- quotes that were read of a base in order are held
-held_quotes : (base : Base) (ticks : List Tick) (quotes : List SymbolState) (last : Option ℕ) (now : ℕ) → IsReadForFeed base ticks quotes last now → AllByRecursion (IsHeld (sheets base) ticks) quotes
+held_quotes : (base : Base) (ticks : List Tick) (quotes : List SymbolState) (last : Option ℕ) (now : ℕ) → PlanFeedPrecondition base ticks quotes last now → AllByRecursion (IsHeld (sheets base) ticks) quotes
 held_quotes base ticks quotes last now k = All-map quotes (λ quote q. is_held base ticks quote k.books q) k.quotes_read.read
 
-known_quotes : (ticks : List Tick) (quotes : List SymbolState) → list_any (lacks_quote quotes) ticks ≡ false → HaveQuotes quotes ticks
-known_quotes ticks quotes e = All-map ticks (λ tick n. not_not (list_any (is_of tick.symbol) quotes) n) (any-none (lacks_quote quotes) ticks e)
+known_quotes : (ticks : List Tick) (quotes : List SymbolState) → list_any (lacks_state_of_symbol quotes) ticks ≡ false → HaveQuotes quotes ticks
+known_quotes ticks quotes e = All-map ticks (λ tick n. not_not (list_any (is_state_of_symbol tick.symbol) quotes) n) (any-none (lacks_state_of_symbol quotes) ticks e)
 
-read_tests : (base : Base) (stamp : ℕ) (ticks : List Tick) (quotes : List SymbolState) (last : Option ℕ) (now : ℕ) → IsReadForFeed base ticks quotes last now
-    → first_refusal (planner.feed_tests stamp ticks quotes ++ clock_test last now ∷ []) ≡ first_refusal (feed_row_tests (sheets base) (ticks_of ticks) (sheets base).last now)
-read_tests base stamp ticks quotes last now k = by_unknown (list_any (lacks_quote quotes) ticks) refl
+read_tests : (base : Base) (stamp : ℕ) (ticks : List Tick) (quotes : List SymbolState) (last : Option ℕ) (now : ℕ) → PlanFeedPrecondition base ticks quotes last now
+    → first_refusal (planner.feed_checks stamp ticks quotes ++ later_stamp_check last now ∷ []) ≡ first_refusal (feed_checks_on_tables (sheets base) (abstract_ticks ticks) (sheets base).last now)
+read_tests base stamp ticks quotes last now k = by_unknown (list_any (lacks_state_of_symbol quotes) ticks) refl
   where
-    same : list_any (lacks_quote quotes) ticks ≡ list_any (is_unknown (sheets base)) (ticks_of ticks)
+    same : list_any (lacks_state_of_symbol quotes) ticks ≡ list_any (is_tick_of_unknown_symbol (sheets base)) (abstract_ticks ticks)
     same = same_unknown (sheets base) ticks quotes (held_quotes base ticks quotes last now k) k.quotes_read.apart k.quotes_read.quoted
 
-    by_unknown : (b : Bool) → list_any (lacks_quote quotes) ticks ≡ b → first_refusal (planner.feed_tests stamp ticks quotes ++ clock_test last now ∷ [])
-        ≡ first_refusal (feed_row_tests (sheets base) (ticks_of ticks) (sheets base).last now)
+    by_unknown : (b : Bool) → list_any (lacks_state_of_symbol quotes) ticks ≡ b → first_refusal (planner.feed_checks stamp ticks quotes ++ later_stamp_check last now ∷ [])
+        ≡ first_refusal (feed_checks_on_tables (sheets base) (abstract_ticks ticks) (sheets base).last now)
     by_unknown true e =
-        refused_first (list_any (lacks_quote quotes) ticks) (list_any (is_unknown (sheets base)) (ticks_of ticks)) NoSecurity
-        ((list_any exceeds (quotes_after stamp ticks quotes), Range limit.Volume) ∷ clock_test last now ∷ [])
-        ((list_any (exceeds_volume (sheets base) (ticks_of ticks)) (ticks_of ticks), Range limit.Volume) ∷ clock_test (sheets base).last now ∷ []) e (sym same ∙ e)
+        refused_first (list_any (lacks_state_of_symbol quotes) ticks) (list_any (is_tick_of_unknown_symbol (sheets base)) (abstract_ticks ticks)) NoSecurity
+        ((list_any exceeds_volume_limit (states_after_ticks stamp ticks quotes), Range limit.Volume) ∷ later_stamp_check last now ∷ [])
+        ((list_any (exceeds_symbol_volume_limit (sheets base) (abstract_ticks ticks)) (abstract_ticks ticks), Range limit.Volume) ∷ later_stamp_check (sheets base).last now ∷ []) e (sym same ∙ e)
     by_unknown false e =
         let volumes = quotes_exceed base stamp ticks quotes k.books (held_quotes base ticks quotes last now k) k.quotes_read.apart (known_quotes ticks quotes e) in
-        λ i. first_refusal ((same i, NoSecurity) ∷ (volumes i, Range limit.Volume) ∷ clock_test (k.last_read i) now ∷ [])
+        λ i. first_refusal ((same i, NoSecurity) ∷ (volumes i, Range limit.Volume) ∷ later_stamp_check (k.last_read i) now ∷ [])
 
-pub feed_read : (base : Base) (stamp : ℕ) (ticks : List Tick) (quotes : List SymbolState) (last : Option ℕ) (now : ℕ) → IsReadForFeed base ticks quotes last now
-    → first_refusal (planner.feed_tests stamp ticks quotes ++ clock_test last now ∷ []) ≡ refusal_of base now (FeedTicks (ticks_of ticks))
+pub feed_read : (base : Base) (stamp : ℕ) (ticks : List Tick) (quotes : List SymbolState) (last : Option ℕ) (now : ℕ) → PlanFeedPrecondition base ticks quotes last now
+    → first_refusal (planner.feed_checks stamp ticks quotes ++ later_stamp_check last now ∷ []) ≡ refusal_of_command base now (FeedTicks (abstract_ticks ticks))
 feed_read base stamp ticks quotes last now k =
-    read_tests base stamp ticks quotes last now k ∙ feed_refusal base now (ticks_of ticks) k.books k.moment
+    read_tests base stamp ticks quotes last now k ∙ feed_refusal base now (abstract_ticks ticks) k.books k.moment
 
-pub feed_refused : (base : Base) (stamp : ℕ) (ticks : List Tick) (quotes : List SymbolState) (last : Option ℕ) (now : ℕ) (refusal : Refusal) → IsReadForFeed base ticks quotes last now
-    → first_refusal (planner.feed_tests stamp ticks quotes ++ clock_test last now ∷ []) ≡ Some refusal → step base now (FeedTicks (ticks_of ticks)) ≡ Err refusal
+pub feed_refused : (base : Base) (stamp : ℕ) (ticks : List Tick) (quotes : List SymbolState) (last : Option ℕ) (now : ℕ) (refusal : Refusal) → PlanFeedPrecondition base ticks quotes last now
+    → first_refusal (planner.feed_checks stamp ticks quotes ++ later_stamp_check last now ∷ []) ≡ Some refusal → step base now (FeedTicks (abstract_ticks ticks)) ≡ Err refusal
 feed_refused base stamp ticks quotes last now refusal k e =
-    refused_step base now (FeedTicks (ticks_of ticks)) refusal (sym (feed_read base stamp ticks quotes last now k) ∙ e)
+    refused_step base now (FeedTicks (abstract_ticks ticks)) refusal (sym (feed_read base stamp ticks quotes last now k) ∙ e)
 
 -- ---- what a plan does
 
@@ -100,7 +100,7 @@ first_false : (b : Bool) (refusal : Refusal) (more : List (Bool × Refusal)) →
 first_false true refusal more e = let h : Some refusal ≡ None = e in absurd (cc)
 first_false false refusal more e = refl
 
-told_reply : (stamp : ℕ) (ids : List ℕ) (told : Reply) → tells stamp ids told → reply_of told ≡ Ticked stamp ids
+told_reply : (stamp : ℕ) (ids : List ℕ) (told : Reply) → IsTickedReply stamp ids told → abstract_reply told ≡ Ticked stamp ids
 told_reply stamp ids (reply.Ticked at triggered) k = λ i. Ticked (k.0 i) (k.1 i)
 told_reply stamp ids (reply.Booked at) k = absurd k
 told_reply stamp ids (reply.Ordered ordered) k = absurd k
@@ -109,23 +109,23 @@ told_reply stamp ids (reply.Completed completed) k = absurd k
 told_reply stamp ids (reply.Changed at count) k = absurd k
 told_reply stamp ids (reply.Moved at number balance) k = absurd k
 
-pub feed_plan_does : (base : Base) (ticks : List Tick) (quotes : List SymbolState) (last : Option ℕ) (now : ℕ) (plan : Plan) → IsReadForFeed base ticks quotes last now
-    → IsFeed ticks quotes last now plan → DoesCommand base now (FeedTicks (ticks_of ticks)) plan
+pub feed_plan_does : (base : Base) (ticks : List Tick) (quotes : List SymbolState) (last : Option ℕ) (now : ℕ) (plan : Plan) → PlanFeedPrecondition base ticks quotes last now
+    → IsFeedPlan ticks quotes last now plan → PlanImplementsCommand base now (FeedTicks (abstract_ticks ticks)) plan
 feed_plan_does base ticks quotes last now plan k p =
     let t : Tables = sheets base in
-    let known : HaveQuotes quotes ticks = known_quotes ticks quotes (first_false (list_any (lacks_quote quotes) ticks) NoSecurity
-    ((list_any exceeds (quotes_after p.stamp ticks quotes), Range limit.Volume) ∷ clock_test last now ∷ []) p.accepted) in
+    let known : HaveQuotes quotes ticks = known_quotes ticks quotes (first_false (list_any (lacks_state_of_symbol quotes) ticks) NoSecurity
+    ((list_any exceeds_volume_limit (states_after_ticks p.stamp ticks quotes), Range limit.Volume) ∷ later_stamp_check last now ∷ []) p.accepted) in
     let quoted : Quoted t ticks quotes =
     record { read = held_quotes base ticks quotes last now k; apart = k.quotes_read.apart; requests = base_apart base k.books; known = known } in
     let stamped : stamp_after t.last now ≡ Some p.stamp = sym (ap (λ o. stamp_after o now) k.last_read) ∙ p.stamped in
-    let done = feed_done base now (ticks_of ticks) p.stamp k.books k.moment (sym (read_tests base p.stamp ticks quotes last now k) ∙ p.accepted) stamped in
-    let told : Ticked p.stamp (fed_trades p.stamp (ticks_of ticks) t) ≡ reply_of plan.reply =
-    ap (Ticked p.stamp) (sym (ticks_ids t p.stamp ticks quotes quoted)) ∙ sym (told_reply p.stamp (ids_of_ticks p.stamp ticks quotes) plan.reply p.told) in
+    let done = feed_done base now (abstract_ticks ticks) p.stamp k.books k.moment (sym (read_tests base p.stamp ticks quotes last now k) ∙ p.accepted) stamped in
+    let told : Ticked p.stamp (ids_triggered_by_feed p.stamp (abstract_ticks ticks) t) ≡ abstract_reply plan.reply =
+    ap (Ticked p.stamp) (sym (ticks_ids t p.stamp ticks quotes quoted)) ∙ sym (told_reply p.stamp (trades_triggered_by_ticks p.stamp ticks quotes) plan.reply p.told) in
     record {
-      steps = done.steps ∙ ap (λ reply. Ok (reply, base_then base now (FeedTicks (ticks_of ticks)))) told;
+      steps = done.steps ∙ ap (λ reply. Ok (reply, base_after_command base now (FeedTicks (abstract_ticks ticks)))) told;
       rows = done.rows
-          ∙ ap (after_changes (SetLast p.stamp ∷ [])) (sym (ticks_changes t p.stamp ticks quotes quoted))
-          ∙ sym (after_more (changes_of_ticks p.stamp ticks quotes) (SetLast p.stamp ∷ []) t)
-          ∙ ap (λ changes. after_changes changes t) (sym p.changes);
+          ∙ ap (tables_after_changes (SetLast p.stamp ∷ [])) (sym (ticks_changes t p.stamp ticks quotes quoted))
+          ∙ sym (after_more (row_changes_of_ticks p.stamp ticks quotes) (SetLast p.stamp ∷ []) t)
+          ∙ ap (λ changes. tables_after_changes changes t) (sym p.changes);
       kept = done.kept;
     }

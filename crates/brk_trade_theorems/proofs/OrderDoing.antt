@@ -2,48 +2,48 @@
 use Rattle.std.proofs.Common.{◌≡◌, ℕ, ◌+◌, Bool, true, false, not, cond, List, [], ◌∷◌, ◌++◌, refl, sym, ◌∙◌, ap, length, Option, Some, None}
 use Rattle.std.specs.Prelude.{nat_le, nat_lt, option_map, unwrap_or, Ok, Err}
 use Rattle.std.specs.Option.{option_map_or}
-use Rattle.brk_plans.specs.Replies.{estimate_with}
+use Rattle.brk_plans.specs.Replies.{estimate_from_model}
 use Rattle.brk_plans.specs.declared.estimate.Estimate.{Estimate}
 use Rattle.brk_trade.specs.declared.estimate.Terms.{Terms}
 use Rattle.brk_lots.specs.declared.lot.Lot.{Lot}
-use Rattle.brk_model.specs.Ask.{view_for, ask, query_tests}
+use Rattle.brk_model.specs.Ask.{view_of_base, ask, checks_of_query}
 use Rattle.brk_model.specs.Base.{Base}
 use Rattle.brk_model.specs.Commands as model
 use Rattle.brk_model.specs.Commands.{PlaceOrder}
 use Rattle.brk_model.specs.Limits.{greatest_id}
-use Rattle.brk_model.specs.Orders.{commission_of, estimate, first_status, ordered_trade, requested_price}
+use Rattle.brk_model.specs.Orders.{commission_by_band, estimate, first_status, ordered_trade, requested_price}
 use Rattle.brk_model.specs.Queries.{EstimateOf}
 use Rattle.brk_model.specs.Records.{Band, Charge}
 use Rattle.brk_model.specs.Rows.{estimate_fields}
 use Rattle.brk_model.specs.Sheets.{sheets}
-use Rattle.brk_model.specs.Step.{reply_to, step, unless}
+use Rattle.brk_model.specs.Step.{reply_to_command, step, value_unless_refused}
 use Rattle.brk_model.specs.Tables as tables
 use Rattle.brk_model.specs.Tables.{Tables}
-use Rattle.brk_model.specs.Tests.{first_refusal, next_stamp, refusal_of, tests}
-use Rattle.brk_money.specs.OrderTypes.{kind_of}
+use Rattle.brk_model.specs.Tests.{first_refusal, stamp_of_next_command, refusal_of_command, checks_of_command}
+use Rattle.brk_money.specs.OrderTypes.{trade_type_of_order}
 use Rattle.brk_money.specs.Amounts.{commission}
-use Rattle.brk_money.specs.Kinds.{is_market}
-use Rattle.brk_money.specs.Moments.{last_stamp, stamp_after}
+use Rattle.brk_money.specs.Kinds.{is_market_type}
+use Rattle.brk_money.specs.Moments.{greatest_stamp, stamp_after}
 use Rattle.brk_money.specs.declared.refusal.Limit.TheVariants as limit
 use Rattle.brk_money.specs.declared.refusal.Refusal.{Refusal}
 use Rattle.brk_money.specs.declared.refusal.Refusal.TheVariants.{Range, ClockEnd}
-use Rattle.brk_orders.specs.Records.{order_of}
+use Rattle.brk_orders.specs.Records.{abstract_order}
 use Rattle.brk_orders.specs.declared.order.Order.{Order}
-use Rattle.brk_changes.specs.Changes.{after_changes, with_history, with_last, with_request, with_trade}
-use Rattle.brk_trade.specs.Orders.{IsEstimated, IsOrdered, changes_of_order, next_trade, order_fact_tests, ordered_request, terms_of, ordered_row, trades_test}
-use Rattle.brk_plans.specs.Reference.{clock_test}
-use Rattle.brk_plans.specs.Replies.{estimate_of, reply_of}
-use Rattle.brk_changes.specs.Rows.{request_row_of, trade_row_of}
+use Rattle.brk_changes.specs.Changes.{tables_after_changes, tables_with_history_row, tables_with_last_stamp, tables_with_request, tables_with_trade}
+use Rattle.brk_trade.specs.Orders.{EstimatesCheckedOrder, IsOrderPlan, row_changes_of_order, next_trade_id, order_checks, request_of_order, terms_of_order, trade_row_of_order, trade_id_is_left_check}
+use Rattle.brk_plans.specs.Reference.{later_stamp_check}
+use Rattle.brk_plans.specs.Replies.{abstract_estimate, abstract_reply}
+use Rattle.brk_changes.specs.Rows.{abstract_request_row, abstract_trade_row}
 use Rattle.brk_trade.specs.declared.order.OrderFound.{OrderFound}
 use Rattle.brk_plans.specs.declared.plan.Plan.{Plan}
 use Rattle.brk_changes.specs.declared.request_row.RequestRow.{RequestRow}
 use Rattle.brk_changes.specs.declared.trade_row.TradeRow.{TradeRow}
 use Rattle.brk_book_theorems.specs.Books.{BooksInvariant}
-use Rattle.brk_trade_theorems.specs.OrderPlans.{AreLots, IsFoundForEstimate, IsFoundForOrder, IsReadForPlan}
-use Rattle.brk_trade_theorems.specs.Plans.{DoesCommand}
-use Rattle.brk_book_theorems.specs.Steps.{IsStepDone, base_then}
-use Rattle.brk_book_theorems.specs.TradeReads.{position_in}
-use Rattle.brk_book_theorems.specs.Trading.{order_rows, request_of_trade, requested_if, status_row}
+use Rattle.brk_trade_theorems.specs.OrderPlans.{OrderLotsSatisfy, EstimateFactsMatchTables, OrderFactsMatchTables, PlanOrderPrecondition}
+use Rattle.brk_trade_theorems.specs.Plans.{PlanImplementsCommand}
+use Rattle.brk_book_theorems.specs.Steps.{IsAcceptedWithEffect, base_after_command}
+use Rattle.brk_book_theorems.specs.TradeReads.{position_lots}
+use Rattle.brk_book_theorems.specs.Trading.{tables_after_order, request_of_trade, with_request_if, history_row_of_status}
 use Rattle.brk_book_theorems.proofs.Holding.{lots_given}
 use Rattle.brk_book_theorems.proofs.LotOrder.{shares_read}
 use Rattle.brk_trade_theorems.proofs.OrderFinding.{AllFound, all_found, all_passed, terms_read, tests_read}
@@ -56,54 +56,54 @@ use Rattle.brk_book_theorems.proofs.Trades.{step_order}
 
 -- ---- the refusal
 
-number_read : (base : Base) (order : Order) (found : OrderFound) → BooksInvariant base → IsFoundForOrder (sheets base) order found → first_refusal (order_fact_tests found) ≡ None
+number_read : (base : Base) (order : Order) (found : OrderFound) → BooksInvariant base → OrderFactsMatchTables (sheets base) order found → first_refusal (order_checks found) ≡ None
     → unwrap_or found.last_trade 0 ≡ length base.trades
 number_read base order found books k e = ap (λ o. unwrap_or o 0) (k.last_trade e) ∙ reads_number base books
 
-pub order_refusal_read : (base : Base) (order : Order) (found : OrderFound) (last : Option ℕ) (now : ℕ) → IsReadForPlan base order found last now
-    → first_refusal (order_fact_tests found ++ trades_test found.last_trade ∷ clock_test last now ∷ []) ≡ refusal_of base now (PlaceOrder (order_of order))
-unfolding refusal_of tests
+pub order_refusal_read : (base : Base) (order : Order) (found : OrderFound) (last : Option ℕ) (now : ℕ) → PlanOrderPrecondition base order found last now
+    → first_refusal (order_checks found ++ trade_id_is_left_check found.last_trade ∷ later_stamp_check last now ∷ []) ≡ refusal_of_command base now (PlaceOrder (abstract_order order))
+unfolding refusal_of_command checks_of_command
 order_refusal_read base order found last now k =
     let clock = clock_read base last now k.books k.last_read k.moment in
-    tests_read base order found (trades_test found.last_trade ∷ clock_test last now ∷ [])
-    ((nat_le greatest_id (length base.trades), Range limit.Trades) ∷ (nat_lt last_stamp (next_stamp base now), ClockEnd) ∷ []) k.books k.looked_up.estimate
+    tests_read base order found (trade_id_is_left_check found.last_trade ∷ later_stamp_check last now ∷ [])
+    ((nat_le greatest_id (length base.trades), Range limit.Trades) ∷ (nat_lt greatest_stamp (stamp_of_next_command base now), ClockEnd) ∷ []) k.books k.looked_up.estimate
     (λ e. let number = number_read base order found k.books k.looked_up e in
     λ i. first_refusal ((nat_le greatest_id (number i), Range limit.Trades) ∷ (clock i, ClockEnd) ∷ []))
 
-pub order_refused : (base : Base) (order : Order) (found : OrderFound) (last : Option ℕ) (now : ℕ) (refusal : Refusal) → IsReadForPlan base order found last now
-    → first_refusal (order_fact_tests found ++ trades_test found.last_trade ∷ clock_test last now ∷ []) ≡ Some refusal → step base now (PlaceOrder (order_of order)) ≡ Err refusal
-order_refused base order found last now refusal k e = refused_step base now (PlaceOrder (order_of order)) refusal (sym (order_refusal_read base order found last now k) ∙ e)
+pub order_refused : (base : Base) (order : Order) (found : OrderFound) (last : Option ℕ) (now : ℕ) (refusal : Refusal) → PlanOrderPrecondition base order found last now
+    → first_refusal (order_checks found ++ trade_id_is_left_check found.last_trade ∷ later_stamp_check last now ∷ []) ≡ Some refusal → step base now (PlaceOrder (abstract_order order)) ≡ Err refusal
+order_refused base order found last now refusal k e = refused_step base now (PlaceOrder (abstract_order order)) refusal (sym (order_refusal_read base order found last now k) ∙ e)
 
 -- what was found refuses no order that is accepted
-found_refuses_none : (found : OrderFound) (last : Option ℕ) (now : ℕ) → first_refusal (order_fact_tests found ++ trades_test found.last_trade ∷ clock_test last now ∷ []) ≡ None
-    → first_refusal (order_fact_tests found) ≡ None
+found_refuses_none : (found : OrderFound) (last : Option ℕ) (now : ℕ) → first_refusal (order_checks found ++ trade_id_is_left_check found.last_trade ∷ later_stamp_check last now ∷ []) ≡ None
+    → first_refusal (order_checks found) ≡ None
 found_refuses_none found last now e =
-    let p = none_refuse (order_fact_tests found ++ trades_test found.last_trade ∷ clock_test last now ∷ []) e in
+    let p = none_refuse (order_checks found ++ trade_id_is_left_check found.last_trade ∷ later_stamp_check last now ∷ []) e in
     all_passed found p.0 p.1.0 p.1.1.0 p.1.1.1.0 p.1.1.1.1.0
 
 -- ---- the estimate
 
-pub estimate_told : (base : Base) (order : Order) (found : OrderFound) (given : List Lot → Type 0) (e : Estimate) → BooksInvariant base → IsFoundForEstimate (sheets base) order found
-    → AreLots (sheets base) order given → IsEstimated order found given e → e ≡ estimate_with (estimate base (order_of order))
+pub estimate_told : (base : Base) (order : Order) (found : OrderFound) (given : List Lot → Type 0) (e : Estimate) → BooksInvariant base → EstimateFactsMatchTables (sheets base) order found
+    → OrderLotsSatisfy (sheets base) order given → EstimatesCheckedOrder order found given e → e ≡ estimate_from_model (estimate base (abstract_order order))
 estimate_told base order found given e books k l h =
-    h.estimated base (order_of order) (position_in (sheets base) order.account order.symbol) (terms_read base order found books k h.accepted)
+    h.estimated base (abstract_order order) (position_lots (sheets base) order.account order.symbol) (terms_read base order found books k h.accepted)
     (sym (shares_read base order.account order.symbol books)) (lots_given base order.account order.symbol order.is_lifo given books l) (all_found base order found books k h.accepted).held
 
-told_back : (e : model.Estimate) → estimate_of (estimate_with e) ≡ e
+told_back : (e : model.Estimate) → abstract_estimate (estimate_from_model e) ≡ e
 told_back e = refl
 
-pub estimate_refused : (base : Base) (order : Order) (found : OrderFound) (refusal : Refusal) → BooksInvariant base → IsFoundForEstimate (sheets base) order found
-    → first_refusal (order_fact_tests found) ≡ Some refusal → ask base (EstimateOf (order_of order)) ≡ Err refusal
-unfolding ask query_tests
+pub estimate_refused : (base : Base) (order : Order) (found : OrderFound) (refusal : Refusal) → BooksInvariant base → EstimateFactsMatchTables (sheets base) order found
+    → first_refusal (order_checks found) ≡ Some refusal → ask base (EstimateOf (abstract_order order)) ≡ Err refusal
+unfolding ask checks_of_query
 estimate_refused base order found refusal books k e =
-    ap (λ o. unless o (view_for base (EstimateOf (order_of order)))) (sym (tests_read base order found [] [] books k (λ n. refl)) ∙ e)
+    ap (λ o. value_unless_refused o (view_of_base base (EstimateOf (abstract_order order)))) (sym (tests_read base order found [] [] books k (λ n. refl)) ∙ e)
 
-pub estimate_answered : (base : Base) (order : Order) (found : OrderFound) (given : List Lot → Type 0) (e : Estimate) → BooksInvariant base → IsFoundForEstimate (sheets base) order found
-    → AreLots (sheets base) order given → IsEstimated order found given e → ask base (EstimateOf (order_of order)) ≡ Ok (estimate_fields (estimate_of e) ∷ [])
-unfolding ask query_tests view_for
+pub estimate_answered : (base : Base) (order : Order) (found : OrderFound) (given : List Lot → Type 0) (e : Estimate) → BooksInvariant base → EstimateFactsMatchTables (sheets base) order found
+    → OrderLotsSatisfy (sheets base) order given → EstimatesCheckedOrder order found given e → ask base (EstimateOf (abstract_order order)) ≡ Ok (estimate_fields (abstract_estimate e) ∷ [])
+unfolding ask checks_of_query view_of_base
 estimate_answered base order found given e books k l h =
-    ap (λ o. unless o (estimate_fields (estimate base (order_of order)) ∷ [])) (sym (tests_read base order found [] [] books k (λ n. refl)) ∙ h.accepted)
-    ∙ ap (λ e. Ok (estimate_fields e ∷ [])) (sym (ap estimate_of (estimate_told base order found given e books k l h) ∙ told_back (estimate base (order_of order))))
+    ap (λ o. value_unless_refused o (estimate_fields (estimate base (abstract_order order)) ∷ [])) (sym (tests_read base order found [] [] books k (λ n. refl)) ∙ h.accepted)
+    ∙ ap (λ e. Ok (estimate_fields e ∷ [])) (sym (ap abstract_estimate (estimate_told base order found given e books k l h) ∙ told_back (estimate base (abstract_order order))))
 
 -- ---- the rows
 
@@ -116,71 +116,71 @@ commission_or None rate qty price e = absurd (cc)
 commission_or (Some b) rate qty price e = let h : b.rate ≡ rate = cc in ap (λ r. commission r qty price) h
 
 row_made : (base : Base) (order : Order) (found : OrderFound) (stamp : ℕ) → AllFound base order found → unwrap_or found.last_trade 0 ≡ length base.trades
-    → tables.trade_row (ordered_trade base stamp (order_of order)) ≡ ordered_row order (terms_of order found) (next_trade found.last_trade) stamp
+    → tables.trade_row (ordered_trade base stamp (abstract_order order)) ≡ trade_row_of_order order (terms_of_order order found) (next_trade_id found.last_trade) stamp
 unfolding estimate
 row_made base order found stamp f number =
-    let o : model.Order = order_of order in
-    let price : requested_price base o ≡ (terms_of order found).price = sym f.terms.price in
-    let charge = amount_or _ (terms_of order found).charge f.terms.charge in
-    let rate : unwrap_or (commission_of base o.account (kind_of o.order_type) o.symbol o.qty (requested_price base o)) 0 ≡ commission (terms_of order found).rate order.qty (terms_of order found).price =
-    commission_or _ (terms_of order found).rate order.qty (requested_price base o) f.terms.rate ∙ ap (commission (terms_of order found).rate order.qty) price in
+    let o : model.Order = abstract_order order in
+    let price : requested_price base o ≡ (terms_of_order order found).price = sym f.terms.price in
+    let charge = amount_or _ (terms_of_order order found).charge f.terms.charge in
+    let rate : unwrap_or (commission_by_band base o.account (trade_type_of_order o.order_type) o.symbol o.qty (requested_price base o)) 0 ≡ commission (terms_of_order order found).rate order.qty (terms_of_order order found).price =
+    commission_or _ (terms_of_order order found).rate order.qty (requested_price base o) f.terms.rate ∙ ap (commission (terms_of_order order found).rate order.qty) price in
     λ i. record (tables.trade_row (ordered_trade base stamp o)) { id = sym number i + 1; bid = price i; charge = charge i; commission = rate i }
 
 -- the changes of an order are the rows that it makes
-changes_made : (order : Order) (terms : Terms) (broker trade stamp : ℕ) (row : TradeRow) (t : Tables) → trade_row_of row ≡ ordered_row order terms trade stamp
-    → after_changes (changes_of_order row (ordered_request order terms broker trade)) t ≡ with_last stamp (order_rows (ordered_row order terms trade stamp) (not (is_market (kind_of order.order_type))) broker t)
-changes_made order terms broker trade stamp row t e = by_market (is_market (kind_of order.order_type))
+changes_made : (order : Order) (terms : Terms) (broker trade stamp : ℕ) (row : TradeRow) (t : Tables) → abstract_trade_row row ≡ trade_row_of_order order terms trade stamp
+    → tables_after_changes (row_changes_of_order row (request_of_order order terms broker trade)) t ≡ tables_with_last_stamp stamp (tables_after_order (trade_row_of_order order terms trade stamp) (not (is_market_type (trade_type_of_order order.order_type))) broker t)
+changes_made order terms broker trade stamp row t e = by_market (is_market_type (trade_type_of_order order.order_type))
   where
     r : tables.TradeRow
-    r = ordered_row order terms trade stamp
+    r = trade_row_of_order order terms trade stamp
 
     request : RequestRow
-    request = record { trade = trade; kind = (kind_of order.order_type); symbol = order.symbol; qty = order.qty; bid = terms.price; broker = broker }
+    request = record { trade = trade; kind = (trade_type_of_order order.order_type); symbol = order.symbol; qty = order.qty; bid = terms.price; broker = broker }
 
-    by_market : (b : Bool) → after_changes (changes_of_order row (cond b None (Some request))) t
-        ≡ with_last stamp (requested_if (not b) (request_of_trade r broker) (with_history (status_row r.id r.status r.stamp) (with_trade r t)))
-    by_market true = ap (λ r. with_last r.stamp (with_history (status_row r.id r.status r.stamp) (with_trade r t))) e
-    by_market false = ap (λ r. with_last r.stamp (with_request (request_row_of request) (with_history (status_row r.id r.status r.stamp) (with_trade r t)))) e
+    by_market : (b : Bool) → tables_after_changes (row_changes_of_order row (cond b None (Some request))) t
+        ≡ tables_with_last_stamp stamp (with_request_if (not b) (request_of_trade r broker) (tables_with_history_row (history_row_of_status r.id r.status r.stamp) (tables_with_trade r t)))
+    by_market true = ap (λ r. tables_with_last_stamp r.stamp (tables_with_history_row (history_row_of_status r.id r.status r.stamp) (tables_with_trade r t))) e
+    by_market false = ap (λ r. tables_with_last_stamp r.stamp (tables_with_request (abstract_request_row request) (tables_with_history_row (history_row_of_status r.id r.status r.stamp) (tables_with_trade r t)))) e
 
 -- ---- the plan
 
 -- the rows of an order by what was found
 abbrev planned_rows : Order → OrderFound → ℕ → Tables → Tables
 planned_rows order found stamp =
-    order_rows (ordered_row order (terms_of order found) (next_trade found.last_trade) stamp) (not (is_market (kind_of order.order_type)))
+    tables_after_order (trade_row_of_order order (terms_of_order order found) (next_trade_id found.last_trade) stamp) (not (is_market_type (trade_type_of_order order.order_type)))
     (option_map_or (λ a. a.broker) found.account 0)
 
-order_made : (base : Base) (order : Order) (found : OrderFound) (last : Option ℕ) (now stamp : ℕ) → IsReadForPlan base order found last now
-    → first_refusal (order_fact_tests found ++ trades_test found.last_trade ∷ clock_test last now ∷ []) ≡ None → stamp_after last now ≡ Some stamp
-    → IsStepDone base now (PlaceOrder (order_of order)) stamp (model.Ordered stamp (next_trade found.last_trade) (first_status (kind_of order.order_type)) (estimate base (order_of order))) (planned_rows order found stamp)
-unfolding reply_to
+order_made : (base : Base) (order : Order) (found : OrderFound) (last : Option ℕ) (now stamp : ℕ) → PlanOrderPrecondition base order found last now
+    → first_refusal (order_checks found ++ trade_id_is_left_check found.last_trade ∷ later_stamp_check last now ∷ []) ≡ None → stamp_after last now ≡ Some stamp
+    → IsAcceptedWithEffect base now (PlaceOrder (abstract_order order)) stamp (model.Ordered stamp (next_trade_id found.last_trade) (first_status (trade_type_of_order order.order_type)) (estimate base (abstract_order order))) (planned_rows order found stamp)
+unfolding reply_to_command
 order_made base order found last now stamp k t s =
-    let o : model.Order = order_of order in
-    let e : refusal_of base now (PlaceOrder o) ≡ None = sym (order_refusal_read base order found last now k) ∙ t in
+    let o : model.Order = abstract_order order in
+    let e : refusal_of_command base now (PlaceOrder o) ≡ None = sym (order_refusal_read base order found last now k) ∙ t in
     let tested = found_refuses_none found last now t in
     let next = stamp_read base last now stamp k.last_read s in
     let number = number_read base order found k.books k.looked_up tested in
     let f : AllFound base order found = all_found base order found k.books k.looked_up.estimate tested in
-    let row = row_made base order found (next_stamp base now) f number in
-    is_done base now (PlaceOrder o) stamp (model.Ordered stamp (next_trade found.last_trade) (first_status (kind_of order.order_type)) (estimate base o)) (planned_rows order found) k.books e next
-    (λ i. model.Ordered (sym next i) (sym number i + 1) (first_status (kind_of order.order_type)) (estimate base o))
-    (λ books e. step_order base now o books e ∙ (λ i. with_last (next_stamp base now) (order_rows (row i) (not (is_market (kind_of order.order_type))) (sym f.broker i) (sheets base))))
+    let row = row_made base order found (stamp_of_next_command base now) f number in
+    is_done base now (PlaceOrder o) stamp (model.Ordered stamp (next_trade_id found.last_trade) (first_status (trade_type_of_order order.order_type)) (estimate base o)) (planned_rows order found) k.books e next
+    (λ i. model.Ordered (sym next i) (sym number i + 1) (first_status (trade_type_of_order order.order_type)) (estimate base o))
+    (λ books e. step_order base now o books e ∙ (λ i. tables_with_last_stamp (stamp_of_next_command base now) (tables_after_order (row i) (not (is_market_type (trade_type_of_order order.order_type))) (sym f.broker i) (sheets base))))
     (books_order base now o)
 
-pub plan_order_does : (base : Base) (order : Order) (found : OrderFound) (given : List Lot → Type 0) (last : Option ℕ) (now : ℕ) (plan : Plan) → IsReadForPlan base order found last now
-    → AreLots (sheets base) order given → IsOrdered order found given last now plan → DoesCommand base now (PlaceOrder (order_of order)) plan
+pub plan_order_does : (base : Base) (order : Order) (found : OrderFound) (given : List Lot → Type 0) (last : Option ℕ) (now : ℕ) (plan : Plan) → PlanOrderPrecondition base order found last now
+    → OrderLotsSatisfy (sheets base) order given → IsOrderPlan order found given last now plan → PlanImplementsCommand base now (PlaceOrder (abstract_order order)) plan
 plan_order_does base order found given last now plan k l p =
-    let o : model.Order = order_of order in
+    let o : model.Order = abstract_order order in
     let tested = found_refuses_none found last now p.accepted in
     let d = order_made base order found last now p.stamp k p.accepted p.stamped in
-    let est : estimate_of p.estimate ≡ estimate base o =
-    ap estimate_of (estimate_told base order found given p.estimate k.books k.looked_up.estimate l (record { accepted = tested; estimated = p.estimated })) ∙ told_back (estimate base o) in
+    let est : abstract_estimate p.estimate ≡ estimate base o =
+    ap abstract_estimate (estimate_told base order found given p.estimate k.books k.looked_up.estimate l (record { accepted = tested; estimated = p.estimated })) ∙ told_back (estimate base o) in
     record {
-      steps = d.steps ∙ ap (λ reply. Ok (reply, base_then base now (PlaceOrder o)))
-          ((λ i. model.Ordered p.stamp (next_trade found.last_trade) (first_status (kind_of order.order_type)) (sym est i)) ∙ sym (ap reply_of p.told));
+      steps = d.steps ∙ ap (λ reply. Ok (reply, base_after_command base now (PlaceOrder o)))
+          ((λ i. model.Ordered p.stamp (next_trade_id found.last_trade) (first_status (trade_type_of_order order.order_type)) (sym est i)) ∙ sym (ap abstract_reply p.told));
       rows = d.rows
-          ∙ sym (changes_made order (terms_of order found) (option_map_or (λ a. a.broker) found.account 0) (next_trade found.last_trade) p.stamp p.changes.row
+          ∙ sym (changes_made order (terms_of_order order found) (option_map_or (λ a. a.broker) found.account 0) (next_trade_id found.last_trade) p.stamp p.changes.row
           (sheets base) p.changes.added)
-          ∙ sym (ap (λ changes. after_changes changes (sheets base)) p.changes.changed);
+          ∙ sym (ap (λ changes. tables_after_changes changes (sheets base)) p.changes.changed);
       kept = d.kept;
     }

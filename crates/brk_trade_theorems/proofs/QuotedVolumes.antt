@@ -4,21 +4,21 @@ use Rattle.std.specs.Prelude.{◌||◌, find, is_some, nat_lt, option_map, bytes
 use Rattle.std.specs.Option.{option_map_or}
 use Rattle.std.specs.List.{AllByRecursion, list_any}
 use Rattle.brk_money.specs.Spelling.{Text}
-use Rattle.brk_model.specs.Base.{Base, security_with}
-use Rattle.brk_model.specs.Feed.{ticked, with_tick, with_ticks}
+use Rattle.brk_model.specs.Base.{Base, security_with_symbol}
+use Rattle.brk_model.specs.Feed.{security_after_tick, base_after_tick, base_after_ticks}
 use Rattle.brk_model.specs.Limits.{greatest_amount}
 use Rattle.brk_model.specs.Lists.{update_where}
 use Rattle.brk_model.specs.Records.{Security}
 use Rattle.brk_model.specs.Sheets.{sheets}
 use Rattle.brk_model.specs.Tables.{Tables, last_trade_row}
-use Rattle.brk_orders.specs.Records.{tick_of, ticks_of}
+use Rattle.brk_orders.specs.Records.{abstract_tick, abstract_ticks}
 use Rattle.brk_orders.specs.declared.tick.Tick.{Tick}
-use Rattle.brk_ref.specs.Records.{last_trade_of}
-use Rattle.brk_plans.specs.Feed.{SymbolState, exceeds, is_of, quote_after, quotes_after, quotes_after_tick}
-use Rattle.brk_book_theorems.specs.Books.{BooksInvariant, DistinctSymbols, HasVolume}
-use Rattle.brk_book_theorems.specs.TradeReads.{last_volume_in}
-use Rattle.brk_trade_theorems.specs.TradePlans.{DistinctQuotes}
-use Rattle.brk_book_theorems.specs.Ticks.{exceeds_volume, qty_fed}
+use Rattle.brk_ref.specs.Records.{abstract_last_trade_row}
+use Rattle.brk_plans.specs.Feed.{SymbolState, exceeds_volume_limit, is_state_of_symbol, state_after_tick, states_after_ticks, states_after_tick}
+use Rattle.brk_book_theorems.specs.Books.{BooksInvariant, HasDistinctSymbols, HasVolumeWithinLimit}
+use Rattle.brk_book_theorems.specs.TradeReads.{volume_of_symbol}
+use Rattle.brk_trade_theorems.specs.TradePlans.{HasDistinctQuoteSymbols}
+use Rattle.brk_book_theorems.specs.Ticks.{exceeds_symbol_volume_limit, tick_quantity_of_symbol}
 use Rattle.brk_book_theorems.proofs.Same.{All-map, All-mapped, find-All}
 use Rattle.brk_book_theorems.proofs.Reading.{find-map, is_some-map, some-is-any}
 use Rattle.brk_book_theorems.proofs.TermReading.{reads_last_trade}
@@ -51,59 +51,59 @@ market quotes = record {
   last = None;
 }
 
-distinct : (quotes : List SymbolState) → DistinctQuotes quotes → DistinctSymbols (map security_of quotes)
+distinct : (quotes : List SymbolState) → HasDistinctQuoteSymbols quotes → HasDistinctSymbols (map security_of quotes)
 distinct [] d = tt
 distinct (quote ∷ quotes) d = (All-mapped (λ u. bytes_eq u.symbol quote.last.symbol ≡ false) security_of quotes d.0, distinct quotes d.1)
 
-market_books : (quotes : List SymbolState) → DistinctQuotes quotes → AllByRecursion (λ quote. quote.last.volume ≤ greatest_amount) quotes → BooksInvariant (market quotes)
+market_books : (quotes : List SymbolState) → HasDistinctQuoteSymbols quotes → AllByRecursion (λ quote. quote.last.volume ≤ greatest_amount) quotes → BooksInvariant (market quotes)
 market_books quotes d v = record {
   parties = record { brokers = tt; customers = tt; owners = tt; permissions = tt };
-  market = record { symbols = distinct quotes d; volumes = All-mapped HasVolume security_of quotes v; bands = tt; apart = tt };
+  market = record { symbols = distinct quotes d; volumes = All-mapped HasVolumeWithinLimit security_of quotes v; bands = tt; apart = tt };
   trades = record { accounts = tt; securities = tt; numbered = tt; ways = tt; completions = tt };
   times = record { early = tt; moments = tt; clock = tt };
   movements = record { holders = tt; early = tt; apart = tt };
 }
 
 -- its securities move with the quotes
-market_tick : (stamp : ℕ) (tick : Tick) (quotes : List SymbolState) → with_tick stamp (market quotes) (tick_of tick) ≡ market (quotes_after_tick stamp quotes tick)
+market_tick : (stamp : ℕ) (tick : Tick) (quotes : List SymbolState) → base_after_tick stamp (market quotes) (abstract_tick tick) ≡ market (states_after_tick stamp quotes tick)
 market_tick stamp tick quotes = λ i. record (market quotes) { securities = moved quotes i }
   where
-    by_test : (quote : SymbolState) (b : Bool) → cond b (ticked stamp (tick_of tick) (security_of quote)) (security_of quote) ≡ security_of (cond b (quote_after stamp tick quote) quote)
+    by_test : (quote : SymbolState) (b : Bool) → cond b (security_after_tick stamp (abstract_tick tick) (security_of quote)) (security_of quote) ≡ security_of (cond b (state_after_tick stamp tick quote) quote)
     by_test quote true = refl
     by_test quote false = refl
 
     moved : (quotes : List SymbolState)
-        → update_where (λ s. bytes_eq s.symbol tick.symbol) (ticked stamp (tick_of tick)) (map security_of quotes) ≡ map security_of (quotes_after_tick stamp quotes tick)
+        → update_where (λ s. bytes_eq s.symbol tick.symbol) (security_after_tick stamp (abstract_tick tick)) (map security_of quotes) ≡ map security_of (states_after_tick stamp quotes tick)
     moved [] = refl
-    moved (quote ∷ quotes) = λ i. by_test quote (is_of tick.symbol quote) i ∷ moved quotes i
+    moved (quote ∷ quotes) = λ i. by_test quote (is_state_of_symbol tick.symbol quote) i ∷ moved quotes i
 
-market_ticks : (stamp : ℕ) (ticks : List Tick) (quotes : List SymbolState) → with_ticks stamp (market quotes) (ticks_of ticks) ≡ market (quotes_after stamp ticks quotes)
-unfolding with_ticks
+market_ticks : (stamp : ℕ) (ticks : List Tick) (quotes : List SymbolState) → base_after_ticks stamp (market quotes) (abstract_ticks ticks) ≡ market (states_after_ticks stamp ticks quotes)
+unfolding base_after_ticks
 market_ticks stamp [] quotes = refl
 market_ticks stamp (tick ∷ ticks) quotes =
-    ap (λ base. with_ticks stamp base (ticks_of ticks)) (market_tick stamp tick quotes) ∙ market_ticks stamp ticks (quotes_after_tick stamp quotes tick)
+    ap (λ base. base_after_ticks stamp base (abstract_ticks ticks)) (market_tick stamp tick quotes) ∙ market_ticks stamp ticks (states_after_tick stamp quotes tick)
 
-market_exceeds : (quotes : List SymbolState) → list_any exceeds quotes ≡ list_any (λ s. nat_lt greatest_amount s.volume) (map security_of quotes)
+market_exceeds : (quotes : List SymbolState) → list_any exceeds_volume_limit quotes ≡ list_any (λ s. nat_lt greatest_amount s.volume) (map security_of quotes)
 market_exceeds [] = refl
-market_exceeds (quote ∷ quotes) = ap (λ b. exceeds quote || b) (market_exceeds quotes)
+market_exceeds (quote ∷ quotes) = ap (λ b. exceeds_volume_limit quote || b) (market_exceeds quotes)
 
 -- it knows the symbols that have quotes
-market_knows : (quotes : List SymbolState) (ticks : List Tick) → HaveQuotes quotes ticks → KnowsTicks (market quotes) (ticks_of ticks)
-market_knows quotes ticks known = All-mapped (λ u. is_some (security_with (market quotes) u.symbol) ≡ true) tick_of ticks (All-map ticks (λ tick h. there tick.symbol ∙ h) known)
+market_knows : (quotes : List SymbolState) (ticks : List Tick) → HaveQuotes quotes ticks → KnowsTicks (market quotes) (abstract_ticks ticks)
+market_knows quotes ticks known = All-mapped (λ u. is_some (security_with_symbol (market quotes) u.symbol) ≡ true) abstract_tick ticks (All-map ticks (λ tick h. there tick.symbol ∙ h) known)
   where
-    there : (symbol : Text) → is_some (security_with (market quotes) symbol) ≡ list_any (is_of symbol) quotes
+    there : (symbol : Text) → is_some (security_with_symbol (market quotes) symbol) ≡ list_any (is_state_of_symbol symbol) quotes
     there symbol =
-        ap is_some (find-map (λ s. bytes_eq s.symbol symbol) security_of quotes) ∙ is_some-map security_of (find (is_of symbol) quotes) ∙ some-is-any (is_of symbol) quotes
+        ap is_some (find-map (λ s. bytes_eq s.symbol symbol) security_of quotes) ∙ is_some-map security_of (find (is_state_of_symbol symbol) quotes) ∙ some-is-any (is_state_of_symbol symbol) quotes
 
 -- their volumes are those that the tables have
-market_volume : (t : Tables) (ticks : List Tick) (symbol : Text) (quotes : List SymbolState) → AllByRecursion (IsHeld t ticks) quotes → DistinctQuotes quotes → list_any (is_of symbol) quotes ≡ true
-    → last_volume_in (sheets (market quotes)) symbol ≡ last_volume_in t symbol
+market_volume : (t : Tables) (ticks : List Tick) (symbol : Text) (quotes : List SymbolState) → AllByRecursion (IsHeld t ticks) quotes → HasDistinctQuoteSymbols quotes → list_any (is_state_of_symbol symbol) quotes ≡ true
+    → volume_of_symbol (sheets (market quotes)) symbol ≡ volume_of_symbol t symbol
 market_volume t ticks symbol quotes k d e =
     let q = quote_of t ticks symbol quotes k d e in
     reads_volume (market quotes) symbol
     ∙ ap (λ o. option_map_or (λ s. s.volume) o 0) (find-map (λ s. bytes_eq s.symbol symbol) security_of quotes ∙ ap (option_map security_of) q.found)
     ∙ sym (quote_volume t ticks q.quote q.read)
-    ∙ ap (last_volume_in t) q.same
+    ∙ ap (volume_of_symbol t) q.same
 
 any-each : {X : Type 0} (p q : X → Bool) (xs : List X) → AllByRecursion (λ x. p x ≡ q x) xs → list_any p xs ≡ list_any q xs
 any-each p q [] h = refl
@@ -113,22 +113,22 @@ any-each p q (x ∷ xs) h = λ i. h.0 i || any-each p q xs h.1 i
 
 -- their volumes are within the limit
 pub quotes_within : (base : Base) (ticks : List Tick) (quotes : List SymbolState) → BooksInvariant base → AllByRecursion (IsHeld (sheets base) ticks) quotes → AllByRecursion (λ quote. quote.last.volume ≤ greatest_amount) quotes
-quotes_within base ticks quotes books k = All-map quotes (λ quote q. by_security quote (security_with base quote.last.symbol) refl (sym (reads_last_trade base quote.last.symbol) ∙ q.last_trade)) k
+quotes_within base ticks quotes books k = All-map quotes (λ quote q. by_security quote (security_with_symbol base quote.last.symbol) refl (sym (reads_last_trade base quote.last.symbol) ∙ q.last_trade)) k
   where
-    by_security : (quote : SymbolState) (o : Option Security) → security_with base quote.last.symbol ≡ o
-        → option_map last_trade_row (security_with base quote.last.symbol) ≡ Some (last_trade_of quote.last) → quote.last.volume ≤ greatest_amount
-    by_security quote None e f = let g : None ≡ Some (last_trade_of quote.last) = sym (ap (option_map last_trade_row) e) ∙ f in absurd (cc)
+    by_security : (quote : SymbolState) (o : Option Security) → security_with_symbol base quote.last.symbol ≡ o
+        → option_map last_trade_row (security_with_symbol base quote.last.symbol) ≡ Some (abstract_last_trade_row quote.last) → quote.last.volume ≤ greatest_amount
+    by_security quote None e f = let g : None ≡ Some (abstract_last_trade_row quote.last) = sym (ap (option_map last_trade_row) e) ∙ f in absurd (cc)
     by_security quote (Some s) e f =
-        let g : Some (last_trade_row s) ≡ Some (last_trade_of quote.last) = sym (ap (option_map last_trade_row) e) ∙ f in
+        let g : Some (last_trade_row s) ≡ Some (abstract_last_trade_row quote.last) = sym (ap (option_map last_trade_row) e) ∙ f in
         subst (λ n. n ≤ greatest_amount) (ap (λ o. option_map_or (λ r. r.volume) o 0) g)
-        (find-All HasVolume (λ u. bytes_eq u.symbol quote.last.symbol) base.securities s books.volumes e)
+        (find-All HasVolumeWithinLimit (λ u. bytes_eq u.symbol quote.last.symbol) base.securities s books.volumes e)
 
-pub quotes_exceed : (base : Base) (stamp : ℕ) (ticks : List Tick) (quotes : List SymbolState) → BooksInvariant base → AllByRecursion (IsHeld (sheets base) ticks) quotes → DistinctQuotes quotes
-    → HaveQuotes quotes ticks → list_any exceeds (quotes_after stamp ticks quotes) ≡ list_any (exceeds_volume (sheets base) (ticks_of ticks)) (ticks_of ticks)
+pub quotes_exceed : (base : Base) (stamp : ℕ) (ticks : List Tick) (quotes : List SymbolState) → BooksInvariant base → AllByRecursion (IsHeld (sheets base) ticks) quotes → HasDistinctQuoteSymbols quotes
+    → HaveQuotes quotes ticks → list_any exceeds_volume_limit (states_after_ticks stamp ticks quotes) ≡ list_any (exceeds_symbol_volume_limit (sheets base) (abstract_ticks ticks)) (abstract_ticks ticks)
 quotes_exceed base stamp ticks quotes books k d known =
-    market_exceeds (quotes_after stamp ticks quotes)
+    market_exceeds (states_after_ticks stamp ticks quotes)
     ∙ sym (ap (λ b. list_any (λ s. nat_lt greatest_amount s.volume) b.securities) (market_ticks stamp ticks quotes))
-    ∙ sym (reads_exceeds (market quotes) stamp (ticks_of ticks) (market_books quotes d (quotes_within base ticks quotes books k)) (market_knows quotes ticks known))
-    ∙ any-each (exceeds_volume (sheets (market quotes)) (ticks_of ticks)) (exceeds_volume (sheets base) (ticks_of ticks)) (ticks_of ticks)
-    (All-mapped (λ u. exceeds_volume (sheets (market quotes)) (ticks_of ticks) u ≡ exceeds_volume (sheets base) (ticks_of ticks) u) tick_of ticks
-    (All-map ticks (λ tick h. ap (λ volume. nat_lt greatest_amount (volume + qty_fed tick.symbol (ticks_of ticks))) (market_volume (sheets base) ticks tick.symbol quotes k d h)) known))
+    ∙ sym (reads_exceeds (market quotes) stamp (abstract_ticks ticks) (market_books quotes d (quotes_within base ticks quotes books k)) (market_knows quotes ticks known))
+    ∙ any-each (exceeds_symbol_volume_limit (sheets (market quotes)) (abstract_ticks ticks)) (exceeds_symbol_volume_limit (sheets base) (abstract_ticks ticks)) (abstract_ticks ticks)
+    (All-mapped (λ u. exceeds_symbol_volume_limit (sheets (market quotes)) (abstract_ticks ticks) u ≡ exceeds_symbol_volume_limit (sheets base) (abstract_ticks ticks) u) abstract_tick ticks
+    (All-map ticks (λ tick h. ap (λ volume. nat_lt greatest_amount (volume + tick_quantity_of_symbol tick.symbol (abstract_ticks ticks))) (market_volume (sheets base) ticks tick.symbol quotes k d h)) known))

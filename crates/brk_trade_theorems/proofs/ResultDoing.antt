@@ -3,38 +3,38 @@ use Rattle.std.proofs.Common.{◌≡◌, ◌<◌, ℕ, ◌+◌, Bool, true, fals
 use Rattle.std.specs.Prelude.{decimal, codes, is_none, is_some, nat_abs, option_map, option_to_list, unwrap_or, flat_map, Ok}
 use Rattle.std.specs.Option.{option_map_or}
 use Rattle.std.proofs.lemmas.Int.{ints}
-use Rattle.brk_lots.specs.Closing.{IsClosing}
-use Rattle.brk_lots.specs.Lots.{from_end, plain_lot, plain_touch, shares_of}
+use Rattle.brk_lots.specs.Closing.{IsClosingOfDeal}
+use Rattle.brk_lots.specs.Lots.{list_in_closing_order, abstract_lot, abstract_touch, shares_of_lots}
 use Rattle.brk_lots.specs.declared.closing.Closing.{Closing}
 use Rattle.brk_lots.specs.declared.lot.Lot.{Lot}
 use Rattle.brk_lots.specs.declared.lot.Touch.{Touch}
-use Rattle.brk_model.specs.Base.{Base, broker_of_account, completed, moment_of, trade_with}
+use Rattle.brk_model.specs.Base.{Base, broker_id_of_account, completed_trades, last_status_stamp_of_trade, trade_with_id}
 use Rattle.brk_model.specs.Commands as model
 use Rattle.brk_model.specs.Commands.{CompleteTrade, CompletedTrade}
 use Rattle.brk_model.specs.Derived as derived
-use Rattle.brk_model.specs.Derived.{balance_of, commissions_of, due_after, due_day, postings_of, shares_in, summary_of, trade_count_of}
+use Rattle.brk_model.specs.Derived.{balance_of_account, commission_total_of_broker, due_day_of_completion_stamp, due_day, postings_of_base, shares_of_position, holding_summary_quantity, trade_count_of_broker}
 use Rattle.brk_model.specs.Lists.{is_zero}
 use Rattle.brk_model.specs.Records.{Trade}
 use Rattle.brk_model.specs.Results as results
-use Rattle.brk_model.specs.Results.{completed_trade, completion, result_deal, with_result}
+use Rattle.brk_model.specs.Results.{completed_trade, completion_of_trade, deal_of_result, base_after_result}
 use Rattle.brk_model.specs.Shares as shares
-use Rattle.brk_model.specs.Shares.{lots, opened_shares, signed, touches}
+use Rattle.brk_model.specs.Shares.{lots_of_shares, opened_shares, signed_by_side, touches_of_existing_lots}
 use Rattle.brk_model.specs.Sheets.{sheets}
-use Rattle.brk_model.specs.Step.{reply_to}
+use Rattle.brk_model.specs.Step.{reply_to_command}
 use Rattle.brk_model.specs.Tables as tables
 use Rattle.brk_model.specs.Tables.{SummaryRow, Tables, TradeRow, trade_row}
-use Rattle.brk_model.specs.Tests.{first_refusal, next_stamp, refusal_of}
-use Rattle.brk_money.specs.Kinds.{side_of, type_name}
+use Rattle.brk_model.specs.Tests.{first_refusal, stamp_of_next_command, refusal_of_command}
+use Rattle.brk_money.specs.Kinds.{side_of_trade_type, trade_type_name}
 use Rattle.brk_money.specs.Spelling.{Text}
 use Rattle.brk_money.specs.declared.side.Side.{Side}
 use Rattle.brk_money.specs.declared.side.Side.TheVariants.{Buy, Sell}
 use Rattle.brk_money.specs.declared.status.Status.TheVariants.{Completed}
-use Rattle.brk_changes.specs.Changes.{after_change, after_changes, with_balance, with_broker_numbers, with_completion, with_history, with_last, with_lot_change, with_move, with_settlement}
-use Rattle.brk_trade.specs.Outcomes.{deal_of_row, numbers_of_result, all_result_tests, summary_after, values_in}
-use Rattle.brk_plans.specs.Replies.{reply_of}
+use Rattle.brk_changes.specs.Changes.{tables_after_change, tables_after_changes, tables_with_balance, tables_with_broker_totals, tables_with_trade_completed, tables_with_history_row, tables_with_last_stamp, tables_with_lot_change, tables_with_cash_row, tables_with_settlement}
+use Rattle.brk_trade.specs.Outcomes.{deal_of_trade_row, figures_of_result, result_checks, shares_held_after_trade, values_of_closing}
+use Rattle.brk_plans.specs.Replies.{abstract_reply}
 use Rattle.brk_trade.specs.Results as planner
-use Rattle.brk_trade.specs.Results.{IsCompleted, cash_changes, changes_of_result, settlement_type, opened_changes, sum_changes, summary_change, touched_changes, told_of, trade_changes}
-use Rattle.brk_changes.specs.Rows.{cash_type_word, move_row_of, trade_row_of}
+use Rattle.brk_trade.specs.Results.{CompletesExistingTrade, row_changes_of_cash_row, row_changes_of_result, first_cash_type_of_trade, row_changes_of_opened_lot, summary_broker_settlement_changes, row_change_of_summary, row_changes_of_touched_lot, reply_of_completed_result, row_changes_of_completed_trade}
+use Rattle.brk_changes.specs.Rows.{cash_type_text, abstract_move_row, abstract_trade_row}
 use Rattle.brk_changes.specs.declared.move_row.MoveRow.{MoveRow}
 use Rattle.brk_changes.specs.declared.change.Change.{Change}
 use Rattle.brk_changes.specs.declared.change.Change.TheVariants as change
@@ -45,12 +45,12 @@ use Rattle.brk_plans.specs.declared.reply.Reply.TheVariants as reply
 use Rattle.brk_changes.specs.declared.summary_row.SummaryRow as summary
 use Rattle.brk_changes.specs.declared.trade_row.TradeRow as planned
 use Rattle.brk_book_theorems.specs.Books.{BooksInvariant}
-use Rattle.brk_trade_theorems.specs.Plans.{DoesCommand}
-use Rattle.brk_book_theorems.specs.Steps.{IsStepDone, base_then}
-use Rattle.brk_trade_theorems.specs.ResultPlans.{IsReadForResult, PassesFirst}
-use Rattle.brk_book_theorems.specs.Results.{with_cash_posted, completed_rows, opened_rows, result_rows, rows_of_result, summary_rows_moved, touched_rows}
-use Rattle.brk_book_theorems.specs.TradeReads.{position_in, row_of_summary, summary_in}
-use Rattle.brk_book_theorems.specs.Trading.{status_row}
+use Rattle.brk_trade_theorems.specs.Plans.{PlanImplementsCommand}
+use Rattle.brk_book_theorems.specs.Steps.{IsAcceptedWithEffect, base_after_command}
+use Rattle.brk_trade_theorems.specs.ResultPlans.{PlanResultPrecondition, PassesResultChecks}
+use Rattle.brk_book_theorems.specs.Results.{with_cash_posted, with_trade_completed, with_lots_opened, tables_after_result, result_rows_of_trade, with_summary_changed, with_lots_touched}
+use Rattle.brk_book_theorems.specs.TradeReads.{position_lots, summary_row_of_quantity, summary_row_of_position}
+use Rattle.brk_book_theorems.specs.Trading.{history_row_of_status}
 use Rattle.brk_trade_theorems.proofs.QuotedTicks.{after_more}
 use Rattle.brk_trade_theorems.proofs.ResultFinding.{TradeFound, amount_read, balance_read, broker_found, commission_read, commissions_read, held_found, account_found, next_found, passes_rate, passes_status, passes_summary, result_refusal, result_values, rule_found, security_found, summary_found, summary_read, tax_read, trade_found}
 use Rattle.brk_book_theorems.proofs.ResultKeeping.{Found, books_result, found_at, step_result, submitted}
@@ -63,51 +63,51 @@ use Rattle.brk_trade_theorems.proofs.ResultRefusing.{at_market, deal_read, held_
 
 -- ---- the rows
 
-touched_made : (trade : ℕ) (touched : List Touch) (t : Tables) → after_changes (flat_map (touched_changes trade) touched) t ≡ touched_rows trade (map plain_touch touched) t
+touched_made : (trade : ℕ) (touched : List Touch) (t : Tables) → tables_after_changes (flat_map (row_changes_of_touched_lot trade) touched) t ≡ with_lots_touched trade (map abstract_touch touched) t
 touched_made trade [] t = refl
 touched_made trade (touch ∷ touched) t =
-    after_more (touched_changes trade touch) (flat_map (touched_changes trade) touched) t
-    ∙ ap (λ u. after_changes (flat_map (touched_changes trade) touched) (with_lot_change (record { lot = touch.lot; trade = trade; before = touch.before; after = touch.after }) u)) (left touch (is_zero touch.after))
+    after_more (row_changes_of_touched_lot trade touch) (flat_map (row_changes_of_touched_lot trade) touched) t
+    ∙ ap (λ u. tables_after_changes (flat_map (row_changes_of_touched_lot trade) touched) (tables_with_lot_change (record { lot = touch.lot; trade = trade; before = touch.before; after = touch.after }) u)) (left touch (is_zero touch.after))
     ∙ touched_made trade touched _
   where
-    left : (touch : Touch) (b : Bool) → after_change (cond b (change.RemoveLot touch.lot) (change.SetLot touch.lot touch.after)) t
-        ≡ cond b (after_change (change.RemoveLot touch.lot) t) (after_change (change.SetLot touch.lot touch.after) t)
+    left : (touch : Touch) (b : Bool) → tables_after_change (cond b (change.RemoveLot touch.lot) (change.SetLot touch.lot touch.after)) t
+        ≡ cond b (tables_after_change (change.RemoveLot touch.lot) t) (tables_after_change (change.SetLot touch.lot touch.after) t)
     left touch true = refl
     left touch false = refl
 
-opened_made : (trade : planned.TradeRow) (ls : List Lot) (t : Tables) → after_changes (flat_map (opened_changes trade) ls) t ≡ opened_rows (trade_row_of trade) (map plain_lot ls) t
+opened_made : (trade : planned.TradeRow) (ls : List Lot) (t : Tables) → tables_after_changes (flat_map (row_changes_of_opened_lot trade) ls) t ≡ with_lots_opened (abstract_trade_row trade) (map abstract_lot ls) t
 opened_made trade [] t = refl
-opened_made trade (lot ∷ ls) t = after_more (opened_changes trade lot) (flat_map (opened_changes trade) ls) t ∙ opened_made trade ls _
+opened_made trade (lot ∷ ls) t = after_more (row_changes_of_opened_lot trade lot) (flat_map (row_changes_of_opened_lot trade) ls) t ∙ opened_made trade ls _
 
 -- shares of some trade, either way, are not none
-moved_some : (side : Side) (n : ℕ) → 0 < n → is_zero (pos 0 +ℤ signed side n) ≡ false
+moved_some : (side : Side) (n : ℕ) → 0 < n → is_zero (pos 0 +ℤ signed_by_side side n) ≡ false
 moved_some side zero h = absurd (omega (arith, h))
 moved_some Buy (suc n) h = ap is_zero (plain (pos (suc n)))
   where
     plain : (z : ℤ) → pos 0 +ℤ z ≡ z
     plain z = omega (arith, ints)
-moved_some Sell (suc n) h = ap is_zero (plain (signed Sell (suc n)))
+moved_some Sell (suc n) h = ap is_zero (plain (signed_by_side Sell (suc n)))
   where
     plain : (z : ℤ) → pos 0 +ℤ z ≡ z
     plain z = omega (arith, ints)
 
 summary_made : (found : ResultFound) (row : Option SummaryRow) (before after : ℤ) (t : Tables) → found.summary ≡ option_map (λ r. r.qty) row
     → (row ≡ None → is_zero before ≡ true) → ((r : SummaryRow) → row ≡ Some r → is_zero before ≡ false) → (row ≡ None → is_zero after ≡ false)
-    → after_change (summary_change found.summary found.trade after) t
-    ≡ summary_rows_moved before after (record { account = found.trade.account; symbol = found.trade.symbol; qty = after }) t
+    → tables_after_change (row_change_of_summary found.summary found.trade after) t
+    ≡ with_summary_changed before after (record { account = found.trade.account; symbol = found.trade.symbol; qty = after }) t
 summary_made found row before after t e none some new = by_row row refl e
   where
     S : summary.SummaryRow
     S = record { account = found.trade.account; symbol = found.trade.symbol; qty = after }
 
     F : Option ℤ → Tables
-    F o = after_change (summary_change o found.trade after) t
+    F o = tables_after_change (row_change_of_summary o found.trade after) t
 
     M : Bool → Bool → Tables
-    M a b = cond a (after_change (change.RemoveSummary found.trade.account found.trade.symbol) t)
-        (cond b (after_change (change.AddSummary S) t) (after_change (change.SetSummary S) t))
+    M a b = cond a (tables_after_change (change.RemoveSummary found.trade.account found.trade.symbol) t)
+        (cond b (tables_after_change (change.AddSummary S) t) (tables_after_change (change.SetSummary S) t))
 
-    set : (q : ℤ) (b : Bool) → after_change (cond b (change.RemoveSummary found.trade.account found.trade.symbol) (change.SetSummary S)) t ≡ M b false
+    set : (q : ℤ) (b : Bool) → tables_after_change (cond b (change.RemoveSummary found.trade.account found.trade.symbol) (change.SetSummary S)) t ≡ M b false
     set q true = refl
     set q false = refl
 
@@ -124,28 +124,28 @@ record Planned (base : Base) (price : ℕ) (last : Option ℕ) (now : ℕ) (t : 
   pub back : List Trade
   pub result : IsResult base stamp price t front back
   pub some_shares : 0 < found.trade.qty
-  pub values : values_in closing ≡ result_values base stamp price t
-  pub touched : map plain_touch closing.touched.items ≡ from_end t.is_lifo (touches (result_deal stamp price t) (shares_in (completed base) t.account t.symbol))
-  pub opened : map plain_lot (option_to_list closing.opened) ≡ lots (opened_shares (result_deal stamp price t) (shares_in (completed base) t.account t.symbol))
-  pub one : PassesFirst 1 found
+  pub values : values_of_closing closing ≡ result_values base stamp price t
+  pub touched : map abstract_touch closing.touched.items ≡ list_in_closing_order t.is_lifo (touches_of_existing_lots (deal_of_result stamp price t) (shares_of_position (completed_trades base) t.account t.symbol))
+  pub opened : map abstract_lot (option_to_list closing.opened) ≡ lots_of_shares (opened_shares (deal_of_result stamp price t) (shares_of_position (completed_trades base) t.account t.symbol))
+  pub one : PassesResultChecks 1 found
   pub rated : is_none found.rate ≡ false
-  pub two : PassesFirst 2 found
-  pub three : PassesFirst 3 found
+  pub two : PassesResultChecks 2 found
+  pub three : PassesResultChecks 3 found
 
 abbrev outcome_planned : ResultFound → ℕ → Closing → ℕ → ResultNumbers
-outcome_planned found price closing stamp = numbers_of_result found price (values_in closing) stamp
+outcome_planned found price closing stamp = figures_of_result found price (values_of_closing closing) stamp
 
 -- what it comes to is what the definitions say
 record Agrees (base : Base) (price : ℕ) (t : Trade) (found : ResultFound) (closing : Closing) (stamp : ℕ) : Type 0 where
   pub commission : (outcome_planned found price closing stamp).commission ≡ (completed_trade base stamp price t).commission
   pub tax : (outcome_planned found price closing stamp).tax ≡ (completed_trade base stamp price t).tax
-  pub amount : (outcome_planned found price closing stamp).amount ≡ derived.amount_of base.accounts (completed_trade base stamp price t)
+  pub amount : (outcome_planned found price closing stamp).amount ≡ derived.settlement_amount base.accounts (completed_trade base stamp price t)
   pub due : (outcome_planned found price closing stamp).due_day ≡ due_day base.rule (completed_trade base stamp price t)
-  pub summary : (outcome_planned found price closing stamp).summary ≡ summary_of (completed (with_result base stamp price t)) t.account t.symbol
-  pub balance : (outcome_planned found price closing stamp).balance ≡ balance_of base.accounts (postings_of (with_result base stamp price t)) t.account
-  pub commissions : (outcome_planned found price closing stamp).commissions ≡ commissions_of base.accounts (completed (with_result base stamp price t)) (broker_of_account base t.account)
-  pub trades : pos (found.broker.trades + 1) ≡ pos (trade_count_of base.accounts (completed (with_result base stamp price t)) (broker_of_account base t.account))
-  pub broker : found.account.broker ≡ broker_of_account base t.account
+  pub summary : (outcome_planned found price closing stamp).summary ≡ holding_summary_quantity (completed_trades (base_after_result base stamp price t)) t.account t.symbol
+  pub balance : (outcome_planned found price closing stamp).balance ≡ balance_of_account base.accounts (postings_of_base (base_after_result base stamp price t)) t.account
+  pub commissions : (outcome_planned found price closing stamp).commissions ≡ commission_total_of_broker base.accounts (completed_trades (base_after_result base stamp price t)) (broker_id_of_account base t.account)
+  pub trades : pos (found.broker.trades + 1) ≡ pos (trade_count_of_broker base.accounts (completed_trades (base_after_result base stamp price t)) (broker_id_of_account base t.account))
+  pub broker : found.account.broker ≡ broker_id_of_account base t.account
 
 agrees : (base : Base) (price : ℕ) (last : Option ℕ) (now : ℕ) (t : Trade) (found : ResultFound) (closing : Closing) (stamp : ℕ) → Planned base price last now t found closing stamp
     → Agrees base price t found closing stamp
@@ -153,13 +153,13 @@ agrees base price last now t found closing stamp k =
     let f = k.found_it in
     record {
       commission = commission_read base stamp price t found f k.one k.rated;
-      tax = ap (λ v. (numbers_of_result found price v stamp).tax) k.values ∙ tax_read base stamp price t found f k.three;
-      amount = ap (λ v. (numbers_of_result found price v stamp).amount) k.values ∙ amount_read base stamp price t found f k.three k.rated k.one;
-      due = λ i. due_after (rule_found base t found f k.three i) (sym (moment_then base stamp price t) i);
+      tax = ap (λ v. (figures_of_result found price v stamp).tax) k.values ∙ tax_read base stamp price t found f k.three;
+      amount = ap (λ v. (figures_of_result found price v stamp).amount) k.values ∙ amount_read base stamp price t found f k.three k.rated k.one;
+      due = λ i. due_day_of_completion_stamp (rule_found base t found f k.three i) (sym (moment_then base stamp price t) i);
       summary = summary_read base stamp price t k.front k.back found f k.result k.two;
-      balance = ap (λ v. (numbers_of_result found price v stamp).balance) k.values ∙ balance_read base stamp price t k.front k.back found f k.result k.three k.rated k.one;
+      balance = ap (λ v. (figures_of_result found price v stamp).balance) k.values ∙ balance_read base stamp price t k.front k.back found f k.result k.three k.rated k.one;
       commissions = commissions_read base stamp price t k.front k.back found f k.result k.three k.rated k.one;
-      trades = one_more found.broker.trades (trade_count_of base.accounts (completed base) (broker_of_account base t.account)) (broker_found base t found f k.three).0
+      trades = one_more found.broker.trades (trade_count_of_broker base.accounts (completed_trades base) (broker_id_of_account base t.account)) (broker_found base t found f k.three).0
           ∙ ap pos (sym (count_grows base stamp price t k.front k.back k.result));
       broker = ap (λ a. a.broker) (account_found base t found f k.three);
     }
@@ -170,8 +170,8 @@ agrees base price last now t found closing stamp k =
 -- ---- the reply
 
 told_read : (base : Base) (price : ℕ) (last : Option ℕ) (now : ℕ) (t : Trade) (found : ResultFound) (closing : Closing) (stamp : ℕ) → Planned base price last now t found closing stamp
-    → CompletedTrade stamp (completion base stamp price t) ≡ reply_of (reply.Completed (told_of (outcome_planned found price closing stamp)))
-unfolding completion completed_trade
+    → CompletedTrade stamp (completion_of_trade base stamp price t) ≡ abstract_reply (reply.Completed (reply_of_completed_result (outcome_planned found price closing stamp)))
+unfolding completion_of_trade completed_trade
 told_read base price last now t found closing stamp k =
     let a = agrees base price last now t found closing stamp k in
     sym (λ i. CompletedTrade stamp (record {
@@ -187,78 +187,78 @@ told_read base price last now t found closing stamp k =
 -- ---- the changes, one after another
 
 trade_made : (base : Base) (price : ℕ) (last : Option ℕ) (now : ℕ) (t : Trade) (found : ResultFound) (closing : Closing) (stamp : ℕ) → Planned base price last now t found closing stamp
-    → (x : Tables) → after_changes (trade_changes found.trade.id price (outcome_planned found price closing stamp)) x ≡ completed_rows (trade_row (completed_trade base stamp price t)) x
+    → (x : Tables) → tables_after_changes (row_changes_of_completed_trade found.trade.id price (outcome_planned found price closing stamp)) x ≡ with_trade_completed (trade_row (completed_trade base stamp price t)) x
 unfolding completed_trade
 trade_made base price last now t found closing stamp k x =
     let a = agrees base price last now t found closing stamp k in
-    let m : stamp ≡ moment_of (completed_trade base stamp price t) = sym (moment_then base stamp price t) in
-    λ i. with_history (status_row (k.found_it.row i).id Completed (m i)) (with_completion (k.found_it.row i).id (m i) price (a.commission i) (a.tax i) x)
+    let m : stamp ≡ last_status_stamp_of_trade (completed_trade base stamp price t) = sym (moment_then base stamp price t) in
+    λ i. tables_with_history_row (history_row_of_status (k.found_it.row i).id Completed (m i)) (tables_with_trade_completed (k.found_it.row i).id (m i) price (a.commission i) (a.tax i) x)
 
 lots_made : (base : Base) (price : ℕ) (last : Option ℕ) (now : ℕ) (t : Trade) (found : ResultFound) (closing : Closing) (stamp : ℕ) → Planned base price last now t found closing stamp
-    → (x : Tables) → after_changes (flat_map (opened_changes found.trade) (option_to_list closing.opened)) (after_changes (flat_map (touched_changes found.trade.id) closing.touched.items) x)
-    ≡ opened_rows (trade_row (completed_trade base stamp price t)) (rows_of_result base stamp price t).opened (touched_rows t.id (rows_of_result base stamp price t).touched x)
+    → (x : Tables) → tables_after_changes (flat_map (row_changes_of_opened_lot found.trade) (option_to_list closing.opened)) (tables_after_changes (flat_map (row_changes_of_touched_lot found.trade.id) closing.touched.items) x)
+    ≡ with_lots_opened (trade_row (completed_trade base stamp price t)) (result_rows_of_trade base stamp price t).opened (with_lots_touched t.id (result_rows_of_trade base stamp price t).touched x)
 unfolding completed_trade
 lots_made base price last now t found closing stamp k x =
-    ap (after_changes (flat_map (opened_changes found.trade) (option_to_list closing.opened))) (touched_made found.trade.id closing.touched.items x)
-    ∙ opened_made found.trade (option_to_list closing.opened) (touched_rows found.trade.id (map plain_touch closing.touched.items) x)
-    ∙ (λ i. opened_rows (k.found_it.row i) (k.opened i) (touched_rows (k.found_it.row i).id (k.touched i) x))
+    ap (tables_after_changes (flat_map (row_changes_of_opened_lot found.trade) (option_to_list closing.opened))) (touched_made found.trade.id closing.touched.items x)
+    ∙ opened_made found.trade (option_to_list closing.opened) (with_lots_touched found.trade.id (map abstract_touch closing.touched.items) x)
+    ∙ (λ i. with_lots_opened (k.found_it.row i) (k.opened i) (with_lots_touched (k.found_it.row i).id (k.touched i) x))
 
-cash_type_read : (b : Bool) → cash_type_word (settlement_type b) ≡ cond b (codes "Cash Account") (codes "Margin")
+cash_type_read : (b : Bool) → cash_type_text (first_cash_type_of_trade b) ≡ cond b (codes "Cash Account") (codes "Margin")
 cash_type_read true = refl
 cash_type_read false = refl
 
 -- the summary is a row where it is not 0
 summary_row_is : (base : Base) (price : ℕ) (last : Option ℕ) (now : ℕ) (t : Trade) (found : ResultFound) (closing : Closing) (stamp : ℕ) → Planned base price last now t found closing stamp
-    → (x : Tables) → after_change (summary_change found.summary found.trade (outcome_planned found price closing stamp).summary) x
-    ≡ summary_rows_moved (summary_of (completed base) t.account t.symbol) (summary_of (completed (with_result base stamp price t)) t.account t.symbol)
-    (record { account = t.account; symbol = t.symbol; qty = summary_of (completed (with_result base stamp price t)) t.account t.symbol }) x
+    → (x : Tables) → tables_after_change (row_change_of_summary found.summary found.trade (outcome_planned found price closing stamp).summary) x
+    ≡ with_summary_changed (holding_summary_quantity (completed_trades base) t.account t.symbol) (holding_summary_quantity (completed_trades (base_after_result base stamp price t)) t.account t.symbol)
+    (record { account = t.account; symbol = t.symbol; qty = holding_summary_quantity (completed_trades (base_after_result base stamp price t)) t.account t.symbol }) x
 summary_row_is base price last now t found closing stamp k x =
     let a = agrees base price last now t found closing stamp k in
     let f = k.found_it in
-    let held : unwrap_or found.summary (pos 0) ≡ summary_of (completed base) t.account t.symbol = held_found base t found f k.two in
-    let row : summary_in (sheets base) t.account t.symbol ≡ row_of_summary t.account t.symbol (summary_of (completed base) t.account t.symbol) =
+    let held : unwrap_or found.summary (pos 0) ≡ holding_summary_quantity (completed_trades base) t.account t.symbol = held_found base t found f k.two in
+    let row : summary_row_of_position (sheets base) t.account t.symbol ≡ summary_row_of_quantity t.account t.symbol (holding_summary_quantity (completed_trades base) t.account t.symbol) =
     reads_summary_row base t.account t.symbol f.books (ap is_some f.owner.there) (ap is_some f.listed_is) in
-    summary_made found (summary_in (sheets base) t.account t.symbol) (summary_of (completed base) t.account t.symbol) (summary_after found) x (summary_found base t found f k.two)
-    (λ e. none_zero t.account t.symbol (summary_of (completed base) t.account t.symbol) (is_zero (summary_of (completed base) t.account t.symbol)) refl (sym row ∙ e))
-    (λ r e. some_left t.account t.symbol (summary_of (completed base) t.account t.symbol) (is_zero (summary_of (completed base) t.account t.symbol)) refl r (sym row ∙ e))
-    (λ e. ap (λ o. is_zero (unwrap_or o (pos 0) +ℤ signed (side_of found.trade.kind) found.trade.qty)) (summary_found base t found f k.two ∙ ap (option_map (λ r. r.qty)) e)
-    ∙ moved_some (side_of found.trade.kind) found.trade.qty k.some_shares)
-    ∙ (λ i. summary_rows_moved (summary_of (completed base) t.account t.symbol) (a.summary i) (record { account = (f.row i).account; symbol = (f.row i).symbol; qty = a.summary i }) x)
+    summary_made found (summary_row_of_position (sheets base) t.account t.symbol) (holding_summary_quantity (completed_trades base) t.account t.symbol) (shares_held_after_trade found) x (summary_found base t found f k.two)
+    (λ e. none_zero t.account t.symbol (holding_summary_quantity (completed_trades base) t.account t.symbol) (is_zero (holding_summary_quantity (completed_trades base) t.account t.symbol)) refl (sym row ∙ e))
+    (λ r e. some_left t.account t.symbol (holding_summary_quantity (completed_trades base) t.account t.symbol) (is_zero (holding_summary_quantity (completed_trades base) t.account t.symbol)) refl r (sym row ∙ e))
+    (λ e. ap (λ o. is_zero (unwrap_or o (pos 0) +ℤ signed_by_side (side_of_trade_type found.trade.kind) found.trade.qty)) (summary_found base t found f k.two ∙ ap (option_map (λ r. r.qty)) e)
+    ∙ moved_some (side_of_trade_type found.trade.kind) found.trade.qty k.some_shares)
+    ∙ (λ i. with_summary_changed (holding_summary_quantity (completed_trades base) t.account t.symbol) (a.summary i) (record { account = (f.row i).account; symbol = (f.row i).symbol; qty = a.summary i }) x)
   where
-    none_zero : (account : ℕ) (symbol : Text) (q : ℤ) (b : Bool) → is_zero q ≡ b → row_of_summary account symbol q ≡ None → is_zero q ≡ true
+    none_zero : (account : ℕ) (symbol : Text) (q : ℤ) (b : Bool) → is_zero q ≡ b → summary_row_of_quantity account symbol q ≡ None → is_zero q ≡ true
     none_zero account symbol q true e h = e
     none_zero account symbol q false e h =
         let row : SummaryRow = record { account = account; symbol = symbol; qty = q } in
         let k : Some row ≡ None = sym (ap (λ b. cond b None (Some row)) e) ∙ h in absurd (cc)
 
-    some_left : (account : ℕ) (symbol : Text) (q : ℤ) (b : Bool) → is_zero q ≡ b → (r : SummaryRow) → row_of_summary account symbol q ≡ Some r → is_zero q ≡ false
+    some_left : (account : ℕ) (symbol : Text) (q : ℤ) (b : Bool) → is_zero q ≡ b → (r : SummaryRow) → summary_row_of_quantity account symbol q ≡ Some r → is_zero q ≡ false
     some_left account symbol q false e r h = e
     some_left account symbol q true e r h =
         let row : SummaryRow = record { account = account; symbol = symbol; qty = q } in
         let k : None ≡ Some r = sym (ap (λ b. cond b None (Some row)) e) ∙ h in absurd (cc)
 
 sums_made : (base : Base) (price : ℕ) (last : Option ℕ) (now : ℕ) (t : Trade) (found : ResultFound) (closing : Closing) (stamp : ℕ) → Planned base price last now t found closing stamp
-    → (x : Tables) → after_changes (sum_changes found (outcome_planned found price closing stamp)) x
-    ≡ with_settlement (rows_of_result base stamp price t).settlement
-    (with_broker_numbers (rows_of_result base stamp price t).broker (rows_of_result base stamp price t).trades (rows_of_result base stamp price t).commissions
-    (summary_rows_moved (summary_of (completed base) t.account t.symbol) (summary_of (completed (with_result base stamp price t)) t.account t.symbol)
-    (record { account = t.account; symbol = t.symbol; qty = summary_of (completed (with_result base stamp price t)) t.account t.symbol }) x))
+    → (x : Tables) → tables_after_changes (summary_broker_settlement_changes found (outcome_planned found price closing stamp)) x
+    ≡ tables_with_settlement (result_rows_of_trade base stamp price t).settlement
+    (tables_with_broker_totals (result_rows_of_trade base stamp price t).broker (result_rows_of_trade base stamp price t).trades (result_rows_of_trade base stamp price t).commissions
+    (with_summary_changed (holding_summary_quantity (completed_trades base) t.account t.symbol) (holding_summary_quantity (completed_trades (base_after_result base stamp price t)) t.account t.symbol)
+    (record { account = t.account; symbol = t.symbol; qty = holding_summary_quantity (completed_trades (base_after_result base stamp price t)) t.account t.symbol }) x))
 unfolding completed_trade
 sums_made base price last now t found closing stamp k x =
     let a = agrees base price last now t found closing stamp k in
     let f = k.found_it in
-    λ i. with_settlement (record {
+    λ i. tables_with_settlement (record {
       trade = (f.row i).id;
-      cash_type = (ap (λ (r : TradeRow). cash_type_word (settlement_type r.is_cash)) f.row ∙ cash_type_read t.is_cash) i;
+      cash_type = (ap (λ (r : TradeRow). cash_type_text (first_cash_type_of_trade r.is_cash)) f.row ∙ cash_type_read t.is_cash) i;
       due_day = a.due i;
       amount = a.amount i;
     })
-    (with_broker_numbers (a.broker i) (a.trades i) (a.commissions i) (summary_row_is base price last now t found closing stamp k x i))
+    (tables_with_broker_totals (a.broker i) (a.trades i) (a.commissions i) (summary_row_is base price last now t found closing stamp k x i))
 
 cash_made : (base : Base) (price : ℕ) (last : Option ℕ) (now : ℕ) (t : Trade) (found : ResultFound) (closing : Closing) (stamp : ℕ) → Planned base price last now t found closing stamp
-    → (cash : Option MoveRow) → option_map move_row_of cash ≡ planner.cash_row_posted found (outcome_planned found price closing stamp) → (x : Tables)
-    → after_changes (flat_map (cash_changes found.trade.account (outcome_planned found price closing stamp).balance) (option_to_list cash)) x
-    ≡ with_cash_posted t.is_cash (rows_of_result base stamp price t).cash t.account (rows_of_result base stamp price t).balance x
+    → (cash : Option MoveRow) → option_map abstract_move_row cash ≡ planner.cash_row_of_result found (outcome_planned found price closing stamp) → (x : Tables)
+    → tables_after_changes (flat_map (row_changes_of_cash_row found.trade.account (outcome_planned found price closing stamp).balance) (option_to_list cash)) x
+    ≡ with_cash_posted t.is_cash (result_rows_of_trade base stamp price t).cash t.account (result_rows_of_trade base stamp price t).balance x
 unfolding completed_trade
 cash_made base price last now t found closing stamp k cash moved x = by_cash t.is_cash refl cash (moved ∙ told)
   where
@@ -269,22 +269,22 @@ cash_made base price last now t found closing stamp k cash moved x = by_cash t.i
     f = k.found_it
 
     row : tables.MoveRow
-    row = (rows_of_result base stamp price t).cash
+    row = (result_rows_of_trade base stamp price t).cash
 
     moves : tables.MoveRow
     moves = record {
-      id = length (postings_of base) + 1;
+      id = length (postings_of_base base) + 1;
       account = t.account;
       trade = Some t.id;
-      stamp = moment_of (completed_trade base stamp price t);
+      stamp = last_status_stamp_of_trade (completed_trade base stamp price t);
       amount = row.amount;
-      name = results.cash_text (codes " shares of ") base t;
+      name = results.cash_row_name (codes " shares of ") base t;
     }
 
-    name : t.is_cash ≡ true → row.name ≡ results.cash_text (codes " shares of ") base t
-    name e = ap (λ b. cond b (results.cash_text (codes " shares of ") base t) []) e
+    name : t.is_cash ≡ true → row.name ≡ results.cash_row_name (codes " shares of ") base t
+    name e = ap (λ b. cond b (results.cash_row_name (codes " shares of ") base t) []) e
 
-    told : planner.cash_row_posted found (outcome_planned found price closing stamp)
+    told : planner.cash_row_of_result found (outcome_planned found price closing stamp)
         ≡ cond t.is_cash (Some moves) None
     told = λ i. cond (f.row i).is_cash (Some (record {
       id = next_found base t found f k.three i;
@@ -292,88 +292,88 @@ cash_made base price last now t found closing stamp k cash moved x = by_cash t.i
       trade = Some (f.row i).id;
       stamp = sym (moment_then base stamp price t) i;
       amount = a.amount i;
-      name = type_name (f.row i).kind ++ 32 ∷ decimal (f.row i).qty ++ codes " shares of " ++ security_found base t found f k.three i;
+      name = trade_type_name (f.row i).kind ++ 32 ∷ decimal (f.row i).qty ++ codes " shares of " ++ security_found base t found f k.three i;
     })) None
 
     Made : Bool → Option MoveRow → Type 0
-    Made b cash = after_changes (flat_map (cash_changes found.trade.account (outcome_planned found price closing stamp).balance) (option_to_list cash)) x
-        ≡ with_cash_posted b row t.account (rows_of_result base stamp price t).balance x
+    Made b cash = tables_after_changes (flat_map (row_changes_of_cash_row found.trade.account (outcome_planned found price closing stamp).balance) (option_to_list cash)) x
+        ≡ with_cash_posted b row t.account (result_rows_of_trade base stamp price t).balance x
 
     unsome : (c d : tables.MoveRow) → Some c ≡ Some d → c ≡ d
     unsome c d e = cc
 
     by_cash : (b : Bool) → t.is_cash ≡ b → (cash : Option MoveRow)
-        → option_map move_row_of cash ≡ cond t.is_cash (Some moves) None
+        → option_map abstract_move_row cash ≡ cond t.is_cash (Some moves) None
         → Made t.is_cash cash
     by_cash true e None h =
         let j : None ≡ Some moves =
         h ∙ ap (λ b. cond b (Some moves) None) e in
         absurd (cc)
     by_cash true e (Some c) h =
-        let j : Some (move_row_of c) ≡ Some moves =
+        let j : Some (abstract_move_row c) ≡ Some moves =
         h ∙ ap (λ b. cond b (Some moves) None) e in
-        let same : move_row_of c ≡ row = unsome (move_row_of c) moves j ∙ (λ i. record row { name = sym (name e) i }) in
-        (λ i. with_balance (f.row i).account (a.balance i) (with_move (same i) x)) ∙ sym (ap (λ b. with_cash_posted b row t.account (rows_of_result base stamp price t).balance x) e)
-    by_cash false e None h = sym (ap (λ b. with_cash_posted b row t.account (rows_of_result base stamp price t).balance x) e)
+        let same : abstract_move_row c ≡ row = unsome (abstract_move_row c) moves j ∙ (λ i. record row { name = sym (name e) i }) in
+        (λ i. tables_with_balance (f.row i).account (a.balance i) (tables_with_cash_row (same i) x)) ∙ sym (ap (λ b. with_cash_posted b row t.account (result_rows_of_trade base stamp price t).balance x) e)
+    by_cash false e None h = sym (ap (λ b. with_cash_posted b row t.account (result_rows_of_trade base stamp price t).balance x) e)
     by_cash false e (Some c) h =
-        let j : Some (move_row_of c) ≡ None =
+        let j : Some (abstract_move_row c) ≡ None =
         h ∙ ap (λ b. cond b (Some moves) None) e in
         absurd (cc)
 
 -- all of them
 changes_made : (base : Base) (price : ℕ) (last : Option ℕ) (now : ℕ) (t : Trade) (found : ResultFound) (closing : Closing) (stamp : ℕ) → Planned base price last now t found closing stamp
-    → (cash : Option MoveRow) → option_map move_row_of cash ≡ planner.cash_row_posted found (outcome_planned found price closing stamp) → (x : Tables)
-    → after_changes (changes_of_result found price closing (outcome_planned found price closing stamp) cash) x ≡ with_last stamp (result_rows (rows_of_result base stamp price t) x)
+    → (cash : Option MoveRow) → option_map abstract_move_row cash ≡ planner.cash_row_of_result found (outcome_planned found price closing stamp) → (x : Tables)
+    → tables_after_changes (row_changes_of_result found price closing (outcome_planned found price closing stamp) cash) x ≡ tables_with_last_stamp stamp (tables_after_result (result_rows_of_trade base stamp price t) x)
 unfolding completed_trade
 changes_made base price last now t found closing stamp k cash moved x =
     let o : ResultNumbers = outcome_planned found price closing stamp in
-    let T : List Change = trade_changes found.trade.id price o in
-    let L : List Change = flat_map (touched_changes found.trade.id) closing.touched.items in
-    let O : List Change = flat_map (opened_changes found.trade) (option_to_list closing.opened) in
-    let S : List Change = sum_changes found o in
-    let C : List Change = flat_map (cash_changes found.trade.account o.balance) (option_to_list cash) in
+    let T : List Change = row_changes_of_completed_trade found.trade.id price o in
+    let L : List Change = flat_map (row_changes_of_touched_lot found.trade.id) closing.touched.items in
+    let O : List Change = flat_map (row_changes_of_opened_lot found.trade) (option_to_list closing.opened) in
+    let S : List Change = summary_broker_settlement_changes found o in
+    let C : List Change = flat_map (row_changes_of_cash_row found.trade.account o.balance) (option_to_list cash) in
     after_more ((((T ++ L) ++ O) ++ S) ++ C) (change.SetLast stamp ∷ []) x
-    ∙ ap (with_last stamp) (after_more (((T ++ L) ++ O) ++ S) C x
-    ∙ ap (after_changes C) (after_more ((T ++ L) ++ O) S x
-    ∙ ap (after_changes S) (after_more (T ++ L) O x ∙ ap (after_changes O) (after_more T L x)
-    ∙ ap (λ y. after_changes O (after_changes L y)) (trade_made base price last now t found closing stamp k x)
-    ∙ lots_made base price last now t found closing stamp k (completed_rows (trade_row (completed_trade base stamp price t)) x))
+    ∙ ap (tables_with_last_stamp stamp) (after_more (((T ++ L) ++ O) ++ S) C x
+    ∙ ap (tables_after_changes C) (after_more ((T ++ L) ++ O) S x
+    ∙ ap (tables_after_changes S) (after_more (T ++ L) O x ∙ ap (tables_after_changes O) (after_more T L x)
+    ∙ ap (λ y. tables_after_changes O (tables_after_changes L y)) (trade_made base price last now t found closing stamp k x)
+    ∙ lots_made base price last now t found closing stamp k (with_trade_completed (trade_row (completed_trade base stamp price t)) x))
     ∙ sums_made base price last now t found closing stamp k _)
     ∙ cash_made base price last now t found closing stamp k cash moved _)
 
 -- ---- the plan
 
 -- an accepted result is done by its rows
-pub result_done : (base : Base) (id price now stamp : ℕ) (t : Trade) → BooksInvariant base → trade_with base id ≡ Some t → refusal_of base now (CompleteTrade id price) ≡ None
-    → stamp ≡ next_stamp base now → IsStepDone base now (CompleteTrade id price) stamp (CompletedTrade stamp (completion base stamp price t)) (result_rows (rows_of_result base stamp price t))
-unfolding reply_to
+pub result_done : (base : Base) (id price now stamp : ℕ) (t : Trade) → BooksInvariant base → trade_with_id base id ≡ Some t → refusal_of_command base now (CompleteTrade id price) ≡ None
+    → stamp ≡ stamp_of_next_command base now → IsAcceptedWithEffect base now (CompleteTrade id price) stamp (CompletedTrade stamp (completion_of_trade base stamp price t)) (tables_after_result (result_rows_of_trade base stamp price t))
+unfolding reply_to_command
 result_done base id price now stamp t books e accepted next =
-    is_done base now (CompleteTrade id price) stamp (CompletedTrade stamp (completion base stamp price t)) (λ stamp. result_rows (rows_of_result base stamp price t)) books accepted next
-    (ap (λ o. option_map_or (λ t. CompletedTrade (next_stamp base now) (completion base (next_stamp base now) price t)) o (model.Booked (next_stamp base now))) e
-    ∙ (λ i. CompletedTrade (sym next i) (completion base (sym next i) price t)))
+    is_done base now (CompleteTrade id price) stamp (CompletedTrade stamp (completion_of_trade base stamp price t)) (λ stamp. tables_after_result (result_rows_of_trade base stamp price t)) books accepted next
+    (ap (λ o. option_map_or (λ t. CompletedTrade (stamp_of_next_command base now) (completion_of_trade base (stamp_of_next_command base now) price t)) o (model.Booked (stamp_of_next_command base now))) e
+    ∙ (λ i. CompletedTrade (sym next i) (completion_of_trade base (sym next i) price t)))
     (step_result base now id price t e) (books_result base now id price)
 
-pub result_plan_does : (base : Base) (id price : ℕ) (found : Option ResultFound) (given : List Lot → Type 0) (last : Option ℕ) (now : ℕ) (plan : Plan) → IsReadForResult base id found given last now
-    → IsCompleted found price given last now plan → DoesCommand base now (CompleteTrade id price) plan
+pub result_plan_does : (base : Base) (id price : ℕ) (found : Option ResultFound) (given : List Lot → Type 0) (last : Option ℕ) (now : ℕ) (plan : Plan) → PlanResultPrecondition base id found given last now
+    → CompletesExistingTrade found price given last now plan → PlanImplementsCommand base now (CompleteTrade id price) plan
 result_plan_does base id price None given last now plan k p = absurd p
 result_plan_does base id price (Some found) given last now plan k p =
-    let t = trade_of base id (trade_row_of found.trade) k.trade_read in
+    let t = trade_of base id (abstract_trade_row found.trade) k.trade_read in
     let f : TradeFound base t.0 found = trade_found base id t.0 found k.books t.1 t.2 k.looked_up in
-    let next : p.stamp ≡ next_stamp base now = stamp_read base last now p.stamp k.last_read p.stamped in
-    let tests = none_refuse (all_result_tests found price (values_in p.closing) (Some p.stamp)) p.accepted in
-    let held = position_in (sheets base) found.trade.account found.trade.symbol in
+    let next : p.stamp ≡ stamp_of_next_command base now = stamp_read base last now p.stamp k.last_read p.stamped in
+    let tests = none_refuse (result_checks found price (values_of_closing p.closing) (Some p.stamp)) p.accepted in
+    let held = position_lots (sheets base) found.trade.account found.trade.symbol in
     let met = lots_met base id found given k.books k.trade_read (at_market found tests.0) (k.lots_read (passes_status found tests.0)) (held_by_row base t.0 found f (passes_rate found tests.0 tests.1.0)) in
-    let closes : IsClosing (deal_of_row found.trade price p.stamp) held p.closing = p.closes held met in
-    let deal : deal_of_row found.trade price p.stamp ≡ result_deal p.stamp price t.0 = deal_read t.0 found price p.stamp t.2 in
-    let same : shares_of held ≡ shares_in (completed base) t.0.account t.0.symbol = lots_shares base t.0 found f in
-    let values : values_in p.closing ≡ result_values base p.stamp price t.0 = λ i. record {
+    let closes : IsClosingOfDeal (deal_of_trade_row found.trade price p.stamp) held p.closing = p.closes held met in
+    let deal : deal_of_trade_row found.trade price p.stamp ≡ deal_of_result p.stamp price t.0 = deal_read t.0 found price p.stamp t.2 in
+    let same : shares_of_lots held ≡ shares_of_position (completed_trades base) t.0.account t.0.symbol = lots_shares base t.0 found f in
+    let values : values_of_closing p.closing ≡ result_values base p.stamp price t.0 = λ i. record {
       buy_value = (ap nat_abs closes.bought ∙ (λ i. shares.buy_value (deal i) (same i))) i;
       sell_value = (ap nat_abs closes.sold ∙ (λ i. shares.sell_value (deal i) (same i))) i;
     } in
-    let accepted : refusal_of base now (CompleteTrade id price) ≡ None =
+    let accepted : refusal_of_command base now (CompleteTrade id price) ≡ None =
     sym (result_refusal base now id price t.0 found last f t.1 k.last_read k.moment)
-    ∙ (λ i. first_refusal (all_result_tests found price (result_values base (sym next i) price t.0) (p.stamped i)))
-    ∙ sym (ap (λ v. first_refusal (all_result_tests found price v (Some p.stamp))) values) ∙ p.accepted in
+    ∙ (λ i. first_refusal (result_checks found price (result_values base (sym next i) price t.0) (p.stamped i)))
+    ∙ sym (ap (λ v. first_refusal (result_checks found price v (Some p.stamp))) values) ∙ p.accepted in
     let stands : Found base now price t.0 = found_at base now id price t.0 k.books t.1 (submitted base now id price t.0 t.1 accepted) in
     let made : Planned base price last now t.0 found p.closing p.stamp = record {
       found_it = f;
@@ -382,8 +382,8 @@ result_plan_does base id price (Some found) given last now plan k p =
       result = subst (λ (s : ℕ). IsResult base s price t.0 stands.front stands.back) (sym next) stands.result;
       some_shares = k.some_shares;
       values = values;
-      touched = closes.touched ∙ (λ i. from_end (deal i).is_lifo (touches (deal i) (same i)));
-      opened = closes.opened ∙ (λ i. lots (opened_shares (deal i) (same i)));
+      touched = closes.touched ∙ (λ i. list_in_closing_order (deal i).is_lifo (touches_of_existing_lots (deal i) (same i)));
+      opened = closes.opened ∙ (λ i. lots_of_shares (opened_shares (deal i) (same i)));
       one = passes_status found tests.0;
       rated = tests.1.0;
       two = passes_rate found tests.0 tests.1.0;
@@ -391,8 +391,8 @@ result_plan_does base id price (Some found) given last now plan k p =
     } in
     let done = result_done base id price now p.stamp t.0 k.books t.1 accepted next in
     record {
-      steps = done.steps ∙ ap (λ reply. Ok (reply, base_then base now (CompleteTrade id price))) (told_read base price last now t.0 found p.closing p.stamp made ∙ sym (ap reply_of p.told));
+      steps = done.steps ∙ ap (λ reply. Ok (reply, base_after_command base now (CompleteTrade id price))) (told_read base price last now t.0 found p.closing p.stamp made ∙ sym (ap abstract_reply p.told));
       rows = done.rows ∙ sym (changes_made base price last now t.0 found p.closing p.stamp made p.changes.cash p.changes.moved (sheets base))
-          ∙ sym (ap (λ changes. after_changes changes (sheets base)) p.changes.changed);
+          ∙ sym (ap (λ changes. tables_after_changes changes (sheets base)) p.changes.changed);
       kept = done.kept;
     }

@@ -3,39 +3,39 @@ use Rattle.std.proofs.Common.{◌≡◌, ◌≤◌, ℕ, ◌+◌, ◌*◌, ◌==
 use Rattle.std.specs.Prelude.{is_some, is_none, nat_abs, nat_lt, option_map, unwrap_or, find, IfSome}
 use Rattle.std.specs.Option.{option_map_or}
 use Rattle.std.proofs.lemmas.Bool.{eqb-true}
-use Rattle.brk_lots.specs.Values.{values_of}
+use Rattle.brk_lots.specs.Values.{closing_values_of_deal}
 use Rattle.brk_lots.specs.declared.values.Values.{Values}
 use Rattle.brk_model.specs.Base as base_spec
-use Rattle.brk_model.specs.Base.{Base, band_with, bears_tax, broker_of_account, broker_with, completed, customer_of_account, exchange_of, has_status, last_mark, security_name, security_with, takes_tax_off, tax_status_in, tier_of, trade_with}
+use Rattle.brk_model.specs.Base.{Base, commission_band_for, is_taxable_status, broker_id_of_account, broker_with_id, completed_trades, customer_id_of_account, exchange_of_security, has_status, last_status_change, security_name, security_with_symbol, is_withholding_status, tax_status_in_accounts, tier_of_account, trade_with_id}
 use Rattle.brk_model.specs.Commands.{CompleteTrade}
 use Rattle.brk_model.specs.Derived as derived
-use Rattle.brk_model.specs.Derived.{balance_of, commissions_of, due_after, postings_of, proceeds, shares_in, summary_of, trade_count_of}
-use Rattle.brk_model.specs.Joins.{account_in, security_in}
+use Rattle.brk_model.specs.Derived.{balance_of_account, commission_total_of_broker, due_day_of_completion_stamp, postings_of_base, signed_proceeds, shares_of_position, holding_summary_quantity, trade_count_of_broker}
+use Rattle.brk_model.specs.Joins.{account_row_with_id, security_row_with_symbol}
 use Rattle.brk_model.specs.Limits.{greatest_amount, greatest_summary}
 use Rattle.brk_model.specs.Records.{Account, Band, Broker, StatusChange, Security, Trade}
-use Rattle.brk_model.specs.Results.{completed_trade, result_deal, with_result}
-use Rattle.brk_model.specs.Shares.{gain, signed}
-use Rattle.brk_model.specs.Sheets.{sheets, sheets_of}
-use Rattle.brk_model.specs.Tables.{TradeRow, broker_row, security_row, status_of, tables_at, trade_row}
+use Rattle.brk_model.specs.Results.{completed_trade, deal_of_result, base_after_result}
+use Rattle.brk_model.specs.Shares.{realised_gain, signed_by_side}
+use Rattle.brk_model.specs.Sheets.{sheets, tables_sorted_by_key}
+use Rattle.brk_model.specs.Tables.{TradeRow, broker_row, security_row, last_status_of_trade, tables_of_base_in_schema, trade_row}
 use Rattle.brk_model.specs.Tests as model
-use Rattle.brk_model.specs.Tests.{Test, first_refusal, next_stamp, refusal_of, tests}
+use Rattle.brk_model.specs.Tests.{RefusalCheck, first_refusal, stamp_of_next_command, refusal_of_command, checks_of_command}
 use Rattle.brk_money.specs.Amounts.{commission, tax}
-use Rattle.brk_money.specs.Kinds.{same_status, side_of}
-use Rattle.brk_money.specs.Moments.{last_day, last_stamp, stamp_after}
+use Rattle.brk_money.specs.Kinds.{is_same_trade_status, side_of_trade_type}
+use Rattle.brk_money.specs.Moments.{greatest_day, greatest_stamp, stamp_after}
 use Rattle.brk_money.specs.declared.refusal.Limit.TheVariants as limit
 use Rattle.brk_money.specs.declared.refusal.Refusal.TheVariants.{ClockEnd, NoRate, NoTrade, Range, TooEarly, WrongStatus}
 use Rattle.brk_money.specs.declared.status.Status.TheVariants.{Canceled, Submitted}
 use Rattle.brk_money.specs.declared.tax_status.TaxStatus.TheVariants.{Untaxed}
-use Rattle.brk_trade.specs.Outcomes.{amount_settled, balance_after, commission_at, commissions_after, due_test, all_result_tests, summary_after, tax_upon}
-use Rattle.brk_changes.specs.Rows.{trade_row_of}
+use Rattle.brk_trade.specs.Outcomes.{settlement_amount_of_result, balance_after_result, commission_of_result, broker_commissions_after_result, due_day_check, result_checks, shares_held_after_trade, tax_of_result}
+use Rattle.brk_changes.specs.Rows.{abstract_trade_row}
 use Rattle.brk_trade.specs.declared.result_found.ResultAccount.{ResultAccount}
 use Rattle.brk_trade.specs.declared.result_found.ResultFound.{ResultFound}
-use Rattle.brk_model.specs.Names.{AccountExists, BrokerExists, SecurityExists}
+use Rattle.brk_model.specs.Names.{AccountOfTradeExists, BrokerOfAccountExists, SecurityOfTradeExists}
 use Rattle.brk_book_theorems.specs.Books.{BooksInvariant}
-use Rattle.brk_book_theorems.specs.OrderReads.{IfCustomer}
-use Rattle.brk_book_theorems.specs.Reads.{rates_of_customer}
-use Rattle.brk_trade_theorems.specs.ResultPlans.{IsFoundForResult, PassesFirst, result_account}
-use Rattle.brk_book_theorems.specs.TradeReads.{band_in, summary_in}
+use Rattle.brk_book_theorems.specs.OrderReads.{CustomerOfAccountSatisfies}
+use Rattle.brk_book_theorems.specs.Reads.{rate_sum_of_customer}
+use Rattle.brk_trade_theorems.specs.ResultPlans.{ResultFactsMatchTables, PassesResultChecks, result_account_of_row}
+use Rattle.brk_book_theorems.specs.TradeReads.{band_of_quantity, summary_row_of_position}
 use Rattle.brk_book_theorems.proofs.Holding.{held_read}
 use Rattle.brk_book_theorems.proofs.Same.{find-All}
 use Rattle.brk_book_theorems.proofs.MoveReading.{reads_last_move}
@@ -56,221 +56,221 @@ use Rattle.brk_trade_theorems.proofs.TradePlanning.{stamp_read}
 -- its row, and that what it names is there
 pub record TradeFound (base : Base) (t : Trade) (found : ResultFound) : Type 0 where
   pub books : BooksInvariant base
-  pub row : trade_row_of found.trade ≡ trade_row t
-  pub read : IsFoundForResult (sheets base) found
+  pub row : abstract_trade_row found.trade ≡ trade_row t
+  pub read : ResultFactsMatchTables (sheets base) found
   pub owner : OwnerFound base t.account
   pub listed : Security
-  pub listed_is : security_with base t.symbol ≡ Some listed
+  pub listed_is : security_with_symbol base t.symbol ≡ Some listed
 
-pub trade_found : (base : Base) (id : ℕ) (t : Trade) (found : ResultFound) → BooksInvariant base → trade_with base id ≡ Some t → trade_row_of found.trade ≡ trade_row t
-    → IsFoundForResult (sheets base) found → TradeFound base t found
+pub trade_found : (base : Base) (id : ℕ) (t : Trade) (found : ResultFound) → BooksInvariant base → trade_with_id base id ≡ Some t → abstract_trade_row found.trade ≡ trade_row t
+    → ResultFactsMatchTables (sheets base) found → TradeFound base t found
 trade_found base id t found books e row read =
-    let s = some_of (security_with base t.symbol) (find-All (SecurityExists base) (λ u. u.id == id) base.trades t books.securities e) in
+    let s = some_of (security_with_symbol base t.symbol) (find-All (SecurityOfTradeExists base) (λ u. u.id == id) base.trades t books.securities e) in
     record {
       books = books;
       row = row;
       read = read;
-      owner = owner_found base t.account books (find-All (AccountExists base) (λ u. u.id == id) base.trades t books.accounts e);
+      owner = owner_found base t.account books (find-All (AccountOfTradeExists base) (λ u. u.id == id) base.trades t books.accounts e);
       listed = s.0;
       listed_is = s.1;
     }
 
 -- ---- what was found of it
 
-pub passes_status : (found : ResultFound) → not (same_status found.trade.status Submitted) ≡ false → PassesFirst 1 found
+pub passes_status : (found : ResultFound) → not (is_same_trade_status found.trade.status Submitted) ≡ false → PassesResultChecks 1 found
 passes_status found a = rw a refl
 
-pub passes_rate : (found : ResultFound) → not (same_status found.trade.status Submitted) ≡ false → is_none found.rate ≡ false → PassesFirst 2 found
+pub passes_rate : (found : ResultFound) → not (is_same_trade_status found.trade.status Submitted) ≡ false → is_none found.rate ≡ false → PassesResultChecks 2 found
 passes_rate found a b = rw (a, b) refl
 
-pub passes_summary : (found : ResultFound) → not (same_status found.trade.status Submitted) ≡ false → is_none found.rate ≡ false
-    → nat_lt greatest_summary (nat_abs (summary_after found)) ≡ false → PassesFirst 3 found
+pub passes_summary : (found : ResultFound) → not (is_same_trade_status found.trade.status Submitted) ≡ false → is_none found.rate ≡ false
+    → nat_lt greatest_summary (nat_abs (shares_held_after_trade found)) ≡ false → PassesResultChecks 3 found
 passes_summary found a b c = rw (a, b, c) refl
 
-rate_read : (base : Base) (t : Trade) (found : ResultFound) → TradeFound base t found → PassesFirst 1 found
-    → found.rate ≡ option_map (λ b. b.rate) (band_with base (tier_of base t.account) t.kind (exchange_of base t.symbol) t.qty)
+rate_read : (base : Base) (t : Trade) (found : ResultFound) → TradeFound base t found → PassesResultChecks 1 found
+    → found.rate ≡ option_map (λ b. b.rate) (commission_band_for base (tier_of_account base t.account) t.kind (exchange_of_security base t.symbol) t.qty)
 rate_read base t found k p =
-    let exchange : exchange_of base t.symbol ≡ k.listed.exchange = ap (λ x. option_map_or (λ s. s.exchange) x []) k.listed_is in
-    let row : security_in (sheets base) t.symbol ≡ Some (security_row k.listed) = reads_security base t.symbol ∙ ap (option_map security_row) k.listed_is in
-    let told = subst (λ (r : TradeRow). IfCustomer (sheets base) r.account (λ c. IfSome (security_in (sheets base) r.symbol) (λ s.
-    found.rate ≡ option_map (λ b. b.rate) (band_in (sheets base) c.tier r.kind s.exchange r.qty)))) k.row (k.read.rate p) in
-    subst (λ x. IfSome x (λ s. found.rate ≡ option_map (λ b. b.rate) (band_in (sheets base) k.owner.c.tier t.kind s.exchange t.qty))) row
+    let exchange : exchange_of_security base t.symbol ≡ k.listed.exchange = ap (λ x. option_map_or (λ s. s.exchange) x []) k.listed_is in
+    let row : security_row_with_symbol (sheets base) t.symbol ≡ Some (security_row k.listed) = reads_security base t.symbol ∙ ap (option_map security_row) k.listed_is in
+    let told = subst (λ (r : TradeRow). CustomerOfAccountSatisfies (sheets base) r.account (λ c. IfSome (security_row_with_symbol (sheets base) r.symbol) (λ s.
+    found.rate ≡ option_map (λ b. b.rate) (band_of_quantity (sheets base) c.tier r.kind s.exchange r.qty)))) k.row (k.read.rate p) in
+    subst (λ x. IfSome x (λ s. found.rate ≡ option_map (λ b. b.rate) (band_of_quantity (sheets base) k.owner.c.tier t.kind s.exchange t.qty))) row
     (of_customer base t.account
-    (λ c. IfSome (security_in (sheets base) t.symbol) (λ s. found.rate ≡ option_map (λ b. b.rate) (band_in (sheets base) c.tier t.kind s.exchange t.qty))) k.owner told)
+    (λ c. IfSome (security_row_with_symbol (sheets base) t.symbol) (λ s. found.rate ≡ option_map (λ b. b.rate) (band_of_quantity (sheets base) c.tier t.kind s.exchange t.qty))) k.owner told)
     ∙ ap (option_map (λ b. b.rate)) (reads_band base k.owner.c.tier t.kind k.listed.exchange t.qty k.books
-    ∙ (λ i. band_with base (sym (tier_found base t.account k.owner) i) t.kind (sym exchange i) t.qty))
+    ∙ (λ i. commission_band_for base (sym (tier_found base t.account k.owner) i) t.kind (sym exchange i) t.qty))
 
-pub summary_found : (base : Base) (t : Trade) (found : ResultFound) → TradeFound base t found → PassesFirst 2 found
-    → found.summary ≡ option_map (λ r. r.qty) (summary_in (sheets base) t.account t.symbol)
+pub summary_found : (base : Base) (t : Trade) (found : ResultFound) → TradeFound base t found → PassesResultChecks 2 found
+    → found.summary ≡ option_map (λ r. r.qty) (summary_row_of_position (sheets base) t.account t.symbol)
 summary_found base t found k p =
-    subst (λ (r : TradeRow). found.summary ≡ option_map (λ s. s.qty) (summary_in (sheets base) r.account r.symbol)) k.row (k.read.summary p)
+    subst (λ (r : TradeRow). found.summary ≡ option_map (λ s. s.qty) (summary_row_of_position (sheets base) r.account r.symbol)) k.row (k.read.summary p)
 
-pub held_found : (base : Base) (t : Trade) (found : ResultFound) → TradeFound base t found → PassesFirst 2 found
-    → unwrap_or found.summary (pos 0) ≡ summary_of (completed base) t.account t.symbol
+pub held_found : (base : Base) (t : Trade) (found : ResultFound) → TradeFound base t found → PassesResultChecks 2 found
+    → unwrap_or found.summary (pos 0) ≡ holding_summary_quantity (completed_trades base) t.account t.symbol
 held_found base t found k p =
     held_read base t.account t.symbol found.summary k.books (ap is_some k.owner.there) (ap is_some k.listed_is) (summary_found base t found k p)
 
 -- an account, as the definitions have it
 abbrev pub account_is : Base → Trade → ResultAccount
-account_is base t = record { broker = broker_of_account base t.account; tax_status = tax_status_in base.accounts t.account; balance = balance_of base.accounts (postings_of base) t.account }
+account_is base t = record { broker = broker_id_of_account base t.account; tax_status = tax_status_in_accounts base.accounts t.account; balance = balance_of_account base.accounts (postings_of_base base) t.account }
 
 account_id : (base : Base) (account : ℕ) (f : OwnerFound base account) → f.a.id ≡ account
 account_id base account f = let g : FoundAt Account (λ a. a.id == account) f.a base.accounts = find-at (λ a. a.id == account) base.accounts f.a f.there in eqb-true f.a.id account g.passes
 
-pub account_found : (base : Base) (t : Trade) (found : ResultFound) → TradeFound base t found → PassesFirst 3 found
+pub account_found : (base : Base) (t : Trade) (found : ResultFound) → TradeFound base t found → PassesResultChecks 3 found
     → found.account ≡ account_is base t
 account_found base t found k p =
-    of_account base t.account (λ a. found.account ≡ result_account a) k.owner
-    (subst (λ (r : TradeRow). IfSome (account_in (sheets base) r.account) (λ a. found.account ≡ result_account a)) k.row (k.read.account p))
+    of_account base t.account (λ a. found.account ≡ result_account_of_row a) k.owner
+    (subst (λ (r : TradeRow). IfSome (account_row_with_id (sheets base) r.account) (λ a. found.account ≡ result_account_of_row a)) k.row (k.read.account p))
     ∙ (λ i. record {
       broker = sym (ap (λ x. option_map_or (λ a. a.broker) x 0) k.owner.there) i;
       tax_status = sym (ap (λ x. option_map_or (λ a. a.tax_status) x Untaxed) k.owner.there) i;
-      balance = balance_of base.accounts (postings_of base) (account_id base t.account k.owner i);
+      balance = balance_of_account base.accounts (postings_of_base base) (account_id base t.account k.owner i);
     })
 
-rates_found : (base : Base) (t : Trade) (found : ResultFound) → TradeFound base t found → PassesFirst 3 found → found.rates ≡ base_spec.rates_of base (customer_of_account base t.account)
+rates_found : (base : Base) (t : Trade) (found : ResultFound) → TradeFound base t found → PassesResultChecks 3 found → found.rates ≡ base_spec.tax_rate_sum_of_customer base (customer_id_of_account base t.account)
 rates_found base t found k p =
-    of_account base t.account (λ a. found.rates ≡ rates_of_customer (sheets base) a.customer) k.owner
-    (subst (λ (r : TradeRow). IfSome (account_in (sheets base) r.account) (λ a. found.rates ≡ rates_of_customer (sheets base) a.customer)) k.row (k.read.rates p))
-    ∙ reads_rates base k.owner.a.customer ∙ ap (base_spec.rates_of base) (sym (ap (λ x. option_map_or (λ a. a.customer) x 0) k.owner.there))
+    of_account base t.account (λ a. found.rates ≡ rate_sum_of_customer (sheets base) a.customer) k.owner
+    (subst (λ (r : TradeRow). IfSome (account_row_with_id (sheets base) r.account) (λ a. found.rates ≡ rate_sum_of_customer (sheets base) a.customer)) k.row (k.read.rates p))
+    ∙ reads_rates base k.owner.a.customer ∙ ap (base_spec.tax_rate_sum_of_customer base) (sym (ap (λ x. option_map_or (λ a. a.customer) x 0) k.owner.there))
 
-pub broker_found : (base : Base) (t : Trade) (found : ResultFound) → TradeFound base t found → PassesFirst 3 found
-    → (pos found.broker.trades ≡ pos (trade_count_of base.accounts (completed base) (broker_of_account base t.account)))
-    × (found.broker.commissions ≡ commissions_of base.accounts (completed base) (broker_of_account base t.account))
+pub broker_found : (base : Base) (t : Trade) (found : ResultFound) → TradeFound base t found → PassesResultChecks 3 found
+    → (pos found.broker.trades ≡ pos (trade_count_of_broker base.accounts (completed_trades base) (broker_id_of_account base t.account)))
+    × (found.broker.commissions ≡ commission_total_of_broker base.accounts (completed_trades base) (broker_id_of_account base t.account))
 broker_found base t found k p =
     let a : Account = k.owner.a in
-    let named = some_of (broker_with base a.broker) (find-All (BrokerExists base) (λ x. x.id == t.account) base.accounts a k.books.brokers k.owner.there) in
+    let named = some_of (broker_with_id base a.broker) (find-All (BrokerOfAccountExists base) (λ x. x.id == t.account) base.accounts a k.books.brokers k.owner.there) in
     let b : Broker = named.0 in
     let g : FoundAt Broker (λ b. b.id == a.broker) b base.brokers = find-at (λ b. b.id == a.broker) base.brokers b named.1 in
-    let same : b.id ≡ broker_of_account base t.account = eqb-true b.id a.broker g.passes ∙ sym (ap (λ x. option_map_or (λ a. a.broker) x 0) k.owner.there) in
-    let row = reads_broker base a.broker ∙ ap (option_map (broker_row base.accounts (completed base))) named.1 in
+    let same : b.id ≡ broker_id_of_account base t.account = eqb-true b.id a.broker g.passes ∙ sym (ap (λ x. option_map_or (λ a. a.broker) x 0) k.owner.there) in
+    let row = reads_broker base a.broker ∙ ap (option_map (broker_row base.accounts (completed_trades base))) named.1 in
     let told = subst (λ x. IfSome x (λ r. (pos found.broker.trades ≡ r.trades) × (found.broker.commissions ≡ r.commissions))) row
     (of_account base t.account (λ a. IfSome (find (λ r. r.id == a.broker) (sheets base).brokers) (λ r. (pos found.broker.trades ≡ r.trades) × (found.broker.commissions ≡ r.commissions))) k.owner
-    (subst (λ (r : TradeRow). IfSome (account_in (sheets base) r.account) (λ a. IfSome (find (λ r. r.id == a.broker) (sheets base).brokers) (λ b.
+    (subst (λ (r : TradeRow). IfSome (account_row_with_id (sheets base) r.account) (λ a. IfSome (find (λ r. r.id == a.broker) (sheets base).brokers) (λ b.
     (pos found.broker.trades ≡ b.trades) × (found.broker.commissions ≡ b.commissions)))) k.row (k.read.broker p))) in
-    (told.0 ∙ ap (λ id. pos (trade_count_of base.accounts (completed base) id)) same, told.1 ∙ ap (commissions_of base.accounts (completed base)) same)
+    (told.0 ∙ ap (λ id. pos (trade_count_of_broker base.accounts (completed_trades base) id)) same, told.1 ∙ ap (commission_total_of_broker base.accounts (completed_trades base)) same)
 
-pub security_found : (base : Base) (t : Trade) (found : ResultFound) → TradeFound base t found → PassesFirst 3 found → found.security ≡ security_name base t.symbol
+pub security_found : (base : Base) (t : Trade) (found : ResultFound) → TradeFound base t found → PassesResultChecks 3 found → found.security ≡ security_name base t.symbol
 security_found base t found k p =
-    let row : security_in (sheets base) t.symbol ≡ Some (security_row k.listed) = reads_security base t.symbol ∙ ap (option_map security_row) k.listed_is in
+    let row : security_row_with_symbol (sheets base) t.symbol ≡ Some (security_row k.listed) = reads_security base t.symbol ∙ ap (option_map security_row) k.listed_is in
     subst (λ x. IfSome x (λ s. found.security ≡ s.name)) row
-    (subst (λ (r : TradeRow). IfSome (security_in (sheets base) r.symbol) (λ s. found.security ≡ s.name)) k.row (k.read.security p))
+    (subst (λ (r : TradeRow). IfSome (security_row_with_symbol (sheets base) r.symbol) (λ s. found.security ≡ s.name)) k.row (k.read.security p))
     ∙ sym (ap (λ x. option_map_or (λ s. s.name) x []) k.listed_is)
 
-pub rule_found : (base : Base) (t : Trade) (found : ResultFound) → TradeFound base t found → PassesFirst 3 found → found.rule ≡ base.rule
-unfolding tables_at sheets_of
+pub rule_found : (base : Base) (t : Trade) (found : ResultFound) → TradeFound base t found → PassesResultChecks 3 found → found.rule ≡ base.rule
+unfolding tables_of_base_in_schema tables_sorted_by_key
 rule_found base t found k p = k.read.rule p
 
-pub next_found : (base : Base) (t : Trade) (found : ResultFound) → TradeFound base t found → PassesFirst 3 found → found.next ≡ length (postings_of base) + 1
+pub next_found : (base : Base) (t : Trade) (found : ResultFound) → TradeFound base t found → PassesResultChecks 3 found → found.next ≡ length (postings_of_base base) + 1
 next_found base t found k p = k.read.next p ∙ ap (λ n. n + 1) (reads_last_move base)
 
 -- ---- what follows from it
 
 -- the values of the shares that the trade closes
 abbrev pub result_values : Base → ℕ → ℕ → Trade → Values
-result_values base stamp price t = values_of (result_deal stamp price t) (shares_in (completed base) t.account t.symbol)
+result_values base stamp price t = closing_values_of_deal (deal_of_result stamp price t) (shares_of_position (completed_trades base) t.account t.symbol)
 
 band_rate : (b : Option Band) (rate : Option ℕ) (qty price : ℕ) → rate ≡ option_map (λ b. b.rate) b → is_none rate ≡ false
     → commission (unwrap_or rate 0) qty price ≡ unwrap_or (option_map (λ b. commission b.rate qty price) b) 0
 band_rate None rate qty price e h = let k : true ≡ false = sym (ap is_none e) ∙ h in absurd (cc)
 band_rate (Some b) rate qty price e h = ap (λ r. commission (unwrap_or r 0) qty price) e
 
-pub commission_read : (base : Base) (stamp price : ℕ) (t : Trade) (found : ResultFound) → TradeFound base t found → PassesFirst 1 found → is_none found.rate ≡ false
-    → commission_at found price ≡ (completed_trade base stamp price t).commission
+pub commission_read : (base : Base) (stamp price : ℕ) (t : Trade) (found : ResultFound) → TradeFound base t found → PassesResultChecks 1 found → is_none found.rate ≡ false
+    → commission_of_result found price ≡ (completed_trade base stamp price t).commission
 unfolding completed_trade
 commission_read base stamp price t found k p h =
     ap (λ (r : TradeRow). commission (unwrap_or found.rate 0) r.qty price) k.row
-    ∙ band_rate (band_with base (tier_of base t.account) t.kind (exchange_of base t.symbol) t.qty) found.rate t.qty price (rate_read base t found k p) h
+    ∙ band_rate (commission_band_for base (tier_of_account base t.account) t.kind (exchange_of_security base t.symbol) t.qty) found.rate t.qty price (rate_read base t found k p) h
 
-pub tax_read : (base : Base) (stamp price : ℕ) (t : Trade) (found : ResultFound) → TradeFound base t found → PassesFirst 3 found
-    → tax_upon found (result_values base stamp price t) ≡ (completed_trade base stamp price t).tax
+pub tax_read : (base : Base) (stamp price : ℕ) (t : Trade) (found : ResultFound) → TradeFound base t found → PassesResultChecks 3 found
+    → tax_of_result found (result_values base stamp price t) ≡ (completed_trade base stamp price t).tax
 unfolding completed_trade
 tax_read base stamp price t found k p =
-    let g : ℤ = gain (result_deal stamp price t) (shares_in (completed base) t.account t.symbol) in
-    λ i. cond (bears_tax (account_found base t found k p i).tax_status) (tax g (rates_found base t found k p i)) 0
+    let g : ℤ = realised_gain (deal_of_result stamp price t) (shares_of_position (completed_trades base) t.account t.symbol) in
+    λ i. cond (is_taxable_status (account_found base t found k p i).tax_status) (tax g (rates_found base t found k p i)) 0
 
-pub amount_read : (base : Base) (stamp price : ℕ) (t : Trade) (found : ResultFound) → TradeFound base t found → PassesFirst 3 found → is_none found.rate ≡ false → PassesFirst 1 found
-    → amount_settled found price (result_values base stamp price t) ≡ derived.amount_of base.accounts (completed_trade base stamp price t)
+pub amount_read : (base : Base) (stamp price : ℕ) (t : Trade) (found : ResultFound) → TradeFound base t found → PassesResultChecks 3 found → is_none found.rate ≡ false → PassesResultChecks 1 found
+    → settlement_amount_of_result found price (result_values base stamp price t) ≡ derived.settlement_amount base.accounts (completed_trade base stamp price t)
 unfolding completed_trade
 amount_read base stamp price t found k p h q =
     let c = commission_read base stamp price t found k q h in
     let x = tax_read base stamp price t found k p in
     let a = account_found base t found k p in
     λ i. let r : TradeRow = k.row i in
-    proceeds (side_of r.kind) (r.qty * price) -ℤ pos (r.charge + c i + cond (takes_tax_off (a i).tax_status) (x i) 0)
+    signed_proceeds (side_of_trade_type r.kind) (r.qty * price) -ℤ pos (r.charge + c i + cond (is_withholding_status (a i).tax_status) (x i) 0)
 
 pub balance_read : (base : Base) (stamp price : ℕ) (t : Trade) (xs ys : List Trade) (found : ResultFound) → TradeFound base t found → IsResult base stamp price t xs ys
-    → PassesFirst 3 found → is_none found.rate ≡ false → PassesFirst 1 found
-    → balance_after found price (result_values base stamp price t) ≡ balance_of base.accounts (postings_of (with_result base stamp price t)) t.account
+    → PassesResultChecks 3 found → is_none found.rate ≡ false → PassesResultChecks 1 found
+    → balance_after_result found price (result_values base stamp price t) ≡ balance_of_account base.accounts (postings_of_base (base_after_result base stamp price t)) t.account
 balance_read base stamp price t xs ys found k r p h q =
     (λ i. cond (k.row i).is_cash ((a i).balance +ℤ m i) (a i).balance) ∙ by_cash t.is_cash refl
   where
     a : found.account ≡ account_is base t
     a = account_found base t found k p
 
-    m : amount_settled found price (result_values base stamp price t) ≡ derived.amount_of base.accounts (completed_trade base stamp price t)
+    m : settlement_amount_of_result found price (result_values base stamp price t) ≡ derived.settlement_amount base.accounts (completed_trade base stamp price t)
     m = amount_read base stamp price t found k p h q
 
     by_cash : (b : Bool) → t.is_cash ≡ b
-        → cond t.is_cash (balance_of base.accounts (postings_of base) t.account +ℤ derived.amount_of base.accounts (completed_trade base stamp price t)) (balance_of base.accounts (postings_of base) t.account)
-        ≡ balance_of base.accounts (postings_of (with_result base stamp price t)) t.account
+        → cond t.is_cash (balance_of_account base.accounts (postings_of_base base) t.account +ℤ derived.settlement_amount base.accounts (completed_trade base stamp price t)) (balance_of_account base.accounts (postings_of_base base) t.account)
+        ≡ balance_of_account base.accounts (postings_of_base (base_after_result base stamp price t)) t.account
     by_cash true e =
-        ap (λ b. cond b (balance_of base.accounts (postings_of base) t.account +ℤ derived.amount_of base.accounts (completed_trade base stamp price t)) (balance_of base.accounts (postings_of base) t.account)) e
+        ap (λ b. cond b (balance_of_account base.accounts (postings_of_base base) t.account +ℤ derived.settlement_amount base.accounts (completed_trade base stamp price t)) (balance_of_account base.accounts (postings_of_base base) t.account)) e
         ∙ sym (balance_grows base stamp price t xs ys r e)
     by_cash false e =
-        ap (λ b. cond b (balance_of base.accounts (postings_of base) t.account +ℤ derived.amount_of base.accounts (completed_trade base stamp price t)) (balance_of base.accounts (postings_of base) t.account)) e
+        ap (λ b. cond b (balance_of_account base.accounts (postings_of_base base) t.account +ℤ derived.settlement_amount base.accounts (completed_trade base stamp price t)) (balance_of_account base.accounts (postings_of_base base) t.account)) e
         ∙ sym (balance_stays base stamp price t xs ys r e)
 
-pub summary_read : (base : Base) (stamp price : ℕ) (t : Trade) (xs ys : List Trade) (found : ResultFound) → TradeFound base t found → IsResult base stamp price t xs ys → PassesFirst 2 found
-    → summary_after found ≡ summary_of (completed (with_result base stamp price t)) t.account t.symbol
+pub summary_read : (base : Base) (stamp price : ℕ) (t : Trade) (xs ys : List Trade) (found : ResultFound) → TradeFound base t found → IsResult base stamp price t xs ys → PassesResultChecks 2 found
+    → shares_held_after_trade found ≡ holding_summary_quantity (completed_trades (base_after_result base stamp price t)) t.account t.symbol
 summary_read base stamp price t xs ys found k r p =
-    (λ i. held_found base t found k p i +ℤ signed (side_of (k.row i).kind) (k.row i).qty) ∙ sym (summary_grows base stamp price t xs ys r)
+    (λ i. held_found base t found k p i +ℤ signed_by_side (side_of_trade_type (k.row i).kind) (k.row i).qty) ∙ sym (summary_grows base stamp price t xs ys r)
 
 pub commissions_read : (base : Base) (stamp price : ℕ) (t : Trade) (xs ys : List Trade) (found : ResultFound) → TradeFound base t found → IsResult base stamp price t xs ys
-    → PassesFirst 3 found → is_none found.rate ≡ false → PassesFirst 1 found
-    → commissions_after found price ≡ commissions_of base.accounts (completed (with_result base stamp price t)) (broker_of_account base t.account)
+    → PassesResultChecks 3 found → is_none found.rate ≡ false → PassesResultChecks 1 found
+    → broker_commissions_after_result found price ≡ commission_total_of_broker base.accounts (completed_trades (base_after_result base stamp price t)) (broker_id_of_account base t.account)
 commissions_read base stamp price t xs ys found k r p h q =
     (λ i. (broker_found base t found k p).1 i + commission_read base stamp price t found k q h i) ∙ sym (commissions_grow base stamp price t xs ys r)
 
 -- ---- the refusal
 
-pub mark_status : (o : Option StatusChange) → same_status (option_map_or (λ m. m.status) o Canceled) Submitted ≡ option_map_or (λ m. same_status m.status Submitted) o false
+pub mark_status : (o : Option StatusChange) → is_same_trade_status (option_map_or (λ m. m.status) o Canceled) Submitted ≡ option_map_or (λ m. is_same_trade_status m.status Submitted) o false
 mark_status None = refl
 mark_status (Some m) = refl
 
-status_read : (t : Trade) (found : ResultFound) → trade_row_of found.trade ≡ trade_row t → not (same_status found.trade.status Submitted) ≡ not (has_status Submitted t)
-status_read t found row = ap (λ (r : TradeRow). not (same_status r.status Submitted)) row ∙ ap not (mark_status (last_mark t))
+status_read : (t : Trade) (found : ResultFound) → abstract_trade_row found.trade ≡ trade_row t → not (is_same_trade_status found.trade.status Submitted) ≡ not (has_status Submitted t)
+status_read t found row = ap (λ (r : TradeRow). not (is_same_trade_status r.status Submitted)) row ∙ ap not (mark_status (last_status_change t))
 
 -- a stamp that is left, and the day of settlement
-due_read : (base : Base) (last : Option ℕ) (now : ℕ) (o : Option ℕ) → BooksInvariant base → last ≡ (sheets base).last → now ≤ last_stamp → stamp_after last now ≡ o
-    → first_refusal (due_test base.rule o ∷ []) ≡ first_refusal ((nat_lt last_day (due_after base.rule (next_stamp base now)), ClockEnd) ∷ (nat_lt last_stamp (next_stamp base now), ClockEnd) ∷ (false, TooEarly) ∷ [])
+due_read : (base : Base) (last : Option ℕ) (now : ℕ) (o : Option ℕ) → BooksInvariant base → last ≡ (sheets base).last → now ≤ greatest_stamp → stamp_after last now ≡ o
+    → first_refusal (due_day_check base.rule o ∷ []) ≡ first_refusal ((nat_lt greatest_day (due_day_of_completion_stamp base.rule (stamp_of_next_command base now)), ClockEnd) ∷ (nat_lt greatest_stamp (stamp_of_next_command base now), ClockEnd) ∷ (false, TooEarly) ∷ [])
 due_read base last now None books l h e =
-    let late : true ≡ nat_lt last_stamp (next_stamp base now) = sym (ap is_none e) ∙ clock_read base last now books l h in
-    by_day (nat_lt last_day (due_after base.rule (next_stamp base now)))
-    ∙ ap (λ b. first_refusal ((nat_lt last_day (due_after base.rule (next_stamp base now)), ClockEnd) ∷ (b, ClockEnd) ∷ [])) late
+    let late : true ≡ nat_lt greatest_stamp (stamp_of_next_command base now) = sym (ap is_none e) ∙ clock_read base last now books l h in
+    by_day (nat_lt greatest_day (due_day_of_completion_stamp base.rule (stamp_of_next_command base now)))
+    ∙ ap (λ b. first_refusal ((nat_lt greatest_day (due_day_of_completion_stamp base.rule (stamp_of_next_command base now)), ClockEnd) ∷ (b, ClockEnd) ∷ [])) late
   where
     by_day : (b : Bool) → first_refusal ((true, ClockEnd) ∷ []) ≡ first_refusal ((b, ClockEnd) ∷ (true, ClockEnd) ∷ [])
     by_day true = refl
     by_day false = refl
 due_read base last now (Some stamp) books l h e =
-    let in_time : false ≡ nat_lt last_stamp (next_stamp base now) = sym (ap is_none e) ∙ clock_read base last now books l h in
-    ap (λ s. first_refusal ((nat_lt last_day (due_after base.rule s), ClockEnd) ∷ [])) (stamp_read base last now stamp l e)
-    ∙ by_day (nat_lt last_day (due_after base.rule (next_stamp base now)))
-    ∙ ap (λ b. first_refusal ((nat_lt last_day (due_after base.rule (next_stamp base now)), ClockEnd) ∷ (b, ClockEnd) ∷ [])) in_time
+    let in_time : false ≡ nat_lt greatest_stamp (stamp_of_next_command base now) = sym (ap is_none e) ∙ clock_read base last now books l h in
+    ap (λ s. first_refusal ((nat_lt greatest_day (due_day_of_completion_stamp base.rule s), ClockEnd) ∷ [])) (stamp_read base last now stamp l e)
+    ∙ by_day (nat_lt greatest_day (due_day_of_completion_stamp base.rule (stamp_of_next_command base now)))
+    ∙ ap (λ b. first_refusal ((nat_lt greatest_day (due_day_of_completion_stamp base.rule (stamp_of_next_command base now)), ClockEnd) ∷ (b, ClockEnd) ∷ [])) in_time
   where
     by_day : (b : Bool) → first_refusal ((b, ClockEnd) ∷ []) ≡ first_refusal ((b, ClockEnd) ∷ (false, ClockEnd) ∷ [])
     by_day true = refl
     by_day false = refl
 
-all_alike : (base : Base) (now id price : ℕ) (t : Trade) (found : ResultFound) (last : Option ℕ) → TradeFound base t found → trade_with base id ≡ Some t
-    → last ≡ (sheets base).last → now ≤ last_stamp
-    → Alike (all_result_tests found price (result_values base (next_stamp base now) price t) (stamp_after last now))
-    (model.result_tests base (with_result base (next_stamp base now) price t) (next_stamp base now) t ++ (nat_lt last_stamp (next_stamp base now), ClockEnd) ∷ (false, TooEarly) ∷ [])
+all_alike : (base : Base) (now id price : ℕ) (t : Trade) (found : ResultFound) (last : Option ℕ) → TradeFound base t found → trade_with_id base id ≡ Some t
+    → last ≡ (sheets base).last → now ≤ greatest_stamp
+    → Alike (result_checks found price (result_values base (stamp_of_next_command base now) price t) (stamp_after last now))
+    (model.checks_of_result base (base_after_result base (stamp_of_next_command base now) price t) (stamp_of_next_command base now) t ++ (nat_lt greatest_stamp (stamp_of_next_command base now), ClockEnd) ∷ (false, TooEarly) ∷ [])
 all_alike base now id price t found last k e l h =
-    subst (λ s. Alike ((not (same_status found.trade.status Submitted), WrongStatus s) ∷ F) G) (ap (λ (r : TradeRow). r.status) (sym k.row))
-    (same_first _ _ (WrongStatus (status_of t)) _ _ (status_read t found k.row) (λ a.
+    subst (λ s. Alike ((not (is_same_trade_status found.trade.status Submitted), WrongStatus s) ∷ F) G) (ap (λ (r : TradeRow). r.status) (sym k.row))
+    (same_first _ _ (WrongStatus (last_status_of_trade t)) _ _ (status_read t found k.row) (λ a.
     same_first _ _ NoRate _ _
-    (ap is_none (rate_read base t found k (passes_status found a)) ∙ is_none-map (λ b. b.rate) (band_with base (tier_of base t.account) t.kind (exchange_of base t.symbol) t.qty)) (λ b.
+    (ap is_none (rate_read base t found k (passes_status found a)) ∙ is_none-map (λ b. b.rate) (commission_band_for base (tier_of_account base t.account) t.kind (exchange_of_security base t.symbol) t.qty)) (λ b.
     let f : Found base now price t = found_at base now id price t k.books e (not_not (has_status Submitted t) (sym (status_read t found k.row) ∙ a)) in
     let one = passes_status found a in
     same_first _ _ (Range limit.Summary) _ _
@@ -280,34 +280,34 @@ all_alike base now id price t found last k e l h =
     (λ i. (k.row i).is_cash && nat_lt greatest_amount (nat_abs (balance_read base stamp price t f.front f.back found k f.result three b one i))) (λ d.
     same_first _ _ (Range limit.Broker) _ _
     (ap (λ n. nat_lt greatest_amount n) (commissions_read base stamp price t f.front f.back found k f.result three b one)) (λ g.
-    record { first = ap (λ rule. first_refusal (due_test rule (stamp_after last now) ∷ [])) (rule_found base t found k three) ∙ due_read base last now (stamp_after last now) k.books l h refl }))))))
+    record { first = ap (λ rule. first_refusal (due_day_check rule (stamp_after last now) ∷ [])) (rule_found base t found k three) ∙ due_read base last now (stamp_after last now) k.books l h refl }))))))
   where
     stamp : ℕ
-    stamp = next_stamp base now
+    stamp = stamp_of_next_command base now
 
     V : Values
     V = result_values base stamp price t
 
-    F : List Test
-    F = (is_none found.rate, NoRate) ∷ (nat_lt greatest_summary (nat_abs (summary_after found)), Range limit.Summary)
-        ∷ (found.trade.is_cash && nat_lt greatest_amount (nat_abs (balance_after found price V)), Range limit.Balance)
-        ∷ (nat_lt greatest_amount (commissions_after found price), Range limit.Broker) ∷ due_test found.rule (stamp_after last now) ∷ []
+    F : List RefusalCheck
+    F = (is_none found.rate, NoRate) ∷ (nat_lt greatest_summary (nat_abs (shares_held_after_trade found)), Range limit.Summary)
+        ∷ (found.trade.is_cash && nat_lt greatest_amount (nat_abs (balance_after_result found price V)), Range limit.Balance)
+        ∷ (nat_lt greatest_amount (broker_commissions_after_result found price), Range limit.Broker) ∷ due_day_check found.rule (stamp_after last now) ∷ []
 
-    G : List Test
-    G = model.result_tests base (with_result base stamp price t) stamp t ++ (nat_lt last_stamp stamp, ClockEnd) ∷ (false, TooEarly) ∷ []
+    G : List RefusalCheck
+    G = model.checks_of_result base (base_after_result base stamp price t) stamp t ++ (nat_lt greatest_stamp stamp, ClockEnd) ∷ (false, TooEarly) ∷ []
 
-pub result_refusal : (base : Base) (now id price : ℕ) (t : Trade) (found : ResultFound) (last : Option ℕ) → TradeFound base t found → trade_with base id ≡ Some t
-    → last ≡ (sheets base).last → now ≤ last_stamp
-    → first_refusal (all_result_tests found price (result_values base (next_stamp base now) price t) (stamp_after last now)) ≡ refusal_of base now (CompleteTrade id price)
-unfolding refusal_of tests
+pub result_refusal : (base : Base) (now id price : ℕ) (t : Trade) (found : ResultFound) (last : Option ℕ) → TradeFound base t found → trade_with_id base id ≡ Some t
+    → last ≡ (sheets base).last → now ≤ greatest_stamp
+    → first_refusal (result_checks found price (result_values base (stamp_of_next_command base now) price t) (stamp_after last now)) ≡ refusal_of_command base now (CompleteTrade id price)
+unfolding refusal_of_command checks_of_command
 result_refusal base now id price t found last k e l h =
     (all_alike base now id price t found last k e l h).first
-    ∙ sym (ap (λ o. first_refusal (option_map_or (λ t. model.result_tests base (with_result base (next_stamp base now) price t) (next_stamp base now) t) o ((true, NoTrade) ∷ [])
-    ++ (nat_lt last_stamp (next_stamp base now), ClockEnd) ∷ (false, TooEarly) ∷ [])) e)
+    ∙ sym (ap (λ o. first_refusal (option_map_or (λ t. model.checks_of_result base (base_after_result base (stamp_of_next_command base now) price t) (stamp_of_next_command base now) t) o ((true, NoTrade) ∷ [])
+    ++ (nat_lt greatest_stamp (stamp_of_next_command base now), ClockEnd) ∷ (false, TooEarly) ∷ [])) e)
 
 -- a result of no trade
-pub nothing_refused : (base : Base) (now id price : ℕ) → trade_with base id ≡ None → refusal_of base now (CompleteTrade id price) ≡ Some NoTrade
-unfolding refusal_of tests
+pub nothing_refused : (base : Base) (now id price : ℕ) → trade_with_id base id ≡ None → refusal_of_command base now (CompleteTrade id price) ≡ Some NoTrade
+unfolding refusal_of_command checks_of_command
 nothing_refused base now id price e =
-    ap (λ o. first_refusal (option_map_or (λ t. model.result_tests base (with_result base (next_stamp base now) price t) (next_stamp base now) t) o ((true, NoTrade) ∷ [])
-    ++ (nat_lt last_stamp (next_stamp base now), ClockEnd) ∷ (false, TooEarly) ∷ [])) e
+    ap (λ o. first_refusal (option_map_or (λ t. model.checks_of_result base (base_after_result base (stamp_of_next_command base now) price t) (stamp_of_next_command base now) t) o ((true, NoTrade) ∷ [])
+    ++ (nat_lt greatest_stamp (stamp_of_next_command base now), ClockEnd) ∷ (false, TooEarly) ∷ [])) e

@@ -8,23 +8,23 @@ use Rattle.std.proofs.lemmas.Bool.{and_from, and_parts, eq-eqb, eqb-true}
 use Rattle.std.proofs.lemmas.Bool.Decides.{nat_tests}
 use Rattle.std.proofs.lemmas.List.Sorted.{IsPermutation-append, IsPermutation-filter_both, IsPermutation-refl, IsPermutation-trans}
 use Rattle.std.proofs.lemmas.Slice.Eq.{bytes_eq-Decides}
-use Rattle.brk_money.specs.Kinds.{same_type}
+use Rattle.brk_money.specs.Kinds.{is_same_trade_type}
 use Rattle.brk_money.specs.Spelling.{Text}
 use Rattle.brk_money.specs.declared.status.Status.TheVariants.{Pending}
 use Rattle.brk_money.specs.declared.trade_type.TradeType.{TradeType}
 use Rattle.brk_money.specs.declared.trade_type.TradeType.TheVariants.{MarketBuy, MarketSell, StopLoss, LimitSell, LimitBuy}
 use Rattle.brk_model.specs.Base.{Base, has_status}
-use Rattle.brk_model.specs.Derived.{pending}
-use Rattle.brk_model.specs.Feed.{triggers}
+use Rattle.brk_model.specs.Derived.{pending_trades}
+use Rattle.brk_model.specs.Feed.{is_triggering_price}
 use Rattle.brk_model.specs.Records.{Account, Trade}
 use Rattle.brk_model.specs.Sheets.{sheets}
 use Rattle.brk_model.specs.Tables.{RequestRow, Tables, request_row}
 use Rattle.brk_orders.specs.declared.tick.Tick.{Tick}
-use Rattle.brk_plans.specs.Feed.{span_of, widened, widened_by}
+use Rattle.brk_plans.specs.Feed.{price_span_of_first_symbol, span_including_price, span_including_tick}
 use Rattle.brk_plans.specs.declared.span.Span.{Span}
 use Rattle.brk_book_theorems.specs.Books.{BooksInvariant}
-use Rattle.brk_trade_theorems.specs.TradePlans.{may_trigger}
-use Rattle.brk_book_theorems.specs.TradeReads.{requests_of}
+use Rattle.brk_trade_theorems.specs.TradePlans.{price_span_may_trigger}
+use Rattle.brk_book_theorems.specs.TradeReads.{requests_of_symbol}
 use Rattle.brk_book_theorems.proofs.LotReading.{IdsRise, numbered_rise, rise_filter}
 use Rattle.brk_book_theorems.proofs.Orders.{Ascends, Rises, one_order, permuted}
 use Rattle.brk_book_theorems.proofs.Same.{All-filter, All-of, filter-same}
@@ -49,7 +49,7 @@ record Wider (inner outer : Span) : Type 0 where
 wider_again : (a b c : Span) → Wider a b → Wider b c → Wider a c
 wider_again a b c p q = let l = p.low in let m = q.low in let h = p.high in let k = q.high in record { low = omega (arith, l, m); high = omega (arith, h, k) }
 
-widened_wider : (price : ℕ) (span : Span) → Wider span (widened price span)
+widened_wider : (price : ℕ) (span : Span) → Wider span (span_including_price price span)
 widened_wider price span = record { low = lower (nat_lt price span.lowest) refl; high = higher (nat_lt span.highest price) refl }
   where
     lower : (b : Bool) → nat_lt price span.lowest ≡ b → cond b price span.lowest ≤ span.lowest
@@ -60,7 +60,7 @@ widened_wider price span = record { low = lower (nat_lt price span.lowest) refl;
     higher true e = grind (arith, nat_tests)
     higher false e = omega arith
 
-widened_has : (price : ℕ) (span : Span) → is_within (widened price span) price
+widened_has : (price : ℕ) (span : Span) → is_within (span_including_price price span) price
 widened_has price span = (lower (nat_lt price span.lowest) refl, higher (nat_lt span.highest price) refl)
   where
     lower : (b : Bool) → nat_lt price span.lowest ≡ b → cond b price span.lowest ≤ price
@@ -71,12 +71,12 @@ widened_has price span = (lower (nat_lt price span.lowest) refl, higher (nat_lt 
     higher true e = omega arith
     higher false e = grind (arith, nat_tests)
 
-folded_spans : (symbol : Text) (span : Span) (ticks : List Tick) → Wider span (fold (widened_by symbol) span ticks) × Spans (fold (widened_by symbol) span ticks) symbol ticks
+folded_spans : (symbol : Text) (span : Span) (ticks : List Tick) → Wider span (fold (span_including_tick symbol) span ticks) × Spans (fold (span_including_tick symbol) span ticks) symbol ticks
 folded_spans symbol span [] = (record { low = omega arith; high = omega arith }, tt)
 folded_spans symbol span (tick ∷ ticks) = by_test (λ start. folded_spans symbol start ticks) (bytes_eq tick.symbol symbol) refl
   where
     end : Span → Span
-    end start = fold (widened_by symbol) start ticks
+    end start = fold (span_including_tick symbol) start ticks
 
     Rest : Span → Type 0
     Rest start = Wider start (end start) × Spans (end start) symbol ticks
@@ -85,10 +85,10 @@ folded_spans symbol span (tick ∷ ticks) = by_test (λ start. folded_spans symb
     not_same f = absurd (cc)
 
     by_test : ((start : Span) → Rest start) → (b : Bool) → bytes_eq tick.symbol symbol ≡ b
-        → Wider span (end (cond b (widened tick.price span) span))
-        × ((tick.symbol ≡ symbol → is_within (end (cond b (widened tick.price span) span)) tick.price) × Spans (end (cond b (widened tick.price span) span)) symbol ticks)
+        → Wider span (end (cond b (span_including_price tick.price span) span))
+        × ((tick.symbol ≡ symbol → is_within (end (cond b (span_including_price tick.price span) span)) tick.price) × Spans (end (cond b (span_including_price tick.price span) span)) symbol ticks)
     by_test again true e =
-        let start = widened tick.price span in
+        let start = span_including_price tick.price span in
         let rest = again start in
         let has = widened_has tick.price span in
         let l = rest.0.low in let h = rest.0.high in let m = has.0 in let k = has.1 in
@@ -97,12 +97,12 @@ folded_spans symbol span (tick ∷ ticks) = by_test (λ start. folded_spans symb
         let rest = again span in
         (rest.0, (λ same. absurd (not_same (sym e ∙ (bytes_eq-Decides tick.symbol symbol).1 same)), rest.1))
 
-pub span_spans : (first : Tick) (ticks : List Tick) → Spans (span_of first ticks) first.symbol ticks
+pub span_spans : (first : Tick) (ticks : List Tick) → Spans (price_span_of_first_symbol first ticks) first.symbol ticks
 span_spans first ticks = (folded_spans first.symbol (record { lowest = first.price; highest = first.price }) ticks).1
 
 -- ---- what a price within the span triggers, the span may trigger
 
-pub triggered_may : (span : Span) (kind : TradeType) (bid price : ℕ) → is_within span price → triggers kind bid price ≡ true → may_trigger span kind bid ≡ true
+pub triggered_may : (span : Span) (kind : TradeType) (bid price : ℕ) → is_within span price → is_triggering_price kind bid price ≡ true → price_span_may_trigger span kind bid ≡ true
 triggered_may span StopLoss bid price w e = let l = w.0 in grind (arith, nat_tests)
 triggered_may span LimitSell bid price w e = let h = w.1 in grind (arith, nat_tests)
 triggered_may span LimitBuy bid price w e = let l = w.0 in grind (arith, nat_tests)
@@ -112,17 +112,17 @@ triggered_may span MarketSell bid price w e = absurd (cc)
 -- ---- three selections are all that a span may trigger
 
 abbrev pub may : Span → RequestRow → Bool
-may span r = may_trigger span r.kind r.bid
+may span r = price_span_may_trigger span r.kind r.bid
 
 -- what the three selections bring
 abbrev pub stop_losses : Tables → Text → Span → List RequestRow
-stop_losses t symbol span = filter (λ r. bytes_eq r.symbol symbol && (same_type r.kind StopLoss && nat_le span.lowest r.bid)) t.requests
+stop_losses t symbol span = filter (λ r. bytes_eq r.symbol symbol && (is_same_trade_type r.kind StopLoss && nat_le span.lowest r.bid)) t.requests
 
 abbrev pub limit_sells : Tables → Text → Span → List RequestRow
-limit_sells t symbol span = filter (λ r. bytes_eq r.symbol symbol && (same_type r.kind LimitSell && nat_le r.bid span.highest)) t.requests
+limit_sells t symbol span = filter (λ r. bytes_eq r.symbol symbol && (is_same_trade_type r.kind LimitSell && nat_le r.bid span.highest)) t.requests
 
 abbrev pub limit_buys : Tables → Text → Span → List RequestRow
-limit_buys t symbol span = filter (λ r. bytes_eq r.symbol symbol && (same_type r.kind LimitBuy && nat_le span.lowest r.bid)) t.requests
+limit_buys t symbol span = filter (λ r. bytes_eq r.symbol symbol && (is_same_trade_type r.kind LimitBuy && nat_le span.lowest r.bid)) t.requests
 
 and_one : (b : Bool) → b && true ≡ b
 and_one true = refl
@@ -133,9 +133,9 @@ and_none true = refl
 and_none false = refl
 
 pub selected : (t : Tables) (symbol : Text) (span : Span)
-    → IsPermutation (filter (may span) (requests_of t symbol)) ((stop_losses t symbol span ++ limit_sells t symbol span) ++ limit_buys t symbol span)
+    → IsPermutation (filter (may span) (requests_of_symbol t symbol)) ((stop_losses t symbol span ++ limit_sells t symbol span) ++ limit_buys t symbol span)
 selected t symbol span =
-    let all = filter (may span) (requests_of t symbol) in
+    let all = filter (may span) (requests_of_symbol t symbol) in
     let others = filter (λ r. not (is_loss r)) all in
     let split = IsPermutation-filter_both is_loss (λ r. not (is_loss r)) (λ r. refl) all in
     let again = IsPermutation-filter_both is_sell (λ r. not (is_sell r)) (λ r. refl) others in
@@ -145,10 +145,10 @@ selected t symbol span =
     ((λ i. losses i ++ (sells i ++ buys i)) ∙ append_assoc (stop_losses t symbol span) (limit_sells t symbol span) (limit_buys t symbol span)) whole
   where
     is_loss : RequestRow → Bool
-    is_loss r = same_type r.kind StopLoss
+    is_loss r = is_same_trade_type r.kind StopLoss
 
     is_sell : RequestRow → Bool
-    is_sell r = same_type r.kind LimitSell
+    is_sell r = is_same_trade_type r.kind LimitSell
 
     of_symbol : RequestRow → Bool
     of_symbol r = bytes_eq r.symbol symbol
@@ -157,7 +157,7 @@ selected t symbol span =
     append_assoc [] ys zs = refl
     append_assoc (x ∷ xs) ys zs = ap (λ us. x ∷ us) (append_assoc xs ys zs)
 
-    loss_test : (s : Bool) (kind : TradeType) (bid : ℕ) → (s && may_trigger span kind bid) && same_type kind StopLoss ≡ s && (same_type kind StopLoss && nat_le span.lowest bid)
+    loss_test : (s : Bool) (kind : TradeType) (bid : ℕ) → (s && price_span_may_trigger span kind bid) && is_same_trade_type kind StopLoss ≡ s && (is_same_trade_type kind StopLoss && nat_le span.lowest bid)
     loss_test false kind bid = refl
     loss_test true StopLoss bid = and_one (nat_le span.lowest bid)
     loss_test true LimitSell bid = and_none (nat_le bid span.highest)
@@ -166,7 +166,7 @@ selected t symbol span =
     loss_test true MarketSell bid = refl
 
     sell_test : (s : Bool) (kind : TradeType) (bid : ℕ)
-        → ((s && may_trigger span kind bid) && not (same_type kind StopLoss)) && same_type kind LimitSell ≡ s && (same_type kind LimitSell && nat_le bid span.highest)
+        → ((s && price_span_may_trigger span kind bid) && not (is_same_trade_type kind StopLoss)) && is_same_trade_type kind LimitSell ≡ s && (is_same_trade_type kind LimitSell && nat_le bid span.highest)
     sell_test false kind bid = refl
     sell_test true StopLoss bid = and_none (nat_le span.lowest bid && false)
     sell_test true LimitSell bid = and_one (nat_le bid span.highest && true) ∙ and_one (nat_le bid span.highest)
@@ -175,7 +175,7 @@ selected t symbol span =
     sell_test true MarketSell bid = refl
 
     buy_test : (s : Bool) (kind : TradeType) (bid : ℕ)
-        → ((s && may_trigger span kind bid) && not (same_type kind StopLoss)) && not (same_type kind LimitSell) ≡ s && (same_type kind LimitBuy && nat_le span.lowest bid)
+        → ((s && price_span_may_trigger span kind bid) && not (is_same_trade_type kind StopLoss)) && not (is_same_trade_type kind LimitSell) ≡ s && (is_same_trade_type kind LimitBuy && nat_le span.lowest bid)
     buy_test false kind bid = refl
     buy_test true StopLoss bid = and_one (nat_le span.lowest bid && false) ∙ and_none (nat_le span.lowest bid)
     buy_test true LimitSell bid = and_none (nat_le bid span.highest && true)
@@ -183,24 +183,24 @@ selected t symbol span =
     buy_test true MarketBuy bid = refl
     buy_test true MarketSell bid = refl
 
-    losses : filter is_loss (filter (may span) (requests_of t symbol)) ≡ stop_losses t symbol span
+    losses : filter is_loss (filter (may span) (requests_of_symbol t symbol)) ≡ stop_losses t symbol span
     losses =
         ap (filter is_loss) (filter-filter of_symbol (may span) t.requests)
         ∙ filter-filter (λ r. of_symbol r && may span r) is_loss t.requests
         ∙ filter-same _ _ t.requests (All-of t.requests (λ r. loss_test (of_symbol r) r.kind r.bid))
 
-    left : filter (λ r. not (is_loss r)) (filter (may span) (requests_of t symbol)) ≡ filter (λ r. (of_symbol r && may span r) && not (is_loss r)) t.requests
+    left : filter (λ r. not (is_loss r)) (filter (may span) (requests_of_symbol t symbol)) ≡ filter (λ r. (of_symbol r && may span r) && not (is_loss r)) t.requests
     left =
         ap (filter (λ r. not (is_loss r))) (filter-filter of_symbol (may span) t.requests)
         ∙ filter-filter (λ r. of_symbol r && may span r) (λ r. not (is_loss r)) t.requests
 
-    sells : filter is_sell (filter (λ r. not (is_loss r)) (filter (may span) (requests_of t symbol))) ≡ limit_sells t symbol span
+    sells : filter is_sell (filter (λ r. not (is_loss r)) (filter (may span) (requests_of_symbol t symbol))) ≡ limit_sells t symbol span
     sells =
         ap (filter is_sell) left
         ∙ filter-filter (λ r. (of_symbol r && may span r) && not (is_loss r)) is_sell t.requests
         ∙ filter-same _ _ t.requests (All-of t.requests (λ r. sell_test (of_symbol r) r.kind r.bid))
 
-    buys : filter (λ r. not (is_sell r)) (filter (λ r. not (is_loss r)) (filter (may span) (requests_of t symbol))) ≡ limit_buys t symbol span
+    buys : filter (λ r. not (is_sell r)) (filter (λ r. not (is_loss r)) (filter (may span) (requests_of_symbol t symbol))) ≡ limit_buys t symbol span
     buys =
         ap (filter (λ r. not (is_sell r))) left
         ∙ filter-filter (λ r. (of_symbol r && may span r) && not (is_loss r)) (λ r. not (is_sell r)) t.requests
@@ -208,7 +208,7 @@ selected t symbol span =
 
 -- ---- requests by rising trade stand in one order
 
-kinds : (a b : TradeType) → Decides (same_type a b) (a ≡ b)
+kinds : (a b : TradeType) → Decides (is_same_trade_type a b) (a ≡ b)
 kinds MarketBuy MarketBuy = (λ e. refl, λ e. refl)
 kinds MarketBuy MarketSell = (λ e. absurd (cc), λ e. absurd (cc))
 kinds MarketBuy StopLoss = (λ e. absurd (cc), λ e. absurd (cc))
@@ -236,21 +236,21 @@ kinds LimitBuy LimitSell = (λ e. absurd (cc), λ e. absurd (cc))
 kinds LimitBuy LimitBuy = (λ e. refl, λ e. refl)
 
 same_request : RequestRow → RequestRow → Bool
-same_request a b = (a.trade == b.trade) && (same_type a.kind b.kind && (bytes_eq a.symbol b.symbol && ((a.qty == b.qty) && ((a.bid == b.bid) && (a.broker == b.broker)))))
+same_request a b = (a.trade == b.trade) && (is_same_trade_type a.kind b.kind && (bytes_eq a.symbol b.symbol && ((a.qty == b.qty) && ((a.bid == b.bid) && (a.broker == b.broker)))))
 
 requests_decide : (a b : RequestRow) → Decides (same_request a b) (a ≡ b)
 unfolding same_request
 requests_decide a b = (
   (λ e.
       let p = and_parts (a.trade == b.trade) _ e in
-      let q = and_parts (same_type a.kind b.kind) _ p.1 in
+      let q = and_parts (is_same_trade_type a.kind b.kind) _ p.1 in
       let r = and_parts (bytes_eq a.symbol b.symbol) _ q.1 in
       let m = and_parts (a.qty == b.qty) _ r.1 in
       let n = and_parts (a.bid == b.bid) (a.broker == b.broker) m.1 in
       λ i. record { trade = eqb-true a.trade b.trade p.0 i; kind = (kinds a.kind b.kind).0 q.0 i; symbol = (bytes_eq-Decides a.symbol b.symbol).0 r.0 i; qty = eqb-true a.qty b.qty m.0 i; bid = eqb-true a.bid b.bid n.0 i; broker = eqb-true a.broker b.broker n.1 i }),
   (λ e.
       and_from (a.trade == b.trade) _ (eq-eqb a.trade b.trade (ap (λ (r : RequestRow). r.trade) e))
-      (and_from (same_type a.kind b.kind) _ ((kinds a.kind b.kind).1 (ap (λ (r : RequestRow). r.kind) e))
+      (and_from (is_same_trade_type a.kind b.kind) _ ((kinds a.kind b.kind).1 (ap (λ (r : RequestRow). r.kind) e))
       (and_from (bytes_eq a.symbol b.symbol) _ ((bytes_eq-Decides a.symbol b.symbol).1 (ap (λ (r : RequestRow). r.symbol) e))
       (and_from (a.qty == b.qty) _ (eq-eqb a.qty b.qty (ap (λ (r : RequestRow). r.qty) e))
       (and_from (a.bid == b.bid) (a.broker == b.broker) (eq-eqb a.bid b.bid (ap (λ (r : RequestRow). r.bid) e)) (eq-eqb a.broker b.broker (ap (λ (r : RequestRow). r.broker) e))))))),
@@ -273,12 +273,12 @@ rises_filter p (r ∷ rs) k =
 requests_rise : (base : Base) → BooksInvariant base → Rises (λ (r : RequestRow). r.trade) (sheets base).requests
 requests_rise base books =
     subst (Rises (λ (r : RequestRow). r.trade)) (sym (requests_in_order base books.numbered))
-    (rows_rise base.accounts (pending base.trades) (rise_filter (has_status Pending) base.trades (numbered_rise 1 base.trades books.numbered)))
+    (rows_rise base.accounts (pending_trades base.trades) (rise_filter (has_status Pending) base.trades (numbered_rise 1 base.trades books.numbered)))
 
 -- by rising trade they are the requests of a base in its order
 pub in_order : (base : Base) (symbol : Text) (span : Span) (found : List RequestRow) → BooksInvariant base
-    → IsPermutation (filter (may span) (requests_of (sheets base) symbol)) found → Ascends (λ r. r.trade) found → found ≡ filter (may span) (requests_of (sheets base) symbol)
+    → IsPermutation (filter (may span) (requests_of_symbol (sheets base) symbol)) found → Ascends (λ r. r.trade) found → found ≡ filter (may span) (requests_of_symbol (sheets base) symbol)
 in_order base symbol span found books p a =
-    let all = filter (may span) (requests_of (sheets base) symbol) in
+    let all = filter (may span) (requests_of_symbol (sheets base) symbol) in
     one_order (λ r. r.trade) same_request requests_decide all found
-    (rises_filter (may span) (requests_of (sheets base) symbol) (rises_filter (λ r. bytes_eq r.symbol symbol) (sheets base).requests (requests_rise base books))) a (permuted all found p)
+    (rises_filter (may span) (requests_of_symbol (sheets base) symbol) (rises_filter (λ r. bytes_eq r.symbol symbol) (sheets base).requests (requests_rise base books))) a (permuted all found p)

@@ -2,39 +2,39 @@
 use Rattle.std.specs.Prelude.{◌≡◌, ◌≤◌, ℕ, SomeIff}
 use Rattle.brk_model.specs.Limits.{greatest_tax_rate}
 use Rattle.brk_model.specs.Tables.{Tables}
-use Rattle.brk_ref.specs.Records.{band_of}
+use Rattle.brk_ref.specs.Records.{abstract_band}
 use Rattle.brk_plans.specs.declared.reference.ReferenceFacts.{ReferenceFacts}
 use Rattle.brk_plans.specs.declared.reference.Reference.{Reference}
 use Rattle.brk_plans.specs.declared.reference.Reference.TheVariants as reference
-use Rattle.brk_book_theorems.specs.Reads.{finds_broker, finds_customer, finds_tax_id, finds_account, accounts_of, finds_permission, finds_security, finds_charge, has_overlap, finds_tax_rate, rate_of, pays_tax, rates_of_customer}
+use Rattle.brk_book_theorems.specs.Reads.{contains_broker, contains_customer, contains_tax_id, contains_account, account_count_of_customer, contains_permission, contains_security, contains_charge, overlaps_some_band, contains_tax_rate, rate_by_tax_id, pays_tax, rate_sum_of_customer}
 
 -- The facts `found` about the account `id`, its customer and its broker are true of the tables:
 -- which of the three exist, and how many accounts the customer has.
-pub record IsFoundForAccount (t : Tables) (id customer broker : ℕ) (found : ReferenceFacts) : Type 0 where
-  pub same_id : found.same_id ≡ finds_account t id
-  pub customer_there : found.customer ≡ finds_customer t customer
-  pub broker_there : found.broker ≡ finds_broker t broker
-  pub count : found.accounts ≡ accounts_of t customer
+pub record AccountFactsMatchTables (t : Tables) (id customer broker : ℕ) (found : ReferenceFacts) : Type 0 where
+  pub same_id : found.same_id ≡ contains_account t id
+  pub customer_there : found.customer ≡ contains_customer t customer
+  pub broker_there : found.broker ≡ contains_broker t broker
+  pub count : found.accounts ≡ account_count_of_customer t customer
 
 -- The facts `found` about a customer's tax are true of the tables: whether the customer exists and
 -- already pays the tax, the tax rate, and the sum of the customer's rates. The sum is `None` if it
 -- exceeds the greatest rate.
-pub record IsFoundForTax (t : Tables) (customer tax : ℕ) (found : ReferenceFacts) : Type 0 where
-  pub customer_there : found.customer ≡ finds_customer t customer
-  pub rate_there : found.rate ≡ rate_of t tax
+pub record CustomerTaxFactsMatchTables (t : Tables) (customer tax : ℕ) (found : ReferenceFacts) : Type 0 where
+  pub customer_there : found.customer ≡ contains_customer t customer
+  pub rate_there : found.rate ≡ rate_by_tax_id t tax
   pub same_id : found.same_id ≡ pays_tax t customer tax
-  pub sum : SomeIff found.rates (rates_of_customer t customer ≤ greatest_tax_rate) (rates_of_customer t customer)
+  pub sum : SomeIff found.rates (rate_sum_of_customer t customer ≤ greatest_tax_rate) (rate_sum_of_customer t customer)
 
 -- The facts `found` about a record of reference data are true of the tables. Facts that records of
 -- its kind do not need may have any value.
-abbrev pub IsFound : Tables → Reference → ReferenceFacts → Type 0
-IsFound t (reference.Broker broker) found = found.same_id ≡ finds_broker t broker.id
-IsFound t (reference.Customer customer) found = (found.same_id ≡ finds_customer t customer.id) × (found.same_tax_id ≡ finds_tax_id t customer.tax_id)
-IsFound t (reference.Account account) found = IsFoundForAccount t account.id account.customer account.broker found
-IsFound t (reference.Permission permission) found =
-    (found.account ≡ finds_account t permission.account) × (found.same_id ≡ finds_permission t permission.account permission.tax_id)
-IsFound t (reference.Security listing) found = found.same_id ≡ finds_security t listing.security.symbol
-IsFound t (reference.Charge charge) found = found.same_id ≡ finds_charge t charge.kind charge.tier
-IsFound t (reference.Band band) found = found.overlaps ≡ has_overlap t (band_of band)
-IsFound t (reference.TaxRate tax) found = found.same_id ≡ finds_tax_rate t tax.id
-IsFound t (reference.CustomerTax pays) found = IsFoundForTax t pays.customer pays.tax found
+abbrev pub ReferenceFactsMatchTables : Tables → Reference → ReferenceFacts → Type 0
+ReferenceFactsMatchTables t (reference.Broker broker) found = found.same_id ≡ contains_broker t broker.id
+ReferenceFactsMatchTables t (reference.Customer customer) found = (found.same_id ≡ contains_customer t customer.id) × (found.same_tax_id ≡ contains_tax_id t customer.tax_id)
+ReferenceFactsMatchTables t (reference.Account account) found = AccountFactsMatchTables t account.id account.customer account.broker found
+ReferenceFactsMatchTables t (reference.Permission permission) found =
+    (found.account ≡ contains_account t permission.account) × (found.same_id ≡ contains_permission t permission.account permission.tax_id)
+ReferenceFactsMatchTables t (reference.Security listing) found = found.same_id ≡ contains_security t listing.security.symbol
+ReferenceFactsMatchTables t (reference.Charge charge) found = found.same_id ≡ contains_charge t charge.kind charge.tier
+ReferenceFactsMatchTables t (reference.Band band) found = found.overlaps ≡ overlaps_some_band t (abstract_band band)
+ReferenceFactsMatchTables t (reference.TaxRate tax) found = found.same_id ≡ contains_tax_rate t tax.id
+ReferenceFactsMatchTables t (reference.CustomerTax pays) found = CustomerTaxFactsMatchTables t pays.customer pays.tax found

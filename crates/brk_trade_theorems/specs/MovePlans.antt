@@ -1,45 +1,45 @@
 -- The preconditions of planning a movement or a settlement day: the facts that are read from the
 -- tables of a base.
 use Rattle.std.specs.Prelude.{◌≡◌, ◌≤◌, ◌+◌, ℕ, is_none, nat_le, length, filter, Option, option_map}
-use Rattle.brk_money.specs.Moments.{last_stamp}
+use Rattle.brk_money.specs.Moments.{greatest_stamp}
 use Rattle.brk_model.specs.Base.{Base}
-use Rattle.brk_model.specs.Joins.{account_in}
+use Rattle.brk_model.specs.Joins.{account_row_with_id}
 use Rattle.brk_model.specs.Limits.{greatest_id}
 use Rattle.brk_model.specs.Sheets.{sheets}
 use Rattle.brk_model.specs.Tables.{Tables}
 use Rattle.brk_orders.specs.declared.movement.Movement.{Movement}
 use Rattle.brk_plans.specs.declared.movement.MoveFound.{MoveFound}
 use Rattle.brk_book_theorems.specs.Books.{BooksInvariant}
-use Rattle.brk_book_theorems.specs.TradeReads.{last_move}
+use Rattle.brk_book_theorems.specs.TradeReads.{last_cash_row_number}
 
 -- ---- a movement
 
 -- The facts `found` about the movement `m` are true of the tables: the balance of its account,
 -- whether there is room for one movement more, and the next number of a cash row.
-pub record IsFoundForMove (t : Tables) (m : Movement) (found : MoveFound) : Type 0 where
-  pub balance : found.balance ≡ option_map (λ r. r.balance) (account_in t m.account)
-  -- True if and only if the number of movements reaches the greatest id; movements are the cash rows
-  -- without a trade.
+pub record MovementFactsMatchTables (t : Tables) (m : Movement) (found : MoveFound) : Type 0 where
+  pub balance : found.balance ≡ option_map (λ r. r.balance) (account_row_with_id t m.account)
+  -- True if and only if the number of movements reaches the greatest id; movements are the cash
+  -- rows without a trade.
   pub counted : found.has_all_movements ≡ nat_le greatest_id (length (filter (λ r. is_none r.trade) t.moves))
   -- The next number follows that of the last cash row.
-  pub next : found.next ≡ last_move t + 1
+  pub next : found.next ≡ last_cash_row_number t + 1
 
 -- The precondition of planning the movement `m`: the base satisfies the books invariant, the facts
 -- `found` and the last stamp are read from its tables, and the clock reading `now` is within the
 -- range of stamps.
-pub record IsReadForMove (base : Base) (m : Movement) (found : MoveFound) (last : Option ℕ) (now : ℕ) : Type 0 where
+pub record PlanMovementPrecondition (base : Base) (m : Movement) (found : MoveFound) (last : Option ℕ) (now : ℕ) : Type 0 where
   pub books : BooksInvariant base
-  pub looked_up : IsFoundForMove (sheets base) m found
+  pub looked_up : MovementFactsMatchTables (sheets base) m found
   pub last_read : last ≡ (sheets base).last
-  pub moment : now ≤ last_stamp
+  pub moment : now ≤ greatest_stamp
 
 -- ---- a settlement day
 
 -- The precondition of planning a settlement day: the base satisfies the books invariant, the
 -- current settlement day `rule` (`None` if it is not set) and the last stamp are read from its
 -- tables, and the clock reading `now` is within the range of stamps.
-pub record IsReadForOneDay (base : Base) (rule : Option ℕ) (last : Option ℕ) (now : ℕ) : Type 0 where
+pub record PlanSettlementDayPrecondition (base : Base) (rule : Option ℕ) (last : Option ℕ) (now : ℕ) : Type 0 where
   pub books : BooksInvariant base
   pub rule_read : rule ≡ (sheets base).rule
   pub last_read : last ≡ (sheets base).last
-  pub moment : now ≤ last_stamp
+  pub moment : now ≤ greatest_stamp

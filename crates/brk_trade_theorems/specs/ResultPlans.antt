@@ -2,61 +2,61 @@
 use Rattle.std.specs.Prelude.{◌≡◌, ◌≤◌, ◌<◌, ◌+◌, ℕ, ◌==◌, List, find, take, IfSome, Option, None, option_map, pos}
 use Rattle.brk_lots.specs.declared.lot.Lot.{Lot}
 use Rattle.brk_model.specs.Base.{Base}
-use Rattle.brk_model.specs.Joins.{account_in, security_in, trade_in}
+use Rattle.brk_model.specs.Joins.{account_row_with_id, security_row_with_symbol, trade_row_with_id}
 use Rattle.brk_model.specs.Sheets.{sheets}
 use Rattle.brk_model.specs.Tables.{AccountRow, Tables}
 use Rattle.brk_model.specs.Tests.{first_refusal}
-use Rattle.brk_money.specs.Moments.{last_stamp}
-use Rattle.brk_trade.specs.Outcomes.{first_tests}
-use Rattle.brk_changes.specs.Rows.{trade_row_of}
+use Rattle.brk_money.specs.Moments.{greatest_stamp}
+use Rattle.brk_trade.specs.Outcomes.{checks_before_reading_lots}
+use Rattle.brk_changes.specs.Rows.{abstract_trade_row}
 use Rattle.brk_trade.specs.declared.result_found.ResultAccount.{ResultAccount}
 use Rattle.brk_trade.specs.declared.result_found.ResultFound.{ResultFound}
 use Rattle.brk_changes.specs.declared.trade_row.TradeRow.{TradeRow}
 use Rattle.brk_book_theorems.specs.Books.{BooksInvariant}
-use Rattle.brk_book_theorems.specs.OrderReads.{GivesLots, IfCustomer}
-use Rattle.brk_book_theorems.specs.Reads.{rates_of_customer}
-use Rattle.brk_book_theorems.specs.TradeReads.{band_in, last_move, summary_in}
+use Rattle.brk_book_theorems.specs.OrderReads.{PositionLotsSatisfy, CustomerOfAccountSatisfies}
+use Rattle.brk_book_theorems.specs.Reads.{rate_sum_of_customer}
+use Rattle.brk_book_theorems.specs.TradeReads.{band_of_quantity, last_cash_row_number, summary_row_of_position}
 
 -- ---- facts
 
 -- The first `n` checks of the result pass. The checks are, in this order: status, band and summary.
-abbrev pub PassesFirst : ℕ → ResultFound → Type 0
-PassesFirst n found = first_refusal (take n (first_tests found)) ≡ None
+abbrev pub PassesResultChecks : ℕ → ResultFound → Type 0
+PassesResultChecks n found = first_refusal (take n (checks_before_reading_lots found)) ≡ None
 
 -- The broker, the tax status and the balance of the account in its row.
-abbrev pub result_account : AccountRow → ResultAccount
-result_account r = record { broker = r.broker; tax_status = r.tax_status; balance = r.balance }
+abbrev pub result_account_of_row : AccountRow → ResultAccount
+result_account_of_row r = record { broker = r.broker; tax_status = r.tax_status; balance = r.balance }
 
 -- The facts `found` about the result are true of the tables. A clause is vacuous if one of the
 -- checks that it names fails, since the fact is not read then. A clause about the customer, the
 -- account, the broker or the security is also vacuous if this does not exist.
-pub record IsFoundForResult (t : Tables) (found : ResultFound) : Type 0 where
+pub record ResultFactsMatchTables (t : Tables) (found : ResultFound) : Type 0 where
   -- The rate is that of the band of the quantity, by the customer's tier and the security's
   -- exchange.
-  pub rate : PassesFirst 1 found
-      → IfCustomer t found.trade.account (λ c. IfSome (security_in t found.trade.symbol) (λ s.
-      found.rate ≡ option_map (λ b. b.rate) (band_in t c.tier found.trade.kind s.exchange found.trade.qty)))
+  pub rate : PassesResultChecks 1 found
+      → CustomerOfAccountSatisfies t found.trade.account (λ c. IfSome (security_row_with_symbol t found.trade.symbol) (λ s.
+      found.rate ≡ option_map (λ b. b.rate) (band_of_quantity t c.tier found.trade.kind s.exchange found.trade.qty)))
   -- The summary is that of the account in the symbol.
-  pub summary : PassesFirst 2 found → found.summary ≡ option_map (λ r. r.qty) (summary_in t found.trade.account found.trade.symbol)
-  pub account : PassesFirst 3 found → IfSome (account_in t found.trade.account) (λ a. found.account ≡ result_account a)
+  pub summary : PassesResultChecks 2 found → found.summary ≡ option_map (λ r. r.qty) (summary_row_of_position t found.trade.account found.trade.symbol)
+  pub account : PassesResultChecks 3 found → IfSome (account_row_with_id t found.trade.account) (λ a. found.account ≡ result_account_of_row a)
   -- The rates are the sum of those that the customer pays.
-  pub rates : PassesFirst 3 found → IfSome (account_in t found.trade.account) (λ a. found.rates ≡ rates_of_customer t a.customer)
+  pub rates : PassesResultChecks 3 found → IfSome (account_row_with_id t found.trade.account) (λ a. found.rates ≡ rate_sum_of_customer t a.customer)
   -- The totals are those of the account's broker.
-  pub broker : PassesFirst 3 found
-      → IfSome (account_in t found.trade.account) (λ a. IfSome (find (λ r. r.id == a.broker) t.brokers) (λ b.
+  pub broker : PassesResultChecks 3 found
+      → IfSome (account_row_with_id t found.trade.account) (λ a. IfSome (find (λ r. r.id == a.broker) t.brokers) (λ b.
       (pos found.broker.trades ≡ b.trades) × (found.broker.commissions ≡ b.commissions)))
-  pub security : PassesFirst 3 found → IfSome (security_in t found.trade.symbol) (λ s. found.security ≡ s.name)
+  pub security : PassesResultChecks 3 found → IfSome (security_row_with_symbol t found.trade.symbol) (λ s. found.security ≡ s.name)
   -- The settlement day is that of the tables, and the next number follows that of the last cash
   -- row.
-  pub rule : PassesFirst 3 found → found.rule ≡ t.rule
-  pub next : PassesFirst 3 found → found.next ≡ last_move t + 1
+  pub rule : PassesResultChecks 3 found → found.rule ≡ t.rule
+  pub next : PassesResultChecks 3 found → found.next ≡ last_cash_row_number t + 1
 
 -- ---- lots
 
 -- The lots of the trade's account and symbol satisfy `given`. They are listed from the oldest on,
 -- or from the newest on if the trade closes last in, first out.
-abbrev pub AreLotsOfTrade : Tables → TradeRow → (List Lot → Type 0) → Type 0
-AreLotsOfTrade t trade given = GivesLots t trade.account trade.symbol trade.is_lifo given
+abbrev pub TradeLotsSatisfy : Tables → TradeRow → (List Lot → Type 0) → Type 0
+TradeLotsSatisfy t trade given = PositionLotsSatisfy t trade.account trade.symbol trade.is_lifo given
 
 -- ---- a result
 
@@ -64,11 +64,11 @@ AreLotsOfTrade t trade given = GivesLots t trade.account trade.symbol trade.is_l
 -- invariant, the trade, its facts and the last stamp are read from its tables, and the clock
 -- reading `now` is within the range of stamps. If the trade is submitted, `given` holds of its
 -- lots. The quantity of the trade is above 0.
-pub record IsReadForResult (base : Base) (id : ℕ) (found : Option ResultFound) (given : List Lot → Type 0) (last : Option ℕ) (now : ℕ) : Type 0 where
+pub record PlanResultPrecondition (base : Base) (id : ℕ) (found : Option ResultFound) (given : List Lot → Type 0) (last : Option ℕ) (now : ℕ) : Type 0 where
   pub books : BooksInvariant base
-  pub trade_read : trade_in (sheets base) id ≡ option_map (λ f. trade_row_of f.trade) found
-  pub looked_up : IfSome found (IsFoundForResult (sheets base))
-  pub lots_read : IfSome found (λ f. PassesFirst 1 f → AreLotsOfTrade (sheets base) f.trade given)
+  pub trade_read : trade_row_with_id (sheets base) id ≡ option_map (λ f. abstract_trade_row f.trade) found
+  pub looked_up : IfSome found (ResultFactsMatchTables (sheets base))
+  pub lots_read : IfSome found (λ f. PassesResultChecks 1 f → TradeLotsSatisfy (sheets base) f.trade given)
   pub some_shares : IfSome found (λ f. 0 < f.trade.qty)
   pub last_read : last ≡ (sheets base).last
-  pub moment : now ≤ last_stamp
+  pub moment : now ≤ greatest_stamp

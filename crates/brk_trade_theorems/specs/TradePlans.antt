@@ -3,81 +3,81 @@
 use Rattle.std.specs.Prelude.{◌≡◌, ◌≤◌, ⊤, ℕ, Bool, true, false, is_some, nat_le, List, [], ◌∷◌, filter, map, Option, Some, option_map}
 use Rattle.std.specs.List.{AllByRecursion, Contains, list_any}
 use Rattle.std.specs.List.Sorted.{IsNonDecreasingBy, IsPermutation}
-use Rattle.brk_money.specs.Moments.{last_stamp}
+use Rattle.brk_money.specs.Moments.{greatest_stamp}
 use Rattle.brk_money.specs.declared.status.Status.{Status}
 use Rattle.brk_money.specs.declared.trade_type.TradeType.{TradeType}
 use Rattle.brk_money.specs.declared.trade_type.TradeType.TheVariants.{MarketBuy, MarketSell, StopLoss, LimitSell, LimitBuy}
 use Rattle.brk_model.specs.Base.{Base}
-use Rattle.brk_model.specs.Joins.{trade_in}
+use Rattle.brk_model.specs.Joins.{trade_row_with_id}
 use Rattle.brk_model.specs.Sheets.{sheets}
 use Rattle.brk_model.specs.Tables.{Tables}
 use Rattle.brk_orders.specs.declared.tick.Tick.{Tick}
-use Rattle.brk_ref.specs.Records.{last_trade_of}
-use Rattle.brk_plans.specs.Feed.{SymbolState, is_of, span_of}
+use Rattle.brk_ref.specs.Records.{abstract_last_trade_row}
+use Rattle.brk_plans.specs.Feed.{SymbolState, is_state_of_symbol, price_span_of_first_symbol}
 use Rattle.brk_plans.specs.declared.span.Span.{Span}
 use Rattle.brk_changes.specs.declared.request_row.RequestRow as request
-use Rattle.brk_changes.specs.Rows.{request_row_of}
+use Rattle.brk_changes.specs.Rows.{abstract_request_row}
 use Rattle.brk_book_theorems.specs.Books.{BooksInvariant}
-use Rattle.brk_book_theorems.specs.TradeReads.{last_trade_in, requests_of}
+use Rattle.brk_book_theorems.specs.TradeReads.{last_trade_row_of_symbol, requests_of_symbol}
 
 -- ---- a cancel
 
 -- The precondition of planning a cancel of the trade `id`: the base satisfies the books invariant,
 -- the status of the trade (`None` if it does not exist) and the last stamp are read from its
 -- tables, and the clock reading `now` is within the range of stamps.
-pub record IsReadForCancel (base : Base) (id : ℕ) (found : Option Status) (last : Option ℕ) (now : ℕ) : Type 0 where
+pub record PlanCancelPrecondition (base : Base) (id : ℕ) (found : Option Status) (last : Option ℕ) (now : ℕ) : Type 0 where
   pub books : BooksInvariant base
-  pub status_read : found ≡ option_map (λ r. r.status) (trade_in (sheets base) id)
+  pub status_read : found ≡ option_map (λ r. r.status) (trade_row_with_id (sheets base) id)
   pub last_read : last ≡ (sheets base).last
-  pub moment : now ≤ last_stamp
+  pub moment : now ≤ greatest_stamp
 
 -- ---- a feed
 
 -- True if a price of the span can trigger the bid. A stop loss and a limit buy are triggered by the
 -- lowest price if by any, a limit sell by the highest. Market types are never triggered.
-abbrev pub may_trigger : Span → TradeType → ℕ → Bool
-may_trigger span StopLoss bid = nat_le span.lowest bid
-may_trigger span LimitSell bid = nat_le bid span.highest
-may_trigger span LimitBuy bid = nat_le span.lowest bid
-may_trigger span MarketBuy bid = false
-may_trigger span MarketSell bid = false
+abbrev pub price_span_may_trigger : Span → TradeType → ℕ → Bool
+price_span_may_trigger span StopLoss bid = nat_le span.lowest bid
+price_span_may_trigger span LimitSell bid = nat_le bid span.highest
+price_span_may_trigger span LimitBuy bid = nat_le span.lowest bid
+price_span_may_trigger span MarketBuy bid = false
+price_span_may_trigger span MarketSell bid = false
 
 -- The quote has the row of LAST_TRADE of the tick's symbol in the tables. Its requests are exactly
 -- the symbol's requests that a price of the symbol's ticks can trigger, sorted by trade.
-pub record IsQuote (t : Tables) (tick : Tick) (ticks : List Tick) (quote : SymbolState) : Type 0 where
+pub record IsQuoteOfTick (t : Tables) (tick : Tick) (ticks : List Tick) (quote : SymbolState) : Type 0 where
   pub symbol : quote.last.symbol ≡ tick.symbol
-  pub last_trade : last_trade_in t tick.symbol ≡ Some (last_trade_of quote.last)
-  pub requests : IsPermutation (filter (λ r. may_trigger (span_of tick ticks) r.kind r.bid) (requests_of t tick.symbol)) (map request_row_of quote.requests)
+  pub last_trade : last_trade_row_of_symbol t tick.symbol ≡ Some (abstract_last_trade_row quote.last)
+  pub requests : IsPermutation (filter (λ r. price_span_may_trigger (price_span_of_first_symbol tick ticks) r.kind r.bid) (requests_of_symbol t tick.symbol)) (map abstract_request_row quote.requests)
   pub order : IsNonDecreasingBy (λ (r : request.RequestRow). r.trade) quote.requests
 
--- The quote satisfies `IsQuote` for one of the ticks.
-pub record IsQuoteOfOne (t : Tables) (ticks : List Tick) (quote : SymbolState) : Type 0 where
+-- The quote satisfies `IsQuoteOfTick` for one of the ticks.
+pub record IsQuoteOfSomeTick (t : Tables) (ticks : List Tick) (quote : SymbolState) : Type 0 where
   pub tick : Tick
   pub among : Contains ticks tick
-  pub is : IsQuote t tick ticks quote
+  pub is : IsQuoteOfTick t tick ticks quote
 
 -- No two quotes of the list have the same symbol.
-abbrev pub DistinctQuotes : List SymbolState → Type 0
-DistinctQuotes [] = ⊤
-DistinctQuotes (quote ∷ quotes) = AllByRecursion (λ other. is_of quote.last.symbol other ≡ false) quotes × DistinctQuotes quotes
+abbrev pub HasDistinctQuoteSymbols : List SymbolState → Type 0
+HasDistinctQuoteSymbols [] = ⊤
+HasDistinctQuoteSymbols (quote ∷ quotes) = AllByRecursion (λ other. is_state_of_symbol quote.last.symbol other ≡ false) quotes × HasDistinctQuoteSymbols quotes
 
 -- If the symbol of the tick has a row of LAST_TRADE, one of the quotes has this symbol. Vacuous
 -- otherwise.
-abbrev pub IsQuoted : Tables → List SymbolState → Tick → Type 0
-IsQuoted t quotes tick = is_some (last_trade_in t tick.symbol) ≡ true → list_any (is_of tick.symbol) quotes ≡ true
+abbrev pub HasQuoteIfTraded : Tables → List SymbolState → Tick → Type 0
+HasQuoteIfTraded t quotes tick = is_some (last_trade_row_of_symbol t tick.symbol) ≡ true → list_any (is_state_of_symbol tick.symbol) quotes ≡ true
 
--- Each quote satisfies `IsQuote` for a tick of the feed `all`, no two quotes have the same symbol,
--- and each symbol of `ticks` with a row of LAST_TRADE has a quote.
-pub record AreQuotes (t : Tables) (all ticks : List Tick) (quotes : List SymbolState) : Type 0 where
-  pub read : AllByRecursion (IsQuoteOfOne t all) quotes
-  pub apart : DistinctQuotes quotes
-  pub quoted : AllByRecursion (IsQuoted t quotes) ticks
+-- Each quote satisfies `IsQuoteOfTick` for a tick of the feed `all`, no two quotes have the same
+-- symbol, and each symbol of `ticks` with a row of LAST_TRADE has a quote.
+pub record AreQuotesOfTicks (t : Tables) (all ticks : List Tick) (quotes : List SymbolState) : Type 0 where
+  pub read : AllByRecursion (IsQuoteOfSomeTick t all) quotes
+  pub apart : HasDistinctQuoteSymbols quotes
+  pub quoted : AllByRecursion (HasQuoteIfTraded t quotes) ticks
 
 -- The precondition of planning a feed: the base satisfies the books invariant, the quotes of the
 -- ticks and the last stamp are read from its tables, and the clock reading `now` is within the
 -- range of stamps.
-pub record IsReadForFeed (base : Base) (ticks : List Tick) (quotes : List SymbolState) (last : Option ℕ) (now : ℕ) : Type 0 where
+pub record PlanFeedPrecondition (base : Base) (ticks : List Tick) (quotes : List SymbolState) (last : Option ℕ) (now : ℕ) : Type 0 where
   pub books : BooksInvariant base
-  pub quotes_read : AreQuotes (sheets base) ticks ticks quotes
+  pub quotes_read : AreQuotesOfTicks (sheets base) ticks ticks quotes
   pub last_read : last ≡ (sheets base).last
-  pub moment : now ≤ last_stamp
+  pub moment : now ≤ greatest_stamp

@@ -1,10 +1,10 @@
 //! Theorems: the plans and the estimates of orders implement their commands and queries.
 
 ghost use Rattle.std.specs.Prelude.{◌≡◌, ◌∷◌, ◌++◌, [], ℕ, Err, List, None, Ok, Option, Some};
-ghost use Rattle.brk_trade.specs.Estimates.{AreTerms};
-ghost use Rattle.brk_plans.specs.Replies.{estimate_with};
+ghost use Rattle.brk_trade.specs.Estimates.{AreOrderTermsInBase};
+ghost use Rattle.brk_plans.specs.Replies.{estimate_from_model};
 ghost use Rattle.brk_plans.specs.declared.estimate.Estimate.{Estimate};
-ghost use Rattle.brk_lots.specs.Sources.{Exactly};
+ghost use Rattle.brk_lots.specs.Sources.{EqualsLots};
 ghost use Rattle.brk_lots.specs.declared.lot.Lot.{Lot};
 ghost use Rattle.brk_model.specs.Ask.{ask};
 ghost use Rattle.brk_model.specs.Base.{Base};
@@ -14,48 +14,48 @@ ghost use Rattle.brk_model.specs.Queries.{EstimateOf};
 ghost use Rattle.brk_model.specs.Rows.{estimate_fields};
 ghost use Rattle.brk_model.specs.Sheets.{sheets};
 ghost use Rattle.brk_model.specs.Step.{step};
-ghost use Rattle.brk_model.specs.Tests.{first_refusal, refusal_of};
+ghost use Rattle.brk_model.specs.Tests.{first_refusal, refusal_of_command};
 ghost use Rattle.brk_money.specs.declared.refusal.Refusal.{Refusal};
-ghost use Rattle.brk_orders.specs.Records.{order_of};
+ghost use Rattle.brk_orders.specs.Records.{abstract_order};
 ghost use Rattle.brk_orders.specs.declared.order.Order.{Order};
-ghost use Rattle.brk_trade.specs.Orders.{IsEstimated, IsOrdered, order_fact_tests, terms_of, trades_test};
-ghost use Rattle.brk_plans.specs.Reference.{clock_test};
-ghost use Rattle.brk_plans.specs.Replies.{estimate_of};
+ghost use Rattle.brk_trade.specs.Orders.{EstimatesCheckedOrder, IsOrderPlan, order_checks, terms_of_order, trade_id_is_left_check};
+ghost use Rattle.brk_plans.specs.Reference.{later_stamp_check};
+ghost use Rattle.brk_plans.specs.Replies.{abstract_estimate};
 ghost use Rattle.brk_trade.specs.declared.order.OrderFound.{OrderFound};
 ghost use Rattle.brk_plans.specs.declared.plan.Plan.{Plan};
 ghost use Rattle.brk_book_theorems.specs.Books.{BooksInvariant};
-ghost use Rattle.brk_trade_theorems.specs.OrderPlans.{AreLots, IsFoundForEstimate, IsReadForPlan};
-ghost use Rattle.brk_trade_theorems.specs.Plans.{DoesCommand};
+ghost use Rattle.brk_trade_theorems.specs.OrderPlans.{OrderLotsSatisfy, EstimateFactsMatchTables, PlanOrderPrecondition};
+ghost use Rattle.brk_trade_theorems.specs.Plans.{PlanImplementsCommand};
 
 /// Proves that the terms of an order that are computed from facts of the tables are the terms that
 /// the base has for the order, if the order passes its checks and the base satisfies the books
 /// invariant.
-pub fn terms_follow_from_the_tables()
-    ensures { (base : Base) (order : Order) (found : OrderFound) → BooksInvariant base → IsFoundForEstimate (sheets base) order found
-        → first_refusal (order_fact_tests found) ≡ None → AreTerms base (order_of order) (terms_of order found) }
+pub fn order_facts_give_the_order_terms()
+    ensures { (base : Base) (order : Order) (found : OrderFound) → BooksInvariant base → EstimateFactsMatchTables (sheets base) order found
+        → first_refusal (order_checks found) ≡ None → AreOrderTermsInBase base (abstract_order order) (terms_of_order order found) }
 {}
 
 /// Proves that the checks of an order against facts that were read refuse it exactly as the model
 /// does, and that its plan implements the command.
-pub fn order_plans_do_commands()
-    ensures first { (base : Base) (order : Order) (found : OrderFound) (last : Option ℕ) (now : ℕ) → IsReadForPlan base order found last now
-        → first_refusal (order_fact_tests found ++ trades_test found.last_trade ∷ clock_test last now ∷ []) ≡ refusal_of base now (PlaceOrder (order_of order)) }
-    ensures refused { (base : Base) (order : Order) (found : OrderFound) (last : Option ℕ) (now : ℕ) (refusal : Refusal) → IsReadForPlan base order found last now
-        → first_refusal (order_fact_tests found ++ trades_test found.last_trade ∷ clock_test last now ∷ []) ≡ Some refusal
-        → step base now (PlaceOrder (order_of order)) ≡ Err refusal }
-    ensures done { (base : Base) (order : Order) (found : OrderFound) (lots : List Lot) (last : Option ℕ) (now : ℕ) (plan : Plan) → IsReadForPlan base order found last now
-        → AreLots (sheets base) order (Exactly lots) → IsOrdered order found (Exactly lots) last now plan → DoesCommand base now (PlaceOrder (order_of order)) plan }
+pub fn order_plans_implement_commands()
+    ensures first { (base : Base) (order : Order) (found : OrderFound) (last : Option ℕ) (now : ℕ) → PlanOrderPrecondition base order found last now
+        → first_refusal (order_checks found ++ trade_id_is_left_check found.last_trade ∷ later_stamp_check last now ∷ []) ≡ refusal_of_command base now (PlaceOrder (abstract_order order)) }
+    ensures refused { (base : Base) (order : Order) (found : OrderFound) (last : Option ℕ) (now : ℕ) (refusal : Refusal) → PlanOrderPrecondition base order found last now
+        → first_refusal (order_checks found ++ trade_id_is_left_check found.last_trade ∷ later_stamp_check last now ∷ []) ≡ Some refusal
+        → step base now (PlaceOrder (abstract_order order)) ≡ Err refusal }
+    ensures done { (base : Base) (order : Order) (found : OrderFound) (lots : List Lot) (last : Option ℕ) (now : ℕ) (plan : Plan) → PlanOrderPrecondition base order found last now
+        → OrderLotsSatisfy (sheets base) order (EqualsLots lots) → IsOrderPlan order found (EqualsLots lots) last now plan → PlanImplementsCommand base now (PlaceOrder (abstract_order order)) plan }
 {}
 
 /// Proves that a refusal of an estimate is the refusal of its query in the model, and that an
 /// estimate equals the model's, so that its fields are the view of the query. The base satisfies
 /// the books invariant.
-pub fn estimate_plans_answer_queries()
-    ensures refused { (base : Base) (order : Order) (found : OrderFound) (refusal : Refusal) → BooksInvariant base → IsFoundForEstimate (sheets base) order found
-        → first_refusal (order_fact_tests found) ≡ Some refusal → ask base (EstimateOf (order_of order)) ≡ Err refusal }
-    ensures told { (base : Base) (order : Order) (found : OrderFound) (lots : List Lot) (e : Estimate) → BooksInvariant base → IsFoundForEstimate (sheets base) order found
-        → AreLots (sheets base) order (Exactly lots) → IsEstimated order found (Exactly lots) e → e ≡ estimate_with (estimate base (order_of order)) }
-    ensures answered { (base : Base) (order : Order) (found : OrderFound) (lots : List Lot) (e : Estimate) → BooksInvariant base → IsFoundForEstimate (sheets base) order found
-        → AreLots (sheets base) order (Exactly lots) → IsEstimated order found (Exactly lots) e
-        → ask base (EstimateOf (order_of order)) ≡ Ok (estimate_fields (estimate_of e) ∷ []) }
+pub fn estimates_equal_model_estimates()
+    ensures refused { (base : Base) (order : Order) (found : OrderFound) (refusal : Refusal) → BooksInvariant base → EstimateFactsMatchTables (sheets base) order found
+        → first_refusal (order_checks found) ≡ Some refusal → ask base (EstimateOf (abstract_order order)) ≡ Err refusal }
+    ensures told { (base : Base) (order : Order) (found : OrderFound) (lots : List Lot) (e : Estimate) → BooksInvariant base → EstimateFactsMatchTables (sheets base) order found
+        → OrderLotsSatisfy (sheets base) order (EqualsLots lots) → EstimatesCheckedOrder order found (EqualsLots lots) e → e ≡ estimate_from_model (estimate base (abstract_order order)) }
+    ensures answered { (base : Base) (order : Order) (found : OrderFound) (lots : List Lot) (e : Estimate) → BooksInvariant base → EstimateFactsMatchTables (sheets base) order found
+        → OrderLotsSatisfy (sheets base) order (EqualsLots lots) → EstimatesCheckedOrder order found (EqualsLots lots) e
+        → ask base (EstimateOf (abstract_order order)) ≡ Ok (estimate_fields (abstract_estimate e) ∷ []) }
 {}

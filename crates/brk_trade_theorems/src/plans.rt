@@ -4,25 +4,25 @@ ghost use Rattle.std.specs.Prelude.{◌≡◌, ◌∷◌, ◌++◌, [], ℕ, Err
 ghost use Rattle.brk_money.specs.declared.refusal.Refusal.{Refusal};
 ghost use Rattle.brk_model.specs.Base.{Base};
 ghost use Rattle.brk_model.specs.Step.{step};
-ghost use Rattle.brk_model.specs.Tests.{first_refusal, refusal_of};
-ghost use Rattle.brk_plans.specs.Reference.{IsPlanned, clock_test, tests_of};
+ghost use Rattle.brk_model.specs.Tests.{first_refusal, refusal_of_command};
+ghost use Rattle.brk_plans.specs.Reference.{IsReferencePlan, later_stamp_check, reference_checks};
 ghost use Rattle.brk_plans.specs.declared.plan.Plan.{Plan};
 ghost use Rattle.brk_plans.specs.declared.reference.ReferenceFacts.{ReferenceFacts};
 ghost use Rattle.brk_plans.specs.declared.reference.Reference.{Reference};
-ghost use Rattle.brk_plans.specs.Commands.{adding_command};
-ghost use Rattle.brk_trade_theorems.specs.Plans.{DoesCommand, IsRead};
+ghost use Rattle.brk_plans.specs.Commands.{command_adding_record};
+ghost use Rattle.brk_trade_theorems.specs.Plans.{PlanImplementsCommand, PlanReferencePrecondition};
 
 /// Proves that the checks of a record of reference data against facts that were read refuse it
 /// exactly as the model does.
-pub fn refusals_follow_from_the_tables()
-    ensures first { (base : Base) (reference : Reference) (found : ReferenceFacts) (last : Option ℕ) (now : ℕ) → IsRead base reference found last now
-        → first_refusal (tests_of reference found ++ clock_test last now ∷ []) ≡ refusal_of base now (adding_command reference) }
-    ensures refused { (base : Base) (reference : Reference) (found : ReferenceFacts) (last : Option ℕ) (now : ℕ) (refusal : Refusal) → IsRead base reference found last now
-        → first_refusal (tests_of reference found ++ clock_test last now ∷ []) ≡ Some refusal → step base now (adding_command reference) ≡ Err refusal }
+pub fn reference_checks_refuse_as_the_model()
+    ensures first { (base : Base) (reference : Reference) (found : ReferenceFacts) (last : Option ℕ) (now : ℕ) → PlanReferencePrecondition base reference found last now
+        → first_refusal (reference_checks reference found ++ later_stamp_check last now ∷ []) ≡ refusal_of_command base now (command_adding_record reference) }
+    ensures refused { (base : Base) (reference : Reference) (found : ReferenceFacts) (last : Option ℕ) (now : ℕ) (refusal : Refusal) → PlanReferencePrecondition base reference found last now
+        → first_refusal (reference_checks reference found ++ later_stamp_check last now ∷ []) ≡ Some refusal → step base now (command_adding_record reference) ≡ Err refusal }
 {}
 
 /// Proves that the plan of a record of reference data implements its command.
-pub fn plans_do_commands()
-    ensures { (base : Base) (reference : Reference) (found : ReferenceFacts) (last : Option ℕ) (now : ℕ) (plan : Plan) → IsRead base reference found last now
-        → IsPlanned reference found last now plan → DoesCommand base now (adding_command reference) plan }
+pub fn reference_plans_implement_commands()
+    ensures { (base : Base) (reference : Reference) (found : ReferenceFacts) (last : Option ℕ) (now : ℕ) (plan : Plan) → PlanReferencePrecondition base reference found last now
+        → IsReferencePlan reference found last now plan → PlanImplementsCommand base now (command_adding_record reference) plan }
 {}

@@ -1,47 +1,47 @@
 -- What was read for a correction of words decides on it.
 use Rattle.std.proofs.Common.{◌≡◌, ◌≤◌, ◌∙◌, ℕ, Option, Some, None, Result, Ok, Err, IfOk, ap, subst}
 use Rattle.std.specs.Prelude.{MatchOption, MatchResult, ◌∷◌, ◌++◌, []}
-use Rattle.brk_money.specs.Moments.{last_stamp}
+use Rattle.brk_money.specs.Moments.{greatest_stamp}
 use Rattle.brk_money.specs.declared.fault.Fault.{Fault}
 use Rattle.brk_money.specs.declared.refusal.Refusal.{Refusal}
 use Rattle.brk_model.specs.Base.{Base}
 use Rattle.brk_model.specs.Sheets.{sheets}
 use Rattle.brk_model.specs.Tables.{Tables}
 use Rattle.brk_model.specs.Tests.{first_refusal}
-use Rattle.brk_orders.specs.Records.{update_of}
+use Rattle.brk_orders.specs.Records.{text_update_command}
 use Rattle.brk_orders.specs.declared.update.Update.{Update}
-use Rattle.brk_plans.specs.Reference.{clock_test}
-use Rattle.brk_plans.specs.Update.{IsUpdate, update_tests}
+use Rattle.brk_plans.specs.Reference.{later_stamp_check}
+use Rattle.brk_plans.specs.Update.{IsUpdatePlan, update_checks}
 use Rattle.brk_plans.specs.declared.corrected.TextUpdate.{TextUpdate}
 use Rattle.brk_plans.specs.declared.plan.Plan.{Plan}
 use Rattle.brk_book_theorems.specs.Books.{BooksInvariant}
-use Rattle.brk_trade_theorems.specs.Plans.{DoesCommand}
+use Rattle.brk_trade_theorems.specs.Plans.{PlanImplementsCommand}
 use Rattle.brk_decisions.specs.Decisions.{Decides}
-use Rattle.brk_update_theorems.specs.Corrections.{IsFoundForUpdate, IsReadForUpdate}
+use Rattle.brk_update_theorems.specs.Corrections.{UpdateFactsMatchTables, PlanUpdatePrecondition}
 use Rattle.brk_update_theorems.proofs.Correcting.{update_does, update_refused}
 
 -- the last stamp, and what was found for an update
 abbrev pub Known : Update → Option TextUpdate → Option ℕ → Tables → Type 0
-Known u found last t = (last ≡ t.last) × IsFoundForUpdate t u found
+Known u found last t = (last ≡ t.last) × UpdateFactsMatchTables t u found
 
 -- its plan does it, and its refusal is that of the command
-module _ (u : Update) (found : Option TextUpdate) (last : Option ℕ) (now : ℕ) (moment : now ≤ last_stamp) where
-  looked_up : (t : Tables) → Known u found last t → (base : Base) → BooksInvariant base → t ≡ sheets base → IsReadForUpdate base u found last now
+module _ (u : Update) (found : Option TextUpdate) (last : Option ℕ) (now : ℕ) (moment : now ≤ greatest_stamp) where
+  looked_up : (t : Tables) → Known u found last t → (base : Base) → BooksInvariant base → t ≡ sheets base → PlanUpdatePrecondition base u found last now
   looked_up t known base books e = record {
     books = books;
-    found_read = subst (λ x. IsFoundForUpdate x u found) e known.1;
+    found_read = subst (λ x. UpdateFactsMatchTables x u found) e known.1;
     last_read = known.0 ∙ ap (λ x. x.last) e;
     moment = moment;
   }
 
-does : (u : Update) (found : Option TextUpdate) (last : Option ℕ) (now : ℕ) (plan : Plan) (base : Base) → IsReadForUpdate base u found last now
-    → MatchOption found ⊥ (λ found. IsUpdate found last now plan) → DoesCommand base now (update_of u) plan
+does : (u : Update) (found : Option TextUpdate) (last : Option ℕ) (now : ℕ) (plan : Plan) (base : Base) → PlanUpdatePrecondition base u found last now
+    → MatchOption found ⊥ (λ found. IsUpdatePlan found last now plan) → PlanImplementsCommand base now (text_update_command u) plan
 does u None last now plan base read p = absurd p
 does u (Some found) last now plan base read p = update_does base u found last now plan read p
 
-pub update_decided : (u : Update) (found : Option TextUpdate) (last : Option ℕ) (now : ℕ) → now ≤ last_stamp → (result : Result (Result Plan Refusal) Fault)
-    → IfOk result (λ planned. MatchResult planned (λ plan. MatchOption found ⊥ (λ found. IsUpdate found last now plan)) (λ refusal. first_refusal (update_tests u found ++ clock_test last now ∷ []) ≡ Some refusal))
-    → IfOk result (λ planned. (t : Tables) → Known u found last t → Decides now (update_of u) planned t)
+pub update_decided : (u : Update) (found : Option TextUpdate) (last : Option ℕ) (now : ℕ) → now ≤ greatest_stamp → (result : Result (Result Plan Refusal) Fault)
+    → IfOk result (λ planned. MatchResult planned (λ plan. MatchOption found ⊥ (λ found. IsUpdatePlan found last now plan)) (λ refusal. first_refusal (update_checks u found ++ later_stamp_check last now ∷ []) ≡ Some refusal))
+    → IfOk result (λ planned. (t : Tables) → Known u found last t → Decides now (text_update_command u) planned t)
 update_decided u found last now moment (Ok (Ok plan)) p = λ t known base books e. does u found last now plan base (looked_up u found last now moment t known base books e) p
 update_decided u found last now moment (Ok (Err refusal)) p = λ t known base books e. update_refused base u found last now refusal (looked_up u found last now moment t known base books e) p
 update_decided u found last now moment (Err fault) p = tt

@@ -2,12 +2,12 @@
 
 ghost use Rattle.std.specs.Prelude.{IfErr};
 ghost use Rattle.brk_decisions.specs.Decisions.{Decides};
-ghost use Rattle.brk_model.specs.Run.{MayFail};
-ghost use Rattle.brk_orders.specs.Records.{update_of};
+ghost use Rattle.brk_model.specs.Run.{IsCallFault};
+ghost use Rattle.brk_orders.specs.Records.{text_update_command};
 ghost use Rattle.brk_store.specs.Holds.{ReadPost};
-ghost use Rattle.brk_update_theorems.specs.Corrections.{IsFoundForUpdate};
+ghost use Rattle.brk_update_theorems.specs.Corrections.{UpdateFactsMatchTables};
 
-use crate::finding::{find_cash_names, find_cash_types, find_executors};
+use crate::finding::{read_cash_name_trades, read_cash_type_trades, read_executor_trades};
 use brk_money::{Fault, Planned, Stamp};
 use brk_orders::Update;
 use brk_store::Store;
@@ -17,18 +17,18 @@ use std::alloc::Global;
 
 // Returns the trades that an update changes, or `None` if a trade, account or security that it
 // names does not exist. Changes nothing. Fails with `Memory` or `Store` only.
-fn find<S: Alter>(
+fn read_update_facts<S: Alter>(
     alloc: Global,
     store: &mut Store<S>,
     update: &Update,
 ) -> Result<Option<TextUpdate>, Fault>
-    ensures read { ReadPost S.Store store.old store.new result (λ found t. IsFoundForUpdate t update.now found) }
-    ensures fault { IfErr result MayFail }
+    ensures read { ReadPost S.Store store.old store.new result (λ found t. UpdateFactsMatchTables t update.now found) }
+    ensures fault { IfErr result IsCallFault }
 {
     match update {
-        Update::Executors(trades) => find_executors(alloc, store, trades),
-        Update::CashTypes { account, span } => find_cash_types(alloc, store, *account, *span),
-        Update::CashNames { symbol, span } => find_cash_names(alloc, store, symbol, *span),
+        Update::Executors(trades) => read_executor_trades(alloc, store, trades),
+        Update::CashTypes { account, span } => read_cash_type_trades(alloc, store, *account, *span),
+        Update::CashNames { symbol, span } => read_cash_name_trades(alloc, store, symbol, *span),
     }
 }
 
@@ -43,11 +43,11 @@ pub fn decide_update<S: Alter>(
     now: Stamp,
     update: &Update,
 ) -> Planned<Plan>
-    ensures read { ReadPost S.Store store.old store.new result (Decides now (update_of update.now)) }
-    ensures fault { IfErr result MayFail }
+    ensures read { ReadPost S.Store store.old store.new result (Decides now (text_update_command update.now)) }
+    ensures fault { IfErr result IsCallFault }
 {
     let _moment = now.get();
     let last = store.last()?;
-    let found = find(alloc, store, update)?;
+    let found = read_update_facts(alloc, store, update)?;
     plan_update(alloc, update, found, last, now)
 }

@@ -2,14 +2,14 @@
 
 ghost use Rattle.std.specs.Prelude.{◌≡◌, IfErr, MatchOption, is_none, is_some, true};
 ghost use Rattle.brk_changes.specs.Chosen as chosen;
-ghost use Rattle.brk_model.specs.Joins.{account_in, security_in};
-ghost use Rattle.brk_model.specs.Run.{MayFail};
+ghost use Rattle.brk_model.specs.Joins.{account_row_with_id, security_row_with_symbol};
+ghost use Rattle.brk_model.specs.Run.{IsCallFault};
 ghost use Rattle.brk_store.specs.Holds.{ReadPost};
-ghost use Rattle.brk_update_theorems.specs.Corrections.{ArePaid, AreSettlementTexts, IsFoundForUpdate, IsNamed};
+ghost use Rattle.brk_update_theorems.specs.Corrections.{CashTextsMatchTables, SettlementTextsMatchTables, UpdateFactsMatchTables, SecurityHasName};
 ghost use Rattle.brk_orders.specs.declared.update.Update.TheVariants as update;
 
-use crate::known::{known_cash_name, known_cash_type};
-use brk_decisions::find_trades;
+use crate::known::{require_cash_name, require_cash_type};
+use brk_decisions::read_trades_by_ids;
 use brk_money::{Fault, Id};
 use brk_orders::{Span, TradeIds};
 use brk_ref::{Name, Symbol};
@@ -20,19 +20,19 @@ use std::alloc::Global;
 
 // Returns the selected trades of an account, each with the cash type of its settlement. Changes
 // nothing. Fails with `Memory` or `Store` only.
-fn find_settled<S: Alter>(
+fn read_settled_trades<S: Alter>(
     alloc: Global,
     store: &mut Store<S>,
     account: Id,
     span: Span,
 ) -> Result<Vec<SettlementText>, Fault>
-    ensures read { ReadPost S.Store store.old store.new result (λ settled t. AreSettlementTexts t (chosen.completed_of_account account span.first span.last t) settled.items) }
-    ensures fault { IfErr result MayFail }
+    ensures read { ReadPost S.Store store.old store.new result (λ settled t. SettlementTextsMatchTables t (chosen.completed_trades_of_account account span.first span.last t) settled.items) }
+    ensures fault { IfErr result IsCallFault }
 {
     let trades = store.completed_of_account(alloc, account, span)?;
     let mut settled = Vec::new(alloc);
     for trade in &trades {
-        let cash_type = known_cash_type(store, trade.id)?;
+        let cash_type = require_cash_type(store, trade.id)?;
         settled.push(SettlementText {
             trade: trade.id,
             is_cash: trade.is_cash,
@@ -44,19 +44,19 @@ fn find_settled<S: Alter>(
 
 // Returns the selected cash trades of a symbol, each with the name of its cash row. Changes
 // nothing. Fails with `Memory` or `Store` only.
-fn find_paid<S: Alter>(
+fn read_paid_trades<S: Alter>(
     alloc: Global,
     store: &mut Store<S>,
     symbol: &Symbol,
     span: Span,
 ) -> Result<Vec<CashText>, Fault>
-    ensures read { ReadPost S.Store store.old store.new result (λ paid t. ArePaid t (chosen.completed_cash_of_symbol symbol.now span.first span.last t) paid.items) }
-    ensures fault { IfErr result MayFail }
+    ensures read { ReadPost S.Store store.old store.new result (λ paid t. CashTextsMatchTables t (chosen.completed_cash_trades_of_symbol symbol.now span.first span.last t) paid.items) }
+    ensures fault { IfErr result IsCallFault }
 {
     let trades = store.completed_cash_of_symbol(alloc, symbol, span)?;
     let mut paid = Vec::new(alloc);
     for trade in &trades {
-        let name = known_cash_name(store, trade.id)?;
+        let name = require_cash_name(store, trade.id)?;
         paid.push(CashText {
             trade: trade.id,
             kind: trade.kind,
@@ -69,51 +69,54 @@ fn find_paid<S: Alter>(
 
 // Returns the trades of an update of executors, or `None` if one of them does not exist. Changes
 // nothing. Fails with `Memory` or `Store` only.
-pub(crate) fn find_executors<S: Alter>(
+pub(crate) fn read_executor_trades<S: Alter>(
     alloc: Global,
     store: &mut Store<S>,
     trades: &TradeIds,
 ) -> Result<Option<TextUpdate>, Fault>
-    ensures read { ReadPost S.Store store.old store.new result (λ found t. IsFoundForUpdate t (update.Executors trades.now) found) }
-    ensures fault { IfErr result MayFail }
+    ensures read { ReadPost S.Store store.old store.new result (λ found t. UpdateFactsMatchTables t (update.Executors trades.now) found) }
+    ensures fault { IfErr result IsCallFault }
 {
-    match find_trades(alloc, store, trades.ids())? {
+    match read_trades_by_ids(alloc, store, trades.ids())? {
         Some(trades) => Ok(Some(TextUpdate::Executors(trades))),
         None => Ok(None),
     }
 }
 
 // Returns true if the account exists. Changes nothing. Fails with `Memory` or `Store` only.
-fn is_account_there<S: Alter>(store: &mut Store<S>, account: Id) -> Result<bool, Fault>
-    ensures read { ReadPost S.Store store.old store.new result (λ there t. there ≡ is_some (account_in t account)) }
-    ensures fault { IfErr result MayFail }
+fn account_row_exists<S: Alter>(store: &mut Store<S>, account: Id) -> Result<bool, Fault>
+    ensures read { ReadPost S.Store store.old store.new result (λ there t. there ≡ is_some (account_row_with_id t account)) }
+    ensures fault { IfErr result IsCallFault }
 {
     Ok(store.account(account)?.is_some())
 }
 
 // Returns the trades of an update of cash types, or `None` if the account does not exist. Changes
 // nothing. Fails with `Memory` or `Store` only.
-pub(crate) fn find_cash_types<S: Alter>(
+pub(crate) fn read_cash_type_trades<S: Alter>(
     alloc: Global,
     store: &mut Store<S>,
     account: Id,
     span: Span,
 ) -> Result<Option<TextUpdate>, Fault>
-    ensures read { ReadPost S.Store store.old store.new result (λ found t. IsFoundForUpdate t (update.CashTypes account span) found) }
-    ensures fault { IfErr result MayFail }
+    ensures read { ReadPost S.Store store.old store.new result (λ found t. UpdateFactsMatchTables t (update.CashTypes account span) found) }
+    ensures fault { IfErr result IsCallFault }
 {
-    if !is_account_there(store, account)? {
+    if !account_row_exists(store, account)? {
         return Ok(None);
     }
-    let settled = find_settled(alloc, store, account, span)?;
+    let settled = read_settled_trades(alloc, store, account, span)?;
     Ok(Some(TextUpdate::CashTypes(settled)))
 }
 
 // Returns the name of the security with a symbol, or `None` if the security does not exist. Changes
 // nothing. Fails with `Memory` or `Store` only.
-fn name_of<S: Alter>(store: &mut Store<S>, symbol: &Symbol) -> Result<Option<Name>, Fault>
-    ensures read { ReadPost S.Store store.old store.new result (λ name t. MatchOption name (is_none (security_in t symbol.now) ≡ true) (IsNamed t symbol.now)) }
-    ensures fault { IfErr result MayFail }
+fn read_security_name<S: Alter>(
+    store: &mut Store<S>,
+    symbol: &Symbol,
+) -> Result<Option<Name>, Fault>
+    ensures read { ReadPost S.Store store.old store.new result (λ name t. MatchOption name (is_none (security_row_with_symbol t symbol.now) ≡ true) (SecurityHasName t symbol.now)) }
+    ensures fault { IfErr result IsCallFault }
 {
     match store.security(symbol)? {
         Some(security) => Ok(Some(security.name)),
@@ -123,18 +126,18 @@ fn name_of<S: Alter>(store: &mut Store<S>, symbol: &Symbol) -> Result<Option<Nam
 
 // Returns the trades of an update of cash names, or `None` if the security does not exist. Changes
 // nothing. Fails with `Memory` or `Store` only.
-pub(crate) fn find_cash_names<S: Alter>(
+pub(crate) fn read_cash_name_trades<S: Alter>(
     alloc: Global,
     store: &mut Store<S>,
     symbol: &Symbol,
     span: Span,
 ) -> Result<Option<TextUpdate>, Fault>
-    ensures read { ReadPost S.Store store.old store.new result (λ found t. IsFoundForUpdate t (update.CashNames symbol.now span) found) }
-    ensures fault { IfErr result MayFail }
+    ensures read { ReadPost S.Store store.old store.new result (λ found t. UpdateFactsMatchTables t (update.CashNames symbol.now span) found) }
+    ensures fault { IfErr result IsCallFault }
 {
-    let Some(name) = name_of(store, symbol)? else {
+    let Some(name) = read_security_name(store, symbol)? else {
         return Ok(None);
     };
-    let paid = find_paid(alloc, store, symbol, span)?;
+    let paid = read_paid_trades(alloc, store, symbol, span)?;
     Ok(Some(TextUpdate::CashNames(name, paid)))
 }

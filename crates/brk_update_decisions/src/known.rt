@@ -1,10 +1,10 @@
 //! Reads of the texts of a completed trade. If its row does not exist, the fault is `Store`.
 
 ghost use Rattle.std.specs.Prelude.{◌≡◌, IfErr, Some, option_map, string_bytes};
-ghost use Rattle.brk_changes.specs.Rows.{cash_type_word};
-ghost use Rattle.brk_model.specs.Run.{MayFail};
+ghost use Rattle.brk_changes.specs.Rows.{cash_type_text};
+ghost use Rattle.brk_model.specs.Run.{IsCallFault};
 ghost use Rattle.brk_store.specs.Holds.{ReadPost};
-ghost use Rattle.brk_update_theorems.specs.Corrections.{cash_row_of_trade, settlement_in};
+ghost use Rattle.brk_update_theorems.specs.Corrections.{cash_row_of_trade, settlement_row_of_trade};
 
 use brk_money::{Fault, Id};
 use brk_store::Store;
@@ -13,9 +13,12 @@ use sqlite::Alter;
 
 // Returns the cash type of a trade's settlement. Changes nothing. Fails with `Memory` or `Store`
 // only; with `Store` also if the trade has none.
-pub(crate) fn known_cash_type<S: Alter>(store: &mut Store<S>, trade: Id) -> Result<CashType, Fault>
-    ensures read { ReadPost S.Store store.old store.new result (λ cash_type t. Some (cash_type_word cash_type) ≡ option_map (λ s. s.cash_type) (settlement_in t trade)) }
-    ensures fault { IfErr result MayFail }
+pub(crate) fn require_cash_type<S: Alter>(
+    store: &mut Store<S>,
+    trade: Id,
+) -> Result<CashType, Fault>
+    ensures read { ReadPost S.Store store.old store.new result (λ cash_type t. Some (cash_type_text cash_type) ≡ option_map (λ s. s.cash_type) (settlement_row_of_trade t trade)) }
+    ensures fault { IfErr result IsCallFault }
 {
     match store.settlement(trade)? {
         Some(settlement) => Ok(settlement.cash_type),
@@ -25,9 +28,9 @@ pub(crate) fn known_cash_type<S: Alter>(store: &mut Store<S>, trade: Id) -> Resu
 
 // Returns the name of a trade's cash row (CM_NAME). Changes nothing. Fails with `Memory` or `Store`
 // only; with `Store` also if the trade has none.
-pub(crate) fn known_cash_name<S: Alter>(store: &mut Store<S>, trade: Id) -> Result<String, Fault>
+pub(crate) fn require_cash_name<S: Alter>(store: &mut Store<S>, trade: Id) -> Result<String, Fault>
     ensures read { ReadPost S.Store store.old store.new result (λ name t. Some (string_bytes name) ≡ option_map (λ c. c.name) (cash_row_of_trade t trade)) }
-    ensures fault { IfErr result MayFail }
+    ensures fault { IfErr result IsCallFault }
 {
     match store.cash_row(trade)? {
         Some(cash) => Ok(cash.name),

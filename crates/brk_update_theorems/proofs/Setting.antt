@@ -2,7 +2,7 @@
 use Rattle.std.proofs.Common.{◌≡◌, ℕ, ◌==◌, ◌||◌, Bool, true, false, cond, List, [], ◌∷◌, ◌++◌, refl, sym, ap, ◌∙◌, map, fold}
 use Rattle.std.specs.List.{AllByRecursion}
 use Rattle.brk_money.specs.Spelling.{Text}
-use Rattle.brk_model.specs.Keys.{KeyPart, by_key}
+use Rattle.brk_model.specs.Keys.{KeyPart, rows_sorted_by_key}
 use Rattle.brk_model.specs.Lists.{contains_number, update_where}
 use Rattle.brk_model.specs.Records.{Trade}
 use Rattle.brk_book_theorems.proofs.Bools.{numbers_back}
@@ -93,12 +93,12 @@ module _ {Row C : Type 0} (id : Row → ℕ) (set : Text → Row → Row) (cid :
         by_test false = refl
 
     pub all_set : (cs : List C) (ts : List Trade) → AllByRecursion (IsOwn cs) ts
-        → fold (λ rows c. update_where (λ r. id r == cid c) (set (new c)) rows) (by_key key (map row ts)) cs
-        ≡ by_key key (map (λ t. cond (contains_number t.id (map cid cs)) (set (word t) (row t)) (row t)) ts)
+        → fold (λ rows c. update_where (λ r. id r == cid c) (set (new c)) rows) (rows_sorted_by_key key (map row ts)) cs
+        ≡ rows_sorted_by_key key (map (λ t. cond (contains_number t.id (map cid cs)) (set (word t) (row t)) (row t)) ts)
     unfolding worded
     all_set cs ts own =
-        each_row (by_key key (map row ts)) cs
+        each_row (rows_sorted_by_key key (map row ts)) cs
         ∙ sym (by_key-map key key (set_all cs) (map row ts) (key_kept cs))
-        ∙ ap (by_key key) (map-map (set_all cs) row ts
+        ∙ ap (rows_sorted_by_key key) (map-map (set_all cs) row ts
         ∙ map-same (λ t. set_all cs (row t)) (λ t. cond (contains_number t.id (map cid cs)) (set (word t) (row t)) (row t)) ts
         (All-map ts (λ t k. some_set t false cs k) own))

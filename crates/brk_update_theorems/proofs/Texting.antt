@@ -4,12 +4,12 @@ use Rattle.std.specs.Prelude.{nat_lt}
 use Rattle.std.specs.Option.{option_map_or}
 use Rattle.std.specs.List.{AllByRecursion}
 use Rattle.brk_money.specs.Spelling.{Text}
-use Rattle.brk_model.specs.Derived.{Posting, cash_trades, in_turn, posting_of_movement, posting_of_trade, postings}
-use Rattle.brk_model.specs.Keys.{by_key, move_key}
+use Rattle.brk_model.specs.Derived.{Posting, cash_trades, postings_sorted_by_stamp, posting_of_movement, posting_of_trade, postings}
+use Rattle.brk_model.specs.Keys.{rows_sorted_by_key, move_key}
 use Rattle.brk_model.specs.Lists.{contains_number, update_where}
-use Rattle.brk_model.specs.LookupView.{is_cash_of}
+use Rattle.brk_model.specs.LookupView.{is_cash_row_of_trade}
 use Rattle.brk_model.specs.Records.{Account, Movement, Trade}
-use Rattle.brk_model.specs.Tables.{MoveRow, move_row, numbered}
+use Rattle.brk_model.specs.Tables.{MoveRow, move_row, numbered_move_rows}
 use Rattle.brk_book_theorems.proofs.Bools.{numbers_back}
 use Rattle.brk_book_theorems.proofs.Order.{by_key-map}
 use Rattle.brk_book_theorems.proofs.Places.{map-append}
@@ -28,16 +28,16 @@ renamed_row g r = record r { name = g r.trade r.name }
 abbrev pub renamed : Rename → Posting → Posting
 renamed g p = record p { name = g p.trade p.name }
 
-numbered_through : (g : Rename) (n : ℕ) (ps : List Posting) → map (renamed_row g) (numbered n ps) ≡ numbered n (map (renamed g) ps)
+numbered_through : (g : Rename) (n : ℕ) (ps : List Posting) → map (renamed_row g) (numbered_move_rows n ps) ≡ numbered_move_rows n (map (renamed g) ps)
 numbered_through g n [] = refl
 numbered_through g n (p ∷ ps) = ap (λ rows. move_row n (renamed g p) ∷ rows) (numbered_through g (n + 1) ps)
 
 pub rows_through : (g : Rename) (ps : List Posting)
-    → map (renamed_row g) (by_key move_key (numbered 1 (in_turn ps))) ≡ by_key move_key (numbered 1 (in_turn (map (renamed g) ps)))
+    → map (renamed_row g) (rows_sorted_by_key move_key (numbered_move_rows 1 (postings_sorted_by_stamp ps))) ≡ rows_sorted_by_key move_key (numbered_move_rows 1 (postings_sorted_by_stamp (map (renamed g) ps)))
 rows_through g ps =
-    sym (by_key-map move_key move_key (renamed_row g) (numbered 1 (in_turn ps)) (λ r. refl))
-    ∙ ap (by_key move_key) (numbered_through g 1 (in_turn ps)
-    ∙ ap (numbered 1) (sym (sort-map (λ a b. nat_lt a.stamp b.stamp) (λ a b. nat_lt a.stamp b.stamp) (renamed g) ps (λ a b. refl))))
+    sym (by_key-map move_key move_key (renamed_row g) (numbered_move_rows 1 (postings_sorted_by_stamp ps)) (λ r. refl))
+    ∙ ap (rows_sorted_by_key move_key) (numbered_through g 1 (postings_sorted_by_stamp ps)
+    ∙ ap (numbered_move_rows 1) (sym (sort-map (λ a b. nat_lt a.stamp b.stamp) (λ a b. nat_lt a.stamp b.stamp) (renamed g) ps (λ a b. refl))))
 
 -- ---- texts that are set, each by its trade
 
@@ -50,7 +50,7 @@ module _ {C : Type 0} (cid : C → ℕ) (new : C → Text) where
   all_named cs trade name = fold (one_named trade) name cs
 
   abbrev set_text : List MoveRow → C → List MoveRow
-  set_text rows c = update_where (is_cash_of (cid c)) (λ r. record r { name = new c }) rows
+  set_text rows c = update_where (is_cash_row_of_trade (cid c)) (λ r. record r { name = new c }) rows
 
   one_text : (c : C) (r : MoveRow) (b : Bool) → cond b (record r { name = new c }) r ≡ record r { name = cond b (new c) r.name }
   one_text c r true = refl
@@ -65,12 +65,12 @@ module _ {C : Type 0} (cid : C → ℕ) (new : C → Text) where
       itself (r ∷ rows) = ap (λ rs. r ∷ rs) (itself rows)
   each_text rows (c ∷ cs) =
       each_text (set_text rows c) cs
-      ∙ map-map (renamed_row (all_named cs)) (λ r. cond (is_cash_of (cid c) r) (record r { name = new c }) r) rows
+      ∙ map-map (renamed_row (all_named cs)) (λ r. cond (is_cash_row_of_trade (cid c) r) (record r { name = new c }) r) rows
       ∙ same rows
     where
-      same : (rows : List MoveRow) → map (λ r. renamed_row (all_named cs) (cond (is_cash_of (cid c) r) (record r { name = new c }) r)) rows ≡ map (renamed_row (all_named (c ∷ cs))) rows
+      same : (rows : List MoveRow) → map (λ r. renamed_row (all_named cs) (cond (is_cash_row_of_trade (cid c) r) (record r { name = new c }) r)) rows ≡ map (renamed_row (all_named (c ∷ cs))) rows
       same [] = refl
-      same (r ∷ rows) = λ i. renamed_row (all_named cs) (one_text c r (is_cash_of (cid c) r) i) ∷ same rows i
+      same (r ∷ rows) = λ i. renamed_row (all_named cs) (one_text c r (is_cash_row_of_trade (cid c) r) i) ∷ same rows i
 
   -- a movement keeps its name
   unnamed : (cs : List C) (name : Text) → all_named cs None name ≡ name

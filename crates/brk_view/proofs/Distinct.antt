@@ -4,10 +4,10 @@ use Rattle.std.specs.Prelude.{◌||◌, bytes_eq}
 use Rattle.std.proofs.lemmas.Slice.Eq.{bytes_eq-Decides}
 use Rattle.brk_money.specs.Spelling.{Text}
 use Rattle.brk_money.specs.declared.refusal.Refusal.TheVariants.{BadText}
-use Rattle.brk_model.specs.Forms.{Read, ◌⊛◌, read_each, read_name}
+use Rattle.brk_model.specs.Forms.{ReadResult, ◌⊛◌, read_each_text, read_name}
 use Rattle.brk_model.specs.Lists.{distinct_texts}
 use Rattle.brk_ref.proofs.Applied.{text_left, text_right}
-use Rattle.brk_view.specs.BrokerNames.{each_once, is_named, names_then, other_names, with_name}
+use Rattle.brk_view.specs.BrokerNames.{distinct_parsed_names, contains_name, names_then_new_names, distinct_new_names, names_with_new_name}
 
 -- ---- names left out twice
 
@@ -42,9 +42,9 @@ not_true false e = refl
 
 -- the test of a name that is not there yet
 abbrev is_new : List Text → Text → Bool
-is_new names name = not (is_named names name)
+is_new names name = not (contains_name names name)
 
-told_again : (names : List Text) (name : Text) (more : List Text) → is_named names name ≡ true → other_names names (name ∷ more) ≡ other_names names more
+told_again : (names : List Text) (name : Text) (more : List Text) → contains_name names name ≡ true → distinct_new_names names (name ∷ more) ≡ distinct_new_names names more
 told_again names name more e =
     ap (λ b. cond (not b) (name ∷ rest) rest) e ∙ twice (is_new names) (λ other. not (bytes_eq other name)) (distinct_texts more) (λ x f. other x (bytes_eq x name) refl f)
   where
@@ -53,15 +53,15 @@ told_again names name more e =
 
     other : (x : Text) (b : Bool) → bytes_eq x name ≡ b → is_new names x ≡ true → not (bytes_eq x name) ≡ true
     other x false g f = ap not g
-    other x true g f = absurd (let k : false ≡ true = sym (not_true (is_named names x) f) ∙ ap (is_named names) (same x name g) ∙ e in cc)
+    other x true g f = absurd (let k : false ≡ true = sym (not_true (contains_name names x) f) ∙ ap (contains_name names) (same x name g) ∙ e in cc)
 
-any_last : (names : List Text) (name x : Text) → is_named (names ++ name ∷ []) x ≡ is_named names x || bytes_eq x name
+any_last : (names : List Text) (name x : Text) → contains_name (names ++ name ∷ []) x ≡ contains_name names x || bytes_eq x name
 any_last [] name x = or_false (bytes_eq x name)
   where
     or_false : (b : Bool) → b || false ≡ b
     or_false true = refl
     or_false false = refl
-any_last (y ∷ names) name x = ap (λ b. bytes_eq x y || b) (any_last names name x) ∙ assoc (bytes_eq x y) (is_named names x) (bytes_eq x name)
+any_last (y ∷ names) name x = ap (λ b. bytes_eq x y || b) (any_last names name x) ∙ assoc (bytes_eq x y) (contains_name names x) (bytes_eq x name)
   where
     assoc : (a b c : Bool) → a || (b || c) ≡ (a || b) || c
     assoc true b c = refl
@@ -77,23 +77,23 @@ append_one : {X : Type 0} (xs : List X) (x : X) (ys : List X) → xs ++ x ∷ ys
 append_one [] x ys = refl
 append_one (y ∷ xs) x ys = ap (λ zs. y ∷ zs) (append_one xs x ys)
 
-told_first : (names : List Text) (name : Text) (more : List Text) → is_named names name ≡ false
-    → names ++ other_names names (name ∷ more) ≡ (names ++ name ∷ []) ++ other_names (names ++ name ∷ []) more
+told_first : (names : List Text) (name : Text) (more : List Text) → contains_name names name ≡ false
+    → names ++ distinct_new_names names (name ∷ more) ≡ (names ++ name ∷ []) ++ distinct_new_names (names ++ name ∷ []) more
 told_first names name more e =
     ap (λ b. names ++ cond (not b) (name ∷ rest) rest) e ∙ append_one names name rest
     ∙ ap (λ ys. (names ++ name ∷ []) ++ ys) (both (is_new names) (λ other. not (bytes_eq other name)) (is_new (names ++ name ∷ [])) (distinct_texts more)
-    (λ x. ap not (any_last names name x) ∙ neither (is_named names x) (bytes_eq x name)))
+    (λ x. ap not (any_last names name x) ∙ neither (contains_name names x) (bytes_eq x name)))
   where
     rest : List Text
     rest = filter (is_new names) (filter (λ other. not (bytes_eq other name)) (distinct_texts more))
 
-told_next : (names : List Text) (name : Text) (more : List Text) → names ++ other_names names (name ∷ more) ≡ with_name names name ++ other_names (with_name names name) more
-told_next names name more = by_test (is_named names name) refl
+told_next : (names : List Text) (name : Text) (more : List Text) → names ++ distinct_new_names names (name ∷ more) ≡ names_with_new_name names name ++ distinct_new_names (names_with_new_name names name) more
+told_next names name more = by_test (contains_name names name) refl
   where
     taken : List Text → List Text
-    taken ns = ns ++ other_names ns more
+    taken ns = ns ++ distinct_new_names ns more
 
-    by_test : (b : Bool) → is_named names name ≡ b → names ++ other_names names (name ∷ more) ≡ taken (with_name names name)
+    by_test : (b : Bool) → contains_name names name ≡ b → names ++ distinct_new_names names (name ∷ more) ≡ taken (names_with_new_name names name)
     by_test true e = ap (λ ys. names ++ ys) (told_again names name more e) ∙ sym (ap (λ b. taken (cond b names (names ++ name ∷ []))) e)
     by_test false e = told_first names name more e ∙ sym (ap (λ b. taken (cond b names (names ++ name ∷ []))) e)
 
@@ -111,15 +111,15 @@ distinct_last (x ∷ names) name =
     ap (λ ys. x ∷ filter (λ other. not (bytes_eq other x)) ys) (distinct_last names name)
     ∙ ap (λ ys. x ∷ ys) (filter-append (λ other. not (bytes_eq other x)) (distinct_texts names) (filter (is_new names) (name ∷ [])))
     ∙ ap (λ ys. (x ∷ filter (λ other. not (bytes_eq other x)) (distinct_texts names)) ++ ys)
-    (both (λ other. not (bytes_eq other x)) (is_new names) (is_new (x ∷ names)) (name ∷ []) (λ y. one_of (bytes_eq y x) (is_named names y)))
+    (both (λ other. not (bytes_eq other x)) (is_new names) (is_new (x ∷ names)) (name ∷ []) (λ y. one_of (bytes_eq y x) (contains_name names y)))
   where
     one_of : (a b : Bool) → not (a || b) ≡ cond (not b) (not a) false
     one_of = neither
 
-pub still_distinct : (names : List Text) (name : Text) → distinct_texts names ≡ names → distinct_texts (with_name names name) ≡ with_name names name
-still_distinct names name d = by_test (is_named names name) refl
+pub still_distinct : (names : List Text) (name : Text) → distinct_texts names ≡ names → distinct_texts (names_with_new_name names name) ≡ names_with_new_name names name
+still_distinct names name d = by_test (contains_name names name) refl
   where
-    by_test : (b : Bool) → is_named names name ≡ b → distinct_texts (cond (is_named names name) names (names ++ name ∷ [])) ≡ cond (is_named names name) names (names ++ name ∷ [])
+    by_test : (b : Bool) → contains_name names name ≡ b → distinct_texts (cond (contains_name names name) names (names ++ name ∷ [])) ≡ cond (contains_name names name) names (names ++ name ∷ [])
     by_test true e = rw e d
     by_test false e = rw e (distinct_last names name ∙ (λ i. d i ++ cond (not (e i)) (name ∷ []) []))
 
@@ -133,24 +133,24 @@ append_nil : {X : Type 0} (xs : List X) → xs ++ [] ≡ xs
 append_nil [] = refl
 append_nil (x ∷ xs) = ap (λ ys. x ∷ ys) (append_nil xs)
 
-pub none_yet : (read : Read (List Text)) → each_once read ≡ names_then [] read
+pub none_yet : (read : ReadResult (List Text)) → distinct_parsed_names read ≡ names_then_new_names [] read
 none_yet (Ok names) = ap Ok (sym (filter_all (is_new []) (distinct_texts names) (λ x. refl)))
 none_yet (Err refusal) = refl
 
-pub name_taken : (names : List Text) (name : Text) (read : Read (List Text)) → names_then names (Ok (λ x xs. x ∷ xs) ⊛ Ok name ⊛ read) ≡ names_then (with_name names name) read
+pub name_taken : (names : List Text) (name : Text) (read : ReadResult (List Text)) → names_then_new_names names (Ok (λ x xs. x ∷ xs) ⊛ Ok name ⊛ read) ≡ names_then_new_names (names_with_new_name names name) read
 name_taken names name (Ok more) = ap Ok (told_next names name more)
 name_taken names name (Err refusal) = refl
 
-pub all_taken : (names : List Text) → names_then names (Ok []) ≡ Ok names
+pub all_taken : (names : List Text) → names_then_new_names names (Ok []) ≡ Ok names
 all_taken names = ap Ok (append_nil names)
 
 -- a name that was read is the next, and one that was not is the refusal
 pub next_taken : (names : List Text) (field name : Text) (rest : List Text) → Ok name ≡ read_name field
-    → names_then names (read_each read_name (field ∷ rest)) ≡ names_then (with_name names name) (read_each read_name rest)
+    → names_then_new_names names (read_each_text read_name (field ∷ rest)) ≡ names_then_new_names (names_with_new_name names name) (read_each_text read_name rest)
 next_taken names field name rest e =
-    ap (λ read. names_then names (Ok (λ x xs. x ∷ xs) ⊛ read ⊛ read_each read_name rest)) (sym e) ∙ name_taken names name (read_each read_name rest)
+    ap (λ read. names_then_new_names names (Ok (λ x xs. x ∷ xs) ⊛ read ⊛ read_each_text read_name rest)) (sym e) ∙ name_taken names name (read_each_text read_name rest)
 
-pub next_refused : (names : List Text) (field : Text) (rest : List Text) → Err BadText ≡ read_name field → names_then names (read_each read_name (field ∷ rest)) ≡ Err BadText
+pub next_refused : (names : List Text) (field : Text) (rest : List Text) → Err BadText ≡ read_name field → names_then_new_names names (read_each_text read_name (field ∷ rest)) ≡ Err BadText
 next_refused names field rest e =
-    ap (names_then names) (text_left (let cons : Read (Text → List Text → List Text) = Ok (λ x xs. x ∷ xs) in cons ⊛ read_name field) (read_each read_name rest)
-    (text_right (let cons : Read (Text → List Text → List Text) = Ok (λ x xs. x ∷ xs) in cons) (read_name field) (sym e)))
+    ap (names_then_new_names names) (text_left (let cons : ReadResult (Text → List Text → List Text) = Ok (λ x xs. x ∷ xs) in cons ⊛ read_name field) (read_each_text read_name rest)
+    (text_right (let cons : ReadResult (Text → List Text → List Text) = Ok (λ x xs. x ∷ xs) in cons) (read_name field) (sym e)))

@@ -6,9 +6,9 @@ use Rattle.std.specs.Ordering.{is_eq, is_lt}
 use Rattle.std.proofs.lemmas.Bool.{cases_Bool, ltb-true, ltb-false}
 use Rattle.std.proofs.lemmas.Bool.Decides.{nat_tests}
 use Rattle.std.proofs.lemmas.Map.Text.{is_eq-slice_cmp}
-use Rattle.brk_model.specs.Lists.{text_before}
+use Rattle.brk_model.specs.Lists.{is_text_less}
 
-texts_before : (s t : List ℕ) → text_before s t ≡ is_lt (slice_cmp nat_cmp s t)
+texts_before : (s t : List ℕ) → is_text_less s t ≡ is_lt (slice_cmp nat_cmp s t)
 texts_before [] [] = refl
 texts_before (x ∷ s) [] = refl
 texts_before [] (y ∷ t) = refl
@@ -22,7 +22,7 @@ texts_before (x ∷ s) (y ∷ t) = elim (cases_Bool (nat_lt x y)) [
 
 -- what is told of two names that compare so
 pub names_compared : (s t : List ℕ) (o : Ordering) (later : Bool) → slice_cmp nat_cmp s t ≡ o
-    → text_before s t || (bytes_eq s t && later) ≡ is_lt o || (is_eq o && later)
+    → is_text_less s t || (bytes_eq s t && later) ≡ is_lt o || (is_eq o && later)
 names_compared s t o later e =
     (λ i. texts_before s t i || (sym (is_eq-slice_cmp s t) i && later)) ∙ (λ i. is_lt (e i) || (is_eq (e i) && later))
 

@@ -1,9 +1,9 @@
 -- The records of the lots that a trade touched.
 use Rattle.std.specs.Prelude.{◌≡◌, ℕ, Bool, nat_le, List, [], ◌∷◌, filter, map, take, decimal, Option, Some, None, option_map, option_to_list, IfSome}
 use Rattle.std.specs.Fmt.{signed_decimal}
-use Rattle.brk_model.specs.Joins.{oldest_first_rows, trades_in}
-use Rattle.brk_model.specs.Lists.{rising, sort_by}
-use Rattle.brk_model.specs.LookupView.{is_touched_by, touch_stamp}
+use Rattle.brk_model.specs.Joins.{trade_rows_oldest_first, trade_rows_of_account}
+use Rattle.brk_model.specs.Lists.{is_pair_less, sort_by}
+use Rattle.brk_model.specs.LookupView.{trade_touches_lot, stamp_of_touching_trade}
 use Rattle.brk_model.specs.Queries as model
 use Rattle.brk_model.specs.Tables.{Tables, HoldingHistoryRow, TradeRow}
 use Rattle.brk_money.specs.Spelling.{Text}
@@ -11,37 +11,37 @@ use Rattle.brk_view.specs.declared.lots.LotTouch.{LotTouch}
 use Rattle.brk_view.specs.declared.lots.TouchedLots.{TouchedLots}
 
 -- True if the lot change `a` is before `b` when they are sorted by stamp, then by lot, ascending.
-abbrev pub touch_before : LotTouch → LotTouch → Bool
-touch_before a b = rising a.stamp b.stamp a.change.lot b.change.lot
+abbrev pub is_earlier_lot_change : LotTouch → LotTouch → Bool
+is_earlier_lot_change a b = is_pair_less a.stamp b.stamp a.change.lot b.change.lot
 
 -- The record of the lot change `touch`: its lot, its trade, and the quantity of the lot before and
 -- after it.
-abbrev pub touch_record : LotTouch → List Text
-touch_record touch = decimal touch.change.lot ∷ decimal touch.change.trade ∷ signed_decimal touch.change.before ∷ signed_decimal touch.change.after ∷ []
+abbrev pub lot_change_record : LotTouch → List Text
+lot_change_record touch = decimal touch.change.lot ∷ decimal touch.change.trade ∷ signed_decimal touch.change.before ∷ signed_decimal touch.change.after ∷ []
 
 -- The records of a trade's touched lots: its id, then a record for each change, or no record if
 -- there is no trade.
-abbrev pub touched_records : Option TouchedLots → model.View
-touched_records None = []
-touched_records (Some lots) = (decimal lots.trade ∷ []) ∷ map touch_record lots.changes.items
+abbrev pub touched_lot_records : Option TouchedLots → model.View
+touched_lot_records None = []
+touched_lot_records (Some lots) = (decimal lots.trade ∷ []) ∷ map lot_change_record lots.changes.items
 
 -- The lot change that the HOLDING_HISTORY row `row` records, with the stamp of the trade that made
 -- it.
-abbrev pub touch_in : Tables → HoldingHistoryRow → LotTouch
-touch_in t row = record { change = record { lot = row.lot; trade = row.trade; before = row.before; after = row.after }; stamp = touch_stamp t row }
+abbrev pub stamped_lot_change : Tables → HoldingHistoryRow → LotTouch
+stamped_lot_change t row = record { change = record { lot = row.lot; trade = row.trade; before = row.before; after = row.after }; stamp = stamp_of_touching_trade t row }
 
 -- All changes of the lots that `trade` touched, in the order of the table HOLDING_HISTORY.
-abbrev pub touches_of : Tables → ℕ → List LotTouch
-touches_of t trade = map (touch_in t) (filter (λ row. is_touched_by t trade row.lot) t.holding_history)
+abbrev pub changes_of_touched_lots : Tables → ℕ → List LotTouch
+changes_of_touched_lots t trade = map (stamped_lot_change t) (filter (λ row. trade_touches_lot t trade row.lot) t.holding_history)
 
 -- The oldest trade of `account` with a stamp of at least `first`, as a list of one, or an empty
 -- list if there is none.
-abbrev pub first_since : Tables → ℕ → ℕ → List TradeRow
-first_since t account first = take 1 (oldest_first_rows (filter (λ row. nat_le first row.stamp) (trades_in t account)))
+abbrev pub first_trade_since_stamp : Tables → ℕ → ℕ → List TradeRow
+first_trade_since_stamp t account first = take 1 (trade_rows_oldest_first (filter (λ row. nat_le first row.stamp) (trade_rows_of_account t account)))
 
 -- `lots` has the oldest trade of `account` with a stamp of at least `first`, and the first twenty
 -- changes of the lots that it touched, sorted by stamp, then by lot. It is none exactly if there is
 -- no such trade.
-pub record IsTouched (t : Tables) (account first : ℕ) (lots : Option TouchedLots) : Type 0 where
-  pub found : map (λ row. row.id) (first_since t account first) ≡ option_to_list (option_map (λ l. l.trade) lots)
-  pub changes : IfSome lots (λ l. l.changes.items ≡ take 20 (sort_by touch_before (touches_of t l.trade)))
+pub record AreTouchedLots (t : Tables) (account first : ℕ) (lots : Option TouchedLots) : Type 0 where
+  pub found : map (λ row. row.id) (first_trade_since_stamp t account first) ≡ option_to_list (option_map (λ l. l.trade) lots)
+  pub changes : IfSome lots (λ l. l.changes.items ≡ take 20 (sort_by is_earlier_lot_change (changes_of_touched_lots t l.trade)))

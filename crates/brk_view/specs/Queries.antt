@@ -1,19 +1,19 @@
 -- The query of the model that a `Query` represents.
 use Rattle.brk_model.specs.Queries as model
-use Rattle.brk_orders.specs.Records.{order_of}
+use Rattle.brk_orders.specs.Records.{abstract_order}
 use Rattle.brk_view.specs.declared.query.Query.{Query}
 use Rattle.brk_view.specs.declared.query.Query.TheVariants.{Position, PositionOfTaxId, Recent, Status, Submitted, Estimate, Trades, AccountTrades, SymbolTrades, Lots, Volume}
 
 -- The model's query with the values of a typed query.
-abbrev pub query_of : Query → model.Query
-query_of (Position customer) = model.PositionOf customer
-query_of (PositionOfTaxId tax_id) = model.PositionOfTaxId tax_id
-query_of (Recent account) = model.RecentOf account
-query_of (Status account) = model.StatusOf account
-query_of Submitted = model.SubmittedTrades
-query_of (Estimate order) = model.EstimateOf (order_of order)
-query_of (Trades named) = model.TradesWith named.trades
-query_of (AccountTrades account span) = model.TradesOfAccount account span.first span.last
-query_of (SymbolTrades symbol span) = model.TradesOfSymbol symbol span.first span.last
-query_of (Lots account first) = model.LotsTouched account first
-query_of (Volume sector names) = model.VolumeOf sector names
+abbrev pub abstract_query : Query → model.Query
+abstract_query (Position customer) = model.PositionOf customer
+abstract_query (PositionOfTaxId tax_id) = model.PositionOfTaxId tax_id
+abstract_query (Recent account) = model.RecentOf account
+abstract_query (Status account) = model.StatusOf account
+abstract_query Submitted = model.SubmittedTrades
+abstract_query (Estimate order) = model.EstimateOf (abstract_order order)
+abstract_query (Trades named) = model.TradesWith named.trades
+abstract_query (AccountTrades account span) = model.TradesOfAccount account span.first span.last
+abstract_query (SymbolTrades symbol span) = model.TradesOfSymbol symbol span.first span.last
+abstract_query (Lots account first) = model.LotsTouched account first
+abstract_query (Volume sector names) = model.VolumeOf sector names

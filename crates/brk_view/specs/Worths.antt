@@ -7,14 +7,14 @@ use Rattle.brk_view.specs.declared.worths.AccountWorth.{AccountWorth}
 
 -- The id and the balance of the account `a`, and the market value of its holdings in the tables
 -- `t`.
-abbrev pub worth_in : Tables → AccountRow → AccountWorth
-worth_in t a = record { account = a.id; balance = a.balance; assets = asset_total t a }
+abbrev pub worth_of_account : Tables → AccountRow → AccountWorth
+worth_of_account t a = record { account = a.id; balance = a.balance; assets = asset_total t a }
 
 -- True if the account `a` is before `b` when they are sorted by market value, then by id,
 -- ascending.
-abbrev pub worth_before : AccountWorth → AccountWorth → Bool
-worth_before a b = int_lt a.assets b.assets || (not (int_lt b.assets a.assets) && nat_lt a.account b.account)
+abbrev pub precedes_by_market_value : AccountWorth → AccountWorth → Bool
+precedes_by_market_value a b = int_lt a.assets b.assets || (not (int_lt b.assets a.assets) && nat_lt a.account b.account)
 
 -- The record of the account `a`: its id, its balance and the market value of its holdings.
-abbrev pub worth_record : AccountWorth → List Text
-worth_record a = decimal a.account ∷ cents_text a.balance ∷ cents_text a.assets ∷ []
+abbrev pub account_worth_record : AccountWorth → List Text
+account_worth_record a = decimal a.account ∷ cents_text a.balance ∷ cents_text a.assets ∷ []

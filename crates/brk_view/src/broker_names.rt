@@ -1,10 +1,10 @@
 ghost use Rattle.std.specs.Prelude.{◌≡◌, ℕ, List, IfOk, OnOk, OnErr, Err};
-ghost use Rattle.brk_model.specs.Ask.{read_names};
-ghost use Rattle.brk_model.specs.Forms.{read_each, read_name, some_of};
+ghost use Rattle.brk_model.specs.Ask.{read_broker_names};
+ghost use Rattle.brk_model.specs.Forms.{read_each_text, read_name, one_to_twenty_elements};
 ghost use Rattle.brk_model.specs.Lists.{distinct_texts};
 ghost use Rattle.brk_money.specs.declared.fault.Fault.TheVariants.{Memory};
-ghost use Rattle.brk_ref.specs.Fields.{ParsesAs, texts};
-ghost use Rattle.brk_view.specs.BrokerNames.{each_once, is_named, names_in, with_name};
+ghost use Rattle.brk_ref.specs.Fields.{ParsesAs, texts_of_fields};
+ghost use Rattle.brk_view.specs.BrokerNames.{distinct_parsed_names, contains_name, names_of_vector, names_with_new_name};
 
 use brk_money::{Fault, Planned, Refusal};
 use brk_ref::Name;
@@ -34,9 +34,9 @@ impl BrokerNames {
 
     // Returns these names, which are different. Refuses with `BadText` (18) if there are none, and
     // with `TooMany` (20) if there are more than 20. Never allocates.
-    fn of(names: Vec<Name>) -> Result<BrokerNames, Refusal>
+    fn from_distinct_names(names: Vec<Name>) -> Result<BrokerNames, Refusal>
         requires { distinct_texts names.items ≡ names.items }
-        ensures { ParsesAs (λ told. told) result (some_of names.items) }
+        ensures { ParsesAs (λ told. told) result (one_to_twenty_elements names.items) }
     {
         if names.is_empty() {
             return Err(Refusal::BadText);
@@ -58,15 +58,15 @@ impl BrokerNames {
 
 // Returns true if `name` is one of `names`.
 fn is_among(name: &Name, names: &[Name]) -> bool
-    ensures { result ≡ is_named names.now name.now }
+    ensures { result ≡ contains_name names.now name.now }
 {
     names.iter().any(|other| name.as_str() == other.as_str())
 }
 
 // Appends `name` if it is not one of `names`. Fails with `Memory` only.
 #[tactic(auto, using(crate::proofs::Distinct::still_distinct))]
-fn add_once(names: &mut Vec<Name>, name: Name) -> Result<(), Fault>
-    ensures names { OnOk result (names.new.items ≡ with_name names.old.items name) }
+fn push_if_absent(names: &mut Vec<Name>, name: Name) -> Result<(), Fault>
+    ensures names { OnOk result (names.new.items ≡ names_with_new_name names.old.items name) }
     ensures fault { OnErr result (result ≡ Err Memory) }
 {
     if !is_among(&name, names) {
@@ -77,8 +77,8 @@ fn add_once(names: &mut Vec<Name>, name: Name) -> Result<(), Fault>
 
 // Parses names, and returns each at its first position only. Refuses with `BadText` if a field is
 // malformed. Fails with `Memory` only.
-fn names_from(alloc: Global, fields: &[&[u8]]) -> Planned<Vec<Name>>
-    ensures read { IfOk result (λ read. ParsesAs names_in read (each_once (read_each read_name (texts fields.now)))) }
+fn parse_distinct_names(alloc: Global, fields: &[&[u8]]) -> Planned<Vec<Name>>
+    ensures read { IfOk result (λ read. ParsesAs names_of_vector read (distinct_parsed_names (read_each_text read_name (texts_of_fields fields.now)))) }
     ensures distinct { IfOk result (λ read. IfOk read (λ names. distinct_texts names.items ≡ names.items)) }
     ensures fault { OnErr result (result ≡ Err Memory) }
 {
@@ -87,7 +87,7 @@ fn names_from(alloc: Global, fields: &[&[u8]]) -> Planned<Vec<Name>>
         let Some(name) = Name::parse(alloc, field)? else {
             return Ok(Err(Refusal::BadText));
         };
-        add_once(&mut names, name)?;
+        push_if_absent(&mut names, name)?;
     }
     Ok(Ok(names))
 }
@@ -97,11 +97,11 @@ fn names_from(alloc: Global, fields: &[&[u8]]) -> Planned<Vec<Name>>
 /// Refuses with `BadText` (18) if a field is malformed or there are none, and otherwise with
 /// `TooMany` (20) if there are more than 20. All fields are checked before the number of names.
 pub fn check_names(alloc: Global, fields: &[&[u8]]) -> Planned<BrokerNames>
-    ensures read { IfOk result (λ read. ParsesAs (λ names. names) read (read_names (texts fields.now))) }
+    ensures read { IfOk result (λ read. ParsesAs (λ names. names) read (read_broker_names (texts_of_fields fields.now))) }
     ensures fault { OnErr result (result ≡ Err Memory) }
 {
-    match names_from(alloc, fields)? {
-        Ok(names) => Ok(BrokerNames::of(names)),
+    match parse_distinct_names(alloc, fields)? {
+        Ok(names) => Ok(BrokerNames::from_distinct_names(names)),
         Err(refusal) => Ok(Err(refusal)),
     }
 }

@@ -19,8 +19,11 @@ pub mod volumes;
 pub mod worths;
 
 pub use broker_names::{BrokerNames, check_names};
-pub use lookups::{LookedUp, looked_up, lookup_account, lookup_ids, lookup_symbol, oldest_first};
-pub use lots::{LotTouch, MOST_CHANGES, TouchedLots, keep_first, lookup_lots};
+pub use lookups::{
+    LookedUp, create_looked_up_trade, lookup_account, lookup_ids, lookup_symbol,
+    sort_trades_oldest_first,
+};
+pub use lots::{LotTouch, MOST_CHANGES, TouchedLots, lookup_lots, merge_into_first_twenty};
 pub use named_trades::{NamedTrades, check_named};
 pub use parse::parse_query;
 pub use query::Query;
@@ -28,5 +31,5 @@ pub use recents::{Activity, recent};
 pub use statuses::{AccountStatus, TradeStatus, status, trade_status};
 pub use submitted_rows::submitted;
 pub use view::{SubmittedTrade, View};
-pub use volumes::{BrokerVolume, broker_volume, request_volume};
+pub use volumes::{BrokerVolume, broker_volume, total_value_of_requests};
 pub use worths::{AccountWorth, position};

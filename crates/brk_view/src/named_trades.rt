@@ -1,8 +1,8 @@
 ghost use Rattle.std.specs.Prelude.{◌≡◌, ◌≤◌, Err, IfOk, OnErr, length, true};
-ghost use Rattle.brk_model.specs.Forms.{distinct_ids, read_ids};
+ghost use Rattle.brk_model.specs.Forms.{one_to_twenty_distinct_ids, read_distinct_ids};
 ghost use Rattle.brk_model.specs.Lists.{all_distinct};
 ghost use Rattle.brk_money.specs.declared.fault.Fault.TheVariants.{Memory};
-ghost use Rattle.brk_ref.specs.Fields.{ParsesAs, texts};
+ghost use Rattle.brk_ref.specs.Fields.{ParsesAs, texts_of_fields};
 
 use brk_money::{Id, Planned, Refusal};
 use brk_orders::{TradeIds, check_ids};
@@ -20,7 +20,7 @@ impl NamedTrades {
     /// Returns these trades. Refuses with `BadText` (18) if an id is repeated or there are none,
     /// and otherwise with `TooMany` (20) if there are more than 20. Never allocates.
     pub fn new(ids: Vec<Id>) -> Result<NamedTrades, Refusal>
-        ensures { ParsesAs (λ named. named.trades) result (distinct_ids ids.items) }
+        ensures { ParsesAs (λ named. named.trades) result (one_to_twenty_distinct_ids ids.items) }
     {
         match TradeIds::new(ids) {
             Ok(trades) => Ok(NamedTrades { trades }),
@@ -32,7 +32,7 @@ impl NamedTrades {
 /// Parses 1 to 20 different ids of trades, or returns the refusal of malformed fields. Fails with
 /// `Memory` only.
 pub fn check_named(alloc: Global, fields: &[&[u8]]) -> Planned<NamedTrades>
-    ensures read { IfOk result (λ read. ParsesAs (λ named. named.trades) read (read_ids (texts fields.now))) }
+    ensures read { IfOk result (λ read. ParsesAs (λ named. named.trades) read (read_distinct_ids (texts_of_fields fields.now))) }
     ensures fault { OnErr result (result ≡ Err Memory) }
 {
     match check_ids(alloc, fields)? {

@@ -1,11 +1,11 @@
 ghost use Rattle.std.specs.Prelude.{◌≡◌, ◌∷◌, ◌++◌, IfOk, OnErr, Err};
 ghost use Rattle.brk_model.specs.Ask as model;
-ghost use Rattle.brk_model.specs.Ask.{account_views, lookup_views, read_none, volume_views};
-ghost use Rattle.brk_model.specs.Parse.{parse_by, read_as, read_order};
+ghost use Rattle.brk_model.specs.Ask.{account_view_parsers, lookup_view_parsers, read_no_arguments, volume_view_parsers};
+ghost use Rattle.brk_model.specs.Parse.{parse_by_first_field, read_and_wrap, read_order};
 ghost use Rattle.brk_model.specs.Queries.{EstimateOf, SubmittedTrades};
 ghost use Rattle.brk_money.specs.declared.fault.Fault.TheVariants.{Memory};
-ghost use Rattle.brk_ref.specs.Fields.{ParsesAs, texts};
-ghost use Rattle.brk_view.specs.Queries.{query_of};
+ghost use Rattle.brk_ref.specs.Fields.{ParsesAs, texts_of_fields};
+ghost use Rattle.brk_view.specs.Queries.{abstract_query};
 
 use crate::parse_accounts::{parse_position, parse_position_of_tax_id, parse_recent, parse_status};
 use crate::parse_lookups::{
@@ -19,7 +19,7 @@ use std::alloc::Global;
 // Parses the query of the submitted trades, which has no argument. Refuses any argument with
 // `BadText`.
 fn parse_submitted(arguments: &[&[u8]]) -> Result<Query, Refusal>
-    ensures { ParsesAs query_of result (read_none SubmittedTrades (texts arguments.now)) }
+    ensures { ParsesAs abstract_query result (read_no_arguments SubmittedTrades (texts_of_fields arguments.now)) }
 {
     let [] = arguments else {
         return Err(Refusal::BadText);
@@ -30,7 +30,7 @@ fn parse_submitted(arguments: &[&[u8]]) -> Result<Query, Refusal>
 // Parses the query of an order's estimate, whose arguments are the fields of the order, or returns
 // the refusal of these. Fails with `Memory` only.
 fn parse_estimate(alloc: Global, arguments: &[&[u8]]) -> Planned<Query>
-    ensures read { IfOk result (λ read. ParsesAs query_of read (read_as EstimateOf read_order (texts arguments.now))) }
+    ensures read { IfOk result (λ read. ParsesAs abstract_query read (read_and_wrap EstimateOf read_order (texts_of_fields arguments.now))) }
     ensures fault { OnErr result (result ≡ Err Memory) }
 {
     match check_order(alloc, arguments)? {
@@ -41,8 +41,8 @@ fn parse_estimate(alloc: Global, arguments: &[&[u8]]) -> Planned<Query>
 
 // Parses a query of the view `trades`, `accounttrades`, `symboltrades`, `lots` or `volume`. Refuses
 // any other view with `BadText`. Fails with `Memory` only.
-fn parse_lookup_view(alloc: Global, view: &str, arguments: &[&[u8]]) -> Planned<Query>
-    ensures read { IfOk result (λ read. ParsesAs query_of read (parse_by (lookup_views ++ volume_views) (view.now ∷ texts arguments.now))) }
+fn parse_lookup_or_volume_query(alloc: Global, view: &str, arguments: &[&[u8]]) -> Planned<Query>
+    ensures read { IfOk result (λ read. ParsesAs abstract_query read (parse_by_first_field (lookup_view_parsers ++ volume_view_parsers) (view.now ∷ texts_of_fields arguments.now))) }
     ensures fault { OnErr result (result ≡ Err Memory) }
 {
     match view {
@@ -56,9 +56,9 @@ fn parse_lookup_view(alloc: Global, view: &str, arguments: &[&[u8]]) -> Planned<
 }
 
 // Parses a query of the view `customer`, `taxid`, `recent` or `status`, or of a view of
-// `parse_lookup_view`. Refuses any other view with `BadText`. Fails with `Memory` only.
-fn parse_account_view(alloc: Global, view: &str, arguments: &[&[u8]]) -> Planned<Query>
-    ensures read { IfOk result (λ read. ParsesAs query_of read (parse_by (account_views ++ lookup_views ++ volume_views) (view.now ∷ texts arguments.now))) }
+// `parse_lookup_or_volume_query`. Refuses any other view with `BadText`. Fails with `Memory` only.
+fn parse_account_or_later_query(alloc: Global, view: &str, arguments: &[&[u8]]) -> Planned<Query>
+    ensures read { IfOk result (λ read. ParsesAs abstract_query read (parse_by_first_field (account_view_parsers ++ lookup_view_parsers ++ volume_view_parsers) (view.now ∷ texts_of_fields arguments.now))) }
     ensures fault { OnErr result (result ≡ Err Memory) }
 {
     match view {
@@ -66,7 +66,7 @@ fn parse_account_view(alloc: Global, view: &str, arguments: &[&[u8]]) -> Planned
         "taxid" => parse_position_of_tax_id(alloc, arguments),
         "recent" => Ok(parse_recent(arguments)),
         "status" => Ok(parse_status(arguments)),
-        _ => parse_lookup_view(alloc, view, arguments),
+        _ => parse_lookup_or_volume_query(alloc, view, arguments),
     }
 }
 
@@ -82,12 +82,12 @@ fn parse_account_view(alloc: Global, view: &str, arguments: &[&[u8]]) -> Planned
 /// if the arguments are otherwise well-formed.
 #[tactic(auto, unfolding(brk_model::specs::Ask::parse_query))]
 pub fn parse_query(alloc: Global, view: &str, arguments: &[&[u8]]) -> Planned<Query>
-    ensures read { IfOk result (λ read. ParsesAs query_of read (model.parse_query view.now (texts arguments.now))) }
+    ensures read { IfOk result (λ read. ParsesAs abstract_query read (model.parse_query view.now (texts_of_fields arguments.now))) }
     ensures fault { OnErr result (result ≡ Err Memory) }
 {
     match view {
         "submitted" => Ok(parse_submitted(arguments)),
         "estimate" => parse_estimate(alloc, arguments),
-        _ => parse_account_view(alloc, view, arguments),
+        _ => parse_account_or_later_query(alloc, view, arguments),
     }
 }

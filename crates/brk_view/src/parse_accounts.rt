@@ -1,11 +1,11 @@
 ghost use Rattle.std.specs.Prelude.{◌≡◌, IfOk, OnErr, Err};
-ghost use Rattle.brk_model.specs.Ask.{read_one};
+ghost use Rattle.brk_model.specs.Ask.{read_single_argument};
 ghost use Rattle.brk_model.specs.Forms.{read_id, read_tax_id};
-ghost use Rattle.brk_model.specs.Parse.{read_as};
+ghost use Rattle.brk_model.specs.Parse.{read_and_wrap};
 ghost use Rattle.brk_model.specs.Queries.{PositionOf, PositionOfTaxId, RecentOf, StatusOf};
 ghost use Rattle.brk_money.specs.declared.fault.Fault.TheVariants.{Memory};
-ghost use Rattle.brk_ref.specs.Fields.{ParsesAs, texts};
-ghost use Rattle.brk_view.specs.Queries.{query_of};
+ghost use Rattle.brk_ref.specs.Fields.{ParsesAs, texts_of_fields};
+ghost use Rattle.brk_view.specs.Queries.{abstract_query};
 
 use crate::query::Query;
 use brk_money::{Planned, Refusal};
@@ -14,7 +14,7 @@ use std::alloc::Global;
 
 // Parses the query of the accounts of a customer. Refuses malformed arguments with `BadText`.
 pub(crate) fn parse_position(arguments: &[&[u8]]) -> Result<Query, Refusal>
-    ensures { ParsesAs query_of result (read_one (read_as PositionOf read_id) (texts arguments.now)) }
+    ensures { ParsesAs abstract_query result (read_single_argument (read_and_wrap PositionOf read_id) (texts_of_fields arguments.now)) }
 {
     let [customer] = arguments else {
         return Err(Refusal::BadText);
@@ -28,7 +28,7 @@ pub(crate) fn parse_position(arguments: &[&[u8]]) -> Result<Query, Refusal>
 // Parses the query of the accounts of the customer with a tax id. Refuses malformed arguments with
 // `BadText`. Fails with `Memory` only.
 pub(crate) fn parse_position_of_tax_id(alloc: Global, arguments: &[&[u8]]) -> Planned<Query>
-    ensures read { IfOk result (λ read. ParsesAs query_of read (read_one (read_as PositionOfTaxId read_tax_id) (texts arguments.now))) }
+    ensures read { IfOk result (λ read. ParsesAs abstract_query read (read_single_argument (read_and_wrap PositionOfTaxId read_tax_id) (texts_of_fields arguments.now))) }
     ensures fault { OnErr result (result ≡ Err Memory) }
 {
     let [tax_id] = arguments else {
@@ -43,7 +43,7 @@ pub(crate) fn parse_position_of_tax_id(alloc: Global, arguments: &[&[u8]]) -> Pl
 // Parses the query of an account's last trades and their statuses. Refuses malformed arguments with
 // `BadText`.
 pub(crate) fn parse_recent(arguments: &[&[u8]]) -> Result<Query, Refusal>
-    ensures { ParsesAs query_of result (read_one (read_as RecentOf read_id) (texts arguments.now)) }
+    ensures { ParsesAs abstract_query result (read_single_argument (read_and_wrap RecentOf read_id) (texts_of_fields arguments.now)) }
 {
     let [account] = arguments else {
         return Err(Refusal::BadText);
@@ -57,7 +57,7 @@ pub(crate) fn parse_recent(arguments: &[&[u8]]) -> Result<Query, Refusal>
 // Parses the query of an account's parties and its last trades. Refuses malformed arguments with
 // `BadText`.
 pub(crate) fn parse_status(arguments: &[&[u8]]) -> Result<Query, Refusal>
-    ensures { ParsesAs query_of result (read_one (read_as StatusOf read_id) (texts arguments.now)) }
+    ensures { ParsesAs abstract_query result (read_single_argument (read_and_wrap StatusOf read_id) (texts_of_fields arguments.now)) }
 {
     let [account] = arguments else {
         return Err(Refusal::BadText);

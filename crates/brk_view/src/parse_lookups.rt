@@ -1,11 +1,11 @@
 ghost use Rattle.std.specs.Prelude.{◌≡◌, IfOk, OnErr, Err};
-ghost use Rattle.brk_model.specs.Ask.{read_lots, read_span, read_volume};
-ghost use Rattle.brk_model.specs.Forms.{read_id, read_ids, read_symbol};
-ghost use Rattle.brk_model.specs.Parse.{read_as};
+ghost use Rattle.brk_model.specs.Ask.{read_lots_query, read_value_and_stamps, read_volume_query};
+ghost use Rattle.brk_model.specs.Forms.{read_id, read_distinct_ids, read_symbol};
+ghost use Rattle.brk_model.specs.Parse.{read_and_wrap};
 ghost use Rattle.brk_model.specs.Queries.{TradesOfAccount, TradesOfSymbol, TradesWith};
 ghost use Rattle.brk_money.specs.declared.fault.Fault.TheVariants.{Memory};
-ghost use Rattle.brk_ref.specs.Fields.{ParsesAs, texts};
-ghost use Rattle.brk_view.specs.Queries.{query_of};
+ghost use Rattle.brk_ref.specs.Fields.{ParsesAs, texts_of_fields};
+ghost use Rattle.brk_view.specs.Queries.{abstract_query};
 
 use crate::broker_names::check_names;
 use crate::named_trades::check_named;
@@ -18,7 +18,7 @@ use std::alloc::Global;
 // Parses the query of trades by their ids, or returns the refusal of malformed ids. Fails with
 // `Memory` only.
 pub(crate) fn parse_trades(alloc: Global, arguments: &[&[u8]]) -> Planned<Query>
-    ensures read { IfOk result (λ read. ParsesAs query_of read (read_as TradesWith read_ids (texts arguments.now))) }
+    ensures read { IfOk result (λ read. ParsesAs abstract_query read (read_and_wrap TradesWith read_distinct_ids (texts_of_fields arguments.now))) }
     ensures fault { OnErr result (result ≡ Err Memory) }
 {
     match check_named(alloc, arguments)? {
@@ -30,7 +30,7 @@ pub(crate) fn parse_trades(alloc: Global, arguments: &[&[u8]]) -> Planned<Query>
 // Parses the query of an account's trades between two stamps. Refuses malformed arguments with
 // `BadText`.
 pub(crate) fn parse_account_trades(arguments: &[&[u8]]) -> Result<Query, Refusal>
-    ensures { ParsesAs query_of result (read_span read_id (λ account first last. TradesOfAccount account first last) (texts arguments.now)) }
+    ensures { ParsesAs abstract_query result (read_value_and_stamps read_id (λ account first last. TradesOfAccount account first last) (texts_of_fields arguments.now)) }
 {
     let [account, first, last] = arguments else {
         return Err(Refusal::BadText);
@@ -51,7 +51,7 @@ pub(crate) fn parse_account_trades(arguments: &[&[u8]]) -> Result<Query, Refusal
 // Parses the query of a symbol's trades between two stamps. Refuses malformed arguments with
 // `BadText`. Fails with `Memory` only.
 pub(crate) fn parse_symbol_trades(alloc: Global, arguments: &[&[u8]]) -> Planned<Query>
-    ensures read { IfOk result (λ read. ParsesAs query_of read (read_span read_symbol (λ symbol first last. TradesOfSymbol symbol first last) (texts arguments.now))) }
+    ensures read { IfOk result (λ read. ParsesAs abstract_query read (read_value_and_stamps read_symbol (λ symbol first last. TradesOfSymbol symbol first last) (texts_of_fields arguments.now))) }
     ensures fault { OnErr result (result ≡ Err Memory) }
 {
     let [symbol, first, last] = arguments else {
@@ -73,7 +73,7 @@ pub(crate) fn parse_symbol_trades(alloc: Global, arguments: &[&[u8]]) -> Planned
 // Parses the query of the lots that an account's first trade at or after a stamp touched. Refuses
 // malformed arguments with `BadText`.
 pub(crate) fn parse_lots(arguments: &[&[u8]]) -> Result<Query, Refusal>
-    ensures { ParsesAs query_of result (read_lots (texts arguments.now)) }
+    ensures { ParsesAs abstract_query result (read_lots_query (texts_of_fields arguments.now)) }
 {
     let [account, first] = arguments else {
         return Err(Refusal::BadText);
@@ -91,7 +91,7 @@ pub(crate) fn parse_lots(arguments: &[&[u8]]) -> Result<Query, Refusal>
 // arguments. All fields are checked before the number of names. Fails with `Memory` only.
 #[tactic(auto, using(brk_ref::proofs::Applied::text_left, brk_ref::proofs::Applied::text_right))]
 pub(crate) fn parse_volume(alloc: Global, arguments: &[&[u8]]) -> Planned<Query>
-    ensures read { IfOk result (λ read. ParsesAs query_of read (read_volume (texts arguments.now))) }
+    ensures read { IfOk result (λ read. ParsesAs abstract_query read (read_volume_query (texts_of_fields arguments.now))) }
     ensures fault { OnErr result (result ≡ Err Memory) }
 {
     let [sector, names @ ..] = arguments else {

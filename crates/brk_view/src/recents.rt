@@ -2,18 +2,18 @@
 
 ghost use Rattle.std.specs.Prelude.{◌≡◌, ◌++◌, ℕ, Err, IfOk, OnErr, flat_map, map};
 ghost use Rattle.std.specs.Global.{Vec};
-ghost use Rattle.brk_changes.specs.Rows.{history_row_of, trade_row_of};
+ghost use Rattle.brk_changes.specs.Rows.{abstract_history_row, abstract_trade_row};
 ghost use Rattle.brk_changes.specs.declared.history_row.HistoryRow.{HistoryRow};
-ghost use Rattle.brk_model.specs.Joins.{history_in};
+ghost use Rattle.brk_model.specs.Joins.{history_rows_with_trade_id};
 ghost use Rattle.brk_model.specs.Lists.{sort_by};
-ghost use Rattle.brk_model.specs.PositionView.{last_ten, recent_view};
+ghost use Rattle.brk_model.specs.PositionView.{last_ten_trade_rows, recent_trades_view};
 ghost use Rattle.brk_model.specs.Tables.{Tables};
 ghost use Rattle.brk_money.specs.declared.fault.Fault.TheVariants.{Memory};
-ghost use Rattle.brk_view.specs.Recent.{newer, recent_status, recent_trade};
-ghost use Rattle.brk_view.specs.Views.{fields_of};
+ghost use Rattle.brk_view.specs.Recent.{is_newer_status, recent_status_record, recent_trade_record};
+ghost use Rattle.brk_view.specs.Views.{records_of_view};
 ghost use Rattle.brk_view.specs.declared.view.View.TheVariants as views;
 
-use crate::ordering::{Ranked, in_order};
+use crate::ordering::{Ranked, sort_by_rank};
 use crate::view::View;
 use brk_changes::{HistoryRow, TradeRow};
 use brk_money::Fault;
@@ -29,11 +29,11 @@ pub struct Activity {
 }
 
 impl Ranked for HistoryRow {
-    ghost before = { newer };
+    ghost before = { is_newer_status };
 
     /// Returns true if the status has a greater stamp than another, or the same stamp and a greater
     /// trade.
-    fn goes_before(&self, other: &HistoryRow) -> bool {
+    fn ranks_before(&self, other: &HistoryRow) -> bool {
         if self.stamp.get() == other.stamp.get() {
             return self.trade.get() > other.trade.get();
         }
@@ -45,16 +45,16 @@ impl Ranked for HistoryRow {
 /// the most recent first, and all rows of their history, which are sorted by stamp, then by trade,
 /// descending. Fails with `Memory` only.
 pub fn recent(alloc: Global, trades: Vec<TradeRow>, history: Vec<HistoryRow>) -> Result<View, Fault>
-    ensures shown { IfOk result (λ view. fields_of view ≡ map recent_trade (map trade_row_of trades.items) ++ map recent_status (sort_by newer history.items)) }
+    ensures shown { IfOk result (λ view. records_of_view view ≡ map recent_trade_record (map abstract_trade_row trades.items) ++ map recent_status_record (sort_by is_newer_status history.items)) }
     ensures carried { IfOk result (λ view. (sorted : Vec HistoryRow)
-        × (view ≡ views.Recent (record { trades = trades; history = sorted })) × (sorted.items ≡ sort_by newer history.items)) }
+        × (view ≡ views.Recent (record { trades = trades; history = sorted })) × (sorted.items ≡ sort_by is_newer_status history.items)) }
     // If the trades are the last ten of an account, the view equals the specified view.
     ensures view { IfOk result (λ view. (t : Tables) (account : ℕ)
-        → map trade_row_of trades.items ≡ last_ten t account
-        → map history_row_of history.items ≡ flat_map (λ row. history_in t row.id) (last_ten t account)
-        → fields_of view ≡ recent_view t account) }
+        → map abstract_trade_row trades.items ≡ last_ten_trade_rows t account
+        → map abstract_history_row history.items ≡ flat_map (λ row. history_rows_with_trade_id t row.id) (last_ten_trade_rows t account)
+        → records_of_view view ≡ recent_trades_view t account) }
     ensures fault { OnErr result (result ≡ Err Memory) }
 {
-    let history = in_order(alloc, history)?;
+    let history = sort_by_rank(alloc, history)?;
     Ok(View::Recent(Activity { trades, history }))
 }

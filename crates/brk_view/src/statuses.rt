@@ -1,13 +1,13 @@
 //! The parties of an account, and its last trades.
 
 ghost use Rattle.std.specs.Prelude.{◌≡◌, ◌==◌, ◌∷◌, [], ℕ, Some, filter, flat_map, map, take};
-ghost use Rattle.brk_changes.specs.Rows.{trade_row_of};
-ghost use Rattle.brk_model.specs.Joins.{recent_first, security_in, trades_in};
-ghost use Rattle.brk_model.specs.StatusView.{status_head, status_record, status_view};
+ghost use Rattle.brk_changes.specs.Rows.{abstract_trade_row};
+ghost use Rattle.brk_model.specs.Joins.{trade_rows_recent_first, security_row_with_symbol, trade_rows_of_account};
+ghost use Rattle.brk_model.specs.StatusView.{account_names_record, record_of_trade_status, trade_status_view};
 ghost use Rattle.brk_model.specs.Tables.{Tables};
-ghost use Rattle.brk_ref.specs.Records.{security_of};
-ghost use Rattle.brk_view.specs.Status.{shown_trade, status_names, status_rows, status_rows_in};
-ghost use Rattle.brk_view.specs.Views.{fields_of};
+ghost use Rattle.brk_ref.specs.Records.{abstract_security_row};
+ghost use Rattle.brk_view.specs.Status.{trade_status_record, party_names_record, rows_of_trade_status, trade_row_with_security};
+ghost use Rattle.brk_view.specs.Views.{records_of_view};
 ghost use Rattle.brk_view.specs.declared.view.View.TheVariants as views;
 
 use crate::view::View;
@@ -35,8 +35,8 @@ pub struct AccountStatus {
 /// Returns a trade with its security. Does not allocate.
 #[tactic(auto, using(crate::proofs::Shown::trade_shown, crate::proofs::Shown::trade_carried))]
 pub fn trade_status(trade: TradeRow, security: Security) -> TradeStatus
-    ensures shown { (t : Tables) → security_in t trade.symbol ≡ Some (security_of security) → shown_trade result ≡ status_record t (trade_row_of trade) }
-    ensures rows { (t : Tables) → security_in t trade.symbol ≡ Some (security_of security) → status_rows result ≡ status_rows_in t (trade_row_of trade) }
+    ensures shown { (t : Tables) → security_row_with_symbol t trade.symbol ≡ Some (abstract_security_row security) → trade_status_record result ≡ record_of_trade_status t (abstract_trade_row trade) }
+    ensures rows { (t : Tables) → security_row_with_symbol t trade.symbol ≡ Some (abstract_security_row security) → rows_of_trade_status result ≡ trade_row_with_security t (abstract_trade_row trade) }
 {
     TradeStatus { trade, security }
 }
@@ -45,14 +45,14 @@ pub fn trade_status(trade: TradeRow, security: Security) -> TradeStatus
 /// parties and its last trades, the most recent first, each with its security. Does not allocate.
 #[tactic(auto, using(crate::proofs::Shown::status_shown))]
 pub fn status(account: AccountStatus) -> View
-    ensures shown { fields_of result ≡ status_names account ∷ map shown_trade account.trades.items }
+    ensures shown { records_of_view result ≡ party_names_record account ∷ map trade_status_record account.trades.items }
     ensures carried { result ≡ views.Status account }
     // If the trades are the last fifty of an account that exists, the view equals the specified
     // view.
     ensures view { (t : Tables) (id : ℕ)
-        → flat_map (status_head t) (filter (λ a. a.id == id) t.accounts) ≡ status_names account ∷ []
-        → map shown_trade account.trades.items ≡ map (status_record t) (take 50 (recent_first (trades_in t id)))
-        → fields_of result ≡ status_view t id }
+        → flat_map (account_names_record t) (filter (λ a. a.id == id) t.accounts) ≡ party_names_record account ∷ []
+        → map trade_status_record account.trades.items ≡ map (record_of_trade_status t) (take 50 (trade_rows_recent_first (trade_rows_of_account t id)))
+        → records_of_view result ≡ trade_status_view t id }
 {
     View::Status(account)
 }

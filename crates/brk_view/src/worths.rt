@@ -4,16 +4,16 @@ ghost use Rattle.std.specs.Prelude.{◌≡◌, ◌&&◌, ◌==◌, Bool, Err, If
 ghost use Rattle.std.specs.Global.{Vec};
 ghost use Rattle.std.specs.List.{list_any};
 ghost use Rattle.brk_model.specs.Lists.{sort_by};
-ghost use Rattle.brk_model.specs.PositionView.{position_view};
+ghost use Rattle.brk_model.specs.PositionView.{customer_position_view};
 ghost use Rattle.brk_model.specs.Records as records;
 ghost use Rattle.brk_model.specs.Tables.{Tables};
 ghost use Rattle.brk_money.specs.declared.fault.Fault.TheVariants.{Memory};
-ghost use Rattle.brk_view.specs.Views.{fields_of};
-ghost use Rattle.brk_view.specs.Worths.{worth_before, worth_in, worth_record};
+ghost use Rattle.brk_view.specs.Views.{records_of_view};
+ghost use Rattle.brk_view.specs.Worths.{precedes_by_market_value, worth_of_account, account_worth_record};
 ghost use Rattle.brk_view.specs.declared.view.View.TheVariants as views;
 ghost use Rattle.brk_view.specs.declared.worths.AccountWorth.{AccountWorth};
 
-use crate::ordering::{Ranked, in_order};
+use crate::ordering::{Ranked, sort_by_rank};
 use crate::view::View;
 use brk_money::{Cents, Fault, Id, Wide};
 use std::alloc::Global;
@@ -29,11 +29,11 @@ pub struct AccountWorth {
 }
 
 impl Ranked for AccountWorth {
-    ghost before = { worth_before };
+    ghost before = { precedes_by_market_value };
 
     /// Returns true if the account has a smaller market value than another, or the same value and a
     /// smaller id.
-    fn goes_before(&self, other: &AccountWorth) -> bool {
+    fn ranks_before(&self, other: &AccountWorth) -> bool {
         if self.assets.get() == other.assets.get() {
             return self.account.get() < other.account.get();
         }
@@ -44,16 +44,16 @@ impl Ranked for AccountWorth {
 /// Returns the view of a customer's accounts (Customer-Position), sorted by market value, then by
 /// id, ascending. Fails with `Memory` only.
 pub fn position(alloc: Global, accounts: Vec<AccountWorth>) -> Result<View, Fault>
-    ensures shown { IfOk result (λ view. fields_of view ≡ map worth_record (sort_by worth_before accounts.items)) }
+    ensures shown { IfOk result (λ view. records_of_view view ≡ map account_worth_record (sort_by precedes_by_market_value accounts.items)) }
     ensures carried { IfOk result (λ view. (sorted : Vec AccountWorth)
-        × (view ≡ views.Position sorted) × (sorted.items ≡ sort_by worth_before accounts.items)) }
+        × (view ≡ views.Position sorted) × (sorted.items ≡ sort_by precedes_by_market_value accounts.items)) }
     // If the accounts are those of the customers that pass a test, the view equals the specified
     // view.
     ensures view { IfOk result (λ view. (t : Tables) (test : records.Customer → Bool)
-        → accounts.items ≡ map (worth_in t) (filter (λ a. list_any (λ c. test c && (c.id == a.customer)) t.customers) t.accounts)
-        → fields_of view ≡ position_view t test) }
+        → accounts.items ≡ map (worth_of_account t) (filter (λ a. list_any (λ c. test c && (c.id == a.customer)) t.customers) t.accounts)
+        → records_of_view view ≡ customer_position_view t test) }
     ensures fault { OnErr result (result ≡ Err Memory) }
 {
-    let ordered = in_order(alloc, accounts)?;
+    let ordered = sort_by_rank(alloc, accounts)?;
     Ok(View::Position(ordered))
 }

@@ -1,12 +1,12 @@
 //! The records of a view, as texts.
 
 ghost use Rattle.std.specs.Prelude.{◌≡◌, ◌∷◌, [], IfOk, OnErr, Err, decimal, map, string_bytes};
-ghost use Rattle.brk_plans.specs.Replies.{estimate_with};
+ghost use Rattle.brk_plans.specs.Replies.{estimate_from_model};
 ghost use Rattle.brk_model.specs.Commands as model;
 ghost use Rattle.brk_model.specs.Rows.{estimate_fields};
 ghost use Rattle.brk_money.specs.Spelling.{cents_text};
 ghost use Rattle.brk_money.specs.declared.fault.Fault.TheVariants.{Memory};
-ghost use Rattle.brk_view.specs.Views.{estimate_record, fields_of, record_of, records_of, record_of_submitted};
+ghost use Rattle.brk_view.specs.Views.{estimate_record, records_of_view, texts_of_record, texts_of_records, submitted_trade_record};
 ghost use Rattle.brk_view.specs.declared.view.View.TheVariants as views;
 
 use crate::account_fields::{recent_records, status_records, worth_records};
@@ -21,7 +21,7 @@ use std::alloc::Global;
 
 // Returns the texts of amounts, in sequence. Fails with `Memory` only.
 fn amount_texts(alloc: Global, amounts: &[Wide]) -> Result<Vec<String>, Fault>
-    ensures texts { IfOk result (λ texts. record_of texts ≡ map cents_text amounts.now) }
+    ensures texts { IfOk result (λ texts. texts_of_record texts ≡ map cents_text amounts.now) }
     ensures fault { OnErr result (result ≡ Err Memory) }
 {
     let mut texts = Vec::new(alloc);
@@ -33,8 +33,8 @@ fn amount_texts(alloc: Global, amounts: &[Wide]) -> Result<Vec<String>, Fault>
 }
 
 // Returns the record of a submitted trade. Fails with `Memory` only.
-fn trade_texts(alloc: Global, trade: &SubmittedTrade) -> Result<Vec<String>, Fault>
-    ensures texts { IfOk result (λ texts. record_of texts ≡ record_of_submitted trade.now) }
+fn submitted_trade_texts(alloc: Global, trade: &SubmittedTrade) -> Result<Vec<String>, Fault>
+    ensures texts { IfOk result (λ texts. texts_of_record texts ≡ submitted_trade_record trade.now) }
     ensures fault { OnErr result (result ≡ Err Memory) }
 {
     let mut texts = Vec::new(alloc);
@@ -47,13 +47,16 @@ fn trade_texts(alloc: Global, trade: &SubmittedTrade) -> Result<Vec<String>, Fau
 }
 
 // Returns a record for each submitted trade. Fails with `Memory` only.
-fn submitted_records(alloc: Global, trades: &[SubmittedTrade]) -> Result<Vec<Vec<String>>, Fault>
-    ensures records { IfOk result (λ records. records_of records ≡ map record_of_submitted trades.now) }
+fn submitted_trade_records(
+    alloc: Global,
+    trades: &[SubmittedTrade],
+) -> Result<Vec<Vec<String>>, Fault>
+    ensures records { IfOk result (λ records. texts_of_records records ≡ map submitted_trade_record trades.now) }
     ensures fault { OnErr result (result ≡ Err Memory) }
 {
     let mut records = Vec::new(alloc);
     for trade in trades {
-        let texts = trade_texts(alloc, trade)?;
+        let texts = submitted_trade_texts(alloc, trade)?;
         records.push(texts)?;
     }
     Ok(records)
@@ -61,7 +64,7 @@ fn submitted_records(alloc: Global, trades: &[SubmittedTrade]) -> Result<Vec<Vec
 
 // Returns a list of one record, that of the estimate. Fails with `Memory` only.
 fn estimate_records(alloc: Global, estimate: &Estimate) -> Result<Vec<Vec<String>>, Fault>
-    ensures records { IfOk result (λ records. records_of records ≡ estimate_record estimate.now ∷ []) }
+    ensures records { IfOk result (λ records. texts_of_records records ≡ estimate_record estimate.now ∷ []) }
     ensures fault { OnErr result (result ≡ Err Memory) }
 {
     let amounts = [
@@ -83,9 +86,9 @@ fn estimate_records(alloc: Global, estimate: &Estimate) -> Result<Vec<Vec<String
 /// QTY and T_BID_PRICE; those of an estimate are PRICE, BUY, SELL, TAX, COMMISSION, CHARGE and
 /// ASSETS. Each amount is in its canonical form. Fails with `Memory` only.
 pub fn view_fields(alloc: Global, view: &View) -> Result<Vec<Vec<String>>, Fault>
-    ensures records { IfOk result (λ records. records_of records ≡ fields_of view.now) }
+    ensures records { IfOk result (λ records. texts_of_records records ≡ records_of_view view.now) }
     // If the estimate is one of the model, its record equals that of the model.
-    ensures estimate { IfOk result (λ records. (e : model.Estimate) → view.now ≡ views.Estimate (estimate_with e) → records_of records ≡ estimate_fields e ∷ []) }
+    ensures estimate { IfOk result (λ records. (e : model.Estimate) → view.now ≡ views.Estimate (estimate_from_model e) → texts_of_records records ≡ estimate_fields e ∷ []) }
     ensures fault { OnErr result (result ≡ Err Memory) }
 {
     match view {
@@ -95,7 +98,7 @@ pub fn view_fields(alloc: Global, view: &View) -> Result<Vec<Vec<String>>, Fault
         View::Lookup(trades) => lookup_records(alloc, trades),
         View::Lots(lots) => lot_records(alloc, lots),
         View::Volume(brokers) => volume_records(alloc, brokers),
-        View::Submitted(trades) => submitted_records(alloc, trades),
+        View::Submitted(trades) => submitted_trade_records(alloc, trades),
         View::Estimate(estimate) => estimate_records(alloc, estimate),
     }
 }

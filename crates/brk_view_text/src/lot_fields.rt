@@ -3,8 +3,8 @@
 ghost use Rattle.std.specs.Prelude.{◌≡◌, ◌++◌, ◌∷◌, [], Err, IfOk, OnErr, OnOk, decimal, map, string_bytes};
 ghost use Rattle.std.specs.Fmt.{signed_decimal};
 ghost use Rattle.brk_money.specs.declared.fault.Fault.TheVariants.{Memory};
-ghost use Rattle.brk_view.specs.Lots.{touch_record, touched_records};
-ghost use Rattle.brk_view.specs.Views.{record_of, records_of};
+ghost use Rattle.brk_view.specs.Lots.{lot_change_record, touched_lot_records};
+ghost use Rattle.brk_view.specs.Views.{texts_of_record, texts_of_records};
 
 use crate::texts::number_text;
 use brk_money::Fault;
@@ -21,8 +21,8 @@ fn shares_text(alloc: Global, shares: i64) -> Result<String, Fault>
 }
 
 // Returns the record of a lot change. Fails with `Memory` only.
-fn touch_texts(alloc: Global, touch: LotTouch) -> Result<Vec<String>, Fault>
-    ensures texts { IfOk result (λ texts. record_of texts ≡ touch_record touch) }
+fn lot_change_texts(alloc: Global, touch: LotTouch) -> Result<Vec<String>, Fault>
+    ensures texts { IfOk result (λ texts. texts_of_record texts ≡ lot_change_record touch) }
     ensures fault { OnErr result (result ≡ Err Memory) }
 {
     let change = touch.change;
@@ -35,16 +35,16 @@ fn touch_texts(alloc: Global, touch: LotTouch) -> Result<Vec<String>, Fault>
 }
 
 // Appends a record for each lot change. Fails with `Memory` only.
-fn add_touches(
+fn append_lot_change_records(
     alloc: Global,
     records: &mut Vec<Vec<String>>,
     touches: &[LotTouch],
 ) -> Result<(), Fault>
-    ensures records { OnOk result (records_of records.new ≡ records_of records.old ++ map touch_record touches.now) }
+    ensures records { OnOk result (texts_of_records records.new ≡ texts_of_records records.old ++ map lot_change_record touches.now) }
     ensures fault { OnErr result (result ≡ Err Memory) }
 {
     for touch in touches {
-        let texts = touch_texts(alloc, *touch)?;
+        let texts = lot_change_texts(alloc, *touch)?;
         records.push(texts)?;
     }
     Ok(())
@@ -52,8 +52,8 @@ fn add_touches(
 
 // Returns the record of the trade that touched the lots, which has its id only. Fails with `Memory`
 // only.
-fn found_texts(alloc: Global, lots: &TouchedLots) -> Result<Vec<String>, Fault>
-    ensures texts { IfOk result (λ texts. record_of texts ≡ decimal lots.now.trade ∷ []) }
+fn touching_trade_texts(alloc: Global, lots: &TouchedLots) -> Result<Vec<String>, Fault>
+    ensures texts { IfOk result (λ texts. texts_of_record texts ≡ decimal lots.now.trade ∷ []) }
     ensures fault { OnErr result (result ≡ Err Memory) }
 {
     let mut texts = Vec::new(alloc);
@@ -67,14 +67,14 @@ pub(crate) fn lot_records(
     alloc: Global,
     lots: &Option<TouchedLots>,
 ) -> Result<Vec<Vec<String>>, Fault>
-    ensures records { IfOk result (λ records. records_of records ≡ touched_records lots.now) }
+    ensures records { IfOk result (λ records. texts_of_records records ≡ touched_lot_records lots.now) }
     ensures fault { OnErr result (result ≡ Err Memory) }
 {
     let mut records = Vec::new(alloc);
     if let Some(lots) = lots {
-        let found = found_texts(alloc, lots)?;
+        let found = touching_trade_texts(alloc, lots)?;
         records.push(found)?;
-        add_touches(alloc, &mut records, &lots.changes)?;
+        append_lot_change_records(alloc, &mut records, &lots.changes)?;
     }
     Ok(records)
 }

@@ -2,7 +2,7 @@
 
 ghost use Rattle.std.specs.Prelude.{◌≡◌, [], Err, IfOk, OnErr, decimal, string_bytes};
 ghost use Rattle.std.specs.Option.{option_map_or};
-ghost use Rattle.brk_model.specs.Rows.{price_text as text_of_price};
+ghost use Rattle.brk_model.specs.Rows.{nonnegative_cents_text as text_of_price};
 ghost use Rattle.brk_money.specs.Spelling.{cents_text};
 ghost use Rattle.brk_money.specs.declared.fault.Fault.TheVariants.{Memory};
 
@@ -10,7 +10,7 @@ use brk_money::{Fault, Price, Stamp, Wide};
 use std::alloc::Global;
 
 // Returns a copy of a text. Fails with `Memory` only.
-pub(crate) fn word_text(alloc: Global, word: &str) -> Result<String, Fault>
+pub(crate) fn copy_text(alloc: Global, word: &str) -> Result<String, Fault>
     ensures text { IfOk result (λ text. string_bytes text ≡ word.now) }
     ensures fault { OnErr result (result ≡ Err Memory) }
 {
@@ -43,12 +43,12 @@ pub(crate) fn amount_text(alloc: Global, amount: Wide) -> Result<String, Fault>
 
 // Returns the text of a price in its canonical form, or an empty text if there is none. Fails with
 // `Memory` only.
-pub(crate) fn maybe_price_text(alloc: Global, price: Option<Price>) -> Result<String, Fault>
+pub(crate) fn optional_price_text(alloc: Global, price: Option<Price>) -> Result<String, Fault>
     ensures text { IfOk result (λ text. string_bytes text ≡ option_map_or text_of_price price []) }
     ensures fault { OnErr result (result ≡ Err Memory) }
 {
     match price {
         Some(price) => amount_text(alloc, Wide::from(price)),
-        None => word_text(alloc, ""),
+        None => copy_text(alloc, ""),
     }
 }

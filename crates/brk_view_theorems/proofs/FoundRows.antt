@@ -4,16 +4,16 @@ use Rattle.std.specs.Prelude.{◌&&◌, ◌||◌, flat_map, nat_lt, option_to_li
 use Rattle.std.specs.List.{AllByRecursion, list_any}
 use Rattle.std.proofs.lemmas.Bool.{eqb-true}
 use Rattle.std.proofs.lemmas.Bool.Decides.{nat_tests}
-use Rattle.brk_model.specs.Adopted.{is_posted_by, posting_of_move}
-use Rattle.brk_model.specs.Base.{Base, completed, is_completed}
-use Rattle.brk_model.specs.Derived.{Posting, cash_trades, in_turn, posting_of_movement, posting_of_trade, postings_of}
-use Rattle.brk_model.specs.Joins.{oldest_first_rows}
+use Rattle.brk_model.specs.Adopted.{is_posting_of_trade, posting_of_move_row}
+use Rattle.brk_model.specs.Base.{Base, completed_trades, is_completed}
+use Rattle.brk_model.specs.Derived.{Posting, cash_trades, postings_sorted_by_stamp, posting_of_movement, posting_of_trade, postings_of_base}
+use Rattle.brk_model.specs.Joins.{trade_rows_oldest_first}
 use Rattle.brk_model.specs.Keys.{account_key, customer_key, number, settlement_key, trade_key}
-use Rattle.brk_model.specs.Lists.{all_distinct, contains_number, rising}
-use Rattle.brk_model.specs.LookupView.{is_cash_of}
+use Rattle.brk_model.specs.Lists.{all_distinct, contains_number, is_pair_less}
+use Rattle.brk_model.specs.LookupView.{is_cash_row_of_trade}
 use Rattle.brk_model.specs.Records.{Movement, Trade}
-use Rattle.brk_model.specs.Sheets.{sheets, sheets_of}
-use Rattle.brk_model.specs.Tables.{MoveRow, TradeRow, numbered, tables_at}
+use Rattle.brk_model.specs.Sheets.{sheets, tables_sorted_by_key}
+use Rattle.brk_model.specs.Tables.{MoveRow, TradeRow, numbered_move_rows, tables_of_base_in_schema}
 use Rattle.brk_audit_theorems.proofs.Again.{found_first}
 use Rattle.brk_audit_theorems.proofs.UpgradedBase.{IsShort, posted_once, short_rows}
 use Rattle.brk_audit_theorems.proofs.Climbs.{Climbs}
@@ -48,11 +48,11 @@ found_of_short {X = X} p xs h = ap option_to_list (found_first p xs) ∙ first_o
     first_of_short (y ∷ []) h = refl
     first_of_short (y ∷ z ∷ ys) h = absurd h
 
-pub cash_alone : (base : Base) (id : ℕ) → BooksInvariant base → AuditInvariant base → option_to_list (find (is_cash_of id) (sheets base).moves) ≡ filter (is_cash_of id) (sheets base).moves
-unfolding sheets_of tables_at
+pub cash_alone : (base : Base) (id : ℕ) → BooksInvariant base → AuditInvariant base → option_to_list (find (is_cash_row_of_trade id) (sheets base).moves) ≡ filter (is_cash_row_of_trade id) (sheets base).moves
+unfolding tables_sorted_by_key tables_of_base_in_schema
 cash_alone base id books sound =
-    found_of_short (is_cash_of id) (sheets base).moves
-    (subst (λ rows. IsShort (filter (is_cash_of id) rows)) (sym (numbered_stay 1 (in_turn (postings_of base)))) (short_rows id 1 (in_turn (postings_of base)) (posted_once base id books)))
+    found_of_short (is_cash_row_of_trade id) (sheets base).moves
+    (subst (λ rows. IsShort (filter (is_cash_row_of_trade id) rows)) (sym (numbered_stay 1 (postings_sorted_by_stamp (postings_of_base base)))) (short_rows id 1 (postings_sorted_by_stamp (postings_of_base base)) (posted_once base id books)))
 
 pub account_alone : (base : Base) (id : ℕ) → BooksInvariant base → AuditInvariant base → option_to_list (find (λ a. a.id == id) (sheets base).accounts) ≡ filter (λ a. a.id == id) (sheets base).accounts
 account_alone base id books sound =
@@ -69,15 +69,15 @@ trade_alone base id books sound =
 -- ---- trades by their ids, the oldest first
 
 abbrev older : TradeRow → TradeRow → Bool
-older a b = rising a.stamp b.stamp a.id b.id
+older a b = is_pair_less a.stamp b.stamp a.id b.id
 
-rising_splits : (x y z x' y' z' : ℕ) → rising z x z' x' ≡ true → rising z y z' y' ≡ false → rising y x y' x' ≡ true
+rising_splits : (x y z x' y' z' : ℕ) → is_pair_less z x z' x' ≡ true → is_pair_less z y z' y' ≡ false → is_pair_less y x y' x' ≡ true
 rising_splits x y z x' y' z' g h = grind (arith, nat_tests)
 
 splits : Splits older
 splits x y z g h = rising_splits x.stamp y.stamp z.stamp x.id y.id z.id g h
 
-ids_apart : (a b i j : ℕ) → nat_lt i j || (not (nat_lt j i) && false) ≡ true → rising a b i j ≡ not (rising b a j i)
+ids_apart : (a b i j : ℕ) → nat_lt i j || (not (nat_lt j i) && false) ≡ true → is_pair_less a b i j ≡ not (is_pair_less b a j i)
 ids_apart a b i j h = grind (arith, nat_tests)
 
 apart : (rows : List TradeRow) → Climbs trade_key rows → AllApart older rows
@@ -105,8 +105,8 @@ ids_exclude (id ∷ ids) e = ((λ t h. ap (λ n. list_any (λ j. n == j) ids) (e
     both false b h = (refl, h)
 
 pub trades_by_id : (base : Base) (ids : List ℕ) → BooksInvariant base → AuditInvariant base → all_distinct ids ≡ true
-    → oldest_first_rows (flat_map (λ id. option_to_list (find (λ t. t.id == id) (sheets base).trades)) ids) ≡ oldest_first_rows (filter (λ t. contains_number t.id ids) (sheets base).trades)
+    → trade_rows_oldest_first (flat_map (λ id. option_to_list (find (λ t. t.id == id) (sheets base).trades)) ids) ≡ trade_rows_oldest_first (filter (λ t. contains_number t.id ids) (sheets base).trades)
 trades_by_id base ids books sound e =
-    ap oldest_first_rows (same_pieces (λ id. option_to_list (find (λ t. t.id == id) (sheets base).trades)) (λ id. filter (has_id id) (sheets base).trades) ids (λ id. trade_alone base id books sound))
+    ap trade_rows_oldest_first (same_pieces (λ id. option_to_list (find (λ t. t.id == id) (sheets base).trades)) (λ id. filter (has_id id) (sheets base).trades) ids (λ id. trade_alone base id books sound))
     ∙ sort_gathered older has_id ids (sheets base).trades splits (apart (sheets base).trades (parts base books sound).trades) (ids_exclude ids e)
-    ∙ ap oldest_first_rows (same_rows (λ t. list_any (λ id. t.id == id) ids) (λ t. contains_number t.id ids) (sheets base).trades (λ t. any_back t.id ids))
+    ∙ ap trade_rows_oldest_first (same_rows (λ t. list_any (λ id. t.id == id) ids) (λ t. contains_number t.id ids) (sheets base).trades (λ t. any_back t.id ids))

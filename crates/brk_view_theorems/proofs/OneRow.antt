@@ -2,23 +2,23 @@
 use Rattle.std.proofs.Common.{◌≡◌, List, [], ◌∷◌, Bool, true, false, cond, Option, Some, None, refl, sym, ap, ◌∙◌, filter, find}
 use Rattle.std.specs.Prelude.{⊤, option_to_list}
 use Rattle.std.specs.List.{AllByRecursion}
-use Rattle.brk_model.specs.Keys.{KeyPart, by_key, key_before, row_before}
+use Rattle.brk_model.specs.Keys.{KeyPart, rows_sorted_by_key, is_key_less, is_row_key_less}
 use Rattle.brk_audit_theorems.proofs.Climbs.{Climbs, not_itself}
 use Rattle.brk_book_theorems.proofs.LotReading.{all_pass}
 use Rattle.brk_book_theorems.proofs.Order.{NoneBefore, Sorted, by_key-filter, key_one_way, sort_sorted}
 
 -- a key does not go before itself
-not_before_itself : (j k : List KeyPart) (b : Bool) → key_before j k ≡ b → j ≡ k → key_before j k ≡ false
+not_before_itself : (j k : List KeyPart) (b : Bool) → is_key_less j k ≡ b → j ≡ k → is_key_less j k ≡ false
 not_before_itself j k false e f = e
-not_before_itself j k true e f = absurd (let g : true ≡ false = sym e ∙ (λ i. key_before (f i) (sym f i)) ∙ key_one_way j k e in cc)
+not_before_itself j k true e f = absurd (let g : true ≡ false = sym e ∙ (λ i. is_key_less (f i) (sym f i)) ∙ key_one_way j k e in cc)
 
-one_key_sorted : {Row : Type 0} (key : Row → List KeyPart) (k : List KeyPart) (rows : List Row) → AllByRecursion (λ r. key r ≡ k) rows → Sorted (row_before key) rows
+one_key_sorted : {Row : Type 0} (key : Row → List KeyPart) (k : List KeyPart) (rows : List Row) → AllByRecursion (λ r. key r ≡ k) rows → Sorted (is_row_key_less key) rows
 one_key_sorted key k [] h = tt
 one_key_sorted key k (r ∷ rows) h = (none r rows h.0 h.1, one_key_sorted key k rows h.1)
   where
-    none : (r : _) (rows : List _) → key r ≡ k → AllByRecursion (λ r. key r ≡ k) rows → NoneBefore (row_before key) r rows
+    none : (r : _) (rows : List _) → key r ≡ k → AllByRecursion (λ r. key r ≡ k) rows → NoneBefore (is_row_key_less key) r rows
     none r [] e h = tt
-    none r (q ∷ rows) e h = (not_before_itself (key q) (key r) (key_before (key q) (key r)) refl (h.0 ∙ sym e), none r rows e h.1)
+    none r (q ∷ rows) e h = (not_before_itself (key q) (key r) (is_key_less (key q) (key r)) refl (h.0 ∙ sym e), none r rows e h.1)
 
 each_of : {X : Type 0} (P Q : X → Type 0) (xs : List X) → ((x : X) → P x → Q x) → AllByRecursion P xs → AllByRecursion Q xs
 each_of P Q [] f h = tt
@@ -26,9 +26,9 @@ each_of P Q (x ∷ xs) f h = (f x h.0, each_of P Q xs f h.1)
 
 -- the rows of one key, whatever order all stand in
 pub rows_of_key : {Row : Type 0} (key : Row → List KeyPart) (p : Row → Bool) (k : List KeyPart) (rows : List Row) → ((r : Row) → p r ≡ true → key r ≡ k)
-    → filter p (by_key key rows) ≡ filter p rows
+    → filter p (rows_sorted_by_key key rows) ≡ filter p rows
 rows_of_key key p k rows h =
-    sym (by_key-filter key p rows) ∙ sort_sorted (row_before key) (filter p rows) (one_key_sorted key k (filter p rows) (each_of (λ r. p r ≡ true) (λ r. key r ≡ k) (filter p rows) h (all_pass p rows)))
+    sym (by_key-filter key p rows) ∙ sort_sorted (is_row_key_less key) (filter p rows) (one_key_sorted key k (filter p rows) (each_of (λ r. p r ≡ true) (λ r. key r ≡ k) (filter p rows) h (all_pass p rows)))
 
 -- ---- at most one row
 
@@ -69,11 +69,11 @@ pub climbs_alone : {Row : Type 0} (key : Row → List KeyPart) (p : Row → Bool
 climbs_alone key p k [] h c = tt
 climbs_alone {Row = Row} key p k (r ∷ rows) h c = (λ e. others rows e c.0, climbs_alone key p k rows h c.1)
   where
-    other : (q : Row) → p r ≡ true → key_before (key r) (key q) ≡ true → (b : Bool) → p q ≡ b → p q ≡ false
+    other : (q : Row) → p r ≡ true → is_key_less (key r) (key q) ≡ true → (b : Bool) → p q ≡ b → p q ≡ false
     other q e f false g = g
     other q e f true g = absurd (not_itself (key r) (key q) (h r e ∙ sym (h q g)) f)
 
-    others : (qs : List Row) → p r ≡ true → AllByRecursion (λ q. key_before (key r) (key q) ≡ true) qs → AllByRecursion (λ q. p q ≡ false) qs
+    others : (qs : List Row) → p r ≡ true → AllByRecursion (λ q. is_key_less (key r) (key q) ≡ true) qs → AllByRecursion (λ q. p q ≡ false) qs
     others [] e f = tt
     others (q ∷ qs) e f = (other q e f.0 (p q) refl, others qs e f.1)
 

@@ -4,10 +4,10 @@ use Rattle.std.specs.Prelude.{◌&&◌, ◌||◌, bytes_eq, is_none, is_some}
 use Rattle.std.specs.List.{AllByRecursion, list_any}
 use Rattle.std.proofs.lemmas.Bool.{eqb-true}
 use Rattle.brk_money.specs.Spelling.{Text}
-use Rattle.brk_model.specs.Keys.{KeyPart, by_key, customer_key, word}
+use Rattle.brk_model.specs.Keys.{KeyPart, rows_sorted_by_key, customer_key, word}
 use Rattle.brk_model.specs.Lists.{insert_by, sort_by}
 use Rattle.brk_model.specs.Records.{Customer}
-use Rattle.brk_invariant_theorems.specs.Sound.{DistinctKeys, tax_id_key}
+use Rattle.brk_invariant_theorems.specs.Sound.{HasDistinctKeys, customer_tax_id_key}
 use Rattle.brk_book_theorems.proofs.Bools.{numbers_back, same_text}
 use Rattle.brk_book_theorems.proofs.Order.{All-insert}
 use Rattle.brk_book_theorems.proofs.Reading.{some-any, some-is-any}
@@ -47,7 +47,7 @@ others : (customers : List Customer) (tax_id : Text) (n : ℕ) → AllByRecursio
 others [] tax_id n h = refl
 others (d ∷ customers) tax_id n h = ap (λ b. (b && (d.id == n)) || list_any (λ d. bytes_eq d.tax_id tax_id && (d.id == n)) customers) h.0 ∙ others customers tax_id n h.1
 
-apart_from : (c : Customer) (customers : List Customer) (tax_id : Text) → bytes_eq c.tax_id tax_id ≡ true → AllByRecursion (λ d. tax_id_key d ≡ tax_id_key c → ⊥) customers
+apart_from : (c : Customer) (customers : List Customer) (tax_id : Text) → bytes_eq c.tax_id tax_id ≡ true → AllByRecursion (λ d. customer_tax_id_key d ≡ customer_tax_id_key c → ⊥) customers
     → AllByRecursion (λ d. bytes_eq d.tax_id tax_id ≡ false) customers
 apart_from c [] tax_id e h = tt
 apart_from c (d ∷ customers) tax_id e h = (differs (bytes_eq d.tax_id tax_id) refl, apart_from c customers tax_id e h.1)
@@ -56,7 +56,7 @@ apart_from c (d ∷ customers) tax_id e h = (differs (bytes_eq d.tax_id tax_id) 
     differs false f = f
     differs true f = absurd (h.0 (ap (λ x. word x ∷ []) (same_text d.tax_id tax_id f ∙ sym (same_text c.tax_id tax_id e))))
 
-pub owned_by_tax_id : (customers : List Customer) (tax_id : Text) (n : ℕ) (x : Customer) → DistinctKeys tax_id_key customers → Some x ≡ find (λ c. bytes_eq c.tax_id tax_id) customers
+pub owned_by_tax_id : (customers : List Customer) (tax_id : Text) (n : ℕ) (x : Customer) → HasDistinctKeys customer_tax_id_key customers → Some x ≡ find (λ c. bytes_eq c.tax_id tax_id) customers
     → (n == x.id) ≡ list_any (λ c. bytes_eq c.tax_id tax_id && (c.id == n)) customers
 owned_by_tax_id [] tax_id n x h s = absurd (cc)
 owned_by_tax_id (c ∷ customers) tax_id n x h s = by_test (owned_by_tax_id customers tax_id n x h.1) (bytes_eq c.tax_id tax_id) refl s
@@ -77,11 +77,11 @@ owned_by_tax_id (c ∷ customers) tax_id n x h s = by_test (owned_by_tax_id cust
 
 -- ---- keys apart in any order
 
-apart_put : {Row : Type 0} (key : Row → List KeyPart) (before : Row → Row → Bool) (x : Row) (ys : List Row) → AllByRecursion (λ y. key y ≡ key x → ⊥) ys → DistinctKeys key ys
-    → DistinctKeys key (insert_by before x ys)
+apart_put : {Row : Type 0} (key : Row → List KeyPart) (before : Row → Row → Bool) (x : Row) (ys : List Row) → AllByRecursion (λ y. key y ≡ key x → ⊥) ys → HasDistinctKeys key ys
+    → HasDistinctKeys key (insert_by before x ys)
 apart_put key before x [] h k = (tt, tt)
 apart_put key before x (y ∷ ys) h k =
-    elim (before y x) as (λ b. DistinctKeys key (cond b (y ∷ insert_by before x ys) (x ∷ y ∷ ys)))
+    elim (before y x) as (λ b. HasDistinctKeys key (cond b (y ∷ insert_by before x ys) (x ∷ y ∷ ys)))
     [ true ↦ (All-insert (λ w. key w ≡ key y → ⊥) before x ys (λ e. h.0 (sym e)) k.0, apart_put key before x ys h.1 k.1) | false ↦ (h, k) ]
 
 All-sorted : {X : Type 0} (P : X → Type 0) (before : X → X → Bool) (xs : List X) → AllByRecursion P xs → AllByRecursion P (sort_by before xs)
@@ -89,7 +89,7 @@ unfolding sort_by
 All-sorted P before [] h = tt
 All-sorted P before (x ∷ xs) h = All-insert P before x (sort_by before xs) h.0 (All-sorted P before xs h.1)
 
-pub apart_sorted : {Row : Type 0} (key : Row → List KeyPart) (before : Row → Row → Bool) (xs : List Row) → DistinctKeys key xs → DistinctKeys key (sort_by before xs)
+pub apart_sorted : {Row : Type 0} (key : Row → List KeyPart) (before : Row → Row → Bool) (xs : List Row) → HasDistinctKeys key xs → HasDistinctKeys key (sort_by before xs)
 unfolding sort_by
 apart_sorted key before [] h = tt
 apart_sorted key before (x ∷ xs) h = apart_put key before x (sort_by before xs) (All-sorted (λ y. key y ≡ key x → ⊥) before xs h.0) (apart_sorted key before xs h.1)
@@ -100,6 +100,6 @@ none_not_some : {X : Type 0} (o : Option X) → is_none o ≡ not (is_some o)
 none_not_some None = refl
 none_not_some (Some x) = refl
 
-pub missing_sorted : (p : Customer → Bool) (customers : List Customer) → is_none (find p customers) ≡ is_none (find p (by_key customer_key customers))
+pub missing_sorted : (p : Customer → Bool) (customers : List Customer) → is_none (find p customers) ≡ is_none (find p (rows_sorted_by_key customer_key customers))
 missing_sorted p customers =
-    none_not_some (find p customers) ∙ ap not (some-is-any p customers ∙ sym (some-any customer_key p customers)) ∙ sym (none_not_some (find p (by_key customer_key customers)))
+    none_not_some (find p customers) ∙ ap not (some-is-any p customers ∙ sym (some-any customer_key p customers)) ∙ sym (none_not_some (find p (rows_sorted_by_key customer_key customers)))

@@ -2,7 +2,7 @@
 use Rattle.std.proofs.Common.{◌≡◌, List, [], ◌∷◌, ◌++◌, Bool, true, false, not, cond, refl, sym, subst, ap, ◌∙◌, map, filter}
 use Rattle.std.specs.Prelude.{⊤, flat_map}
 use Rattle.std.specs.List.{AllByRecursion}
-use Rattle.brk_model.specs.Keys.{KeyPart, by_key, row_before}
+use Rattle.brk_model.specs.Keys.{KeyPart, rows_sorted_by_key, is_row_key_less}
 use Rattle.brk_model.specs.Lists.{insert_by, sort_by}
 use Rattle.brk_book_theorems.proofs.Order.{All-insert, Splits, by_key-filter, insert_commute}
 
@@ -69,8 +69,8 @@ sort_pieces before other f g (x ∷ rows) s e h =
 
 -- those that pass a test, in this order, whatever order all stood in
 pub sort_chosen : {X : Type 0} (before : X → X → Bool) (key : X → List KeyPart) (p : X → Bool) (xs : List X) → Splits before → AllApart before (filter p xs)
-    → sort_by before (filter p (by_key key xs)) ≡ sort_by before (filter p xs)
-sort_chosen before key p xs s h = ap (sort_by before) (sym (by_key-filter key p xs)) ∙ sort_twice before (row_before key) (filter p xs) s h
+    → sort_by before (filter p (rows_sorted_by_key key xs)) ≡ sort_by before (filter p xs)
+sort_chosen before key p xs s h = ap (sort_by before) (sym (by_key-filter key p xs)) ∙ sort_twice before (is_row_key_less key) (filter p xs) s h
 
 -- ---- what holds of sorted rows holds of them as they stood
 
@@ -113,11 +113,11 @@ apart_unsorted before other (x ∷ xs) h =
     let k = apart_inserted before other x (sort_by other xs) h in (All-unsorted (λ y. before x y ≡ not (before y x)) other xs k.0, apart_unsorted before other xs k.1)
 
 -- those that pass a test, in this order, where they are apart as they stand by their keys
-pub sort_back : {X : Type 0} (before : X → X → Bool) (key : X → List KeyPart) (p : X → Bool) (xs : List X) → Splits before → AllApart before (filter p (by_key key xs))
-    → sort_by before (filter p (by_key key xs)) ≡ sort_by before (filter p xs)
+pub sort_back : {X : Type 0} (before : X → X → Bool) (key : X → List KeyPart) (p : X → Bool) (xs : List X) → Splits before → AllApart before (filter p (rows_sorted_by_key key xs))
+    → sort_by before (filter p (rows_sorted_by_key key xs)) ≡ sort_by before (filter p xs)
 sort_back before key p xs s h =
-    let sorted : by_key key (filter p xs) ≡ filter p (by_key key xs) = by_key-filter key p xs in
-    sort_chosen before key p xs s (apart_unsorted before (row_before key) (filter p xs) (subst (AllApart before) (sym sorted) h))
+    let sorted : rows_sorted_by_key key (filter p xs) ≡ filter p (rows_sorted_by_key key xs) = by_key-filter key p xs in
+    sort_chosen before key p xs s (apart_unsorted before (is_row_key_less key) (filter p xs) (subst (AllApart before) (sym sorted) h))
 
 -- ---- elements apart
 

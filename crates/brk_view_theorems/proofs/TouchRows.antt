@@ -6,12 +6,12 @@ use Rattle.std.specs.List.{AllByRecursion, list_any}
 use Rattle.std.specs.Option.{option_map_or}
 use Rattle.std.proofs.lemmas.Bool.Decides.{nat_tests}
 use Rattle.brk_model.specs.Base.{Base}
-use Rattle.brk_model.specs.Joins.{oldest_first_rows}
+use Rattle.brk_model.specs.Joins.{trade_rows_oldest_first}
 use Rattle.brk_model.specs.Keys.{holding_history_key}
-use Rattle.brk_model.specs.Lists.{rising, sort_by}
-use Rattle.brk_model.specs.LookupView.{is_touched_by, lots_view, touch_stamp, touched_view}
-use Rattle.brk_model.specs.Sheets.{sheets, sheets_of}
-use Rattle.brk_model.specs.Tables.{HoldingHistoryRow, TradeRow, tables_of}
+use Rattle.brk_model.specs.Lists.{is_pair_less, sort_by}
+use Rattle.brk_model.specs.LookupView.{trade_touches_lot, touched_lots_of_oldest_trade, stamp_of_touching_trade, touched_lots_view}
+use Rattle.brk_model.specs.Sheets.{sheets, tables_sorted_by_key}
+use Rattle.brk_model.specs.Tables.{HoldingHistoryRow, TradeRow, tables_of_base}
 use Rattle.brk_audit_theorems.proofs.Climbs.{Climbs}
 use Rattle.brk_audit_theorems.proofs.Parts.{key_parts}
 use Rattle.brk_invariant_theorems.specs.Sound.{AuditInvariant}
@@ -27,38 +27,38 @@ use Rattle.brk_view_theorems.proofs.Trades.{same_trades}
 
 -- ---- one change
 
-same_touched : (base : Base) (trade lot : ℕ) → is_touched_by (sheets base) trade lot ≡ is_touched_by (tables_of base) trade lot
-unfolding sheets_of
-same_touched base trade lot = any-sorted holding_history_key (λ row. (row.trade == trade) && (row.lot == lot)) (tables_of base).holding_history
+same_touched : (base : Base) (trade lot : ℕ) → trade_touches_lot (sheets base) trade lot ≡ trade_touches_lot (tables_of_base base) trade lot
+unfolding tables_sorted_by_key
+same_touched base trade lot = any-sorted holding_history_key (λ row. (row.trade == trade) && (row.lot == lot)) (tables_of_base base).holding_history
 
-same_stamp : (base : Base) (row : HoldingHistoryRow) → BooksInvariant base → touch_stamp (sheets base) row ≡ touch_stamp (tables_of base) row
+same_stamp : (base : Base) (row : HoldingHistoryRow) → BooksInvariant base → stamp_of_touching_trade (sheets base) row ≡ stamp_of_touching_trade (tables_of_base base) row
 same_stamp base row books = ap (λ (ts : List TradeRow). option_map_or (λ t. t.stamp) (find (λ t. t.id == row.trade) ts) 0) (same_trades base books)
 
 -- ---- in their order
 
 -- the changes of the lots that a trade touched, in their order
 same_changes : (base : Base) (trade : ℕ) → BooksInvariant base → AuditInvariant base
-    → sort_by (earlier_touch base) (filter (λ row. is_touched_by (tables_of base) trade row.lot) (sheets base).holding_history)
-    ≡ sort_by (earlier_touch base) (filter (λ row. is_touched_by (tables_of base) trade row.lot) (tables_of base).holding_history)
-unfolding sheets_of
+    → sort_by (earlier_touch base) (filter (λ row. trade_touches_lot (tables_of_base base) trade row.lot) (sheets base).holding_history)
+    ≡ sort_by (earlier_touch base) (filter (λ row. trade_touches_lot (tables_of_base base) trade row.lot) (tables_of_base base).holding_history)
+unfolding tables_sorted_by_key
 same_changes base trade books sound =
-    let p : HoldingHistoryRow → Bool = λ row. is_touched_by (tables_of base) trade row.lot in
-    sort_back (earlier_touch base) holding_history_key p (tables_of base).holding_history (touches_split base)
+    let p : HoldingHistoryRow → Bool = λ row. trade_touches_lot (tables_of_base base) trade row.lot in
+    sort_back (earlier_touch base) holding_history_key p (tables_of_base base).holding_history (touches_split base)
     (apart_filter (earlier_touch base) p (sheets base).holding_history (touches_apart base books sound))
 
-same_view : (base : Base) (t : TradeRow) → BooksInvariant base → AuditInvariant base → touched_view (sheets base) t ≡ touched_view (tables_of base) t
+same_view : (base : Base) (t : TradeRow) → BooksInvariant base → AuditInvariant base → touched_lots_view (sheets base) t ≡ touched_lots_view (tables_of_base base) t
 same_view base t books sound =
     ap (λ (rows : List HoldingHistoryRow). (decimal t.id ∷ []) ∷ map (λ row. decimal row.lot ∷ decimal row.trade ∷ signed_decimal row.before ∷ signed_decimal row.after ∷ []) (take 20 rows))
-    (same_order (λ a b. rising (touch_stamp (sheets base) a) (touch_stamp (sheets base) b) a.lot b.lot) (earlier_touch base) (filter (λ row. is_touched_by (sheets base) t.id row.lot) (sheets base).holding_history)
-    (λ a b i. rising (same_stamp base a books i) (same_stamp base b books i) a.lot b.lot)
-    ∙ ap (sort_by (earlier_touch base)) (same_rows (λ row. is_touched_by (sheets base) t.id row.lot) (λ row. is_touched_by (tables_of base) t.id row.lot) (sheets base).holding_history (λ row. same_touched base t.id row.lot))
+    (same_order (λ a b. is_pair_less (stamp_of_touching_trade (sheets base) a) (stamp_of_touching_trade (sheets base) b) a.lot b.lot) (earlier_touch base) (filter (λ row. trade_touches_lot (sheets base) t.id row.lot) (sheets base).holding_history)
+    (λ a b i. is_pair_less (same_stamp base a books i) (same_stamp base b books i) a.lot b.lot)
+    ∙ ap (sort_by (earlier_touch base)) (same_rows (λ row. trade_touches_lot (sheets base) t.id row.lot) (λ row. trade_touches_lot (tables_of_base base) t.id row.lot) (sheets base).holding_history (λ row. same_touched base t.id row.lot))
     ∙ same_changes base t.id books sound)
 
-pub same_lots : (base : Base) (account first : ℕ) → BooksInvariant base → AuditInvariant base → lots_view (sheets base) account first ≡ lots_view (tables_of base) account first
-unfolding lots_view
+pub same_lots : (base : Base) (account first : ℕ) → BooksInvariant base → AuditInvariant base → touched_lots_of_oldest_trade (sheets base) account first ≡ touched_lots_of_oldest_trade (tables_of_base base) account first
+unfolding touched_lots_of_oldest_trade
 same_lots base account first books sound i =
     flat_map (λ t. same_view base t books sound i)
-    (take 1 (oldest_first_rows (filter (λ t. nat_le first t.stamp) (filter (λ (r : TradeRow). r.account == account) (same_trades base books i)))))
+    (take 1 (trade_rows_oldest_first (filter (λ t. nat_le first t.stamp) (filter (λ (r : TradeRow). r.account == account) (same_trades base books i)))))
 
 -- ---- read lot by lot
 
@@ -176,9 +176,9 @@ of_touched trade lot (r ∷ rows) = by_test (of_touched trade lot rows) (r.trade
 -- the changes of each lot that a trade touched, lot after lot, are those of all these lots as they stand
 pub touched_by_lot : (base : Base) (trade : ℕ) → BooksInvariant base → AuditInvariant base
     → flat_map (λ lot. filter (λ r. r.lot == lot) (sheets base).holding_history) (map (λ r. r.lot) (filter (λ r. r.trade == trade) (sheets base).holding_history))
-    ≡ filter (λ r. is_touched_by (sheets base) trade r.lot) (sheets base).holding_history
+    ≡ filter (λ r. trade_touches_lot (sheets base) trade r.lot) (sheets base).holding_history
 touched_by_lot base trade books sound =
     let rows : List HoldingHistoryRow = (sheets base).holding_history in
     let climb : Climbs holding_history_key rows = (key_parts (sheets base) (keys_of base books sound)).holding_history in
     gathered (touched_lots trade rows) rows (rise_so trade rows climb) (stand_so rows climb)
-    ∙ same_rows (λ r. is_of (touched_lots trade rows) r.lot) (λ r. is_touched_by (sheets base) trade r.lot) rows (λ r. of_touched trade r.lot rows)
+    ∙ same_rows (λ r. is_of (touched_lots trade rows) r.lot) (λ r. trade_touches_lot (sheets base) trade r.lot) rows (λ r. of_touched trade r.lot rows)

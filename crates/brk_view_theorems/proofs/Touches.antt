@@ -5,20 +5,20 @@ use Rattle.std.specs.List.{AllByRecursion}
 use Rattle.std.specs.Option.{option_map_or}
 use Rattle.std.proofs.lemmas.Bool.{eq-eqb, eqb-true}
 use Rattle.std.proofs.lemmas.Bool.Decides.{nat_tests}
-use Rattle.brk_model.specs.Base.{Base, completed, is_completed, moment_of}
-use Rattle.brk_model.specs.Derived.{deal_of, deals_in, of_account, of_position}
-use Rattle.brk_model.specs.Joins.{trade_in}
+use Rattle.brk_model.specs.Base.{Base, completed_trades, is_completed, last_status_stamp_of_trade}
+use Rattle.brk_model.specs.Derived.{deal_of_trade, deals_of_position, trades_of_account, trades_of_position}
+use Rattle.brk_model.specs.Joins.{trade_row_with_id}
 use Rattle.brk_model.specs.Keys.{holding_history_key}
-use Rattle.brk_model.specs.Lists.{rising}
+use Rattle.brk_model.specs.Lists.{is_pair_less}
 use Rattle.brk_model.specs.Records.{Trade}
-use Rattle.brk_model.specs.Sheets.{sheets, sheets_of}
-use Rattle.brk_model.specs.Tables.{HoldingHistoryRow, lot_history, tables_of, trade_row, tables_at}
+use Rattle.brk_model.specs.Sheets.{sheets, tables_sorted_by_key}
+use Rattle.brk_model.specs.Tables.{HoldingHistoryRow, holding_history_rows_of_lot, tables_of_base, trade_row, tables_of_base_in_schema}
 use Rattle.brk_audit_theorems.proofs.Climbs.{Climbs}
 use Rattle.brk_audit_theorems.proofs.Members.{All-flat_map}
 use Rattle.brk_audit_theorems.proofs.Parts.{key_parts}
 use Rattle.brk_invariant_theorems.specs.Sound.{AuditInvariant}
 use Rattle.brk_invariant_theorems.proofs.FormKeys.{All-history, keys_of}
-use Rattle.brk_book_theorems.specs.Books.{BooksInvariant, DistinctMoments}
+use Rattle.brk_book_theorems.specs.Books.{BooksInvariant, HasDistinctStatusStamps}
 use Rattle.brk_book_theorems.proofs.LotReading.{IdsApart, numbered_rise, rise_apart}
 use Rattle.brk_book_theorems.proofs.Order.{Splits}
 use Rattle.brk_book_theorems.proofs.Reading.{find-map}
@@ -37,7 +37,7 @@ abbrev pub IsAmong : List Trade → ℕ → Type 0
 IsAmong ts id = is_some (with_id id ts) ≡ true
 
 abbrev moment_in : List Trade → ℕ → ℕ
-moment_in ts id = option_map_or moment_of (with_id id ts) 0
+moment_in ts id = option_map_or last_status_stamp_of_trade (with_id id ts) 0
 
 none_found : (id : ℕ) (ts : List Trade) → NonePass (λ u. u.id == id) ts → with_id id ts ≡ None
 none_found id [] h = refl
@@ -67,90 +67,90 @@ some_is None e = absurd (cc)
 some_is (Some x) e = (x, refl)
 
 -- another moment than one that none of some has
-other_moment : (moment id : ℕ) (ts : List Trade) → AllByRecursion (λ u. (moment_of u == moment) ≡ false) ts → IsAmong ts id → (moment_in ts id == moment) ≡ false
+other_moment : (moment id : ℕ) (ts : List Trade) → AllByRecursion (λ u. (last_status_stamp_of_trade u == moment) ≡ false) ts → IsAmong ts id → (moment_in ts id == moment) ≡ false
 other_moment moment id ts h e =
     let found = some_is (with_id id ts) e in
-    ap (λ o. option_map_or moment_of o 0 == moment) found.1 ∙ find-All (λ u. (moment_of u == moment) ≡ false) (λ t. t.id == id) ts found.0 h found.1
+    ap (λ o. option_map_or last_status_stamp_of_trade o 0 == moment) found.1 ∙ find-All (λ u. (last_status_stamp_of_trade u == moment) ≡ false) (λ t. t.id == id) ts found.0 h found.1
 
 turned : (m n : ℕ) → (n == m) ≡ false → (m == n) ≡ false
 turned m n h = grind (arith, nat_tests)
 
 -- two of them came to their last status at two moments
-moments_differ : (ts : List Trade) (m n : ℕ) → DistinctMoments ts → IsAmong ts m → IsAmong ts n → (m == n) ≡ false → (moment_in ts m == moment_in ts n) ≡ false
+moments_differ : (ts : List Trade) (m n : ℕ) → HasDistinctStatusStamps ts → IsAmong ts m → IsAmong ts n → (m == n) ≡ false → (moment_in ts m == moment_in ts n) ≡ false
 moments_differ [] m n d e f h = absurd (cc)
 moments_differ (t ∷ ts) m n d e f h = by_tests (moments_differ ts m n d.1) (t.id == m) (t.id == n) refl refl e f
   where
     by_tests : (IsAmong ts m → IsAmong ts n → (m == n) ≡ false → (moment_in ts m == moment_in ts n) ≡ false) → (b c : Bool) → (t.id == m) ≡ b → (t.id == n) ≡ c
         → is_some (cond b (Some t) (with_id m ts)) ≡ true → is_some (cond c (Some t) (with_id n ts)) ≡ true
-        → (option_map_or moment_of (cond b (Some t) (with_id m ts)) 0 == option_map_or moment_of (cond c (Some t) (with_id n ts)) 0) ≡ false
+        → (option_map_or last_status_stamp_of_trade (cond b (Some t) (with_id m ts)) 0 == option_map_or last_status_stamp_of_trade (cond c (Some t) (with_id n ts)) 0) ≡ false
     by_tests ih true true g k e f = absurd (let i : true ≡ false = sym (eq-eqb m n (sym (eqb-true t.id m g) ∙ eqb-true t.id n k)) ∙ h in cc)
-    by_tests ih true false g k e f = turned (moment_of t) (moment_in ts n) (other_moment (moment_of t) n ts d.0 f)
-    by_tests ih false true g k e f = other_moment (moment_of t) m ts d.0 e
+    by_tests ih true false g k e f = turned (last_status_stamp_of_trade t) (moment_in ts n) (other_moment (last_status_stamp_of_trade t) n ts d.0 f)
+    by_tests ih false true g k e f = other_moment (last_status_stamp_of_trade t) m ts d.0 e
     by_tests ih false false g k e f = ih e f h
 
 -- ---- the stamps of changes
 
 -- the stamp of a trade
 abbrev pub stamp_at : Base → ℕ → ℕ
-stamp_at base id = option_map_or (λ t. t.stamp) (trade_in (tables_of base) id) 0
+stamp_at base id = option_map_or (λ t. t.stamp) (trade_row_with_id (tables_of_base base) id) 0
 
-stamp_is : (base : Base) (id : ℕ) → BooksInvariant base → IsAmong (completed base) id → stamp_at base id ≡ moment_in (completed base) id
-unfolding tables_at
+stamp_is : (base : Base) (id : ℕ) → BooksInvariant base → IsAmong (completed_trades base) id → stamp_at base id ≡ moment_in (completed_trades base) id
+unfolding tables_of_base_in_schema
 stamp_is base id books e =
     ap (λ o. option_map_or (λ t. t.stamp) o 0) (find-map (λ r. r.id == id) trade_row base.trades) ∙ of_row (with_id id base.trades)
-    ∙ ap (λ o. option_map_or moment_of o 0) (found_of_all is_completed id base.trades (rise_apart base.trades (numbered_rise 1 base.trades books.numbered)) e)
+    ∙ ap (λ o. option_map_or last_status_stamp_of_trade o 0) (found_of_all is_completed id base.trades (rise_apart base.trades (numbered_rise 1 base.trades books.numbered)) e)
   where
-    of_row : (o : Option Trade) → option_map_or (λ t. t.stamp) (option_map trade_row o) 0 ≡ option_map_or moment_of o 0
+    of_row : (o : Option Trade) → option_map_or (λ t. t.stamp) (option_map trade_row o) 0 ≡ option_map_or last_status_stamp_of_trade o 0
     of_row None = refl
     of_row (Some t) = refl
 
-stamps_differ : (base : Base) (m n : ℕ) → BooksInvariant base → IsAmong (completed base) m → IsAmong (completed base) n → (m == n) ≡ false → (stamp_at base m == stamp_at base n) ≡ false
+stamps_differ : (base : Base) (m n : ℕ) → BooksInvariant base → IsAmong (completed_trades base) m → IsAmong (completed_trades base) n → (m == n) ≡ false → (stamp_at base m == stamp_at base n) ≡ false
 stamps_differ base m n books e f h =
-    (λ i. stamp_is base m books e i == stamp_is base n books f i) ∙ moments_differ (completed base) m n books.moments e f h
+    (λ i. stamp_is base m books e i == stamp_is base n books f i) ∙ moments_differ (completed_trades base) m n books.moments e f h
 
 -- ---- each change is of a completed trade
 
 each_among : (ts : List Trade) → AllByRecursion (λ t. IsAmong ts t.id) ts
 each_among ts = find-each (λ t u. u.id == t.id) ts (λ t. eq-eqb t.id t.id refl)
 
-each_deal : (done : List Trade) (account : ℕ) (symbol : List ℕ) → AllByRecursion (λ d. IsAmong done d.trade) (deals_in done account symbol)
+each_deal : (done : List Trade) (account : ℕ) (symbol : List ℕ) → AllByRecursion (λ d. IsAmong done d.trade) (deals_of_position done account symbol)
 each_deal done account symbol =
-    All-mapped (λ d. IsAmong done d.trade) deal_of _
-    (All-sort (λ (t : Trade). IsAmong done t.id) _ (of_position done account symbol)
-    (All-filter (λ (t : Trade). IsAmong done t.id) _ (of_account done account) (All-filter (λ (t : Trade). IsAmong done t.id) _ done (each_among done))))
+    All-mapped (λ d. IsAmong done d.trade) deal_of_trade _
+    (All-sort (λ (t : Trade). IsAmong done t.id) _ (trades_of_position done account symbol)
+    (All-filter (λ (t : Trade). IsAmong done t.id) _ (trades_of_account done account) (All-filter (λ (t : Trade). IsAmong done t.id) _ done (each_among done))))
 
-each_history : (done ts : List Trade) → AllByRecursion (λ t. AllByRecursion (λ r. IsAmong done r.trade) (lot_history done t)) ts
+each_history : (done ts : List Trade) → AllByRecursion (λ t. AllByRecursion (λ r. IsAmong done r.trade) (holding_history_rows_of_lot done t)) ts
 each_history done [] = tt
 each_history done (t ∷ ts) = (All-history (λ lot trade. IsAmong done trade) done t (each_deal done t.account t.symbol), each_history done ts)
 
-pub each_made : (base : Base) → AllByRecursion (λ r. IsAmong (completed base) r.trade) (sheets base).holding_history
-unfolding sheets_of tables_at
+pub each_made : (base : Base) → AllByRecursion (λ r. IsAmong (completed_trades base) r.trade) (sheets base).holding_history
+unfolding tables_sorted_by_key tables_of_base_in_schema
 each_made base =
-    All-sort (λ (r : HoldingHistoryRow). IsAmong (completed base) r.trade) _ (flat_map (lot_history (completed base)) (completed base))
-    (All-flat_map (λ (r : HoldingHistoryRow). IsAmong (completed base) r.trade) (lot_history (completed base)) (completed base) (each_history (completed base) (completed base)))
+    All-sort (λ (r : HoldingHistoryRow). IsAmong (completed_trades base) r.trade) _ (flat_map (holding_history_rows_of_lot (completed_trades base)) (completed_trades base))
+    (All-flat_map (λ (r : HoldingHistoryRow). IsAmong (completed_trades base) r.trade) (holding_history_rows_of_lot (completed_trades base)) (completed_trades base) (each_history (completed_trades base) (completed_trades base)))
 
 -- ---- by the stamp of the change, then by lot
 
 abbrev pub earlier_touch : Base → HoldingHistoryRow → HoldingHistoryRow → Bool
-earlier_touch base a b = rising (stamp_at base a.trade) (stamp_at base b.trade) a.lot b.lot
+earlier_touch base a b = is_pair_less (stamp_at base a.trade) (stamp_at base b.trade) a.lot b.lot
 
-rising_splits : (x y z x' y' z' : ℕ) → rising z x z' x' ≡ true → rising z y z' y' ≡ false → rising y x y' x' ≡ true
+rising_splits : (x y z x' y' z' : ℕ) → is_pair_less z x z' x' ≡ true → is_pair_less z y z' y' ≡ false → is_pair_less y x y' x' ≡ true
 rising_splits x y z x' y' z' g h = grind (arith, nat_tests)
 
 pub touches_split : (base : Base) → Splits (earlier_touch base)
 touches_split base x y z g h = rising_splits (stamp_at base x.trade) (stamp_at base y.trade) (stamp_at base z.trade) x.lot y.lot z.lot g h
 
-stamps_apart : (a b l k : ℕ) → (a == b) ≡ false → rising a b l k ≡ not (rising b a k l)
+stamps_apart : (a b l k : ℕ) → (a == b) ≡ false → is_pair_less a b l k ≡ not (is_pair_less b a k l)
 stamps_apart a b l k h = grind (arith, nat_tests)
 
-lots_apart : (a b l k : ℕ) → (l == k) ≡ false → rising a b l k ≡ not (rising b a k l)
+lots_apart : (a b l k : ℕ) → (l == k) ≡ false → is_pair_less a b l k ≡ not (is_pair_less b a k l)
 lots_apart a b l k h = grind (arith, nat_tests)
 
 -- a row that goes before another of its lot is of another trade
 other_trade : (l m k n : ℕ) → nat_lt l k || (not (nat_lt k l) && (nat_lt m n || (not (nat_lt n m) && false))) ≡ true → (l == k) ≡ true → (m == n) ≡ false
 other_trade l m k n g h = grind (arith, nat_tests)
 
-pair_apart : (base : Base) (x y : HoldingHistoryRow) → BooksInvariant base → IsAmong (completed base) x.trade → IsAmong (completed base) y.trade
+pair_apart : (base : Base) (x y : HoldingHistoryRow) → BooksInvariant base → IsAmong (completed_trades base) x.trade → IsAmong (completed_trades base) y.trade
     → nat_lt x.lot y.lot || (not (nat_lt y.lot x.lot) && (nat_lt x.trade y.trade || (not (nat_lt y.trade x.trade) && false))) ≡ true
     → earlier_touch base x y ≡ not (earlier_touch base y x)
 pair_apart base x y books e f g = by_test (x.lot == y.lot) refl
@@ -160,11 +160,11 @@ pair_apart base x y books e f g = by_test (x.lot == y.lot) refl
     by_test true h =
         stamps_apart (stamp_at base x.trade) (stamp_at base y.trade) x.lot y.lot (stamps_differ base x.trade y.trade books e f (other_trade x.lot x.trade y.lot y.trade g h))
 
-apart_of : (base : Base) (rows : List HoldingHistoryRow) → BooksInvariant base → AllByRecursion (λ r. IsAmong (completed base) r.trade) rows → Climbs holding_history_key rows → AllApart (earlier_touch base) rows
+apart_of : (base : Base) (rows : List HoldingHistoryRow) → BooksInvariant base → AllByRecursion (λ r. IsAmong (completed_trades base) r.trade) rows → Climbs holding_history_key rows → AllApart (earlier_touch base) rows
 apart_of base [] books h c = tt
 apart_of base (x ∷ rows) books h c = (others rows h.1 c.0, apart_of base rows books h.1 c.1)
   where
-    others : (ys : List HoldingHistoryRow) → AllByRecursion (λ r. IsAmong (completed base) r.trade) ys
+    others : (ys : List HoldingHistoryRow) → AllByRecursion (λ r. IsAmong (completed_trades base) r.trade) ys
         → AllByRecursion (λ y. nat_lt x.lot y.lot || (not (nat_lt y.lot x.lot) && (nat_lt x.trade y.trade || (not (nat_lt y.trade x.trade) && false))) ≡ true) ys
         → AllByRecursion (λ y. earlier_touch base x y ≡ not (earlier_touch base y x)) ys
     others [] k d = tt

@@ -4,20 +4,20 @@ use Rattle.std.specs.Prelude.{◌&&◌, nat_lt}
 use Rattle.std.specs.List.{AllByRecursion}
 use Rattle.std.proofs.lemmas.Bool.Decides.{nat_tests}
 use Rattle.brk_model.specs.Base.{Base}
-use Rattle.brk_model.specs.Joins.{history_in}
-use Rattle.brk_model.specs.Keys.{by_key, history_key}
+use Rattle.brk_model.specs.Joins.{history_rows_with_trade_id}
+use Rattle.brk_model.specs.Keys.{rows_sorted_by_key, history_key}
 use Rattle.brk_model.specs.Records.{StatusChange, Trade}
-use Rattle.brk_model.specs.Sheets.{sheets, sheets_of}
-use Rattle.brk_model.specs.Tables.{HistoryRow, TradeRow, tables_of, trade_row, tables_at}
-use Rattle.brk_model.specs.Ways.{is_rising}
+use Rattle.brk_model.specs.Sheets.{sheets, tables_sorted_by_key}
+use Rattle.brk_model.specs.Tables.{HistoryRow, TradeRow, tables_of_base, trade_row, tables_of_base_in_schema}
+use Rattle.brk_model.specs.Ways.{is_strictly_ascending}
 use Rattle.brk_audit_theorems.proofs.Again.{IsRead, reads}
-use Rattle.brk_invariant_theorems.specs.Sound.{AuditInvariant, IsSoundTrade}
+use Rattle.brk_invariant_theorems.specs.Sound.{AuditInvariant, BaseTradeAuditInvariant}
 use Rattle.brk_book_theorems.specs.Books.{BooksInvariant}
 use Rattle.brk_book_theorems.proofs.Order.{by_key-filter}
 use Rattle.brk_book_theorems.proofs.TradeReading.{trades_in_order}
 
-pub same_trades : (base : Base) → BooksInvariant base → (sheets base).trades ≡ (tables_of base).trades
-unfolding tables_at
+pub same_trades : (base : Base) → BooksInvariant base → (sheets base).trades ≡ (tables_of_base base).trades
+unfolding tables_of_base_in_schema
 same_trades base books = trades_in_order base books.numbered
 
 -- ---- the statuses of a trade
@@ -43,28 +43,28 @@ earlier_through : (a b : ℕ) (others : List HistoryRow) → nat_lt a b ≡ true
 earlier_through a b [] f h = tt
 earlier_through a b (k ∷ others) f h = (through a b k.stamp f h.0, earlier_through a b others f h.1)
 
-rows_rise : (id : ℕ) (marks : List StatusChange) → is_rising (map (λ m. m.stamp) marks) ≡ true → AllRise (map (λ m. record { trade = id; status = m.status; stamp = m.stamp }) marks)
+rows_rise : (id : ℕ) (marks : List StatusChange) → is_strictly_ascending (map (λ m. m.stamp) marks) ≡ true → AllRise (map (λ m. record { trade = id; status = m.status; stamp = m.stamp }) marks)
 rows_rise id [] e = tt
 rows_rise id (m ∷ []) e = (tt, tt)
 rows_rise id (m ∷ n ∷ marks) e =
-    let both = and_both (nat_lt m.stamp n.stamp) (is_rising (map (λ m. m.stamp) (n ∷ marks))) e in
+    let both = and_both (nat_lt m.stamp n.stamp) (is_strictly_ascending (map (λ m. m.stamp) (n ∷ marks))) e in
     let after : AllRise (map (λ m. record { trade = id; status = m.status; stamp = m.stamp }) (n ∷ marks)) = rows_rise id (n ∷ marks) both.1 in
     ((both.0, earlier_through m.stamp n.stamp (map (λ m. record { trade = id; status = m.status; stamp = m.stamp }) marks) both.0 after.0), after)
 
-own_rows : (base : Base) (ts : List Trade) → AllByRecursion (IsRead base) ts → AllByRecursion (IsSoundTrade base) ts → AllByRecursion (λ (r : TradeRow). AllRise (history_in (tables_of base) r.id)) (map trade_row ts)
-unfolding tables_at
+own_rows : (base : Base) (ts : List Trade) → AllByRecursion (IsRead base) ts → AllByRecursion (BaseTradeAuditInvariant base) ts → AllByRecursion (λ (r : TradeRow). AllRise (history_rows_with_trade_id (tables_of_base base) r.id)) (map trade_row ts)
+unfolding tables_of_base_in_schema
 own_rows base [] h k = tt
 own_rows base (t ∷ ts) h k = (subst AllRise (sym h.0.history) (rows_rise t.id t.marks k.0.stamps), own_rows base ts h.1 k.1)
 
 -- the statuses of each trade rise
-pub statuses_rise : (base : Base) → BooksInvariant base → AuditInvariant base → AllByRecursion (λ (r : TradeRow). AllRise (history_in (tables_of base) r.id)) (tables_of base).trades
-unfolding tables_at
+pub statuses_rise : (base : Base) → BooksInvariant base → AuditInvariant base → AllByRecursion (λ (r : TradeRow). AllRise (history_rows_with_trade_id (tables_of_base base) r.id)) (tables_of_base base).trades
+unfolding tables_of_base_in_schema
 statuses_rise base books sound = own_rows base base.trades (reads base books.numbered) sound.trades
 
 -- a store reads them by the codes of the statuses
-pub history_by_code : (base : Base) (id : ℕ) → history_in (sheets base) id ≡ by_key history_key (history_in (tables_of base) id)
-unfolding sheets_of
-history_by_code base id = sym (by_key-filter history_key (λ h. h.trade == id) (tables_of base).history)
+pub history_by_code : (base : Base) (id : ℕ) → history_rows_with_trade_id (sheets base) id ≡ rows_sorted_by_key history_key (history_rows_with_trade_id (tables_of_base base) id)
+unfolding tables_sorted_by_key
+history_by_code base id = sym (by_key-filter history_key (λ h. h.trade == id) (tables_of_base base).history)
 
 -- ---- of some rows
 

@@ -7,10 +7,12 @@ pub mod views;
 pub mod volumes;
 
 pub use lookups::{
-    changes_are_read_by_lot, lookups_are_as_read, lots_are_as_read, rows_are_found_alone,
-    trades_are_found_by_ids,
+    changes_read_by_lot_are_complete, rows_with_a_key_are_unique,
+    sorting_tables_preserves_lookup_view, sorting_tables_preserves_lots_view,
+    trades_read_by_ids_are_complete,
 };
 pub use views::{
-    positions_are_as_read, recent_trades_are_as_read, statuses_are_as_read, views_are_as_read,
+    sorting_tables_preserves_all_views, sorting_tables_preserves_position_view,
+    sorting_tables_preserves_recent_view, sorting_tables_preserves_status_view,
 };
-pub use volumes::{brokers_are_read_by_name, volumes_are_as_read};
+pub use volumes::{brokers_read_by_name_are_complete, sorting_tables_preserves_volume_view};

@@ -2,38 +2,38 @@
 
 ghost use Rattle.std.specs.Prelude.{◌≡◌, ◌==◌, ℕ, Bool, List, filter, find, flat_map, map, option_to_list, true};
 ghost use Rattle.brk_model.specs.Base.{Base};
-ghost use Rattle.brk_model.specs.Joins.{oldest_first_rows};
+ghost use Rattle.brk_model.specs.Joins.{trade_rows_oldest_first};
 ghost use Rattle.brk_model.specs.Lists.{all_distinct, contains_number};
-ghost use Rattle.brk_model.specs.LookupView.{is_cash_of, is_touched_by, lookup_view, lots_view};
+ghost use Rattle.brk_model.specs.LookupView.{is_cash_row_of_trade, trade_touches_lot, trade_lookup_view, touched_lots_of_oldest_trade};
 ghost use Rattle.brk_model.specs.Sheets.{sheets};
-ghost use Rattle.brk_model.specs.Tables.{TradeRow, tables_of};
+ghost use Rattle.brk_model.specs.Tables.{TradeRow, tables_of_base};
 ghost use Rattle.brk_invariant_theorems.specs.Sound.{AuditInvariant};
 ghost use Rattle.brk_book_theorems.specs.Books.{BooksInvariant};
 
 /// Proves that the view of the trades that pass a test, over the sorted tables, equals the
 /// specified view, if the base satisfies the books invariant and the audit invariant.
 #[tactic(auto, using(crate::proofs::LookupRows::same_lookup))]
-pub fn lookups_are_as_read()
-    ensures { (base : Base) (test : TradeRow → Bool) → BooksInvariant base → AuditInvariant base → lookup_view (sheets base) test ≡ lookup_view (tables_of base) test }
+pub fn sorting_tables_preserves_lookup_view()
+    ensures { (base : Base) (test : TradeRow → Bool) → BooksInvariant base → AuditInvariant base → trade_lookup_view (sheets base) test ≡ trade_lookup_view (tables_of_base base) test }
 {}
 
 /// Proves that the view of the lots that the oldest trade of an account from a stamp on touched,
 /// over the sorted tables, equals the specified view, if the base satisfies the books invariant and
 /// the audit invariant.
 #[tactic(auto, using(crate::proofs::TouchRows::same_lots))]
-pub fn lots_are_as_read()
-    ensures { (base : Base) (account first : ℕ) → BooksInvariant base → AuditInvariant base → lots_view (sheets base) account first ≡ lots_view (tables_of base) account first }
+pub fn sorting_tables_preserves_lots_view()
+    ensures { (base : Base) (account first : ℕ) → BooksInvariant base → AuditInvariant base → touched_lots_of_oldest_trade (sheets base) account first ≡ touched_lots_of_oldest_trade (tables_of_base base) account first }
 {}
 
 /// Proves that at most one row has a given key, for settlements by trade, cash rows by trade,
 /// accounts by id and customers by id, if the base satisfies the books invariant and the audit
 /// invariant.
 #[tactic(auto, using(crate::proofs::FoundRows::settlement_alone, crate::proofs::FoundRows::cash_alone, crate::proofs::FoundRows::account_alone, crate::proofs::FoundRows::customer_alone))]
-pub fn rows_are_found_alone()
+pub fn rows_with_a_key_are_unique()
     ensures settlements { (base : Base) (trade : ℕ) → BooksInvariant base → AuditInvariant base
         → option_to_list (find (λ s. s.trade == trade) (sheets base).settlements) ≡ filter (λ s. s.trade == trade) (sheets base).settlements }
     ensures cash { (base : Base) (trade : ℕ) → BooksInvariant base → AuditInvariant base
-        → option_to_list (find (is_cash_of trade) (sheets base).moves) ≡ filter (is_cash_of trade) (sheets base).moves }
+        → option_to_list (find (is_cash_row_of_trade trade) (sheets base).moves) ≡ filter (is_cash_row_of_trade trade) (sheets base).moves }
     ensures accounts { (base : Base) (id : ℕ) → BooksInvariant base → AuditInvariant base
         → option_to_list (find (λ a. a.id == id) (sheets base).accounts) ≡ filter (λ a. a.id == id) (sheets base).accounts }
     ensures customers { (base : Base) (id : ℕ) → BooksInvariant base → AuditInvariant base
@@ -44,18 +44,18 @@ pub fn rows_are_found_alone()
 /// first are all trades with these ids, if the base satisfies the books invariant and the audit
 /// invariant.
 #[tactic(auto, using(crate::proofs::FoundRows::trades_by_id))]
-pub fn trades_are_found_by_ids()
+pub fn trades_read_by_ids_are_complete()
     ensures { (base : Base) (ids : List ℕ) → BooksInvariant base → AuditInvariant base → all_distinct ids ≡ true
-        → oldest_first_rows (flat_map (λ id. option_to_list (find (λ t. t.id == id) (sheets base).trades)) ids)
-        ≡ oldest_first_rows (filter (λ t. contains_number t.id ids) (sheets base).trades) }
+        → trade_rows_oldest_first (flat_map (λ id. option_to_list (find (λ t. t.id == id) (sheets base).trades)) ids)
+        ≡ trade_rows_oldest_first (filter (λ t. contains_number t.id ids) (sheets base).trades) }
 {}
 
 /// Proves that the rows of HOLDING_HISTORY of the lots that a trade touched, read lot by lot, are
 /// all rows of these lots in the order of the table, if the base satisfies the books invariant and
 /// the audit invariant.
 #[tactic(auto, using(crate::proofs::TouchRows::touched_by_lot))]
-pub fn changes_are_read_by_lot()
+pub fn changes_read_by_lot_are_complete()
     ensures { (base : Base) (trade : ℕ) → BooksInvariant base → AuditInvariant base
         → flat_map (λ lot. filter (λ r. r.lot == lot) (sheets base).holding_history) (map (λ r. r.lot) (filter (λ r. r.trade == trade) (sheets base).holding_history))
-        ≡ filter (λ r. is_touched_by (sheets base) trade r.lot) (sheets base).holding_history }
+        ≡ filter (λ r. trade_touches_lot (sheets base) trade r.lot) (sheets base).holding_history }
 {}

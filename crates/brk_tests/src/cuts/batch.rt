@@ -1,8 +1,8 @@
 //! The batch of these tests: its rows, its lines, the tables after it, and its retry.
 
-use crate::desks::{Step, expect};
-use crate::tables::expect_tables;
-use crate::worked::add_lines;
+use crate::desks::{Step, expect_batch_result};
+use crate::tables::expect_all_tables;
+use crate::worked::append_reply_lines;
 use brk_import::brk_desk::Desk;
 use brk_import::{BatchFault, Counts};
 use sqlite::MemStore;
@@ -61,26 +61,26 @@ const TABLES: &str = "DESK\n1,3,1709251200021\n\
 
 /// Returns the lines of the given number of first rows of the batch, on a desk after the batch
 /// `SET`.
-pub fn first_lines(alloc: Global, rows: usize) -> Result<String, Fail> {
+pub fn first_lines_of_batch(alloc: Global, rows: usize) -> Result<String, Fail> {
     let (first, _) = LINES.split_at(rows.min(6));
     let mut told = String::new(alloc);
-    add_lines(&mut told, 1, "ok", first)?;
+    append_reply_lines(&mut told, 1, "ok", first)?;
     Ok(told)
 }
 
 /// Returns all lines of the batch on a desk that has accepted its first `booked` rows before.
-pub fn all_lines(alloc: Global, booked: usize) -> Result<String, Fail> {
+pub fn all_lines_of_retry(alloc: Global, booked: usize) -> Result<String, Fail> {
     let booked = booked.min(6);
     let (again, rest) = LINES.split_at(booked);
     let mut told = String::new(alloc);
-    add_lines(&mut told, 1, "again", again)?;
-    add_lines(&mut told, (booked as u64).saturating_add(1), "ok", rest)?;
+    append_reply_lines(&mut told, 1, "again", again)?;
+    append_reply_lines(&mut told, (booked as u64).saturating_add(1), "ok", rest)?;
     writeln!(told, "end,{},{booked},0", rest.len())?;
     Ok(told)
 }
 
 /// Checks the fault that ended a batch, and the written lines.
-pub fn expect_fault(
+pub fn expect_batch_fault(
     name: &str,
     ended: Result<Counts, BatchFault>,
     wanted: BatchFault,
@@ -96,15 +96,15 @@ pub fn expect_fault(
 
 /// Runs the whole batch on a desk that has accepted its first rows before. Checks its lines and all
 /// tables after it.
-pub fn complete(
+pub fn expect_completed_batch(
     alloc: Global,
     mut desk: Desk<MemStore>,
     name: &str,
     batch: &str,
     booked: usize,
 ) -> Result<(), Fail> {
-    let lines = all_lines(alloc, booked)?;
-    expect(
+    let lines = all_lines_of_retry(alloc, booked)?;
+    expect_batch_result(
         alloc,
         &mut desk,
         name,
@@ -113,5 +113,5 @@ pub fn complete(
             lines: lines.as_str(),
         },
     )?;
-    expect_tables(alloc, desk.into_store(), name, TABLES)
+    expect_all_tables(alloc, desk.into_store(), name, TABLES)
 }

@@ -1,9 +1,9 @@
 //! Tests of a batch whose writer takes some bytes, and then none, fails, or is interrupted.
 
-use crate::cuts::batch::{ROWS, all_lines, complete, expect_fault};
-use crate::desks::{Still, set_desk};
+use crate::cuts::batch::{ROWS, all_lines_of_retry, expect_batch_fault, expect_completed_batch};
+use crate::desks::{Still, desk_with_reference_data};
 use crate::faulty::Narrow;
-use crate::worked::batch_of;
+use crate::worked::format_batch;
 use brk_import::{BatchFault, FaultKind, run_batch};
 use std::alloc::Global;
 use std::io::ErrorKind;
@@ -12,7 +12,7 @@ use std::test::Fail;
 // Runs a batch with a writer that fails after `room` bytes, on a new desk, and then retries it.
 // Checks the fault and the written bytes, and that the retry completes: a row whose line was not
 // written remains committed.
-fn expect_written(
+fn expect_batch_write_fault(
     alloc: Global,
     batch: &str,
     lines: &str,
@@ -23,30 +23,30 @@ fn expect_written(
     let wanted = lines.get(..room).ok_or("no such place")?;
     let settled = wanted.split('\n').count().min(6);
     let mut writer = Narrow::new(alloc, room, fault);
-    let mut desk = set_desk(alloc)?;
+    let mut desk = desk_with_reference_data(alloc)?;
     let ended = run_batch(
         alloc,
         batch.as_bytes(),
         &mut writer,
-        &mut Still::first(),
+        &mut Still::at_first_moment(),
         &mut desk,
     );
-    complete(alloc, desk, name.as_str(), batch, settled)?;
+    expect_completed_batch(alloc, desk, name.as_str(), batch, settled)?;
     let fault = BatchFault {
         rows: settled as u64,
         kind: FaultKind::Write,
     };
-    expect_fault(name.as_str(), ended, fault, &writer.taken, wanted)
+    expect_batch_fault(name.as_str(), ended, fault, &writer.taken, wanted)
 }
 
 // Checks a batch whose writer takes no byte, fails or is interrupted at each byte.
 #[test]
-fn a_writer_may_fail_at_each_byte(rt: HostRuntime) -> Result<(), Fail> {
-    let batch = batch_of(rt.alloc(), &ROWS)?;
-    let lines = all_lines(rt.alloc(), 0)?;
+fn batch_writers_failing_at_each_byte(rt: HostRuntime) -> Result<(), Fail> {
+    let batch = format_batch(rt.alloc(), &ROWS)?;
+    let lines = all_lines_of_retry(rt.alloc(), 0)?;
     for room in 0..lines.len() {
         for fault in [None, Some(ErrorKind::Other), Some(ErrorKind::Interrupted)] {
-            expect_written(rt.alloc(), batch.as_str(), lines.as_str(), room, fault)?;
+            expect_batch_write_fault(rt.alloc(), batch.as_str(), lines.as_str(), room, fault)?;
         }
     }
     Ok(())

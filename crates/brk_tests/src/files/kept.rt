@@ -1,20 +1,28 @@
 //! Tests of desks in files, which are closed, opened again and audited.
 
-use crate::files::machine::{Held, Sent, Stop, run, set_files};
-use crate::worked::{LAST_FIRST_LINES, LAST_FIRST_ROWS, LINES, ROWS, accepted, batch_of, repeated};
+use crate::files::machine::{Held, Sent, Stop, files_with_reference_data, run_batch_until_crash};
+use crate::worked::{
+    LAST_FIRST_LINES, LAST_FIRST_ROWS, LINES, ROWS, format_batch, lines_if_all_accepted,
+    lines_if_all_repeated,
+};
 use std::alloc::Global;
 use std::test::Fail;
 
 // Runs a batch on the desk in these files. Checks its lines and that the audit passes, and returns
 // the files after it.
-fn expect_sent(
+fn expect_batch_in_files(
     alloc: Global,
     held: &Held,
     name: &str,
     batch: &str,
     lines: &str,
 ) -> Result<Held, Fail> {
-    let Sent { seen, held, .. } = run(alloc, held, Stop::NEVER, batch.as_bytes())?;
+    let Sent { seen, held, .. } = run_batch_until_crash(
+        alloc,
+        held,
+        Stop::NEVER,
+        batch.as_bytes(),
+    )?;
     if seen.is_sound && seen.lines.as_slice() == lines.as_bytes() {
         Ok(held)
     } else {
@@ -24,18 +32,26 @@ fn expect_sent(
 
 // Runs these trades on a desk in files, and then again on the desk that is opened from these files.
 // Checks the lines of both runs.
-fn expect_kept(alloc: Global, name: &str, rows: &[&str], lines: &[&str]) -> Result<(), Fail> {
-    let batch = batch_of(alloc, rows)?;
-    let (told, again) = (accepted(alloc, lines)?, repeated(alloc, lines)?);
-    let set = set_files(alloc)?;
-    let held = expect_sent(alloc, &set, name, batch.as_str(), told.as_str())?;
-    expect_sent(alloc, &held, name, batch.as_str(), again.as_str())?;
+fn expect_stored_and_repeated(
+    alloc: Global,
+    name: &str,
+    rows: &[&str],
+    lines: &[&str],
+) -> Result<(), Fail> {
+    let batch = format_batch(alloc, rows)?;
+    let (told, again) = (
+        lines_if_all_accepted(alloc, lines)?,
+        lines_if_all_repeated(alloc, lines)?,
+    );
+    let set = files_with_reference_data(alloc)?;
+    let held = expect_batch_in_files(alloc, &set, name, batch.as_str(), told.as_str())?;
+    expect_batch_in_files(alloc, &held, name, batch.as_str(), again.as_str())?;
     Ok(())
 }
 
 // Checks that a desk that is opened from its files repeats the replies of its trades.
 #[test]
-fn desks_last_in_files(rt: HostRuntime) -> Result<(), Fail> {
+fn desks_in_files_can_be_reopened(rt: HostRuntime) -> Result<(), Fail> {
     for (name, count) in [
         ("a purchase", 2),
         ("two purchases", 4),
@@ -44,9 +60,9 @@ fn desks_last_in_files(rt: HostRuntime) -> Result<(), Fail> {
         ("a cover", 10),
         ("all is sold", 12),
     ] {
-        expect_kept(rt.alloc(), name, &ROWS[..count], &LINES[..count])?;
+        expect_stored_and_repeated(rt.alloc(), name, &ROWS[..count], &LINES[..count])?;
     }
-    expect_kept(
+    expect_stored_and_repeated(
         rt.alloc(),
         "a sale of the last",
         &LAST_FIRST_ROWS,

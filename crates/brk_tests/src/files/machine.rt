@@ -2,7 +2,7 @@
 //! stores the bytes that were not synced, and restarts.
 
 use crate::desks::Still;
-use crate::tables::all_tables;
+use crate::tables::read_all_tables;
 use crate::worked::SET;
 use brk_import::brk_desk::Desk;
 use brk_import::brk_desk::brk_store::Store;
@@ -81,7 +81,10 @@ impl Seen {
 
 // Creates a desk in the database of a connection, or opens the desk that it has if it passes its
 // audit. Returns the connection if both fail.
-fn desk_of<S: Alter + Drop>(alloc: Global, conn: Connection<S>) -> Result<Desk<S>, Connection<S>> {
+fn create_or_adopt<S: Alter + Drop>(
+    alloc: Global,
+    conn: Connection<S>,
+) -> Result<Desk<S>, Connection<S>> {
     match Store::create(conn) {
         Ok(store) => Ok(Desk::new(store)),
         Err((conn, Fault::Damaged(Condition::NotEmpty))) => match Store::adopt(alloc, conn) {
@@ -94,7 +97,7 @@ fn desk_of<S: Alter + Drop>(alloc: Global, conn: Connection<S>) -> Result<Desk<S
 
 /// Creates or opens the desk in files. Returns `None` if the files cannot be opened, or the desk
 /// can be neither created nor adopted.
-pub fn desk_in(
+pub fn open_desk_in_files(
     alloc: Global,
     files: Files<Fuse<Memory>>,
     options: Options,
@@ -105,32 +108,32 @@ pub fn desk_in(
     let Ok(conn) = Connection::open_files(alloc, files, options) else {
         return None;
     };
-    desk_of(alloc, conn).ok()
+    create_or_adopt(alloc, conn).ok()
 }
 
 /// Runs a batch on the desk of a connection, as far as possible, and records its observation in
 /// `seen`.
-pub fn book<S: Alter + Drop>(
+pub fn run_batch_on_connection<S: Alter + Drop>(
     alloc: Global,
     mut conn: Connection<S>,
     batch: &[u8],
     seen: &mut Seen,
 ) -> Connection<S> {
-    if let Ok(tables) = all_tables(alloc, &mut conn) {
+    if let Ok(tables) = read_all_tables(alloc, &mut conn) {
         seen.before = tables;
     }
-    match desk_of(alloc, conn) {
+    match create_or_adopt(alloc, conn) {
         Ok(mut desk) => {
             drop(run_batch(
                 alloc,
                 batch,
                 &mut seen.lines,
-                &mut Still::first(),
+                &mut Still::at_first_moment(),
                 &mut desk,
             ));
             seen.is_sound = desk.audit(alloc).is_ok();
             let mut conn = desk.into_store().into_conn();
-            if let Ok(tables) = all_tables(alloc, &mut conn) {
+            if let Ok(tables) = read_all_tables(alloc, &mut conn) {
                 seen.after = tables;
             }
             conn
@@ -141,7 +144,7 @@ pub fn book<S: Alter + Drop>(
 
 // Opens these files, runs a batch on the desk in them, and closes them, as far as possible. Records
 // the observation in `seen`.
-fn book_in(
+fn run_batch_in_files(
     alloc: Global,
     files: Files<Fuse<Memory>>,
     batch: &[u8],
@@ -151,7 +154,7 @@ fn book_in(
         return files;
     }
     match Connection::open_files(alloc, files, Options::new(1)) {
-        Ok(conn) => match book(alloc, conn, batch, seen).close_files() {
+        Ok(conn) => match run_batch_on_connection(alloc, conn, batch, seen).close_files() {
             Ok(files) => files,
             Err((_, store)) => store.close(),
         },
@@ -161,7 +164,7 @@ fn book_in(
 
 // Returns a file with these bytes, which accepts the given number of calls and fails at each one
 // after.
-fn file_of(alloc: Global, bytes: &[u8], calls: u64) -> Result<Fuse<Memory>, Fail> {
+fn failing_file_with_bytes(alloc: Global, bytes: &[u8], calls: u64) -> Result<Fuse<Memory>, Fail> {
     let mut file = Memory::new(alloc);
     if file.write_at(0, bytes).is_err() || file.sync().is_err() {
         return Err("no memory for a file")?;
@@ -171,20 +174,20 @@ fn file_of(alloc: Global, bytes: &[u8], calls: u64) -> Result<Fuse<Memory>, Fail
 
 /// Returns the two files with these bytes. Each accepts its number of calls and fails at each one
 /// after.
-pub fn files_of(
+pub fn failing_files_with_bytes(
     alloc: Global,
     held: &Held,
     log_calls: u64,
     db_calls: u64,
 ) -> Result<Files<Fuse<Memory>>, Fail> {
-    let log = file_of(alloc, &held.log, log_calls)?;
-    let db = file_of(alloc, &held.db, db_calls)?;
+    let log = failing_file_with_bytes(alloc, &held.log, log_calls)?;
+    let db = failing_file_with_bytes(alloc, &held.db, db_calls)?;
     Ok(Files { log, db })
 }
 
 // Appends the bytes that a file has after the restart. Returns true if the file had failed, or
 // would fail at its next call.
-fn come_back(
+fn take_bytes_after_crash(
     file: &mut Fuse<Memory>,
     loses: bool,
     bytes: &mut Vec<u8>,
@@ -198,15 +201,15 @@ fn come_back(
 }
 
 // Returns the bytes of the files after the restart, and true if one of them had failed.
-fn left_in(
+fn files_after_crash(
     alloc: Global,
     files: Files<Fuse<Memory>>,
     loses: bool,
 ) -> Result<(Held, bool), AllocError> {
     let Files { mut log, mut db } = files;
     let mut left = Held::nothing(alloc);
-    let is_log = come_back(&mut log, loses, &mut left.log)?;
-    let is_db = come_back(&mut db, loses, &mut left.db)?;
+    let is_log = take_bytes_after_crash(&mut log, loses, &mut left.log)?;
+    let is_db = take_bytes_after_crash(&mut db, loses, &mut left.db)?;
     Ok((left, is_log || is_db))
 }
 
@@ -220,15 +223,20 @@ pub struct Sent {
 }
 
 /// Runs a batch on the desk in these files until the machine crashes.
-pub fn run(alloc: Global, held: &Held, stop: Stop, batch: &[u8]) -> Result<Sent, Fail> {
+pub fn run_batch_until_crash(
+    alloc: Global,
+    held: &Held,
+    stop: Stop,
+    batch: &[u8],
+) -> Result<Sent, Fail> {
     let (log_calls, db_calls) = match stop.file {
         File::Log => (stop.calls, u64::MAX),
         File::Database => (u64::MAX, stop.calls),
     };
-    let files = files_of(alloc, held, log_calls, db_calls)?;
+    let files = failing_files_with_bytes(alloc, held, log_calls, db_calls)?;
     let mut seen = Seen::nothing(alloc);
-    let files = book_in(alloc, files, batch, &mut seen);
-    let (held, was_stopped) = left_in(alloc, files, stop.loses)?;
+    let files = run_batch_in_files(alloc, files, batch, &mut seen);
+    let (held, was_stopped) = files_after_crash(alloc, files, stop.loses)?;
     Ok(Sent {
         seen,
         held,
@@ -237,13 +245,13 @@ pub fn run(alloc: Global, held: &Held, stop: Stop, batch: &[u8]) -> Result<Sent,
 }
 
 /// Returns the files of a desk after the batch `SET`.
-pub fn set_files(alloc: Global) -> Result<Held, Fail> {
-    let Sent { held, .. } = run(alloc, &Held::nothing(alloc), Stop::NEVER, SET)?;
+pub fn files_with_reference_data(alloc: Global) -> Result<Held, Fail> {
+    let Sent { held, .. } = run_batch_until_crash(alloc, &Held::nothing(alloc), Stop::NEVER, SET)?;
     Ok(held)
 }
 
 // Executes SQL statements on a database, and stores whether they succeed.
-fn change<S: Alter + Drop>(
+fn execute_sql<S: Alter + Drop>(
     mut conn: Connection<S>,
     text: &str,
     is_done: &mut bool,
@@ -254,7 +262,7 @@ fn change<S: Alter + Drop>(
 
 // Opens these files, executes SQL statements on the database in them, and closes them. Stores
 // whether the statements succeed.
-fn change_in(
+fn execute_sql_in_files(
     alloc: Global,
     files: Files<Fuse<Memory>>,
     text: &str,
@@ -264,7 +272,7 @@ fn change_in(
         return files;
     }
     match Connection::open_files(alloc, files, Options::new(1)) {
-        Ok(conn) => match change(conn, text, is_done).close_files() {
+        Ok(conn) => match execute_sql(conn, text, is_done).close_files() {
             Ok(files) => files,
             Err((_, store)) => store.close(),
         },
@@ -273,13 +281,13 @@ fn change_in(
 }
 
 /// Returns these files after another program executed SQL statements on them.
-pub fn changed(alloc: Global, held: &Held, text: &str) -> Result<Held, Fail> {
+pub fn files_after_sql(alloc: Global, held: &Held, text: &str) -> Result<Held, Fail> {
     let mut is_done = false;
-    let files = files_of(alloc, held, u64::MAX, u64::MAX)?;
-    let files = change_in(alloc, files, text, &mut is_done);
+    let files = failing_files_with_bytes(alloc, held, u64::MAX, u64::MAX)?;
+    let files = execute_sql_in_files(alloc, files, text, &mut is_done);
     if !is_done {
         return Err("a change that fails")?;
     }
-    let (left, _) = left_in(alloc, files, false)?;
+    let (left, _) = files_after_crash(alloc, files, false)?;
     Ok(left)
 }

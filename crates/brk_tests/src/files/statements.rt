@@ -1,7 +1,9 @@
 //! Test of a disk that fails within a statement, at each of its calls: whole first lines are
 //! written, and never the last one.
 
-use crate::files::machine::{Held, Sent, Stop, desk_in, files_of, run};
+use crate::files::machine::{
+    Held, Sent, Stop, failing_files_with_bytes, open_desk_in_files, run_batch_until_crash,
+};
 use brk_money::{Fault, Id, parse_day};
 use brk_report::{ReportFault, statement};
 use sqlite::Options;
@@ -41,7 +43,7 @@ const WANTED: &[u8] = b"Statement of account 100\n\
 
 // Writes the statement of the month over a disk that accepts the given number of calls, and returns
 // its result, or `None` if the desk cannot be opened.
-fn written(
+fn write_statement_over_failing_disk(
     alloc: Global,
     held: &Held,
     calls: u64,
@@ -50,31 +52,36 @@ fn written(
     let account = Id::new(100).ok_or("an account")?;
     let from = parse_day(b"2024-03-01").ok_or("a first day")?;
     let to = parse_day(b"2024-03-31").ok_or("a last day")?;
-    let files = files_of(alloc, held, u64::MAX, calls)?;
+    let files = failing_files_with_bytes(alloc, held, u64::MAX, calls)?;
     // The desk caches one page, so that rows are read from the disk.
     let mut options = Options::new(1);
     options.cache_pages = 1;
-    let Some(mut desk) = desk_in(alloc, files, options) else {
+    let Some(mut desk) = open_desk_in_files(alloc, files, options) else {
         return Ok(None);
     };
     Ok(Some(statement(alloc, &mut desk, account, from, to, text)))
 }
 
 // Returns true if a text consists of whole first lines of the statement, without the last one.
-fn is_of_first_lines(text: &[u8]) -> bool {
+fn is_proper_prefix_of_lines(text: &[u8]) -> bool {
     let is_whole = text.is_empty() || text.ends_with(b"\n");
     is_whole && text.len() < WANTED.len() && WANTED.starts_with(text)
 }
 
 // Checks, for a disk that fails at each of its calls, that only whole first lines are written.
 #[test]
-fn a_disk_may_fail_within_a_statement(rt: HostRuntime) -> Result<(), Fail> {
+fn statements_over_a_failing_disk(rt: HostRuntime) -> Result<(), Fail> {
     let alloc = rt.alloc();
-    let Sent { held, .. } = run(alloc, &Held::nothing(alloc), Stop::NEVER, BATCH)?;
+    let Sent { held, .. } = run_batch_until_crash(
+        alloc,
+        &Held::nothing(alloc),
+        Stop::NEVER,
+        BATCH,
+    )?;
     let (mut faults, mut parts) = (0u64, 0u64);
     for calls in 0..10_000 {
         let mut text = Vec::new(alloc);
-        match written(alloc, &held, calls, &mut text)? {
+        match write_statement_over_failing_disk(alloc, &held, calls, &mut text)? {
             None => (),
             Some(Ok(())) => {
                 assert!(rt; text.as_slice() == WANTED, "after {calls} calls");
@@ -86,7 +93,7 @@ fn a_disk_may_fail_within_a_statement(rt: HostRuntime) -> Result<(), Fail> {
                     matches!(&ended, ReportFault::Desk(Fault::Store)),
                     "after {calls} calls"
                 );
-                assert!(rt; is_of_first_lines(&text), "after {calls} calls");
+                assert!(rt; is_proper_prefix_of_lines(&text), "after {calls} calls");
                 faults = faults.saturating_add(1);
                 parts = parts.saturating_add(u64::from(!text.is_empty()));
             }

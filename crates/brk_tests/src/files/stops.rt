@@ -1,11 +1,14 @@
 //! Tests of crashes at each call of the log and of the database file: while a store is created,
 //! while it executes a batch, and while a desk of schema 1 or 2 is upgraded.
 
-use crate::cuts::batch::{ROWS, all_lines};
-use crate::desks::set_desk;
-use crate::files::machine::{File, Held, Seen, Sent, Stop, book, changed, run, set_files};
+use crate::cuts::batch::{ROWS, all_lines_of_retry};
+use crate::desks::desk_with_reference_data;
+use crate::files::machine::{
+    File, Held, Seen, Sent, Stop, files_after_sql, files_with_reference_data,
+    run_batch_on_connection, run_batch_until_crash,
+};
 use crate::worked;
-use crate::worked::{SET, SET_LINES, batch_of};
+use crate::worked::{SET, SET_LINES, format_batch};
 use std::alloc::Global;
 use std::test::Fail;
 
@@ -53,7 +56,7 @@ const STOPS: [Stop; 4] = [
 ];
 
 // Fails with the crash and `what` if `is_so` is false.
-fn holds(is_so: bool, stop: Stop, what: &str) -> Result<(), Fail> {
+fn fail_unless(is_so: bool, stop: Stop, what: &str) -> Result<(), Fail> {
     if is_so {
         Ok(())
     } else {
@@ -64,11 +67,11 @@ fn holds(is_so: bool, stop: Stop, what: &str) -> Result<(), Fail> {
 
 // Returns all tables of a desk in memory after the batch `SET` and the given number of first rows
 // of the batch, at most six.
-fn tables_after(alloc: Global, rows: usize) -> Result<String, Fail> {
-    let batch = batch_of(alloc, &ROWS[..rows.min(6)])?;
-    let conn = set_desk(alloc)?.into_store().into_conn();
+fn tables_after_rows(alloc: Global, rows: usize) -> Result<String, Fail> {
+    let batch = format_batch(alloc, &ROWS[..rows.min(6)])?;
+    let conn = desk_with_reference_data(alloc)?.into_store().into_conn();
     let mut seen = Seen::nothing(alloc);
-    drop(book(alloc, conn, batch.as_bytes(), &mut seen));
+    drop(run_batch_on_connection(alloc, conn, batch.as_bytes(), &mut seen));
     let Seen { after, .. } = seen;
     if after.is_empty() {
         return Err("tables that could not be read")?;
@@ -78,34 +81,45 @@ fn tables_after(alloc: Global, rows: usize) -> Result<String, Fail> {
 
 // Returns true if a batch had these lines, its desk passed the audit, and the tables after it are
 // these.
-fn is_done(seen: &Seen, lines: &str, tables: &str) -> bool {
+fn has_lines_audit_and_tables(seen: &Seen, lines: &str, tables: &str) -> bool {
     seen.is_sound && seen.lines.as_slice() == lines.as_bytes() && seen.after.as_str() == tables
 }
 
 // Creates a desk until a crash, and then runs the batch `SET` on the desk that is opened or
 // created. Returns whether its tables are these, and whether there was a crash.
-fn made(alloc: Global, stop: Stop, tables: &str) -> Result<(bool, bool), Fail> {
-    let first = run(alloc, &Held::nothing(alloc), stop, NO_ROWS)?;
-    let again = run(alloc, &first.held, Stop::NEVER, SET)?;
-    Ok((is_done(&again.seen, SET_LINES, tables), first.was_stopped))
+fn crash_creation_and_set_up(
+    alloc: Global,
+    stop: Stop,
+    tables: &str,
+) -> Result<(bool, bool), Fail> {
+    let first = run_batch_until_crash(alloc, &Held::nothing(alloc), stop, NO_ROWS)?;
+    let again = run_batch_until_crash(alloc, &first.held, Stop::NEVER, SET)?;
+    Ok((
+        has_lines_audit_and_tables(&again.seen, SET_LINES, tables),
+        first.was_stopped,
+    ))
 }
 
 // Creates a desk until a crash, and checks that it can then be set up. Returns true if there was a
 // crash.
-fn stops_making(alloc: Global, stop: Stop, tables: &str) -> Result<bool, Fail> {
-    let (is_set, was_stopped) = made(alloc, stop, tables)?;
-    holds(is_set, stop, "it is not set up")?;
+fn expect_creation_crash_recovered(alloc: Global, stop: Stop, tables: &str) -> Result<bool, Fail> {
+    let (is_set, was_stopped) = crash_creation_and_set_up(alloc, stop, tables)?;
+    fail_unless(is_set, stop, "it is not set up")?;
     Ok(was_stopped)
 }
 
 // Checks that a desk can be created after a crash at each call of its creation.
 #[test]
-fn a_store_may_be_stopped_while_it_is_made(rt: HostRuntime) -> Result<(), Fail> {
-    let tables = tables_after(rt.alloc(), 0)?;
+fn crashes_while_a_store_is_created(rt: HostRuntime) -> Result<(), Fail> {
+    let tables = tables_after_rows(rt.alloc(), 0)?;
     for stop in STOPS {
         let mut was_stopped = true;
         for calls in 0..MOST_CALLS {
-            was_stopped = stops_making(rt.alloc(), Stop { calls, ..stop }, tables.as_str())?;
+            was_stopped = expect_creation_crash_recovered(
+                rt.alloc(),
+                Stop { calls, ..stop },
+                tables.as_str(),
+            )?;
             if !was_stopped {
                 break;
             }
@@ -117,7 +131,7 @@ fn a_store_may_be_stopped_while_it_is_made(rt: HostRuntime) -> Result<(), Fail> 
 
 // Returns the number of rows of the batch that are committed after a crash: those with a written
 // line, or one more; `None` if the tables are neither.
-fn rows_after(told: &[u8], found: &str, tables: &[String]) -> Option<usize> {
+fn committed_rows_after_crash(told: &[u8], found: &str, tables: &[String]) -> Option<usize> {
     let settled = told
         .split(|byte| *byte == b'\n')
         .count()
@@ -140,9 +154,14 @@ struct Twice {
 }
 
 // Runs the batch until a crash, and retries it on the desk that is opened after the crash.
-fn sent_twice(alloc: Global, stop: Stop, start: &Held, batch: &str) -> Result<Twice, Fail> {
-    let first = run(alloc, start, stop, batch.as_bytes())?;
-    let again = run(alloc, &first.held, Stop::NEVER, batch.as_bytes())?;
+fn crash_and_retry_batch(
+    alloc: Global,
+    stop: Stop,
+    start: &Held,
+    batch: &str,
+) -> Result<Twice, Fail> {
+    let first = run_batch_until_crash(alloc, start, stop, batch.as_bytes())?;
+    let again = run_batch_until_crash(alloc, &first.held, Stop::NEVER, batch.as_bytes())?;
     let Sent {
         seen,
         was_stopped,
@@ -157,7 +176,7 @@ fn sent_twice(alloc: Global, stop: Stop, start: &Held, batch: &str) -> Result<Tw
 
 // Checks that the lines until the crash begin those of the whole batch, and that the retry has the
 // lines `rest` and the last tables.
-fn expect_twice(
+fn expect_lines_and_tables(
     stop: Stop,
     twice: &Twice,
     whole: &str,
@@ -165,15 +184,15 @@ fn expect_twice(
     last: &str,
 ) -> Result<(), Fail> {
     let is_part = whole.as_bytes().starts_with(&twice.first.lines);
-    holds(is_part, stop, "other lines before it")?;
-    let is_whole = is_done(&twice.first, whole, last);
-    holds(
+    fail_unless(is_part, stop, "other lines before it")?;
+    let is_whole = has_lines_audit_and_tables(&twice.first, whole, last);
+    fail_unless(
         twice.was_stopped || is_whole,
         stop,
         "an early end without it",
     )?;
-    holds(
-        is_done(&twice.again, rest, last),
+    fail_unless(
+        has_lines_audit_and_tables(&twice.again, rest, last),
         stop,
         "it is not completed",
     )
@@ -181,43 +200,54 @@ fn expect_twice(
 
 // Checks that the tables after the crash are those of the rows with a written line, or of one more,
 // and that the retry completes the batch.
-fn expect_booked(alloc: Global, stop: Stop, twice: &Twice, tables: &[String]) -> Result<(), Fail> {
+fn expect_retry_completes(
+    alloc: Global,
+    stop: Stop,
+    twice: &Twice,
+    tables: &[String],
+) -> Result<(), Fail> {
     let last = tables.last().map(String::as_str).unwrap_or("");
-    let rows = rows_after(&twice.first.lines, twice.again.before.as_str(), tables);
-    holds(rows.is_some(), stop, "tables of no row")?;
-    let whole = all_lines(alloc, 0)?;
-    let rest = all_lines(alloc, rows.unwrap_or(0))?;
-    expect_twice(stop, twice, whole.as_str(), rest.as_str(), last)
+    let rows = committed_rows_after_crash(&twice.first.lines, twice.again.before.as_str(), tables);
+    fail_unless(rows.is_some(), stop, "tables of no row")?;
+    let whole = all_lines_of_retry(alloc, 0)?;
+    let rest = all_lines_of_retry(alloc, rows.unwrap_or(0))?;
+    expect_lines_and_tables(stop, twice, whole.as_str(), rest.as_str(), last)
 }
 
 // Runs the batch until a crash, retries it, and checks both. Returns true if there was a crash.
-fn stops_booking(
+fn expect_batch_crash_recovered(
     alloc: Global,
     stop: Stop,
     start: &Held,
     batch: &str,
     tables: &[String],
 ) -> Result<bool, Fail> {
-    let twice = sent_twice(alloc, stop, start, batch)?;
-    expect_booked(alloc, stop, &twice, tables)?;
+    let twice = crash_and_retry_batch(alloc, stop, start, batch)?;
+    expect_retry_completes(alloc, stop, &twice, tables)?;
     Ok(twice.was_stopped)
 }
 
 // Checks that a batch can be retried and completed after a crash at each of its calls.
 #[test]
-fn a_store_may_be_stopped_while_it_books(rt: HostRuntime) -> Result<(), Fail> {
-    let batch = batch_of(rt.alloc(), &ROWS)?;
+fn crashes_while_a_batch_is_executed(rt: HostRuntime) -> Result<(), Fail> {
+    let batch = format_batch(rt.alloc(), &ROWS)?;
     let mut tables = Vec::new(rt.alloc());
     for rows in 0..=6 {
-        let after = tables_after(rt.alloc(), rows)?;
+        let after = tables_after_rows(rt.alloc(), rows)?;
         tables.push(after)?;
     }
-    let start = set_files(rt.alloc())?;
+    let start = files_with_reference_data(rt.alloc())?;
     for stop in STOPS {
         let mut was_stopped = true;
         for calls in 0..MOST_CALLS {
             let stop = Stop { calls, ..stop };
-            was_stopped = stops_booking(rt.alloc(), stop, &start, batch.as_str(), &tables)?;
+            was_stopped = expect_batch_crash_recovered(
+                rt.alloc(),
+                stop,
+                &start,
+                batch.as_str(),
+                &tables,
+            )?;
             if !was_stopped {
                 break;
             }
@@ -228,21 +258,21 @@ fn a_store_may_be_stopped_while_it_books(rt: HostRuntime) -> Result<(), Fail> {
 }
 
 // Runs three trades on a desk in files, and returns it.
-fn traded(alloc: Global) -> Result<Sent, Fail> {
-    let batch = batch_of(alloc, &worked::ROWS[..6])?;
-    let set = set_files(alloc)?;
-    run(alloc, &set, Stop::NEVER, batch.as_bytes())
+fn files_after_trades(alloc: Global) -> Result<Sent, Fail> {
+    let batch = format_batch(alloc, &worked::ROWS[..6])?;
+    let set = files_with_reference_data(alloc)?;
+    run_batch_until_crash(alloc, &set, Stop::NEVER, batch.as_bytes())
 }
 
 // Returns the files of a desk of an older schema after three trades, and its tables after an
 // upgrade.
-fn older(alloc: Global, change: &str) -> Result<(Held, String), Fail> {
-    let Sent { seen, held, .. } = traded(alloc)?;
+fn files_of_older_schema(alloc: Global, change: &str) -> Result<(Held, String), Fail> {
+    let Sent { seen, held, .. } = files_after_trades(alloc)?;
     let Seen { after, .. } = seen;
     if after.is_empty() {
         return Err("tables that could not be read")?;
     }
-    let held = changed(alloc, &held, change)?;
+    let held = files_after_sql(alloc, &held, change)?;
     Ok((held, after))
 }
 
@@ -256,13 +286,18 @@ struct MoveSeen {
 }
 
 // Upgrades an older desk until a crash, and then again, and returns the result.
-fn moved(alloc: Global, stop: Stop, start: &Held, tables: &str) -> Result<MoveSeen, Fail> {
-    let first = run(alloc, start, stop, NO_ROWS)?;
-    let again = run(alloc, &first.held, Stop::NEVER, NO_ROWS)?;
+fn crash_and_retry_upgrade(
+    alloc: Global,
+    stop: Stop,
+    start: &Held,
+    tables: &str,
+) -> Result<MoveSeen, Fail> {
+    let first = run_batch_until_crash(alloc, start, stop, NO_ROWS)?;
+    let again = run_batch_until_crash(alloc, &first.held, Stop::NEVER, NO_ROWS)?;
     let is_older = again.seen.before.is_empty() && first.seen.lines.is_empty();
     Ok(MoveSeen {
         is_whole: is_older || again.seen.before.as_str() == tables,
-        is_done: is_done(&again.seen, "end,0,0,0\n", tables),
+        is_done: has_lines_audit_and_tables(&again.seen, "end,0,0,0\n", tables),
         was_stopped: first.was_stopped,
     })
 }
@@ -270,23 +305,28 @@ fn moved(alloc: Global, stop: Stop, start: &Held, tables: &str) -> Result<MoveSe
 // Upgrades an older desk until a crash, and then again. Checks that the upgrade is atomic, that no
 // batch is answered before its commit, and that the retry completes it. Returns true if there was a
 // crash.
-fn stops_moving(alloc: Global, stop: Stop, start: &Held, tables: &str) -> Result<bool, Fail> {
-    let moved = moved(alloc, stop, start, tables)?;
-    holds(moved.is_whole, stop, "it is moved in part")?;
-    holds(moved.is_done, stop, "it is not moved")?;
+fn expect_upgrade_crash_recovered(
+    alloc: Global,
+    stop: Stop,
+    start: &Held,
+    tables: &str,
+) -> Result<bool, Fail> {
+    let moved = crash_and_retry_upgrade(alloc, stop, start, tables)?;
+    fail_unless(moved.is_whole, stop, "it is moved in part")?;
+    fail_unless(moved.is_done, stop, "it is not moved")?;
     Ok(moved.was_stopped)
 }
 
 // Upgrades an older desk with a crash at each call of each file. Returns true if for each file a
 // run without a crash was reached.
-fn stops_each_move(alloc: Global, change: &str) -> Result<bool, Fail> {
-    let (start, tables) = older(alloc, change)?;
+fn crash_upgrade_at_each_call(alloc: Global, change: &str) -> Result<bool, Fail> {
+    let (start, tables) = files_of_older_schema(alloc, change)?;
     let mut is_always = false;
     for stop in STOPS {
         let mut was_stopped = true;
         for calls in 0..MOST_CALLS {
             let stop = Stop { calls, ..stop };
-            was_stopped = stops_moving(alloc, stop, &start, tables.as_str())?;
+            was_stopped = expect_upgrade_crash_recovered(alloc, stop, &start, tables.as_str())?;
             if !was_stopped {
                 break;
             }
@@ -298,16 +338,16 @@ fn stops_each_move(alloc: Global, change: &str) -> Result<bool, Fail> {
 
 // Checks crashes at each call of the upgrade from schema 1.
 #[test]
-fn a_store_may_be_stopped_while_its_first_schema_is_moved(rt: HostRuntime) -> Result<(), Fail> {
-    let is_ended = stops_each_move(rt.alloc(), FIRST)?;
+fn crashes_while_schema_1_is_upgraded(rt: HostRuntime) -> Result<(), Fail> {
+    let is_ended = crash_upgrade_at_each_call(rt.alloc(), FIRST)?;
     assert!(rt; is_ended, "always stopped");
     Ok(())
 }
 
 // Checks crashes at each call of the upgrade from schema 2.
 #[test]
-fn a_store_may_be_stopped_while_its_second_schema_is_moved(rt: HostRuntime) -> Result<(), Fail> {
-    let is_ended = stops_each_move(rt.alloc(), SECOND)?;
+fn crashes_while_schema_2_is_upgraded(rt: HostRuntime) -> Result<(), Fail> {
+    let is_ended = crash_upgrade_at_each_call(rt.alloc(), SECOND)?;
     assert!(rt; is_ended, "always stopped");
     Ok(())
 }

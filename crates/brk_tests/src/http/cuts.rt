@@ -1,10 +1,10 @@
 //! Tests of a stream that is cut at each of its bytes, and of a stream whose reader or writer fails
 //! at each byte. After a fault the whole stream is retried and completes.
 
-use crate::desks::{Still, set_desk};
+use crate::desks::{Still, desk_with_reference_data};
 use crate::faulty::{Failing, Narrow};
-use crate::http::streams::{Told, post, reply, served};
-use crate::tables::expect_tables;
+use crate::http::streams::{Told, format_post_request, format_wanted_reply, serve_in_pieces};
+use crate::tables::expect_all_tables;
 use brk_http::{FaultKind, ServeFault, serve_stream};
 use brk_import::brk_desk::Desk;
 use sqlite::MemStore;
@@ -31,31 +31,31 @@ struct Three {
 }
 
 // Returns the text of three requests, and the position at which each ends.
-fn requests(alloc: Global) -> Result<(String, [usize; 3]), AllocError> {
-    let mut input = post(alloc, "/rows/C/1", "[\"broker\",\"2\",\"Cy\"]")?;
+fn three_requests_with_ends(alloc: Global) -> Result<(String, [usize; 3]), AllocError> {
+    let mut input = format_post_request(alloc, "/rows/C/1", "[\"broker\",\"2\",\"Cy\"]")?;
     let one = input.len();
-    input.push_str(post(alloc, "/rows/C/1", "[\"broker\",\"2\",\"Cy\"]")?.as_str())?;
+    input.push_str(format_post_request(alloc, "/rows/C/1", "[\"broker\",\"2\",\"Cy\"]")?.as_str())?;
     let two = input.len();
-    input.push_str(post(alloc, "/ask/submitted", "[]")?.as_str())?;
+    input.push_str(format_post_request(alloc, "/ask/submitted", "[]")?.as_str())?;
     let ends = [one, two, input.len()];
     Ok((input, ends))
 }
 
 // Returns the replies to the three requests on a desk that has executed none of them.
-fn three_replies(alloc: Global) -> Result<[String; 3], AllocError> {
-    let first = reply(alloc, Told::Open("200 OK", "{\"ok\":[\"1709251200016\"]}"))?;
-    let second = reply(
+fn replies_to_three_requests(alloc: Global) -> Result<[String; 3], AllocError> {
+    let first = format_wanted_reply(alloc, Told::Open("200 OK", "{\"ok\":[\"1709251200016\"]}"))?;
+    let second = format_wanted_reply(
         alloc,
         Told::Open("200 OK", "{\"again\":[\"1709251200016\"]}"),
     )?;
-    let third = reply(alloc, Told::Open("200 OK", "{\"view\":[]}"))?;
+    let third = format_wanted_reply(alloc, Told::Open("200 OK", "{\"view\":[]}"))?;
     Ok([first, second, third])
 }
 
 // Returns the three requests with their replies.
-fn three_requests(alloc: Global) -> Result<Three, AllocError> {
-    let (input, ends) = requests(alloc)?;
-    let replies = three_replies(alloc)?;
+fn three_requests_and_replies(alloc: Global) -> Result<Three, AllocError> {
+    let (input, ends) = three_requests_with_ends(alloc)?;
+    let replies = replies_to_three_requests(alloc)?;
     Ok(Three {
         input,
         ends,
@@ -65,7 +65,7 @@ fn three_requests(alloc: Global) -> Result<Three, AllocError> {
 
 // Returns the replies to the requests that end within the first `len` bytes, their number, and true
 // if a part of another request follows them.
-fn first_replies(
+fn replies_within_length(
     alloc: Global,
     all: &Three,
     len: usize,
@@ -85,18 +85,18 @@ fn first_replies(
 
 // Checks the replies to a stream that is cut at each byte: a request that is cut gets 400.
 #[test]
-fn a_stream_may_be_cut_at_each_byte(rt: HostRuntime) -> Result<(), Fail> {
+fn streams_cut_at_each_byte(rt: HostRuntime) -> Result<(), Fail> {
     let alloc = rt.alloc();
-    let all = three_requests(alloc)?;
+    let all = three_requests_and_replies(alloc)?;
     for len in 0..=all.input.len() {
-        let (mut wanted, mut done, part) = first_replies(alloc, &all, len)?;
+        let (mut wanted, mut done, part) = replies_within_length(alloc, &all, len)?;
         if part {
             let bad = Told::Last("400 Bad Request", "{\"error\":\"bad request\"}");
-            wanted.push_str(reply(alloc, bad)?.as_str())?;
+            wanted.push_str(format_wanted_reply(alloc, bad)?.as_str())?;
             done = done.saturating_add(1);
         }
-        let mut desk = set_desk(alloc)?;
-        let (out, ended) = served(alloc, &mut desk, &all.input.as_bytes()[..len], 64);
+        let mut desk = desk_with_reference_data(alloc)?;
+        let (out, ended) = serve_in_pieces(alloc, &mut desk, &all.input.as_bytes()[..len], 64);
         assert!(rt; out.as_slice() == wanted.as_bytes(), "cut at {len}");
         assert!(rt; ended == Ok(done), "cut at {len}");
     }
@@ -104,7 +104,7 @@ fn a_stream_may_be_cut_at_each_byte(rt: HostRuntime) -> Result<(), Fail> {
 }
 
 // Returns the replies to all requests on a desk that has executed the first one, or none.
-fn all_replies(alloc: Global, all: &Three, executed: bool) -> Result<String, AllocError> {
+fn all_replies_of_retry(alloc: Global, all: &Three, executed: bool) -> Result<String, AllocError> {
     let first = if executed { 1 } else { 0 };
     let mut wanted = String::from_str(alloc, all.replies[first].as_str())?;
     wanted.push_str(all.replies[1].as_str())?;
@@ -114,68 +114,79 @@ fn all_replies(alloc: Global, all: &Three, executed: bool) -> Result<String, All
 
 // Sends all requests to a desk that has executed the first one, or none. Checks the replies and all
 // tables.
-fn complete(
+fn expect_completed_stream(
     alloc: Global,
     mut desk: Desk<MemStore>,
     name: &str,
     all: &Three,
     executed: bool,
 ) -> Result<(), Fail> {
-    let wanted = all_replies(alloc, all, executed)?;
-    let (out, ended) = served(alloc, &mut desk, all.input.as_bytes(), 64);
+    let wanted = all_replies_of_retry(alloc, all, executed)?;
+    let (out, ended) = serve_in_pieces(alloc, &mut desk, all.input.as_bytes(), 64);
     if out.as_slice() != wanted.as_bytes() || ended != Ok(3) {
         return Err(Fail::new(format_args!("{name}: the stream that is sent again")));
     }
-    expect_tables(alloc, desk.into_store(), name, TABLES)
+    expect_all_tables(alloc, desk.into_store(), name, TABLES)
 }
 
 // Serves the requests with a reader that fails after `len` bytes. Checks the fault and the replies,
 // and that a retry completes: no request is executed that was not read whole.
-fn expect_read(alloc: Global, all: &Three, len: usize, kind: ErrorKind) -> Result<(), Fail> {
+fn expect_stream_read_fault(
+    alloc: Global,
+    all: &Three,
+    len: usize,
+    kind: ErrorKind,
+) -> Result<(), Fail> {
     let name = format!(in alloc; "the reader fails after {len}")?;
-    let (wanted, done, _) = first_replies(alloc, all, len)?;
-    let mut desk = set_desk(alloc)?;
+    let (wanted, done, _) = replies_within_length(alloc, all, len)?;
+    let mut desk = desk_with_reference_data(alloc)?;
     let mut out = Vec::new(alloc);
-    let reader = Failing::after(all.input.as_bytes(), len, kind);
-    let ended = serve_stream(alloc, reader, &mut out, &mut Still::first(), &mut desk);
+    let reader = Failing::failing_after(all.input.as_bytes(), len, kind);
+    let ended = serve_stream(
+        alloc,
+        reader,
+        &mut out,
+        &mut Still::at_first_moment(),
+        &mut desk,
+    );
     let kind = FaultKind::Read;
     if out.as_slice() != wanted.as_bytes() || ended != Err(ServeFault { done, kind }) {
         return Err(Fail::new(format_args!("{name}: the fault, or the replies")));
     }
-    complete(alloc, desk, name.as_str(), all, done > 0)
+    expect_completed_stream(alloc, desk, name.as_str(), all, done > 0)
 }
 
 // Checks a stream whose reader fails, or is interrupted, at each byte.
 #[test]
-fn a_reader_may_fail_at_each_byte(rt: HostRuntime) -> Result<(), Fail> {
-    let all = three_requests(rt.alloc())?;
+fn stream_readers_failing_at_each_byte(rt: HostRuntime) -> Result<(), Fail> {
+    let all = three_requests_and_replies(rt.alloc())?;
     for len in 0..=all.input.len() {
-        expect_read(rt.alloc(), &all, len, ErrorKind::Interrupted)?;
-        expect_read(rt.alloc(), &all, len, ErrorKind::ConnectionReset)?;
+        expect_stream_read_fault(rt.alloc(), &all, len, ErrorKind::Interrupted)?;
+        expect_stream_read_fault(rt.alloc(), &all, len, ErrorKind::ConnectionReset)?;
     }
     Ok(())
 }
 
 // Serves the requests with a writer that fails after `room` bytes. Checks the fault and the written
 // bytes, and that a retry completes: a request is executed before its reply is written.
-fn expect_written(
+fn expect_stream_write_fault(
     alloc: Global,
     all: &Three,
     room: usize,
     fault: Option<ErrorKind>,
 ) -> Result<(), Fail> {
     let name = format!(in alloc; "the writer fails after {room}")?;
-    let (wanted, _, _) = first_replies(alloc, all, all.input.len())?;
+    let (wanted, _, _) = replies_within_length(alloc, all, all.input.len())?;
     let one = all.replies[0].len();
     let two = one.saturating_add(all.replies[1].len());
     let done = u64::from(room >= one).saturating_add(u64::from(room >= two));
     let mut writer = Narrow::new(alloc, room, fault);
-    let mut desk = set_desk(alloc)?;
+    let mut desk = desk_with_reference_data(alloc)?;
     let ended = serve_stream(
         alloc,
         all.input.as_bytes(),
         &mut writer,
-        &mut Still::first(),
+        &mut Still::at_first_moment(),
         &mut desk,
     );
     let kind = FaultKind::Write;
@@ -183,21 +194,21 @@ fn expect_written(
     if !written || ended != Err(ServeFault { done, kind }) {
         return Err(Fail::new(format_args!("{name}: the fault, or the replies")));
     }
-    complete(alloc, desk, name.as_str(), all, true)
+    expect_completed_stream(alloc, desk, name.as_str(), all, true)
 }
 
 // Checks a stream whose writer takes no byte, fails or is interrupted at each byte.
 #[test]
-fn a_writer_may_fail_at_each_byte(rt: HostRuntime) -> Result<(), Fail> {
-    let all = three_requests(rt.alloc())?;
-    let (replies, _, _) = first_replies(rt.alloc(), &all, all.input.len())?;
+fn stream_writers_failing_at_each_byte(rt: HostRuntime) -> Result<(), Fail> {
+    let all = three_requests_and_replies(rt.alloc())?;
+    let (replies, _, _) = replies_within_length(rt.alloc(), &all, all.input.len())?;
     for room in 0..replies.len() {
         for fault in [
             None,
             Some(ErrorKind::BrokenPipe),
             Some(ErrorKind::Interrupted),
         ] {
-            expect_written(rt.alloc(), &all, room, fault)?;
+            expect_stream_write_fault(rt.alloc(), &all, room, fault)?;
         }
     }
     Ok(())

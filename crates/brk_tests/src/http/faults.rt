@@ -1,7 +1,7 @@
 //! Test of a desk whose disk fails: the reply that reports it is the last of its stream.
 
-use crate::files::machine::desk_in;
-use crate::http::streams::{Told, post, reply, served};
+use crate::files::machine::open_desk_in_files;
+use crate::http::streams::{Told, format_post_request, format_wanted_reply, serve_in_pieces};
 use brk_import::brk_desk::Desk;
 use sqlite::{FileStore, Files, Options};
 use sqlite_disk::{Fuse, Memory};
@@ -10,33 +10,36 @@ use std::test::Fail;
 
 // Returns a new desk over files in memory, or `None` if it cannot be created. The log accepts the
 // given number of calls and fails at each one after.
-fn desk_of(alloc: Global, calls: u64) -> Option<Desk<FileStore<Fuse<Memory>>>> {
+fn open_desk_with_failing_log(alloc: Global, calls: u64) -> Option<Desk<FileStore<Fuse<Memory>>>> {
     let files = Files {
         log: Fuse::new(Memory::new(alloc), calls),
         db: Fuse::new(Memory::new(alloc), u64::MAX),
     };
-    desk_in(alloc, files, Options::new(1))
+    open_desk_in_files(alloc, files, Options::new(1))
 }
 
 // Checks, for a log that fails at each of its calls, that the reply is 503 and ends the stream.
 #[test]
-fn a_fault_of_the_store_ends_a_stream(rt: HostRuntime) -> Result<(), Fail> {
+fn a_store_fault_is_the_last_reply(rt: HostRuntime) -> Result<(), Fail> {
     let alloc = rt.alloc();
-    let mut input = post(alloc, "/rows/F/1", "[\"broker\",\"1\",\"Bo\"]")?;
-    input.push_str(post(alloc, "/ask/submitted", "[]")?.as_str())?;
-    let wanted = reply(
+    let mut input = format_post_request(alloc, "/rows/F/1", "[\"broker\",\"1\",\"Bo\"]")?;
+    input.push_str(format_post_request(alloc, "/ask/submitted", "[]")?.as_str())?;
+    let wanted = format_wanted_reply(
         alloc,
         Told::Last("503 Service Unavailable", "{\"error\":\"store\"}"),
     )?;
-    let mut whole = reply(alloc, Told::Open("200 OK", "{\"ok\":[\"1709251200000\"]}"))?;
-    whole.push_str(reply(alloc, Told::Open("200 OK", "{\"view\":[]}"))?.as_str())?;
+    let mut whole = format_wanted_reply(
+        alloc,
+        Told::Open("200 OK", "{\"ok\":[\"1709251200000\"]}"),
+    )?;
+    whole.push_str(format_wanted_reply(alloc, Told::Open("200 OK", "{\"view\":[]}"))?.as_str())?;
     let mut faults = 0u64;
     let mut booked = false;
     for calls in 0..1_000 {
-        let Some(mut desk) = desk_of(alloc, calls) else {
+        let Some(mut desk) = open_desk_with_failing_log(alloc, calls) else {
             continue;
         };
-        let (out, ended) = served(alloc, &mut desk, input.as_bytes(), 4096);
+        let (out, ended) = serve_in_pieces(alloc, &mut desk, input.as_bytes(), 4096);
         if ended == Ok(2) {
             booked = out.as_slice() == whole.as_bytes();
             break;

@@ -1,6 +1,6 @@
 //! Tests of streams over sockets of this machine, in one process.
 
-use crate::desks::{Still, new_desk};
+use crate::desks::{Still, new_desk_in_memory};
 use brk_http::{ListenFault, serve_on};
 use std::alloc::Global;
 use std::io;
@@ -49,7 +49,7 @@ const PEERS: [(&str, Option<&str>); 6] = [
 
 // Connects a peer to the listener and sends its bytes. A peer that waits for replies ends its
 // writing side.
-fn connected(
+fn connect_peer(
     rt: &HostRuntime,
     listener: &TcpListener,
     input: &str,
@@ -65,13 +65,13 @@ fn connected(
 
 // Connects all peers. Returns those that wait for replies, with the wanted replies; the others
 // break their streams off.
-fn all_connected(
+fn connect_all_peers(
     rt: &HostRuntime,
     listener: &TcpListener,
 ) -> Result<Vec<(TcpStream, &'static str)>, Fail> {
     let mut waiting = Vec::new(rt.alloc());
     for (input, replies) in PEERS {
-        let peer = connected(rt, listener, input, replies.is_some())?;
+        let peer = connect_peer(rt, listener, input, replies.is_some())?;
         if let Some(wanted) = replies {
             waiting.push((peer, wanted))?;
         }
@@ -80,7 +80,7 @@ fn all_connected(
 }
 
 // Checks the replies that the peers receive.
-fn expect_told(
+fn expect_peer_replies(
     rt: &impl Abort,
     alloc: Global,
     waiting: Vec<(TcpStream, &'static str)>,
@@ -95,13 +95,13 @@ fn expect_told(
 // Checks the replies of six streams, served in sequence on one desk, and that an accept that fails
 // ends serving with `Net`.
 #[test]
-fn streams_share_a_desk(rt: HostRuntime) -> Result<(), Fail> {
+fn socket_streams_share_one_desk(rt: HostRuntime) -> Result<(), Fail> {
     let mut listener = TcpListener::bind(&rt, ("127.0.0.1", 0))?;
-    let waiting = all_connected(&rt, &listener)?;
-    let mut desk = new_desk(rt.alloc())?;
-    let mut clock = Still::first();
+    let waiting = connect_all_peers(&rt, &listener)?;
+    let mut desk = new_desk_in_memory(rt.alloc())?;
+    let mut clock = Still::at_first_moment();
     assert!(rt; serve_on(rt.alloc(), &mut listener, 6, &mut clock, &mut desk) == Ok(()));
-    expect_told(&rt, rt.alloc(), waiting)?;
+    expect_peer_replies(&rt, rt.alloc(), waiting)?;
     listener.set_nonblocking(true)?;
     assert!(rt;
         serve_on(rt.alloc(), &mut listener, 1, &mut clock, &mut desk) == Err(ListenFault::Net)

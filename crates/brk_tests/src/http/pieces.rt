@@ -1,7 +1,7 @@
 //! Tests of streams whose bytes arrive in large pieces, in pieces of seven, and one by one: line
 //! ends and bodies that are split, bytes behind a request, and the longest head.
 
-use crate::http::streams::{Told, answers};
+use crate::http::streams::{Told, has_wanted_replies_in_all_pieces};
 use std::alloc::{AllocError, Global};
 use std::test::Fail;
 
@@ -50,15 +50,18 @@ const STREAMS: [(&str, &[Told]); 7] = [
 
 // Checks that the replies to a stream do not depend on the sizes of its pieces.
 #[test]
-fn a_stream_may_come_in_pieces(rt: HostRuntime) -> Result<(), Fail> {
+fn streams_in_pieces_get_the_same_replies(rt: HostRuntime) -> Result<(), Fail> {
     for (input, wanted) in STREAMS {
-        assert!(rt; answers(rt.alloc(), input.as_bytes(), wanted)?, "{input:?}");
+        assert!(rt;
+            has_wanted_replies_in_all_pieces(rt.alloc(), input.as_bytes(), wanted)?,
+            "{input:?}"
+        );
     }
     Ok(())
 }
 
 // Returns a request whose head has `len` bytes, with one long field.
-fn with_head(alloc: Global, len: usize) -> Result<String, AllocError> {
+fn request_with_head_of_length(alloc: Global, len: usize) -> Result<String, AllocError> {
     let front = "POST /ask/submitted HTTP/1.1\r\nContent-Length: 2\r\nX: ";
     let mut head = String::from_str(alloc, front)?;
     for _ in 0..len.saturating_sub(front.len()).saturating_sub(4) {
@@ -71,11 +74,14 @@ fn with_head(alloc: Global, len: usize) -> Result<String, AllocError> {
 // Checks that a head of 16,384 bytes is accepted and a longer one is refused, for every size of
 // pieces.
 #[test]
-fn a_head_in_pieces_has_16_384_bytes_at_most(rt: HostRuntime) -> Result<(), Fail> {
+fn a_head_has_at_most_16_384_bytes(rt: HostRuntime) -> Result<(), Fail> {
     for (len, wanted) in [(16_384, EMPTY), (16_385, LARGE)] {
-        let input = with_head(rt.alloc(), len)?;
+        let input = request_with_head_of_length(rt.alloc(), len)?;
         assert!(rt; input.len() == len + 2);
-        assert!(rt; answers(rt.alloc(), input.as_bytes(), &[wanted])?, "{len}");
+        assert!(rt;
+            has_wanted_replies_in_all_pieces(rt.alloc(), input.as_bytes(), &[wanted])?,
+            "{len}"
+        );
     }
     Ok(())
 }

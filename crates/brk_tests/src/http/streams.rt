@@ -1,6 +1,6 @@
 //! Streams that are served by a desk, and their wanted replies.
 
-use crate::desks::{Still, set_desk};
+use crate::desks::{Still, desk_with_reference_data};
 use brk_http::{ServeFault, serve_stream};
 use brk_import::brk_desk::Desk;
 use sqlite::Alter;
@@ -37,7 +37,7 @@ pub enum Told {
 
 /// Serves a stream whose bytes arrive in pieces of `size` bytes. Returns the written bytes and the
 /// result.
-pub fn served<S: Alter>(
+pub fn serve_in_pieces<S: Alter>(
     alloc: Global,
     desk: &mut Desk<S>,
     bytes: &[u8],
@@ -48,20 +48,20 @@ pub fn served<S: Alter>(
         alloc,
         Pieces { bytes, size },
         &mut out,
-        &mut Still::first(),
+        &mut Still::at_first_moment(),
         desk,
     );
     (out, ended)
 }
 
 /// Returns the text of a POST request with this target and body.
-pub fn post(alloc: Global, target: &str, body: &str) -> Result<String, AllocError> {
+pub fn format_post_request(alloc: Global, target: &str, body: &str) -> Result<String, AllocError> {
     let len = body.len();
     format!(in alloc; "POST {target} HTTP/1.1\r\nHost: desk\r\nContent-Length: {len}\r\n\r\n{body}")
 }
 
 /// Returns the bytes of a wanted reply.
-pub fn reply(alloc: Global, wanted: Told) -> Result<String, AllocError> {
+pub fn format_wanted_reply(alloc: Global, wanted: Told) -> Result<String, AllocError> {
     let (status, body, close) = match wanted {
         Told::Open(status, body) => (status, body, ""),
         Told::Last(status, body) => (status, body, "Connection: close\r\n"),
@@ -78,7 +78,7 @@ pub fn reply(alloc: Global, wanted: Told) -> Result<String, AllocError> {
 }
 
 // Returns true if a stream wrote exactly these replies and completed.
-fn is_told(
+fn has_wanted_replies(
     alloc: Global,
     out: &[u8],
     ended: Result<u64, ServeFault>,
@@ -86,18 +86,22 @@ fn is_told(
 ) -> Result<bool, AllocError> {
     let mut bytes = String::new(alloc);
     for told in wanted {
-        bytes.push_str(reply(alloc, *told)?.as_str())?;
+        bytes.push_str(format_wanted_reply(alloc, *told)?.as_str())?;
     }
     Ok(out == bytes.as_bytes() && ended == Ok(wanted.len() as u64))
 }
 
 /// Serves bytes in pieces of 4,096, of seven and of one, each time on a new desk after the batch
 /// `SET`. Returns true if the replies are always as wanted.
-pub fn answers(alloc: Global, bytes: &[u8], wanted: &[Told]) -> Result<bool, Fail> {
+pub fn has_wanted_replies_in_all_pieces(
+    alloc: Global,
+    bytes: &[u8],
+    wanted: &[Told],
+) -> Result<bool, Fail> {
     for size in [4096usize, 7, 1] {
-        let mut desk = set_desk(alloc)?;
-        let (out, ended) = served(alloc, &mut desk, bytes, size);
-        if !is_told(alloc, &out, ended, wanted)? {
+        let mut desk = desk_with_reference_data(alloc)?;
+        let (out, ended) = serve_in_pieces(alloc, &mut desk, bytes, size);
+        if !has_wanted_replies(alloc, &out, ended, wanted)? {
             return Ok(false);
         }
     }

@@ -13,7 +13,7 @@ pub struct Asked {
 
 /// Returns the account and the days of a statement from the account's number and the texts of the
 /// days.
-pub fn span_of(account: u64, from: &str, to: &str) -> Result<Asked, Fail> {
+pub fn account_and_days(account: u64, from: &str, to: &str) -> Result<Asked, Fail> {
     let account = Id::new(account).ok_or("an account")?;
     let from = parse_day(from.as_bytes()).ok_or("a first day")?;
     let to = parse_day(to.as_bytes()).ok_or("a last day")?;

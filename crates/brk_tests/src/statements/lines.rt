@@ -32,7 +32,7 @@ const AMOUNTS: [(&str, i128, &str); 6] = [
 
 // Checks that an amount wider than its column is printed whole.
 #[test]
-fn an_amount_is_never_cut(rt: HostRuntime) -> Result<(), Fail> {
+fn wide_amounts_are_printed_whole(rt: HostRuntime) -> Result<(), Fail> {
     for (word, cents, wanted) in AMOUNTS {
         let line = amount_line(rt.alloc(), word, Wide::new(cents))?;
         assert!(rt; line.as_slice() == wanted.as_bytes(), "{cents}");

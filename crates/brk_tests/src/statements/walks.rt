@@ -1,7 +1,7 @@
 //! Tests of walks: they pass the rows in order, both ends of the span included, and end at the
 //! first error of the closure.
 
-use crate::desks::{Step, expect, set_desk};
+use crate::desks::{Step, desk_with_reference_data, expect_batch_result};
 use brk_changes::MoveRow;
 use brk_lots::Lot;
 use brk_money::{Fault, Id, Stamp};
@@ -56,7 +56,7 @@ struct Seen {
 
 // Counts a row of a trade, or stops the walk there if no more rows may be passed. A movement has
 // trade 0.
-fn count(seen: &mut Seen, trade: u64) -> Result<(), Ended> {
+fn count_row(seen: &mut Seen, trade: u64) -> Result<(), Ended> {
     if seen.left == 0 {
         return Err(Ended::At(trade));
     }
@@ -65,9 +65,9 @@ fn count(seen: &mut Seen, trade: u64) -> Result<(), Ended> {
 }
 
 // Counts and records a cash row.
-fn see_cash(seen: &mut Seen, row: &MoveRow) -> Result<(), Ended> {
+fn record_cash_row(seen: &mut Seen, row: &MoveRow) -> Result<(), Ended> {
     let trade = row.trade.map_or(0, Id::get);
-    count(seen, trade)?;
+    count_row(seen, trade)?;
     let (place, stamp, amount) = (row.id.get(), row.stamp.get(), row.amount.get());
     match writeln!(seen.rows, "{place} {trade} {stamp} {amount} {}", row.name) {
         Ok(()) => Ok(()),
@@ -76,8 +76,8 @@ fn see_cash(seen: &mut Seen, row: &MoveRow) -> Result<(), Ended> {
 }
 
 // Counts and records a lot.
-fn see_lot(seen: &mut Seen, symbol: &str, lot: &Lot) -> Result<(), Ended> {
-    count(seen, lot.trade.get())?;
+fn record_lot(seen: &mut Seen, symbol: &str, lot: &Lot) -> Result<(), Ended> {
+    count_row(seen, lot.trade.get())?;
     let (trade, stamp, price) = (lot.trade.get(), lot.stamp.get(), lot.price.get());
     match writeln!(seen.rows, "{trade} {stamp} {} {symbol} {price}", lot.qty) {
         Ok(()) => Ok(()),
@@ -150,11 +150,11 @@ const CASH: [(i64, i64, u64, &str, Result<(), Ended>); 10] = [
 
 // Checks the cash rows that a walk passes, by stamp, and its result.
 #[test]
-fn cash_rows_are_walked_by_their_stamps(rt: HostRuntime) -> Result<(), Fail> {
+fn walks_cash_rows_in_order_of_stamps(rt: HostRuntime) -> Result<(), Fail> {
     let alloc = rt.alloc();
     let account = Id::new(100).ok_or("an account")?;
-    let mut desk = set_desk(alloc)?;
-    expect(alloc, &mut desk, "trades", TRADES)?;
+    let mut desk = desk_with_reference_data(alloc)?;
+    expect_batch_result(alloc, &mut desk, "trades", TRADES)?;
     for (from, to, left, rows, wanted) in CASH {
         let mut seen = Seen {
             rows: String::new(alloc),
@@ -164,7 +164,7 @@ fn cash_rows_are_walked_by_their_stamps(rt: HostRuntime) -> Result<(), Fail> {
             account,
             Stamp::nearest(from),
             Stamp::nearest(to),
-            |row: &MoveRow| see_cash(&mut seen, row),
+            |row: &MoveRow| record_cash_row(&mut seen, row),
         );
         assert!(rt; ended == wanted, "{from} to {to}, {left}");
         assert!(rt; seen.rows.as_str() == rows, "{from} to {to}, {left}");
@@ -194,10 +194,10 @@ const LOTS: [(u64, u64, &str, Result<(), Ended>); 5] = [
 
 // Checks the lots that a walk passes, by symbol, and its result.
 #[test]
-fn lots_are_walked_by_symbol(rt: HostRuntime) -> Result<(), Fail> {
+fn walks_lots_in_order_of_symbols(rt: HostRuntime) -> Result<(), Fail> {
     let alloc = rt.alloc();
-    let mut desk = set_desk(alloc)?;
-    expect(alloc, &mut desk, "trades", TRADES)?;
+    let mut desk = desk_with_reference_data(alloc)?;
+    expect_batch_result(alloc, &mut desk, "trades", TRADES)?;
     for (account, left, rows, wanted) in LOTS {
         let mut seen = Seen {
             rows: String::new(alloc),
@@ -207,7 +207,7 @@ fn lots_are_walked_by_symbol(rt: HostRuntime) -> Result<(), Fail> {
             return Err("an account")?;
         };
         let ended = desk.walk_lots(account, |symbol: &str, lot: &Lot| {
-            see_lot(&mut seen, symbol, lot)
+            record_lot(&mut seen, symbol, lot)
         });
         assert!(rt; ended == wanted, "{left} lots");
         assert!(rt; seen.rows.as_str() == rows, "{left} lots");

@@ -1,9 +1,9 @@
 //! Test of a writer that fails at each byte of a statement: the bytes before are written, and none
 //! after.
 
-use crate::desks::{Step, expect, set_desk};
+use crate::desks::{Step, desk_with_reference_data, expect_batch_result};
 use crate::faulty::Narrow;
-use crate::statements::asking::span_of;
+use crate::statements::asking::account_and_days;
 use brk_import::brk_desk::Desk;
 use brk_report::{ReportFault, statement};
 use sqlite::MemStore;
@@ -46,7 +46,7 @@ const WANTED: &str = "Statement of account 100\n\
 
 // Returns how a writer with room for `room` bytes fails: it takes no byte (`None`), fails, or is
 // interrupted.
-fn stop_of(room: usize) -> Option<ErrorKind> {
+fn write_error_for_room(room: usize) -> Option<ErrorKind> {
     match room % 3 {
         0 => None,
         1 => Some(ErrorKind::Other),
@@ -56,14 +56,14 @@ fn stop_of(room: usize) -> Option<ErrorKind> {
 
 // Writes the statement with a writer that has room for `room` bytes. Checks the result and the
 // written bytes.
-fn expect_cut(
+fn expect_cut_statement(
     rt: &impl Abort,
     alloc: Global,
     desk: &mut Desk<MemStore>,
     room: usize,
 ) -> Result<(), Fail> {
-    let asked = span_of(100, "2024-03-01", "2024-03-31")?;
-    let mut writer = Narrow::new(alloc, room, stop_of(room));
+    let asked = account_and_days(100, "2024-03-01", "2024-03-31")?;
+    let mut writer = Narrow::new(alloc, room, write_error_for_room(room));
     let ended = statement(
         alloc,
         desk,
@@ -91,12 +91,12 @@ fn expect_cut(
 
 // Checks a statement whose writer takes no byte, fails or is interrupted at each byte.
 #[test]
-fn a_writer_may_stop_at_each_byte(rt: HostRuntime) -> Result<(), Fail> {
+fn statement_writers_failing_at_each_byte(rt: HostRuntime) -> Result<(), Fail> {
     let alloc = rt.alloc();
-    let mut desk = set_desk(alloc)?;
-    expect(alloc, &mut desk, "trades", BOUGHT)?;
+    let mut desk = desk_with_reference_data(alloc)?;
+    expect_batch_result(alloc, &mut desk, "trades", BOUGHT)?;
     for room in 0..=WANTED.len() {
-        expect_cut(&rt, alloc, &mut desk, room)?;
+        expect_cut_statement(&rt, alloc, &mut desk, room)?;
     }
     Ok(())
 }

@@ -1,7 +1,7 @@
 use Rattle.std.proofs.Common.{◌≡◌, ℕ, zero, suc, ◌<◌, List, [], ◌∷◌, length, get_or, map, ap, sym, ◌∙◌, arith}
 use Rattle.std.specs.Prelude.{IsTrue}
-use Rattle.brk_changes.specs.Rows.{lot_change_of}
-use Rattle.brk_lots.specs.Chains.{plain_row}
+use Rattle.brk_changes.specs.Rows.{abstract_lot_change_row}
+use Rattle.brk_lots.specs.Chains.{abstract_deal_touch}
 use Rattle.brk_audit.proofs.history.are_same_rows.Goals as goal
 
 -- equal lists are equal at each place
@@ -15,6 +15,6 @@ pub returns-then-not-is_same_row : goal.returns-then-not-is_same_row
 returns-then-not-is_same_row c = (
   (λ t. absurd (cc)),
   (λ e.
-      let t : IsTrue c.is_same_row.result = c.is_same_row.ensures.1 (same_at plain_row lot_change_of c.args.touches.now c.args.rows.now c.loop-i.i c.index-touches-i.result c.index-rows-i.result e (omega arith) c.index-touches-i.is c.index-rows-i.is) in
+      let t : IsTrue c.is_same_row.result = c.is_same_row.ensures.1 (same_at abstract_deal_touch abstract_lot_change_row c.args.touches.now c.args.rows.now c.loop-i.i c.index-touches-i.result c.index-rows-i.result e (omega arith) c.index-touches-i.is c.index-rows-i.is) in
       rw c.if-not-is_same_row.true at t),
 )

@@ -1,6 +1,6 @@
 use Rattle.std.proofs.Common.{◌≡◌, ℕ, zero, suc, ◌<◌, List, [], ◌∷◌, length, get_or, map, ap, sym, ◌∙◌, arith}
 use Rattle.std.specs.Prelude.{IsTrue}
-use Rattle.brk_changes.specs.Rows.{holding_row_of}
+use Rattle.brk_changes.specs.Rows.{abstract_holding_row}
 use Rattle.brk_audit.proofs.lots.are_same_rows.Goals as goal
 
 -- equal lists are equal at each place
@@ -14,6 +14,6 @@ pub returns-then-not-is_same_row : goal.returns-then-not-is_same_row
 returns-then-not-is_same_row c = (
   (λ t. absurd (cc)),
   (λ e.
-      let t : IsTrue c.is_same_row.result = c.is_same_row.ensures.1 (same_at holding_row_of c.args.rows.now c.args.others.now c.loop-i.i c.index-rows-i.result c.index-others-i.result e (omega arith) c.index-rows-i.is c.index-others-i.is) in
+      let t : IsTrue c.is_same_row.result = c.is_same_row.ensures.1 (same_at abstract_holding_row c.args.rows.now c.args.others.now c.loop-i.i c.index-rows-i.result c.index-others-i.result e (omega arith) c.index-rows-i.is c.index-others-i.is) in
       rw c.if-not-is_same_row.true at t),
 )

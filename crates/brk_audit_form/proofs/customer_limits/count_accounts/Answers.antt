@@ -2,8 +2,8 @@ use Rattle.std.proofs.Common.{◌==◌, take, arith}
 use Rattle.brk_audit_form.proofs.CustomerSums.{filter-le, taken}
 use Rattle.brk_audit_form.proofs.customer_limits.count_accounts.Goals as goal
 
-pub add-requires : goal.add-requires
-add-requires c =
+pub add_to_customer_sum-requires : goal.add_to_customer_sum-requires
+add_to_customer_sum-requires c =
     let q = c.row-item.result.account.customer in
     let i = c.loop-row.invariant q in
     let f = filter-le (λ a. a.account.customer == q) (take c.loop-row.row-index c.args.accounts.now) in

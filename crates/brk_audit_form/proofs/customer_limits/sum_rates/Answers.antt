@@ -1,9 +1,9 @@
 use Rattle.std.proofs.Common.{◌≡◌, ◌==◌, ◌∙◌, ap, take, filter}
 use Rattle.std.specs.Prelude.{sum_by}
 use Rattle.std.proofs.lemmas.List.{take_all}
-use Rattle.brk_ref.specs.Records.{customer_tax_of}
+use Rattle.brk_ref.specs.Records.{abstract_customer_tax}
 use Rattle.brk_changes.specs.Sheets.{tables_in_sheets}
-use Rattle.brk_audit_form.specs.Customers.{rate_in}
+use Rattle.brk_audit_form.specs.Customers.{tax_rate_or_zero}
 use Rattle.brk_audit_form.proofs.CustomerSums.{sum-mapped}
 use Rattle.brk_audit_form.proofs.customer_limits.sum_rates.Goals as goal
 
@@ -11,5 +11,5 @@ pub returns-clause-sums : goal.returns-clause-sums
 returns-clause-sums c = λ q.
     let t = tables_in_sheets c.args.sheets.now in
     let whole : take c.loop-row.row-index c.deref-row-items.result.now ≡ c.args.sheets.now.customer_taxes.items = take_all c.loop-row.row-index c.deref-row-items.result.now c.loop-row-test.false ∙ c.deref-row-items.ensures.value in
-    c.loop-row.invariant.told q ∙ ap (λ l. sum_by (λ x. rate_in t x.tax) (filter (λ x. x.customer == q) l)) whole
-    ∙ sum-mapped (λ x. rate_in t x.tax) (λ x. x.customer == q) customer_tax_of c.args.sheets.now.customer_taxes.items
+    c.loop-row.invariant.told q ∙ ap (λ l. sum_by (λ x. tax_rate_or_zero t x.tax) (filter (λ x. x.customer == q) l)) whole
+    ∙ sum-mapped (λ x. tax_rate_or_zero t x.tax) (λ x. x.customer == q) abstract_customer_tax c.args.sheets.now.customer_taxes.items

@@ -1,11 +1,11 @@
 use Rattle.std.proofs.Common.{◌≡◌, ◌==◌, ◌≤◌, ◌*◌, ℕ, take, filter}
 use Rattle.std.specs.Prelude.{sum_by}
 use Rattle.brk_changes.specs.Sheets.{tables_in_sheets}
-use Rattle.brk_audit_form.specs.Customers.{rate_in, sum_at}
+use Rattle.brk_audit_form.specs.Customers.{tax_rate_or_zero, sum_at}
 use Rattle.brk_audit_form.proofs.customer_limits.sum_rates.Given as goal
 
 abbrev pub invariant-loop-row : goal.invariant-loop-row
 invariant-loop-row l = record {
-  told : (q : ℕ) → sum_at l.sums q ≡ sum_by (λ x. rate_in (tables_in_sheets l.sheets) x.tax) (filter (λ x. x.customer == q) (take l.row-index l.row-items));
+  told : (q : ℕ) → sum_at l.sums q ≡ sum_by (λ x. tax_rate_or_zero (tables_in_sheets l.sheets) x.tax) (filter (λ x. x.customer == q) (take l.row-index l.row-items));
   high : (q : ℕ) → sum_at l.sums q ≤ 100000 * l.row-index;
 }

@@ -8,17 +8,17 @@ use Rattle.brk_audit_form.proofs.own_rows.has_distinct_trades.Goals as goal
 
 pub returns-then-not-branch-clause-told : goal.returns-then-not-branch-clause-told
 returns-then-not-branch-clause-told c =
-    let no = sym c.in_ok-is_new.ensures.new ∙ c.if-not-branch.true in
+    let no = sym c.in_ok-insert_cash_row_trade.ensures.new ∙ c.if-not-branch.true in
     sym (not_own c.args.moves.now c.loop-row.row-index c.row-item.result (contains nat_cmp c.loop-row.seen) c.loop-row-test.true c.row-item.is c.loop-row.invariant.seen no)
 
 pub loop-row-preserved : goal.loop-row-preserved
 loop-row-preserved c =
     let r = c.row-item.result in
-    let yes = sym c.in_ok-is_new.ensures.new ∙ c.if-not-branch.false in
+    let yes = sym c.in_ok-insert_cash_row_trade.ensures.new ∙ c.if-not-branch.false in
     record {
       seen = λ q.
-          seen_more c.args.moves.now c.loop-row.row-index r q (contains nat_cmp c.loop-row.seen q) (contains nat_cmp c.is_new.new.seen q)
-          c.loop-row-test.true c.row-item.is (c.loop-row.invariant.seen q) (c.in_ok-is_new.ensures.seen q);
+          seen_more c.args.moves.now c.loop-row.row-index r q (contains nat_cmp c.loop-row.seen q) (contains nat_cmp c.insert_cash_row_trade.new.seen q)
+          c.loop-row-test.true c.row-item.is (c.loop-row.invariant.seen q) (c.in_ok-insert_cash_row_trade.ensures.seen q);
       own = own_more c.args.moves.now c.loop-row.row-index r (contains nat_cmp c.loop-row.seen) c.loop-row-test.true c.row-item.is c.loop-row.invariant.seen yes c.loop-row.invariant.own;
     }
 

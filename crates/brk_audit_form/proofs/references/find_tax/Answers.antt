@@ -1,7 +1,7 @@
 use Rattle.std.proofs.Common.{◌==◌, false, Err, rules, refl, sym, ◌∙◌, ap, map}
 use Rattle.std.specs.Prelude.{find}
 use Rattle.std.proofs.lemmas.List.Sorted.{answers_always}
-use Rattle.brk_ref.specs.Records.{tax_of}
+use Rattle.brk_ref.specs.Records.{abstract_tax_rate}
 use Rattle.brk_changes.specs.Sheets.{tables_in_sheets}
 use Rattle.brk_audit_theorems.proofs.Parts.{key_parts}
 use Rattle.brk_audit_form.proofs.Searches.{number_found}
@@ -12,15 +12,15 @@ pub returns-in-Ok : goal.returns-in-Ok
 returns-in-Ok c =
     let s = c.args.sheets.now in
     let place = c.in-Ok.ensures.position (λ r. r.id) (answers_always _ _ _ (λ f a r g called. search rules)) in
-    number_placed tax_of (λ r. r.id) s.tax_rates.items c.deref.result.now c.get-number.result c.in-Ok.place c.index.result.now
+    number_placed abstract_tax_rate (λ r. r.id) s.tax_rates.items c.deref.result.now c.get-number.result c.in-Ok.place c.index.result.now
     c.deref.ensures.value (key_parts (tables_in_sheets s) c.requires).tax_rates c.in-Ok.ensures.bound (place c.index.result.now) c.index.ensures
-    ∙ ap (λ n. find (λ r. r.id == n) (map tax_of s.tax_rates.items)) c.get-number.ensures.value
+    ∙ ap (λ n. find (λ r. r.id == n) (map abstract_tax_rate s.tax_rates.items)) c.get-number.ensures.value
 
 pub returns-in-Err : goal.returns-in-Err
 returns-in-Err c =
     let s = c.args.sheets.now in
     let place = c.in-Err.ensures.position (λ r. r.id) (answers_always _ _ _ (λ f a r g called. search rules)) in
-    sym (none_found (λ r. r.id == c.get-number.result) (map tax_of s.tax_rates.items)
-    (number_found tax_of (λ r. r.id) s.tax_rates.items c.deref.result.now c.get-number.result (Err c.in-Err.field-0) false
+    sym (none_found (λ r. r.id == c.get-number.result) (map abstract_tax_rate s.tax_rates.items)
+    (number_found abstract_tax_rate (λ r. r.id) s.tax_rates.items c.deref.result.now c.get-number.result (Err c.in-Err.field-0) false
     c.deref.ensures.value (key_parts (tables_in_sheets s) c.requires).tax_rates c.in-Err.ensures.bound place refl))
-    ∙ ap (λ n. find (λ r. r.id == n) (map tax_of s.tax_rates.items)) c.get-number.ensures.value
+    ∙ ap (λ n. find (λ r. r.id == n) (map abstract_tax_rate s.tax_rates.items)) c.get-number.ensures.value

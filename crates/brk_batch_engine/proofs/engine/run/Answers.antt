@@ -1,5 +1,5 @@
 use Rattle.std.specs.Prelude.{Err, option_map}
-use Rattle.brk_model.specs.Input.{text_of}
+use Rattle.brk_model.specs.Input.{input_text}
 use Rattle.brk_batch_engine.proofs.Endings.{header_failed}
 use Rattle.brk_batch_engine.proofs.Memory.{header_memory}
 use Rattle.brk_batch_engine.proofs.Reached.{comes_at_once}
@@ -7,7 +7,7 @@ use Rattle.brk_batch_engine.proofs.engine.run.Goals as goal
 
 pub returns : goal.returns
 returns g c =
-    let text = option_map text_of (g.R.Read.remaining c.args.reader) in
+    let text = option_map input_text (g.R.Read.remaining c.args.reader) in
     let part = c.in-Err.ensures.err text c.open_records-records.ensures.start in
     let come = comes_at_once g.D.Rows.honest g.D.Rows.stands g.D.Rows.leaves g.D.Rows.acts g.D.Rows.form g.D.Rows.step g.C.Clock.gives c.args.desk.now text
     c.args.clock.now (g.W.Write.contents c.args.writer.now) (g.W.Write.contents c.args.writer.now) (Err (record { rows = 0; kind = c.in-Err.kind }))

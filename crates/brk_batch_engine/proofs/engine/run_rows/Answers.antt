@@ -1,7 +1,7 @@
 use Rattle.std.proofs.Common.{[], ◌∷◌, ◌+◌, inl, refl, arith}
 use Rattle.std.proofs.KnownBytes.{Appends-nil}
 use Rattle.csv.specs.Records.{fields_of}
-use Rattle.brk_model.specs.Input.{header_of}
+use Rattle.brk_model.specs.Input.{batch_header}
 use Rattle.brk_batch_engine.specs.Answers.{RepresentsDurably}
 use Rattle.brk_batch_engine.proofs.Endings.{answer_failed, answer_left, end_failed, ended_well, failed_asked, no_rows, nothing_read, read_failed, row_cut_off, tell_failed, turns_over, untouched}
 use Rattle.brk_batch_engine.proofs.Memory.{cut_memory, end_memory, part_memory, read_memory}
@@ -15,7 +15,7 @@ returns-in-Err g c = λ text h.
 
 pub returns-then-not-has_first : goal.returns-then-not-has_first
 returns-then-not-has_first g c = λ text h.
-    let all = rw c.if-not-has_first.true at (c.in-Ok.ensures.found text (header_of c.args.name.now ∷ []) h) in
+    let all = rw c.if-not-has_first.true at (c.in-Ok.ensures.found text (batch_header c.args.name.now ∷ []) h) in
     comes_at_once _ _ _ _ _ _ _ _ text _ _ _ _ tt (λ T other base. no_rows _ _ _ text _ base _ _ c.requires.named all)
 
 pub loop-settled-init : goal.loop-settled-init
@@ -25,15 +25,15 @@ loop-settled-init g c =
     (λ text before h. rw c.if-not-has_first.false at (c.in-Ok.ensures.found text before h)) in
     record { setup = c.in-Ok.ensures.setup; reached = start.0; written = rw start.1 (Appends-nil _) }
 
-pub returns-in-Err-finish : goal.returns-in-Err-finish
-returns-in-Err-finish g c = λ text h.
+pub returns-in-Err-check_end_and_write_line : goal.returns-in-Err-check_end_and_write_line
+returns-in-Err-check_end_and_write_line g c = λ text h.
     let r = c.loop-settled.invariant.reached in
-    comes_answered _ _ _ _ _ _ _ _ _ _ _ _ r text _ _ _ (end_memory _ _ _ _ _ c.in-Err-finish.kind c.in-Err-finish.ensures.err) (λ T other base after turns.
-    end_failed _ _ _ _ _ _ _ _ text (progress_of _ _ _ _ _ _ _ _ _ _ _ r other base after turns) c.in-Err-finish.kind c.loop-settled.invariant.written
-    (c.if-is_end.ensures.0 refl) c.in-Err-finish.ensures.err h)
+    comes_answered _ _ _ _ _ _ _ _ _ _ _ _ r text _ _ _ (end_memory _ _ _ _ _ c.in-Err-check_end_and_write_line.kind c.in-Err-check_end_and_write_line.ensures.err) (λ T other base after turns.
+    end_failed _ _ _ _ _ _ _ _ text (progress_of _ _ _ _ _ _ _ _ _ _ _ r other base after turns) c.in-Err-check_end_and_write_line.kind c.loop-settled.invariant.written
+    (c.if-has_end_marker.ensures.0 refl) c.in-Err-check_end_and_write_line.ensures.err h)
 
-pub returns-then-is_end : goal.returns-then-is_end
-returns-then-is_end g c = λ text h.
+pub returns-then-has_end_marker : goal.returns-then-has_end_marker
+returns-then-has_end_marker g c = λ text h.
     let r = c.loop-settled.invariant.reached in
     comes_answered _ _ _ _ _ _ _ _ _ _ _ _ r text _ _ _ tt (λ T other base after turns.
     ended_well _ _ _ _ _ _ _ _ text (progress_of _ _ _ _ _ _ _ _ _ _ _ r other base after turns) c.loop-settled.invariant.written
@@ -49,9 +49,9 @@ returns-in-Err-read_record g c = λ text h.
 pub returns-then-not-has_next : goal.returns-then-not-has_next
 returns-then-not-has_next g c = λ text h.
     let r = c.loop-settled.invariant.reached in
-    comes_answered _ _ _ _ _ _ _ _ _ _ _ _ r text _ _ _ (cut_memory _ _ _ _ c.cut_off-kind.ensures) (λ T other base after turns.
+    comes_answered _ _ _ _ _ _ _ _ _ _ _ _ r text _ _ _ (cut_memory _ _ _ _ c.refuse_cut_row-kind.ensures) (λ T other base after turns.
     row_cut_off _ _ _ _ _ _ _ _ text (progress_of _ _ _ _ _ _ _ _ _ _ _ r other base after turns) _ c.loop-settled.invariant.written
-    (λ ends. let no = c.if-is_end.ensures.1 ends in cc) c.cut_off-kind.ensures
+    (λ ends. let no = c.if-has_end_marker.ensures.1 ends in cc) c.refuse_cut_row-kind.ensures
     (λ t before stood. rw c.if-not-has_next.true at (c.in-Ok-read_record.ensures.found t before stood)) h)
 
 pub returns-in-Err-answer_row : goal.returns-in-Err-answer_row
@@ -73,25 +73,25 @@ returns-in-Err-answer_row g c = λ text h.
     answer_left g.D.Rows.honest g.D.Rows.stands g.D.Rows.leaves g.D.Rows.acts _ _ _ _ _ _ _ _ text (progress_of _ _ _ _ _ _ _ _ _ _ _ r _ base after turns) _ reader fault _ _ failed may
     wrote (λ t before stood. rw c.if-not-has_next.false at (c.in-Ok-read_record.ensures.found t before stood)) h good stood alone)
 
-pub returns-in-Err-tell : goal.returns-in-Err-tell
-returns-in-Err-tell g c =
-    let more = reached_more _ _ _ _ _ _ _ _ _ _ _ _ c.with-counts.result _ _ _ c.read_record-in-loop-settled.new.records c.loop-settled.invariant.reached
-    (λ ends. let no = c.if-is_end.ensures.1 ends in cc) (c.with-counts.ensures g.D.Rows.told) c.in-Ok-answer_row.ensures.earlier c.in-Ok-answer_row.ensures.ok
+pub returns-in-Err-write_answer_line : goal.returns-in-Err-write_answer_line
+returns-in-Err-write_answer_line g c =
+    let more = reached_more _ _ _ _ _ _ _ _ _ _ _ _ c.with_answer-counts.result _ _ _ c.read_record-in-loop-settled.new.records c.loop-settled.invariant.reached
+    (λ ends. let no = c.if-has_end_marker.ensures.1 ends in cc) (c.with_answer-counts.ensures g.D.Rows.told) c.in-Ok-answer_row.ensures.earlier c.in-Ok-answer_row.ensures.ok
     (λ t before stood. rw c.if-not-has_next.false at (c.in-Ok-read_record.ensures.found t before stood)) in
-    λ text h. comes_answered _ _ _ _ _ _ _ _ _ _ _ _ more.0 text _ _ _ (part_memory _ _ _ c.in-Err-tell.kind c.in-Err-tell.ensures.err) (λ T other base after turns.
-    tell_failed _ _ _ _ _ _ _ _ text (progress_of _ _ _ _ _ _ _ _ _ _ _ more.0 other base after turns) _ _ c.in-Err-tell.kind more.1
-    c.loop-settled.invariant.written c.in-Err-tell.ensures.err h)
+    λ text h. comes_answered _ _ _ _ _ _ _ _ _ _ _ _ more.0 text _ _ _ (part_memory _ _ _ c.in-Err-write_answer_line.kind c.in-Err-write_answer_line.ensures.err) (λ T other base after turns.
+    tell_failed _ _ _ _ _ _ _ _ text (progress_of _ _ _ _ _ _ _ _ _ _ _ more.0 other base after turns) _ _ c.in-Err-write_answer_line.kind more.1
+    c.loop-settled.invariant.written c.in-Err-write_answer_line.ensures.err h)
 
 pub loop-settled-preserved : goal.loop-settled-preserved
 loop-settled-preserved g c =
     let r = c.loop-settled.invariant.reached in
-    let more = reached_more _ _ _ _ _ _ _ _ _ _ _ _ c.with-counts.result _ _ _ _ r
-    (λ ends. let no = c.if-is_end.ensures.1 ends in cc) (c.with-counts.ensures g.D.Rows.told) c.in-Ok-answer_row.ensures.earlier c.in-Ok-answer_row.ensures.ok
+    let more = reached_more _ _ _ _ _ _ _ _ _ _ _ _ c.with_answer-counts.result _ _ _ _ r
+    (λ ends. let no = c.if-has_end_marker.ensures.1 ends in cc) (c.with_answer-counts.ensures g.D.Rows.told) c.in-Ok-answer_row.ensures.earlier c.in-Ok-answer_row.ensures.ok
     (λ t before stood. rw c.swap.ensures.x_after (rw c.if-not-has_next.false at (c.in-Ok-read_record.ensures.found t before stood))) in
     record {
       setup = c.in-Ok-read_record.ensures.setup;
       reached = more.0;
-      written = told_more _ _ _ _ _ _ (c.loop-settled.settled + 1) c.loop-settled.invariant.written c.in_default-tell.ensures.ok (omega (arith, r.size, r.each)) more.1;
+      written = told_more _ _ _ _ _ _ (c.loop-settled.settled + 1) c.loop-settled.invariant.written c.in_default-write_answer_line.ensures.ok (omega (arith, r.size, r.each)) more.1;
     }
 
 pub returns : goal.returns

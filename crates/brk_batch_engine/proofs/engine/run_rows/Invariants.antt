@@ -1,7 +1,7 @@
 use Rattle.std.specs.Io.KnownBytes.{Appends}
 use Rattle.csv.specs.Records.{fields_of}
-use Rattle.brk_model.specs.Lines.{lines_from}
-use Rattle.brk_batch_engine.specs.Reading.{ReadsBatch}
+use Rattle.brk_model.specs.Lines.{answer_lines_from}
+use Rattle.brk_batch_engine.specs.Reading.{IsBatchReader}
 use Rattle.brk_batch_engine.specs.Answers.{RepresentsDurably}
 use Rattle.brk_batch_engine.proofs.Reached.{Reached}
 use Rattle.brk_batch_engine.proofs.engine.run_rows.Given as goal
@@ -9,9 +9,9 @@ use Rattle.brk_batch_engine.proofs.engine.run_rows.Given as goal
 -- the rows before the counter were answered and their lines written, and the record after them was read
 abbrev pub invariant-loop-settled : goal.invariant-loop-settled
 invariant-loop-settled g l = record {
-  setup : ReadsBatch l.records;
+  setup : IsBatchReader l.records;
   reached : Reached g.D.Rows.honest (RepresentsDurably g.D.Rows.stands g.D.Rows.leaves) g.D.Rows.acts g.D.Rows.form g.D.Rows.step g.C.Clock.gives g.R.Read.remaining l.fn.desk
       (record { name = l.fn.name; clock = l.fn.clock; old = g.W.Write.contents l.fn.writer; reader = l.fn.records }) l.desk
       (record { settled = l.settled; counts = l.counts; row = fields_of l.row; later = l.clock; reader = l.records });
-  written : Appends (g.W.Write.contents l.fn.writer) (g.W.Write.contents l.writer) (lines_from 1 reached.answers);
+  written : Appends (g.W.Write.contents l.fn.writer) (g.W.Write.contents l.writer) (answer_lines_from 1 reached.answers);
 }

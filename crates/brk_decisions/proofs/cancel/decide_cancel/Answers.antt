@@ -7,7 +7,7 @@ use Rattle.brk_decisions.proofs.cancel.decide_cancel.Goals as goal
 pub returns-clause-read : goal.returns-clause-read
 returns-clause-read g c =
     let old = c.args.store.now in
-    let mid = c.status_of.new.store in
+    let mid = c.read_trade_status.new.store in
     let id = c.args.trade in
     let last = c.in_ok-last.last in
     let status = c.in_ok-status.status in

@@ -4,9 +4,9 @@ use Rattle.std.proofs.lemmas.Result.{err_from_is_err_and}
 use Rattle.brk_money.specs.declared.fault.Fault.{Fault}
 use Rattle.brk_model.specs.Tables.{Tables}
 use Rattle.brk_orders.specs.declared.tick.Tick.{Tick}
-use Rattle.brk_plans.specs.Feed.{held, lacks_quote}
+use Rattle.brk_plans.specs.Feed.{states_of_quotes, lacks_state_of_symbol}
 use Rattle.brk_plans.specs.declared.quote.Quote.{Quote}
-use Rattle.brk_trade_theorems.specs.TradePlans.{AreQuotes}
+use Rattle.brk_trade_theorems.specs.TradePlans.{AreQuotesOfTicks}
 use Rattle.brk_trade_theorems.proofs.Quotes.{no_quotes}
 use Rattle.brk_store.specs.Holds.{ReadPost}
 use Rattle.brk_decisions.proofs.Feeds.{IsQuoteOf, Known, one_quoted, one_not_listed, one_read}
@@ -21,8 +21,8 @@ one_more ticks i tick inside is = ap (λ x. take i ticks ++ x ∷ []) is ∙ sym
 pub loop-tick-init : goal.loop-tick-init
 loop-tick-init g c =
     retold g.S.Store c.args.store.now c.last.new.self c.in_ok-last.last tt
-    (λ last (t : Tables). last ≡ t.last) (λ _. Known c.args.ticks.now [] (held c.new-quotes.result.items) c.in_ok-last.last)
-    (λ t e. (e, subst (λ quotes. AreQuotes t c.args.ticks.now [] (held quotes)) (sym c.new-quotes.ensures.items) (no_quotes t c.args.ticks.now)))
+    (λ last (t : Tables). last ≡ t.last) (λ _. Known c.args.ticks.now [] (states_of_quotes c.new-quotes.result.items) c.in_ok-last.last)
+    (λ t e. (e, subst (λ quotes. AreQuotesOfTicks t c.args.ticks.now [] (states_of_quotes quotes)) (sym c.new-quotes.ensures.items) (no_quotes t c.args.ticks.now)))
     c.in_ok-last.ensures.read
 
 pub loop-tick-preserved : goal.loop-tick-preserved
@@ -32,29 +32,29 @@ loop-tick-preserved g c =
     let tick = c.tick-item.result in
     let last = c.in_ok-last.last in
     let before = c.loop-tick.quotes.items in
-    let lacks : lacks_quote (held before) tick ≡ c.has_no_quote.result = sym (ap (λ quotes. lacks_quote (held quotes) tick) c.deref.ensures.value) ∙ sym c.has_no_quote.ensures in
-    let after : ReadPost {V = Unit {0}} {E = Fault} g.S.Store c.args.store.now c.if-has_no_quote.store (Ok tt) (λ _. Known ticks (take i ticks ++ tick ∷ []) (held c.if-has_no_quote.quotes.items) last) =
+    let lacks : lacks_state_of_symbol (states_of_quotes before) tick ≡ c.has_no_quote.result = sym (ap (λ quotes. lacks_state_of_symbol (states_of_quotes quotes) tick) c.deref.ensures.value) ∙ sym c.has_no_quote.ensures in
+    let after : ReadPost {V = Unit {0}} {E = Fault} g.S.Store c.args.store.now c.if-has_no_quote.store (Ok tt) (λ _. Known ticks (take i ticks ++ tick ∷ []) (states_of_quotes c.if-has_no_quote.quotes.items) last) =
     elim c.if-has_no_quote.branch [
       | then-has_no_quote+in_ok-quote+in-Some+in_ok-push w ↦
           rw (w.store-is, w.quotes-is, w.in_ok-push.ensures.items)
-          (read_both g.S.Store c.args.store.now c.loop-tick.store w.quote_of.new.store {X = Unit {0}} {H = Fault} tt (Some w.in-Some.quote) tt
-          (λ _. Known ticks (take i ticks) (held before) last) (IsQuoteOf ticks tick) (λ _. Known ticks (take i ticks ++ tick ∷ []) (held (before ++ w.in-Some.quote ∷ [])) last)
+          (read_both g.S.Store c.args.store.now c.loop-tick.store w.read_quote.new.store {X = Unit {0}} {H = Fault} tt (Some w.in-Some.quote) tt
+          (λ _. Known ticks (take i ticks) (states_of_quotes before) last) (IsQuoteOf ticks tick) (λ _. Known ticks (take i ticks ++ tick ∷ []) (states_of_quotes (before ++ w.in-Some.quote ∷ [])) last)
           (one_read ticks (take i ticks) tick before last w.in-Some.quote (i, c.loop-tick-test.true, sym c.tick-item.is) (lacks ∙ w.if-has_no_quote.true))
           c.loop-tick.invariant (rw w.in-Some.is at w.in_ok-quote.ensures.read))
       | then-has_no_quote+in_ok-quote+in_default w ↦
           rw (w.store-is, w.quotes-is)
-          (read_both g.S.Store c.args.store.now c.loop-tick.store w.quote_of.new.store {W = Option Quote} {X = Unit {0}} {H = Fault} tt None tt
-          (λ _. Known ticks (take i ticks) (held before) last) (IsQuoteOf ticks tick) (λ _. Known ticks (take i ticks ++ tick ∷ []) (held before) last)
+          (read_both g.S.Store c.args.store.now c.loop-tick.store w.read_quote.new.store {W = Option Quote} {X = Unit {0}} {H = Fault} tt None tt
+          (λ _. Known ticks (take i ticks) (states_of_quotes before) last) (IsQuoteOf ticks tick) (λ _. Known ticks (take i ticks ++ tick ∷ []) (states_of_quotes before) last)
           (one_not_listed ticks (take i ticks) tick before last)
           c.loop-tick.invariant (rw w.in_default.is at w.in_ok-quote.ensures.read))
       | else-has_no_quote w ↦
           rw (w.store-is, w.quotes-is)
           (retold g.S.Store c.args.store.now c.loop-tick.store {X = Unit {0}} {H = Fault} tt tt
-          (λ _. Known ticks (take i ticks) (held before) last) (λ _. Known ticks (take i ticks ++ tick ∷ []) (held before) last)
+          (λ _. Known ticks (take i ticks) (states_of_quotes before) last) (λ _. Known ticks (take i ticks ++ tick ∷ []) (states_of_quotes before) last)
           (one_quoted ticks (take i ticks) tick before last (lacks ∙ w.if-has_no_quote.false))
           c.loop-tick.invariant)
     ] in
-    subst (λ us. ReadPost {V = Unit {0}} {E = Fault} g.S.Store c.args.store.now c.if-has_no_quote.store (Ok tt) (λ _. Known ticks us (held c.if-has_no_quote.quotes.items) last))
+    subst (λ us. ReadPost {V = Unit {0}} {E = Fault} g.S.Store c.args.store.now c.if-has_no_quote.store (Ok tt) (λ _. Known ticks us (states_of_quotes c.if-has_no_quote.quotes.items) last))
     (one_more ticks i tick c.loop-tick-test.true c.tick-item.is) after
 
 pub returns-clause-read : goal.returns-clause-read
@@ -64,8 +64,8 @@ returns-clause-read g c =
     let last = c.in_ok-last.last in
     let quotes = c.loop-tick.quotes in
     retold g.S.Store c.args.store.now c.loop-tick.store tt (last, quotes)
-    (λ _. Known ticks (take i ticks) (held quotes.items) last) (λ market. Known ticks ticks (held market.1.items) market.0)
-    (λ t k. subst (λ us. Known ticks us (held quotes.items) last t) (take_all i ticks c.loop-tick-test.false) k)
+    (λ _. Known ticks (take i ticks) (states_of_quotes quotes.items) last) (λ market. Known ticks ticks (states_of_quotes market.1.items) market.0)
+    (λ t k. subst (λ us. Known ticks us (states_of_quotes quotes.items) last t) (take_all i ticks c.loop-tick-test.false) k)
     c.loop-tick.invariant
 
 pub returns-in_err-push-clause-read : goal.returns-in_err-push-clause-read
@@ -75,5 +75,5 @@ returns-in_err-push-clause-read g c =
     let last = c.in_ok-last.last in
     let p = err_from_is_err_and c.from_residual-in_err-push.result c.from_residual-in_err-push.ensures.1 in
     rw (p.1)
-    (read_failed g.S.Store c.args.store.now c.loop-tick.store c.quote_of.new.store tt c.in_ok-quote.field-0 p.0
-    (λ _. Known ticks (take c.loop-tick.tick-index ticks) (held c.loop-tick.quotes.items) last) (IsQuoteOf ticks tick) _ c.loop-tick.invariant c.in_ok-quote.ensures.read)
+    (read_failed g.S.Store c.args.store.now c.loop-tick.store c.read_quote.new.store tt c.in_ok-quote.field-0 p.0
+    (λ _. Known ticks (take c.loop-tick.tick-index ticks) (states_of_quotes c.loop-tick.quotes.items) last) (IsQuoteOf ticks tick) _ c.loop-tick.invariant c.in_ok-quote.ensures.read)

@@ -1,7 +1,7 @@
 use Rattle.std.proofs.Common.{◌≡◌, ◌==◌, ◌∙◌, filter, map}
 use Rattle.brk_model.specs.Tables.{Tables}
-use Rattle.brk_ref.specs.Records.{account_row_of}
-use Rattle.brk_book_theorems.specs.Reads.{accounts_of}
+use Rattle.brk_ref.specs.Records.{abstract_account_row}
+use Rattle.brk_book_theorems.specs.Reads.{account_count_of_customer}
 use Rattle.brk_book_theorems.proofs.Reading.{are_counted}
 use Rattle.brk_store.proofs.Retelling.{retold}
 use Rattle.brk_decisions.proofs.finding.count_accounts.Goals as goal
@@ -9,8 +9,8 @@ use Rattle.brk_decisions.proofs.finding.count_accounts.Goals as goal
 pub returns : goal.returns
 returns g c = record {
   read = retold g.S.Store c.args.store.now c.accounts_of.new.self c.in_ok-accounts_of.field-0 c.len.result
-      (λ all (t : Tables). map account_row_of all.items ≡ filter (λ r. r.customer == c.args.customer) t.accounts) (λ count (t : Tables). count ≡ accounts_of t c.args.customer)
-      (λ t e. c.len.ensures ∙ c.in_ok-accounts_of.field-0.ok.0 ∙ are_counted account_row_of c.in_ok-accounts_of.field-0.items (filter (λ r. r.customer == c.args.customer) t.accounts) e)
+      (λ all (t : Tables). map abstract_account_row all.items ≡ filter (λ r. r.customer == c.args.customer) t.accounts) (λ count (t : Tables). count ≡ account_count_of_customer t c.args.customer)
+      (λ t e. c.len.ensures ∙ c.in_ok-accounts_of.field-0.ok.0 ∙ are_counted abstract_account_row c.in_ok-accounts_of.field-0.items (filter (λ r. r.customer == c.args.customer) t.accounts) e)
       c.in_ok-accounts_of.ensures.read;
   fault = tt;
 }

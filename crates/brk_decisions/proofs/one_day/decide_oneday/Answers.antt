@@ -7,7 +7,7 @@ use Rattle.brk_decisions.proofs.one_day.decide_oneday.Goals as goal
 pub returns-clause-read : goal.returns-clause-read
 returns-clause-read g c =
     let old = c.args.store.now in
-    let mid = c.one_day.new.self in
+    let mid = c.settlement_day.new.self in
     let day = c.args.day in
     let last = c.in_ok-last.last in
     let rule = c.in_ok-rule.rule in

@@ -2,10 +2,10 @@ use Rattle.std.proofs.Common.{None, Option, List, ℕ, Some, IfSome}
 use Rattle.sqlite.specs.Held.{state}
 use Rattle.sqlite.specs.State.{HasCleanDisk}
 use Rattle.brk_store.specs.Audited.{Represents}
-use Rattle.brk_model.specs.Run.{Answers}
+use Rattle.brk_model.specs.Run.{IsOutcomeOfCall}
 use Rattle.brk_http_engine.proofs.Promised.{keeps}
-use Rattle.brk_http.specs.Acts.{DeskActs}
-use Rattle.brk_http_model.specs.Asked.{all_forms}
+use Rattle.brk_http.specs.Acts.{DeskCallHasOutcome}
+use Rattle.brk_http_model.specs.Asked.{model_parsers}
 use Rattle.brk_http.proofs.Acted.{earlier, steps}
 use Rattle.brk_http.proofs.Serving.{tells_run}
 use Rattle.brk_http.proofs.streams.serve_stream.Goals as goal
@@ -23,7 +23,7 @@ returns-clause-told g c =
 pub returns-clause-kept : goal.returns-clause-kept
 returns-clause-kept g c =
     if_known (g.R.Read.remaining c.args.reader) (λ input h.
-    keeps all_forms (λ old now call outcome new. DeskActs g.S.Store old now call outcome new) Answers (λ desk. HasCleanDisk (state g.S.Store desk)) (λ desk. Represents g.S.Store desk)
+    keeps model_parsers (λ old now call outcome new. DeskCallHasOutcome g.S.Store old now call outcome new) IsOutcomeOfCall (λ desk. HasCleanDisk (state g.S.Store desk)) (λ desk. Represents g.S.Store desk)
     (λ old now call outcome new acts. earlier g.S.Store old new now call outcome acts) (λ old now call outcome new acts. steps g.S.Store old new now call outcome acts)
     g.C.Clock.gives input c.args.desk.now c.serve.new.desk
     (record { clock = c.args.clock.now; later = c.serve.new.clock; old = g.W.Write.contents c.args.writer.now; new = g.W.Write.contents c.serve.new.writer }) c.serve.result h) c.serve.ensures.gives

@@ -1,5 +1,5 @@
 use Rattle.std.proofs.Common.{◌≡◌, arith, take, length, min, sym, ◌∙◌, Some, None, ap, vec_len, Ok}
-use Rattle.brk_http_model.specs.Heads.{head_len, head_limit, head_end}
+use Rattle.brk_http_model.specs.Heads.{head_length, most_head_bytes, head_end}
 use Rattle.brk_http_reader.proofs.FrontLemmas.{head_at, head_long, head_cut, head_nothing, Moves_trans}
 use Rattle.brk_http_reader.proofs.input.read_head.Goals as goal
 
@@ -7,33 +7,33 @@ pub returns-in-Some-clause-value : goal.returns-in-Some-clause-value
 unfolding head_end
 returns-in-Some-clause-value g c =
     let len : vec_len c.filling.buffer ≡ length c.filling.buffer.items = sym c.deref.ensures.len ∙ ap length c.deref.ensures.value in
-    let e : head_len (take (min (length c.filling.buffer.items) head_limit) c.filling.buffer.items) ≡ Some c.in-Some.n =
+    let e : head_length (take (min (length c.filling.buffer.items) most_head_bytes) c.filling.buffer.items) ≡ Some c.in-Some.n =
     sym (rw (c.min-seen.ensures, c.len-len.ensures, c.deref.ensures.value, len) at (sym c.in-Some.is ∙ c.head_len.ensures.value)) in
-    head_at head_limit _ _ _ _ c.in-Some.n c.filling.invariant e
+    head_at most_head_bytes _ _ _ _ c.in-Some.n c.filling.invariant e
 
 pub returns-then-len-ge-HEAD_LIMIT-clause-value : goal.returns-then-len-ge-HEAD_LIMIT-clause-value
 unfolding head_end
 returns-then-len-ge-HEAD_LIMIT-clause-value g c =
     let len : vec_len c.filling.buffer ≡ length c.filling.buffer.items = sym c.deref.ensures.len ∙ ap length c.deref.ensures.value in
-    let e : head_len (take (min (length c.filling.buffer.items) head_limit) c.filling.buffer.items) ≡ None =
+    let e : head_length (take (min (length c.filling.buffer.items) most_head_bytes) c.filling.buffer.items) ≡ None =
     sym (rw (c.min-seen.ensures, c.len-len.ensures, c.deref.ensures.value, len) at (sym c.in-None.is ∙ c.head_len.ensures.value)) in
-    head_long head_limit _ _ _ _ (omega arith) c.filling.invariant e (omega arith)
+    head_long most_head_bytes _ _ _ _ (omega arith) c.filling.invariant e (omega arith)
 
 pub returns-then-not-branch-clause-value : goal.returns-then-not-branch-clause-value
 unfolding head_end
 returns-then-not-branch-clause-value g c =
     let len : vec_len c.filling.buffer ≡ length c.filling.buffer.items = sym c.deref.ensures.len ∙ ap length c.deref.ensures.value in
-    let e : head_len (take (min (length c.filling.buffer.items) head_limit) c.filling.buffer.items) ≡ None =
+    let e : head_length (take (min (length c.filling.buffer.items) most_head_bytes) c.filling.buffer.items) ≡ None =
     sym (rw (c.min-seen.ensures, c.len-len.ensures, c.deref.ensures.value, len) at (sym c.in-None.is ∙ c.head_len.ensures.value)) in
-    let end = c.in_ok-fill.ensures.end (ap (λ b. Ok b) c.if-not-branch.true) in
-    let f : head_len (take (min (length c.fill.new.buffer.items) head_limit) c.fill.new.buffer.items) ≡ None = rw end.1 e in
-    let same : length c.fill.new.buffer.items ≡ vec_len c.filling.buffer = ap length end.1 ∙ sym len in
-    head_cut head_limit _ _ _ _ (Moves_trans _ _ _ _ _ _ c.filling.invariant c.in_ok-fill.ensures.moves) end.0 f (omega arith) (omega arith)
+    let end = c.in_ok-read_into_buffer.ensures.end (ap (λ b. Ok b) c.if-not-branch.true) in
+    let f : head_length (take (min (length c.read_into_buffer.new.buffer.items) most_head_bytes) c.read_into_buffer.new.buffer.items) ≡ None = rw end.1 e in
+    let same : length c.read_into_buffer.new.buffer.items ≡ vec_len c.filling.buffer = ap length end.1 ∙ sym len in
+    head_cut most_head_bytes _ _ _ _ (Moves_trans _ _ _ _ _ _ c.filling.invariant c.in_ok-read_into_buffer.ensures.moves) end.0 f (omega arith) (omega arith)
 
 pub returns-then-len-eq0-clause-value : goal.returns-then-len-eq0-clause-value
 unfolding head_end
 returns-then-len-eq0-clause-value g c =
     let len : vec_len c.filling.buffer ≡ length c.filling.buffer.items = sym c.deref.ensures.len ∙ ap length c.deref.ensures.value in
-    let end = c.in_ok-fill.ensures.end (ap (λ b. Ok b) c.if-not-branch.true) in
-    let same : length c.fill.new.buffer.items ≡ vec_len c.filling.buffer = ap length end.1 ∙ sym len in
-    head_nothing head_limit _ _ _ _ (Moves_trans _ _ _ _ _ _ c.filling.invariant c.in_ok-fill.ensures.moves) end.0 (omega arith)
+    let end = c.in_ok-read_into_buffer.ensures.end (ap (λ b. Ok b) c.if-not-branch.true) in
+    let same : length c.read_into_buffer.new.buffer.items ≡ vec_len c.filling.buffer = ap length end.1 ∙ sym len in
+    head_nothing most_head_bytes _ _ _ _ (Moves_trans _ _ _ _ _ _ c.filling.invariant c.in_ok-read_into_buffer.ensures.moves) end.0 (omega arith)

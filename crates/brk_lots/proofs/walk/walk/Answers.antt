@@ -4,11 +4,11 @@ use Rattle.std.proofs.Math.Nat.{mul-le-mul_left}
 use Rattle.brk_model.specs.Limits.{greatest_price}
 use Rattle.brk_lots.specs.declared.lot.Lot.{Lot}
 use Rattle.brk_lots.specs.declared.lot.Touch.{Touch}
-use Rattle.brk_lots.specs.Position.{IsWalk}
-use Rattle.brk_money.specs.Kinds.{same_side}
+use Rattle.brk_lots.specs.Position.{IsPositionInAnyOrder}
+use Rattle.brk_money.specs.Kinds.{is_same_side}
 use Rattle.brk_money.specs.declared.side.Side.{Side}
 use Rattle.brk_lots.specs.Lots.{side_of_qty}
-use Rattle.brk_lots.specs.Walks.{IsTaken, met, rows_taken, paid}
+use Rattle.brk_lots.specs.Walks.{IsCloseAgainstLots, closed_share_count, touches_of_first_shares, cost_of_first_shares}
 use Rattle.brk_lots.proofs.Runs.{size_positive}
 use Rattle.brk_lots.proofs.Walks.{met_none, met_own, touches_none, paid_none, met_more, touches_more, paid_more}
 use Rattle.brk_lots.proofs.walk.walk.Goals as goal
@@ -18,11 +18,11 @@ drop_next : {X : Type 0} (n : ℕ) (xs : List X) (y : X) (ys : List X) → drop 
 drop_next n xs y ys e = sym (ap (drop 1) e) ∙ drop-drop 1 n xs
 
 -- nothing more is met of what the walk ends with
-ended : (side : Side) (qty left cost : ℕ) (touched : List Touch) (all rest : List Lot) → met side left rest ≡ 0 → left + met side qty all ≡ qty + met side left rest
-    → touched ++ rows_taken (met side left rest) rest ≡ rows_taken (met side qty all) all → cost + paid (met side left rest) rest ≡ paid (met side qty all) all → IsTaken side qty all touched left cost
+ended : (side : Side) (qty left cost : ℕ) (touched : List Touch) (all rest : List Lot) → closed_share_count side left rest ≡ 0 → left + closed_share_count side qty all ≡ qty + closed_share_count side left rest
+    → touched ++ touches_of_first_shares (closed_share_count side left rest) rest ≡ touches_of_first_shares (closed_share_count side qty all) all → cost + cost_of_first_shares (closed_share_count side left rest) rest ≡ cost_of_first_shares (closed_share_count side qty all) all → IsCloseAgainstLots side qty all touched left cost
 ended side qty left cost touched all rest none il it ip =
-    let z : rows_taken (met side left rest) rest ≡ [] = rw none (touches_none rest) in
-    let y : paid (met side left rest) rest ≡ 0 = rw none (paid_none rest) in
+    let z : touches_of_first_shares (closed_share_count side left rest) rest ≡ [] = rw none (touches_none rest) in
+    let y : cost_of_first_shares (closed_share_count side left rest) rest ≡ 0 = rw none (paid_none rest) in
     record {
       left = omega (arith, none, il);
       rows = sym (append-nil touched) ∙ ap (λ (ts : List Touch). touched ++ ts) (sym z) ∙ it;
@@ -52,20 +52,20 @@ loop-left-preserved g c =
             let m = (rw c.in-Some.is at c.in_ok-lot.ensures.given) told was.0 was.1 in
             let ls = m.0 in
             let e : was.0 ≡ lot ∷ ls = m.1 in
-            let walk : IsWalk (lot ∷ ls) = subst IsWalk e was.2 in
-            let o : same_side (side_of_qty lot.qty) c.args.side ≡ false = search rules in
-            let n : met c.args.side left (lot ∷ ls) ≡ c.min-shares.result + met c.args.side (left - c.min-shares.result) ls = rw s (met_more c.args.side left lot ls walk o) in
-            let t : rows_taken (met c.args.side left (lot ∷ ls)) (lot ∷ ls) ≡ c.touch.result ∷ rows_taken (met c.args.side (left - c.min-shares.result) ls) ls =
+            let walk : IsPositionInAnyOrder (lot ∷ ls) = subst IsPositionInAnyOrder e was.2 in
+            let o : is_same_side (side_of_qty lot.qty) c.args.side ≡ false = search rules in
+            let n : closed_share_count c.args.side left (lot ∷ ls) ≡ c.min-shares.result + closed_share_count c.args.side (left - c.min-shares.result) ls = rw s (met_more c.args.side left lot ls walk o) in
+            let t : touches_of_first_shares (closed_share_count c.args.side left (lot ∷ ls)) (lot ∷ ls) ≡ c.touch.result ∷ touches_of_first_shares (closed_share_count c.args.side (left - c.min-shares.result) ls) ls =
             rw (c.touch.ensures, s) (touches_more c.args.side left lot ls walk o (omega arith)) in
-            let p : paid (met c.args.side left (lot ∷ ls)) (lot ∷ ls) ≡ c.min-shares.result * lot.price + paid (met c.args.side (left - c.min-shares.result) ls) ls = rw s (paid_more c.args.side left lot ls walk o) in
-            let il : left + met c.args.side c.args.qty all ≡ c.args.qty + met c.args.side left (lot ∷ ls) = rw e at was.3 in
-            let it : touched ++ rows_taken (met c.args.side left (lot ∷ ls)) (lot ∷ ls) ≡ rows_taken (met c.args.side c.args.qty all) all = rw e at was.4 in
-            let ip : c.loop-left.cost + paid (met c.args.side left (lot ∷ ls)) (lot ∷ ls) ≡ paid (met c.args.side c.args.qty all) all = rw e at was.5 in (
+            let p : cost_of_first_shares (closed_share_count c.args.side left (lot ∷ ls)) (lot ∷ ls) ≡ c.min-shares.result * lot.price + cost_of_first_shares (closed_share_count c.args.side (left - c.min-shares.result) ls) ls = rw s (paid_more c.args.side left lot ls walk o) in
+            let il : left + closed_share_count c.args.side c.args.qty all ≡ c.args.qty + closed_share_count c.args.side left (lot ∷ ls) = rw e at was.3 in
+            let it : touched ++ touches_of_first_shares (closed_share_count c.args.side left (lot ∷ ls)) (lot ∷ ls) ≡ touches_of_first_shares (closed_share_count c.args.side c.args.qty all) all = rw e at was.4 in
+            let ip : c.loop-left.cost + cost_of_first_shares (closed_share_count c.args.side left (lot ∷ ls)) (lot ∷ ls) ≡ cost_of_first_shares (closed_share_count c.args.side c.args.qty all) all = rw e at was.5 in (
               ls,
               m.2,
               walk.2,
               omega (arith, n, il),
-              append_assoc touched (c.touch.result ∷ []) (rows_taken (met c.args.side (left - c.min-shares.result) ls) ls) ∙ ap (λ (ts : List Touch). touched ++ ts) (sym t) ∙ it,
+              append_assoc touched (c.touch.result ∷ []) (touches_of_first_shares (closed_share_count c.args.side (left - c.min-shares.result) ls) ls) ∙ ap (λ (ts : List Touch). touched ++ ts) (sym t) ∙ it,
               rw v (omega (arith, ip, p)),
             ),
       );
@@ -86,8 +86,8 @@ returns-in_err-add-clause-rest g c ls given =
     let m = (rw c.in-Some.is at c.in_ok-lot.ensures.given) given.0 (drop n.0 ls) n.1 in
     (n.0 + 1, subst (λ (l : List Lot). g.L.LotSource.remaining after l) (drop_next n.0 ls c.in-Some.lot m.0 m.1) m.2)
 
-pub returns-then-is_same-clause-rest : goal.returns-then-is_same-clause-rest
-returns-then-is_same-clause-rest g c ls given =
+pub returns-then-are_same_side-clause-rest : goal.returns-then-are_same_side-clause-rest
+returns-then-are_same_side-clause-rest g c ls given =
     let after = c.next.new.self in
     let n = c.loop-left.invariant.given (g.met.L.LotSource.told_before c.loop-left.source after c.next.ensures.leads given.0) ls given.1 in
     let m = (rw c.in-Some.is at c.in_ok-lot.ensures.given) given.0 (drop n.0 ls) n.1 in
@@ -105,11 +105,11 @@ returns-after-loop-left-clause-taken g c =
           ended c.args.side c.args.qty c.loop-left.left c.loop-left.cost t.0 ls b.0 (rw z (met_none c.args.side b.0)) b.3 b.4 b.5,
     )
 
-pub returns-then-is_same-clause-taken : goal.returns-then-is_same-clause-taken
-returns-then-is_same-clause-taken g c =
+pub returns-then-are_same_side-clause-taken : goal.returns-then-are_same_side-clause-taken
+returns-then-are_same_side-clause-taken g c =
     let t = c.loop-left.invariant.taken in
     let lot = c.in-Some.lot in
-    let o : same_side (side_of_qty lot.qty) c.args.side ≡ true = search rules in (
+    let o : is_same_side (side_of_qty lot.qty) c.args.side ≡ true = search rules in (
       t.0,
       t.1,
       omega (arith, t.2, c.next.ensures.asked),

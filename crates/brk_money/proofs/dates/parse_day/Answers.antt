@@ -1,14 +1,14 @@
 use Rattle.std.proofs.Common.{arith, ap, ◌∙◌, sym, FitsSigned, w32, to_z-of_z}
 use Rattle.jiff.specs.Words.{epoch_day}
 use Rattle.jiff.proofs.SpanFacts.{signed_arith}
-use Rattle.brk_money.specs.Moments.{civil_of}
+use Rattle.brk_money.specs.Moments.{civil_date_of_day}
 use Rattle.brk_money.proofs.Calendar.{is_date}
 use Rattle.brk_money.proofs.DayTexts.{day_text-digits, none_beyond, number_of_text, some_within, text_of}
 use Rattle.brk_money.proofs.dates.parse_day.Goals as goal
 
 pub returns-in_default-clause-none : goal.returns-in_default-clause-none
 returns-in_default-clause-none c = λ n h e.
-    c.in_default.ensures.none (civil_of n).year (civil_of n).month (civil_of n).day (is_date n h) (e ∙ day_text-digits n h)
+    c.in_default.ensures.none (civil_date_of_day n).year (civil_date_of_day n).month (civil_date_of_day n).day (is_date n h) (e ∙ day_text-digits n h)
 
 pub returns-clause-found : goal.returns-clause-found
 returns-clause-found c =

@@ -5,7 +5,7 @@ use Rattle.brk_orders.proofs.Counts.{not_order, ten_texts}
 use Rattle.brk_model.specs.Parse.{read_order}
 use Rattle.brk_money.specs.Spelling.{Text}
 use Rattle.brk_ref.specs.Fields.{ParsesAs}
-use Rattle.brk_orders.specs.Records.{order_of}
+use Rattle.brk_orders.specs.Records.{abstract_order}
 use Rattle.brk_orders.proofs.order.check_order.Goals as goal
 use Rattle.brk_orders.proofs.order.check_order.Goals.{in_default-via-then-fields-lt10, in_default-via-else-fields-lt10+else-fields-lt11}
 
@@ -18,5 +18,5 @@ returns-in_default-clause-read c =
 
 pub returns-clause-read : goal.returns-clause-read
 returns-clause-read c =
-    subst (λ (told : List Text). IfOk c.order_from.result (λ read. ParsesAs order_of read (read_order told)))
-    (ten_texts c.args.fields.now _ (omega (arith, c.in-len10.len_at_least, c.in-len10.len_below))) c.order_from.ensures.read
+    subst (λ (told : List Text). IfOk c.parse_order_fields.result (λ read. ParsesAs abstract_order read (read_order told)))
+    (ten_texts c.args.fields.now _ (omega (arith, c.in-len10.len_at_least, c.in-len10.len_below))) c.parse_order_fields.ensures.read

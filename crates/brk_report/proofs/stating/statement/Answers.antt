@@ -3,7 +3,7 @@ use Rattle.std.specs.Prelude.{nat_lt}
 use Rattle.std.proofs.lemmas.Bool.{lt-ltb}
 use Rattle.std.proofs.lemmas.Bool.Decides.{nat_tests}
 use Rattle.std.proofs.lemmas.Int.{ints}
-use Rattle.brk_queries.specs.Heads.{IsHead}
+use Rattle.brk_queries.specs.Heads.{IsHeadOfAccount}
 use Rattle.brk_report.proofs.Keeping.{clean_then, keeps_read, keeps_still, keeps_then}
 use Rattle.brk_report.proofs.Whole.{refused_account, refused_days, states_all, states_fault, states_write}
 use Rattle.brk_report.proofs.stating.statement.Goals as goal
@@ -28,7 +28,7 @@ returns-in-Ok-None g c =
     record {
       stated = record {
         told = λ clean t holds. refused_account t c.args.account c.args.from c.args.to days ((rw (c.in-Ok-None.is, c.in-Ok-None.field-0-is) at (c.head.ensures.read.told clean)) t holds);
-        keeps = keeps_read g.S.Store _ _ c.head.result (IsHead c.args.account) c.head.ensures.read;
+        keeps = keeps_read g.S.Store _ _ c.head.result (IsHeadOfAccount c.args.account) c.head.ensures.read;
         unwritten = λ refusal is. refl;
       };
     }
@@ -36,14 +36,14 @@ returns-in-Ok-None g c =
 pub returns-in-Ok : goal.returns-in-Ok
 returns-in-Ok g c =
     let days = not_before c.args.to c.args.from (omega (arith, ints, c.if-get.false, c.get.ensures.value, c.get-2.ensures.value)) in
-    let first = keeps_read g.S.Store _ _ c.head.result (IsHead c.args.account) c.head.ensures.read in
+    let first = keeps_read g.S.Store _ _ c.head.result (IsHeadOfAccount c.args.account) c.head.ensures.read in
     record {
       stated = record {
         told = λ clean t holds.
-            let mid = clean_then g.S.Store c.head.new.self c.write_all.new.desk c.write_all.ensures.keeps clean in
+            let mid = clean_then g.S.Store c.head.new.self c.write_statement_lines.new.desk c.write_statement_lines.ensures.keeps clean in
             let is_head = (rw (c.in-Ok-Some.is, c.in-Ok-Some.field-0-is) at (c.head.ensures.read.told mid)) t holds in
-            states_all t c.args.account c.in-Ok-Some.head c.args.from c.args.to days is_head _ _ (rw c.in-Ok.is at (c.write_all.ensures.written clean t (first.kept t holds)));
-        keeps = keeps_then g.S.Store c.args.desk.now c.head.new.self c.write_all.new.desk first c.write_all.ensures.keeps;
+            states_all t c.args.account c.in-Ok-Some.head c.args.from c.args.to days is_head _ _ (rw c.in-Ok.is at (c.write_statement_lines.ensures.written clean t (first.kept t holds)));
+        keeps = keeps_then g.S.Store c.args.desk.now c.head.new.self c.write_statement_lines.new.desk first c.write_statement_lines.ensures.keeps;
         unwritten = λ refusal is. absurd (let same = is in cc);
       };
     }
@@ -51,14 +51,14 @@ returns-in-Ok g c =
 pub returns-in-Err-Desk : goal.returns-in-Err-Desk
 returns-in-Err-Desk g c =
     let days = not_before c.args.to c.args.from (omega (arith, ints, c.if-get.false, c.get.ensures.value, c.get-2.ensures.value)) in
-    let first = keeps_read g.S.Store _ _ c.head.result (IsHead c.args.account) c.head.ensures.read in
+    let first = keeps_read g.S.Store _ _ c.head.result (IsHeadOfAccount c.args.account) c.head.ensures.read in
     record {
       stated = record {
         told = λ clean t holds.
-            let mid = clean_then g.S.Store c.head.new.self c.write_all.new.desk c.write_all.ensures.keeps clean in
+            let mid = clean_then g.S.Store c.head.new.self c.write_statement_lines.new.desk c.write_statement_lines.ensures.keeps clean in
             let is_head = (rw (c.in-Ok-Some.is, c.in-Ok-Some.field-0-is) at (c.head.ensures.read.told mid)) t holds in
-            states_fault t c.args.account c.in-Ok-Some.head c.args.from c.args.to days is_head _ _ c.in-Err-Desk.fault (rw (c.in-Err-Desk.is, c.in-Err-Desk.field-0-is) at (c.write_all.ensures.written clean t (first.kept t holds)));
-        keeps = keeps_then g.S.Store c.args.desk.now c.head.new.self c.write_all.new.desk first c.write_all.ensures.keeps;
+            states_fault t c.args.account c.in-Ok-Some.head c.args.from c.args.to days is_head _ _ c.in-Err-Desk.fault (rw (c.in-Err-Desk.is, c.in-Err-Desk.field-0-is) at (c.write_statement_lines.ensures.written clean t (first.kept t holds)));
+        keeps = keeps_then g.S.Store c.args.desk.now c.head.new.self c.write_statement_lines.new.desk first c.write_statement_lines.ensures.keeps;
         unwritten = λ refusal is. absurd (let same = is in cc);
       };
     }
@@ -66,14 +66,14 @@ returns-in-Err-Desk g c =
 pub returns : goal.returns
 returns g c =
     let days = not_before c.args.to c.args.from (omega (arith, ints, c.if-get.false, c.get.ensures.value, c.get-2.ensures.value)) in
-    let first = keeps_read g.S.Store _ _ c.head.result (IsHead c.args.account) c.head.ensures.read in
+    let first = keeps_read g.S.Store _ _ c.head.result (IsHeadOfAccount c.args.account) c.head.ensures.read in
     record {
       stated = record {
         told = λ clean t holds.
-            let mid = clean_then g.S.Store c.head.new.self c.write_all.new.desk c.write_all.ensures.keeps clean in
+            let mid = clean_then g.S.Store c.head.new.self c.write_statement_lines.new.desk c.write_statement_lines.ensures.keeps clean in
             let is_head = (rw (c.in-Ok-Some.is, c.in-Ok-Some.field-0-is) at (c.head.ensures.read.told mid)) t holds in
-            states_write t c.args.account c.in-Ok-Some.head c.args.from c.args.to days is_head _ _ (rw (c.in-Err-Write.is, c.in-Err-Write.field-0-is) at (c.write_all.ensures.written clean t (first.kept t holds)));
-        keeps = keeps_then g.S.Store c.args.desk.now c.head.new.self c.write_all.new.desk first c.write_all.ensures.keeps;
+            states_write t c.args.account c.in-Ok-Some.head c.args.from c.args.to days is_head _ _ (rw (c.in-Err-Write.is, c.in-Err-Write.field-0-is) at (c.write_statement_lines.ensures.written clean t (first.kept t holds)));
+        keeps = keeps_then g.S.Store c.args.desk.now c.head.new.self c.write_statement_lines.new.desk first c.write_statement_lines.ensures.keeps;
         unwritten = λ refusal is. absurd (let same = is in cc);
       };
     }

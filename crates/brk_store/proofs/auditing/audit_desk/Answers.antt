@@ -7,5 +7,5 @@ use Rattle.brk_store.proofs.auditing.audit_desk.Goals as goal
 pub returns-clause-audited : goal.returns-clause-audited
 returns-clause-audited g c =
     subst (λ h. AuditPost g.S.Store c.args.conn.now h (Err (Damaged c.in-Some.condition))) (search rules)
-    (audit_fails g.S.Store c.args.conn.now c.args.conn.now c.begin-tx.result.conn.now c.first_failing.new.tx.conn.now c.drop-tx-2.new.self.0 c.in_ok-first_failing.field-0 c.in-Some.condition refl c.begin-tx.ensures.begun
-    c.begin-tx.ensures.settled c.in_ok-first_failing.ensures.step c.in-Some.is c.drop-tx-2.ensures.survives c.drop-tx-2.ensures.undone)
+    (audit_fails g.S.Store c.args.conn.now c.args.conn.now c.begin_transaction-tx.result.conn.now c.first_failing_condition.new.tx.conn.now c.drop-tx-2.new.self.0 c.in_ok-first_failing_condition.field-0 c.in-Some.condition refl c.begin_transaction-tx.ensures.begun
+    c.begin_transaction-tx.ensures.settled c.in_ok-first_failing_condition.ensures.step c.in-Some.is c.drop-tx-2.ensures.survives c.drop-tx-2.ensures.undone)

@@ -1,6 +1,6 @@
 use Rattle.std.proofs.Common.{◌≡◌, List, [], ◌∷◌, take, reverse, slice_get, refl}
 use Rattle.sqlite.specs.Held.{state}
-use Rattle.brk_changes.specs.Rows.{move_row_of}
+use Rattle.brk_changes.specs.Rows.{abstract_move_row}
 use Rattle.brk_model.specs.Tables.{Tables, MoveRow}
 use Rattle.brk_sql.proofs.Answer.{look_first}
 use Rattle.brk_tables_schema.specs.Cells.{move_cells}
@@ -11,8 +11,8 @@ use Rattle.brk_tables_cash.proofs.LastMove.{plain}
 use Rattle.brk_tables_cash.proofs.CashReads.{tells_last_move}
 use Rattle.brk_tables_cash.proofs.moves.last_move.Goals as goal
 
-pub select-requires : goal.select-requires
-select-requires g c = record { plain = plain }
+pub select_rows-requires : goal.select_rows-requires
+select_rows-requires g c = record { plain = plain }
 
 first_of : (rows : List MoveRow) → slice_get (take 1 rows) 0 ≡ slice_get rows 0
 first_of [] = refl
@@ -21,6 +21,6 @@ first_of (r ∷ rows) = refl
 pub returns-clause-step : goal.returns-clause-step
 returns-clause-step g c =
     let old = state g.S.Store c.args.tx.now.conn.now in
-    let new = state g.S.Store c.select.new.tx.conn.now in
-    look_first desk move_cells move_back move_is_back move_row_of LastMove.statement [] old new c.in_ok-rows.rows (λ rows. rows.items) _ c.deref.ensures.value c.in_ok-rows.ensures.step
-    c.first_row.result c.first_row.ensures.value (λ (t : Tables). take 1 (reverse t.moves)) (λ (t : Tables). slice_get (reverse t.moves) 0) (λ t. first_of (reverse t.moves)) (tells_last_move old new _)
+    let new = state g.S.Store c.select_rows.new.tx.conn.now in
+    look_first desk move_cells move_back move_is_back abstract_move_row LastMove.statement [] old new c.in_ok-rows.rows (λ rows. rows.items) _ c.deref.ensures.value c.in_ok-rows.ensures.step
+    c.decode_first_row.result c.decode_first_row.ensures.value (λ (t : Tables). take 1 (reverse t.moves)) (λ (t : Tables). slice_get (reverse t.moves) 0) (λ t. first_of (reverse t.moves)) (tells_last_move old new _)

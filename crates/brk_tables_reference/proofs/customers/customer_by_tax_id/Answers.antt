@@ -3,7 +3,7 @@ use Rattle.std.specs.Prelude.{bytes_eq}
 use Rattle.sqlite_value.specs.declared.value.Value.TheVariants.{Text}
 use Rattle.sqlite_keyed.proofs.ListLemmas.{slice_get-filter}
 use Rattle.sqlite.specs.Held.{state}
-use Rattle.brk_ref.specs.Records.{customer_of}
+use Rattle.brk_ref.specs.Records.{abstract_customer}
 use Rattle.brk_model.specs.Records.{Customer}
 use Rattle.brk_sql.proofs.Answer.{look_first}
 use Rattle.brk_tables_schema.specs.Cells.{customer_cells}
@@ -14,12 +14,12 @@ use Rattle.brk_tables_reference.proofs.CustomerByTaxId.{plain}
 use Rattle.brk_tables_reference.proofs.Steps.{tells_tax_id}
 use Rattle.brk_tables_reference.proofs.customers.customer_by_tax_id.Goals as goal
 
-pub select-requires : goal.select-requires
-select-requires g c = record { plain = plain }
+pub select_rows-requires : goal.select_rows-requires
+select_rows-requires g c = record { plain = plain }
 
 pub returns-clause-step : goal.returns-clause-step
 returns-clause-step g c =
     let old = state g.S.Store c.args.tx.now.conn.now in
-    let new = state g.S.Store c.select.new.tx.conn.now in
-    look_first desk customer_cells customer_back customer_is_back customer_of CustomerByTaxId.statement (Text c.args.tax_id.now ∷ []) old new c.in_ok-rows.rows (λ rows. rows.items) _ c.deref.ensures.value (rw (c.text_value.ensures, c.as_str.ensures) at c.in_ok-rows.ensures.step)
-    c.first_row.result c.first_row.ensures.value (λ t. filter (λ (r : Customer). bytes_eq r.tax_id c.args.tax_id.now) t.customers) (λ t. find (λ (r : Customer). bytes_eq r.tax_id c.args.tax_id.now) t.customers) (λ t. slice_get-filter (λ (r : Customer). bytes_eq r.tax_id c.args.tax_id.now) t.customers) (tells_tax_id old new c.args.tax_id.now _)
+    let new = state g.S.Store c.select_rows.new.tx.conn.now in
+    look_first desk customer_cells customer_back customer_is_back abstract_customer CustomerByTaxId.statement (Text c.args.tax_id.now ∷ []) old new c.in_ok-rows.rows (λ rows. rows.items) _ c.deref.ensures.value (rw (c.text_value.ensures, c.as_str.ensures) at c.in_ok-rows.ensures.step)
+    c.decode_first_row.result c.decode_first_row.ensures.value (λ t. filter (λ (r : Customer). bytes_eq r.tax_id c.args.tax_id.now) t.customers) (λ t. find (λ (r : Customer). bytes_eq r.tax_id c.args.tax_id.now) t.customers) (λ t. slice_get-filter (λ (r : Customer). bytes_eq r.tax_id c.args.tax_id.now) t.customers) (tells_tax_id old new c.args.tax_id.now _)

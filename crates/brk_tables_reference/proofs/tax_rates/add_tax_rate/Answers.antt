@@ -1,5 +1,5 @@
 use Rattle.sqlite.specs.Held.{state}
-use Rattle.brk_ref.specs.Records.{tax_of}
+use Rattle.brk_ref.specs.Records.{abstract_tax_rate}
 use Rattle.brk_sql.proofs.Inside.{step_weaker}
 use Rattle.brk_tables_reference.proofs.ReferenceAdds.{adds_tax_rate}
 use Rattle.brk_tables_reference.proofs.tax_rates.add_tax_rate.Goals as goal
@@ -7,5 +7,5 @@ use Rattle.brk_tables_reference.proofs.tax_rates.add_tax_rate.Goals as goal
 pub returns-clause-step : goal.returns-clause-step
 returns-clause-step g c =
     let old = state g.S.Store c.args.tx.now.conn.now in
-    let new = state g.S.Store c.run.new.tx.conn.now in
-    step_weaker old new c.run.result _ _ (λ _ ran. adds_tax_rate old new (tax_of c.args.tax.now) (rw (c.id_value.ensures, c.text_value.ensures, c.as_str.ensures, c.tax_rate_value.ensures) at ran)) c.run.ensures.step
+    let new = state g.S.Store c.execute_statement.new.tx.conn.now in
+    step_weaker old new c.execute_statement.result _ _ (λ _ ran. adds_tax_rate old new (abstract_tax_rate c.args.tax.now) (rw (c.id_value.ensures, c.text_value.ensures, c.as_str.ensures, c.tax_rate_value.ensures) at ran)) c.execute_statement.ensures.step

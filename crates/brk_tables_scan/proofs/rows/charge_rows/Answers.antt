@@ -4,11 +4,11 @@ use Rattle.brk_tables_scan.proofs.AllCharges.{plain}
 use Rattle.brk_tables_scan.proofs.Shown.{charge_shown}
 use Rattle.brk_tables_scan.proofs.rows.charge_rows.Goals as goal
 
-pub select-requires : goal.select-requires
-select-requires g c = record { plain = plain }
+pub select_rows-requires : goal.select_rows-requires
+select_rows-requires g c = record { plain = plain }
 
 pub returns-clause-step : goal.returns-clause-step
 returns-clause-step g c =
     let old = state g.S.Store c.args.tx.now.conn.now in
-    let new = state g.S.Store c.select.new.tx.conn.now in
-    step_weaker old new c.select.result _ _ (λ rows s. (s.2, s.1, charge_shown old new rows.items s.0)) c.select.ensures.step
+    let new = state g.S.Store c.select_rows.new.tx.conn.now in
+    step_weaker old new c.select_rows.result _ _ (λ rows s. (s.2, s.1, charge_shown old new rows.items s.0)) c.select_rows.ensures.step

@@ -8,5 +8,5 @@ use Rattle.brk_tables_trading.proofs.broker_numbers.set_broker_numbers.Goals as 
 pub returns-clause-step : goal.returns-clause-step
 returns-clause-step g c =
     let old = state g.S.Store c.args.tx.now.conn.now in
-    let new = state g.S.Store c.run.new.tx.conn.now in
-    step_weaker old new c.run.result _ _ (λ _ ran. sets_broker_numbers old new c.args.broker c.args.trades c.args.commissions (rw (c.number_value.ensures, to_z-of_z w64 c.args.trades (search rules), c.amount_value.ensures, c.id_value.ensures) at ran)) c.run.ensures.step
+    let new = state g.S.Store c.execute_statement.new.tx.conn.now in
+    step_weaker old new c.execute_statement.result _ _ (λ _ ran. sets_broker_numbers old new c.args.broker c.args.trades c.args.commissions (rw (c.number_value.ensures, to_z-of_z w64 c.args.trades (search rules), c.amount_value.ensures, c.id_value.ensures) at ran)) c.execute_statement.ensures.step

@@ -7,19 +7,19 @@ use Rattle.brk_model.specs.Tables.{SummaryRow}
 use Rattle.brk_sql.proofs.Answer.{look_first}
 use Rattle.brk_tables_schema.specs.Cells.{summary_cells}
 use Rattle.brk_tables_schema.specs.Desk.{desk}
-use Rattle.brk_changes.specs.Rows.{summary_row_of}
+use Rattle.brk_changes.specs.Rows.{abstract_summary_row}
 use Rattle.brk_tables_schema.proofs.TradingBack.{summary_back, summary_is_back}
 use Rattle.brk_tables_trading.proofs.Holding.{tells_summary}
 use Rattle.brk_tables_trading.proofs.SummaryOf
 use Rattle.brk_tables_trading.proofs.SummaryOf.{plain}
 use Rattle.brk_tables_trading.proofs.holdings.summary_of.Goals as goal
 
-pub select-requires : goal.select-requires
-select-requires g c = record { plain = plain }
+pub select_rows-requires : goal.select_rows-requires
+select_rows-requires g c = record { plain = plain }
 
 pub returns-clause-step : goal.returns-clause-step
 returns-clause-step g c =
     let old = state g.S.Store c.args.tx.now.conn.now in
-    let new = state g.S.Store c.select.new.tx.conn.now in
-    look_first desk summary_cells summary_back summary_is_back summary_row_of SummaryOf.statement (Int (pos c.args.account) ∷ Text c.args.symbol.now ∷ []) old new c.in_ok-rows.rows (λ rows. rows.items) _ c.deref.ensures.value (rw (c.id_value.ensures, c.text_value.ensures, c.as_str.ensures) at c.in_ok-rows.ensures.step)
-    c.first_row.result c.first_row.ensures.value (λ t. filter (λ (r : SummaryRow). (r.account == c.args.account) && bytes_eq r.symbol c.args.symbol.now) t.summaries) (λ t. find (λ (r : SummaryRow). (r.account == c.args.account) && bytes_eq r.symbol c.args.symbol.now) t.summaries) (λ t. slice_get-filter (λ (r : SummaryRow). (r.account == c.args.account) && bytes_eq r.symbol c.args.symbol.now) t.summaries) (tells_summary old new c.args.account c.args.symbol.now _)
+    let new = state g.S.Store c.select_rows.new.tx.conn.now in
+    look_first desk summary_cells summary_back summary_is_back abstract_summary_row SummaryOf.statement (Int (pos c.args.account) ∷ Text c.args.symbol.now ∷ []) old new c.in_ok-rows.rows (λ rows. rows.items) _ c.deref.ensures.value (rw (c.id_value.ensures, c.text_value.ensures, c.as_str.ensures) at c.in_ok-rows.ensures.step)
+    c.decode_first_row.result c.decode_first_row.ensures.value (λ t. filter (λ (r : SummaryRow). (r.account == c.args.account) && bytes_eq r.symbol c.args.symbol.now) t.summaries) (λ t. find (λ (r : SummaryRow). (r.account == c.args.account) && bytes_eq r.symbol c.args.symbol.now) t.summaries) (λ t. slice_get-filter (λ (r : SummaryRow). (r.account == c.args.account) && bytes_eq r.symbol c.args.symbol.now) t.summaries) (tells_summary old new c.args.account c.args.symbol.now _)

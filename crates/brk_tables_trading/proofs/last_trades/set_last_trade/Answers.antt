@@ -1,5 +1,5 @@
 use Rattle.sqlite.specs.Held.{state}
-use Rattle.brk_ref.specs.Records.{last_trade_of}
+use Rattle.brk_ref.specs.Records.{abstract_last_trade_row}
 use Rattle.brk_sql.proofs.Inside.{step_weaker}
 use Rattle.brk_tables_trading.proofs.Writes.{sets_last_trade}
 use Rattle.brk_tables_trading.proofs.last_trades.set_last_trade.Goals as goal
@@ -7,5 +7,5 @@ use Rattle.brk_tables_trading.proofs.last_trades.set_last_trade.Goals as goal
 pub returns-clause-step : goal.returns-clause-step
 returns-clause-step g c =
     let old = state g.S.Store c.args.tx.now.conn.now in
-    let new = state g.S.Store c.run.new.tx.conn.now in
-    step_weaker old new c.run.result _ _ (λ _ ran. sets_last_trade old new (last_trade_of c.args.last_trade.now) (rw (c.stamp_value.ensures, c.price_value.ensures, c.volume_value.ensures, c.text_value.ensures, c.as_str.ensures) at ran)) c.run.ensures.step
+    let new = state g.S.Store c.execute_statement.new.tx.conn.now in
+    step_weaker old new c.execute_statement.result _ _ (λ _ ran. sets_last_trade old new (abstract_last_trade_row c.args.last_trade.now) (rw (c.stamp_value.ensures, c.price_value.ensures, c.volume_value.ensures, c.text_value.ensures, c.as_str.ensures) at ran)) c.execute_statement.ensures.step

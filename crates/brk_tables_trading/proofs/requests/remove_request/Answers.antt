@@ -6,5 +6,5 @@ use Rattle.brk_tables_trading.proofs.requests.remove_request.Goals as goal
 pub returns-clause-step : goal.returns-clause-step
 returns-clause-step g c =
     let old = state g.S.Store c.args.tx.now.conn.now in
-    let new = state g.S.Store c.run.new.tx.conn.now in
-    step_weaker old new c.run.result _ _ (λ _ ran. removes_request old new c.args.trade (rw (c.id_value.ensures) at ran)) c.run.ensures.step
+    let new = state g.S.Store c.execute_statement.new.tx.conn.now in
+    step_weaker old new c.execute_statement.result _ _ (λ _ ran. removes_request old new c.args.trade (rw (c.id_value.ensures) at ran)) c.execute_statement.ensures.step

@@ -1,9 +1,9 @@
 use Rattle.std.proofs.Common.{◌∙◌, ap, subst}
 use Rattle.sqlite_value.specs.declared.value.Value.TheVariants.{Text as Words}
 use Rattle.sqlite.specs.Held.{state}
-use Rattle.brk_sql.specs.Model.{Ran}
+use Rattle.brk_sql.specs.Model.{ExecutesStatement}
 use Rattle.brk_sql.proofs.Inside.{step_weaker}
-use Rattle.brk_changes.specs.Rows.{trade_row_of}
+use Rattle.brk_changes.specs.Rows.{abstract_trade_row}
 use Rattle.brk_tables_trading.proofs.AddTrade
 use Rattle.brk_tables_schema.proofs.TradeCells.{params_are}
 use Rattle.brk_tables_trading.proofs.Writes.{adds_trade}
@@ -12,6 +12,6 @@ use Rattle.brk_tables_trading.proofs.trades.add_trade.Goals as goal
 pub returns-clause-step : goal.returns-clause-step
 returns-clause-step g c =
     let old = state g.S.Store c.args.tx.now.conn.now in
-    let new = state g.S.Store c.run.new.tx.conn.now in
-    let same = params_are (trade_row_of c.args.trade.now) _ _ _ _ _ _ _ _ _ _ _ _ _ _ _ c.id_value.ensures c.stamp_value.ensures c.status_value.ensures c.type_value.ensures c.flag_value.ensures (c.text_value.ensures ∙ ap Words c.as_str.ensures) c.qty_value.ensures c.price_value.ensures c.id_value-2.ensures (c.text_value-2.ensures ∙ ap Words c.as_str-2.ensures.value) c.maybe_price_value.ensures c.charge_amount_value.ensures c.amount_value.ensures c.amount_value-2.ensures c.flag_value-2.ensures in
-    step_weaker old new c.run.result _ _ (λ _ ran. adds_trade old new (trade_row_of c.args.trade.now) (subst (λ params. Ran AddTrade.statement params old new) same ran)) c.run.ensures.step
+    let new = state g.S.Store c.execute_statement.new.tx.conn.now in
+    let same = params_are (abstract_trade_row c.args.trade.now) _ _ _ _ _ _ _ _ _ _ _ _ _ _ _ c.id_value.ensures c.stamp_value.ensures c.status_value.ensures c.type_value.ensures c.flag_value.ensures (c.text_value.ensures ∙ ap Words c.as_str.ensures) c.qty_value.ensures c.price_value.ensures c.id_value-2.ensures (c.text_value-2.ensures ∙ ap Words c.as_str-2.ensures.value) c.maybe_price_value.ensures c.charge_amount_value.ensures c.amount_value.ensures c.amount_value-2.ensures c.flag_value-2.ensures in
+    step_weaker old new c.execute_statement.result _ _ (λ _ ran. adds_trade old new (abstract_trade_row c.args.trade.now) (subst (λ params. ExecutesStatement AddTrade.statement params old new) same ran)) c.execute_statement.ensures.step

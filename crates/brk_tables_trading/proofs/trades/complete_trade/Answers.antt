@@ -6,5 +6,5 @@ use Rattle.brk_tables_trading.proofs.trades.complete_trade.Goals as goal
 pub returns-clause-step : goal.returns-clause-step
 returns-clause-step g c =
     let old = state g.S.Store c.args.tx.now.conn.now in
-    let new = state g.S.Store c.run.new.tx.conn.now in
-    step_weaker old new c.run.result _ _ (λ _ ran. completes_trade old new c.args.trade c.args.stamp c.args.price c.args.commission c.args.tax (rw (c.status_value.ensures, c.stamp_value.ensures, c.price_value.ensures, c.amount_value.ensures, c.amount_value-2.ensures, c.id_value.ensures) at ran)) c.run.ensures.step
+    let new = state g.S.Store c.execute_statement.new.tx.conn.now in
+    step_weaker old new c.execute_statement.result _ _ (λ _ ran. completes_trade old new c.args.trade c.args.stamp c.args.price c.args.commission c.args.tax (rw (c.status_value.ensures, c.stamp_value.ensures, c.price_value.ensures, c.amount_value.ensures, c.amount_value-2.ensures, c.id_value.ensures) at ran)) c.execute_statement.ensures.step

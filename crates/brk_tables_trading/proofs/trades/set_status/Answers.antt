@@ -6,5 +6,5 @@ use Rattle.brk_tables_trading.proofs.trades.set_status.Goals as goal
 pub returns-clause-step : goal.returns-clause-step
 returns-clause-step g c =
     let old = state g.S.Store c.args.tx.now.conn.now in
-    let new = state g.S.Store c.run.new.tx.conn.now in
-    step_weaker old new c.run.result _ _ (λ _ ran. sets_status old new c.args.id c.args.status c.args.stamp (rw (c.status_value.ensures, c.stamp_value.ensures, c.id_value.ensures) at ran)) c.run.ensures.step
+    let new = state g.S.Store c.execute_statement.new.tx.conn.now in
+    step_weaker old new c.execute_statement.result _ _ (λ _ ran. sets_status old new c.args.id c.args.status c.args.stamp (rw (c.status_value.ensures, c.stamp_value.ensures, c.id_value.ensures) at ran)) c.execute_statement.ensures.step

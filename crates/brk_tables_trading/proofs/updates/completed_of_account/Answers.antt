@@ -1,26 +1,26 @@
 use Rattle.std.proofs.Common.{[], ◌∷◌}
 use Rattle.sqlite_value.specs.declared.value.Value.TheVariants.{Text}
 use Rattle.sqlite.specs.Held.{state}
-use Rattle.brk_money.specs.Kinds.{status_code}
+use Rattle.brk_money.specs.Kinds.{trade_status_code}
 use Rattle.brk_money.specs.declared.status.Status.TheVariants.{Completed}
 use Rattle.brk_sql.proofs.Answer.{look_all}
-use Rattle.brk_tables_schema.specs.Cells.{nat, trade_cells}
+use Rattle.brk_tables_schema.specs.Cells.{natural_as_value, trade_cells}
 use Rattle.brk_tables_schema.specs.Desk.{desk}
-use Rattle.brk_changes.specs.Chosen.{completed_of_account}
-use Rattle.brk_changes.specs.Rows.{trade_row_of}
+use Rattle.brk_changes.specs.Chosen.{completed_trades_of_account}
+use Rattle.brk_changes.specs.Rows.{abstract_trade_row}
 use Rattle.brk_tables_schema.proofs.TradingBack.{trade_back, trade_is_back}
 use Rattle.brk_tables_trading.proofs.CompletedOfAccount
 use Rattle.brk_tables_trading.proofs.CompletedOfAccount.{plain}
 use Rattle.brk_tables_trading.proofs.UpdateReads.{tells_completed_of_account}
 use Rattle.brk_tables_trading.proofs.updates.completed_of_account.Goals as goal
 
-pub select-requires : goal.select-requires
-select-requires g c = record { plain = plain }
+pub select_rows-requires : goal.select_rows-requires
+select_rows-requires g c = record { plain = plain }
 
 pub returns-clause-step : goal.returns-clause-step
 returns-clause-step g c =
     let old = state g.S.Store c.args.tx.now.conn.now in
-    let new = state g.S.Store c.select.new.tx.conn.now in
-    look_all desk trade_cells trade_back trade_is_back trade_row_of CompletedOfAccount.statement (Text (status_code Completed) ∷ nat c.args.account ∷ nat c.args.first ∷ nat c.args.last ∷ []) old new c.in_ok-rows.rows (λ rows. rows.items) _ c.deref.ensures.value
+    let new = state g.S.Store c.select_rows.new.tx.conn.now in
+    look_all desk trade_cells trade_back trade_is_back abstract_trade_row CompletedOfAccount.statement (Text (trade_status_code Completed) ∷ natural_as_value c.args.account ∷ natural_as_value c.args.first ∷ natural_as_value c.args.last ∷ []) old new c.in_ok-rows.rows (λ rows. rows.items) _ c.deref.ensures.value
     (rw (c.status_value.ensures, c.id_value.ensures, c.stamp_value.ensures, c.stamp_value-2.ensures) at c.in_ok-rows.ensures.step)
-    (λ all. all.items) c.all_rows.result c.all_rows.ensures.value (completed_of_account c.args.account c.args.first c.args.last) (tells_completed_of_account old new c.args.account c.args.first c.args.last _)
+    (λ all. all.items) c.decode_rows.result c.decode_rows.ensures.value (completed_trades_of_account c.args.account c.args.first c.args.last) (tells_completed_of_account old new c.args.account c.args.first c.args.last _)

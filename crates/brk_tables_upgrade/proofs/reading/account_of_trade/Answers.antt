@@ -2,11 +2,11 @@ use Rattle.std.proofs.Common.{◌≡◌, ℕ, List, [], ◌∷◌, Option, Some,
 use Rattle.std.proofs.lemmas.Bool.{cases_Bool}
 use Rattle.sqlite_value.specs.Order.{Row, column}
 use Rattle.sqlite.specs.Held.{state}
-use Rattle.brk_model.specs.Joins.{trade_in}
+use Rattle.brk_model.specs.Joins.{trade_row_with_id}
 use Rattle.brk_model.specs.Tables.{Tables, TradeRow}
 use Rattle.brk_sql.proofs.Answer.{look_first}
 use Rattle.brk_sql.proofs.Inside.{step_weaker}
-use Rattle.brk_tables_schema.specs.Cells.{nat}
+use Rattle.brk_tables_schema.specs.Cells.{natural_as_value}
 use Rattle.brk_tables_schema.specs.Desk.{desk}
 use Rattle.brk_tables_schema.proofs.Back.{number_in}
 use Rattle.brk_tables_upgrade.proofs.AccountOfTrade
@@ -14,11 +14,11 @@ use Rattle.brk_tables_upgrade.proofs.AccountOfTrade.{plain}
 use Rattle.brk_tables_upgrade.proofs.Telling.{account_cells, tells_account}
 use Rattle.brk_tables_upgrade.proofs.reading.account_of_trade.Goals as goal
 
-pub select-requires : goal.select-requires
-select-requires g c = record { plain = plain }
+pub select_rows-requires : goal.select_rows-requires
+select_rows-requires g c = record { plain = plain }
 
 abbrev id_cells : ℕ → Row
-id_cells n = nat n ∷ []
+id_cells n = natural_as_value n ∷ []
 
 abbrev id_back : Row → ℕ
 id_back r = number_in (column r 0)
@@ -39,9 +39,9 @@ twice (x ∷ xs) = ap (λ l. id_cells x.account ∷ l) (twice xs)
 pub returns-clause-step : goal.returns-clause-step
 returns-clause-step g c =
     let old = state g.S.Store c.args.tx.now.conn.now in
-    let new = state g.S.Store c.select.new.tx.conn.now in
+    let new = state g.S.Store c.select_rows.new.tx.conn.now in
     let trade = c.args.trade in
-    step_weaker old new c.first_row.result _ _ (λ o looks. (looks.0, looks.1, λ t tree h. rw (as_it_is o) at (looks.2 t tree h)))
-    (look_first desk id_cells id_back (λ n. refl) (λ (n : ℕ). n) AccountOfTrade.statement (nat trade ∷ []) old new c.in_ok-rows.rows (λ rows. rows.items) _ c.deref.ensures.value (rw (c.id_value.ensures) at c.in_ok-rows.ensures.step)
-    c.first_row.result c.first_row.ensures.value (λ (t : Tables). map (λ (r : TradeRow). r.account) (filter (λ (r : TradeRow). r.id == trade) t.trades)) (λ (t : Tables). option_map (λ (r : TradeRow). r.account) (trade_in t trade)) (λ t. first_of trade t.trades)
+    step_weaker old new c.decode_first_row.result _ _ (λ o looks. (looks.0, looks.1, λ t tree h. rw (as_it_is o) at (looks.2 t tree h)))
+    (look_first desk id_cells id_back (λ n. refl) (λ (n : ℕ). n) AccountOfTrade.statement (natural_as_value trade ∷ []) old new c.in_ok-rows.rows (λ rows. rows.items) _ c.deref.ensures.value (rw (c.id_value.ensures) at c.in_ok-rows.ensures.step)
+    c.decode_first_row.result c.decode_first_row.ensures.value (λ (t : Tables). map (λ (r : TradeRow). r.account) (filter (λ (r : TradeRow). r.id == trade) t.trades)) (λ (t : Tables). option_map (λ (r : TradeRow). r.account) (trade_row_with_id t trade)) (λ t. first_of trade t.trades)
     (λ shown t tree h. tells_account old new trade _ shown t tree h ∙ twice (filter (λ (r : TradeRow). r.id == trade) t.trades)))

@@ -3,14 +3,14 @@ use Rattle.std.specs.Global.{Vec}
 use Rattle.sqlite.specs.Held.{state}
 use Rattle.brk_model.specs.Lists.{sort_by_key}
 use Rattle.brk_model.specs.Tables.{CashRow as Cash}
-use Rattle.brk_changes.specs.Rows.{cash_row_of}
+use Rattle.brk_changes.specs.Rows.{abstract_cash_row}
 use Rattle.brk_changes.specs.declared.cash_row.CashRow.{CashRow}
-use Rattle.brk_sql.specs.Desk.{Turns}
-use Rattle.brk_sql.specs.Model.{Looks}
+use Rattle.brk_sql.specs.Desk.{ChangesTablesBy}
+use Rattle.brk_sql.specs.Model.{IsUnchangedAndSatisfies}
 use Rattle.brk_sql.proofs.Inside.{step_then}
 use Rattle.brk_tables_schema.specs.Desk.{desk}
-use Rattle.brk_tables_cash.specs.Upgrade.{without_cash}
-use Rattle.brk_tables_upgrade.specs.Upgrade.{cash_by_stamp, with_cash_from, with_numbered_cash}
+use Rattle.brk_tables_cash.specs.Upgrade.{without_cash_transactions}
+use Rattle.brk_tables_upgrade.specs.Upgrade.{cash_by_stamp, with_cash_numbered_from, with_all_cash_numbered}
 use Rattle.brk_tables_upgrade.proofs.Sorting.{rows_in_order}
 use Rattle.brk_tables_upgrade.proofs.Turning.{all_added, all_moved}
 use Rattle.brk_tables_upgrade.proofs.upgrade.number_cash_rows.Goals as goal
@@ -19,14 +19,14 @@ pub returns-clause-step : goal.returns-clause-step
 returns-clause-step g c =
     let a = state g.S.Store c.args.tx.now.conn.now in
     let b = state g.S.Store c.cash_rows.new.tx.conn.now in
-    let d = state g.S.Store c.add_all.new.tx.conn.now in
+    let d = state g.S.Store c.add_all_cash_rows.new.tx.conn.now in
     let e = state g.S.Store c.remove_cash_rows.new.tx.conn.now in
     let found = c.in_ok-found.found in
     let rows = c.in_ok-rows.rows in
-    let ordered : map cash_row_of rows.items ≡ sort_by_key (λ (r : Cash). r.stamp) (map cash_row_of found.items) = ap (map cash_row_of) c.in_ok-rows.ensures.order ∙ rows_in_order found.items in
-    let step = step_then a b d found (Ok tt) (λ (all : Vec CashRow). Looks desk (λ t. map cash_row_of all.items ≡ t.cash)) (λ _ x y. Turns desk (with_cash_from 1 (map cash_row_of rows.items)) x.now y.now)
-    (λ _ x y. Turns desk (λ t. with_cash_from 1 (cash_by_stamp t) t) x.now y.now)
-    (λ _ p q. all_added (map cash_row_of rows.items) a.now b.now d.now p.1 (λ t tree h. ordered ∙ ap (sort_by_key (λ (r : Cash). r.stamp)) (p.2 t tree h)) q) c.in_ok-found.ensures.step
-    (subst (λ (l : List CashRow). Rattle.brk_sql.specs.Model.IsStep b d (Ok tt) (λ _ x y. Turns desk (with_cash_from 1 (map cash_row_of l)) x.now y.now)) c.deref.ensures.value c.in_ok-add_all.ensures.step) in
-    step_then a d e tt c.remove_cash_rows.result (λ _ x y. Turns desk (λ t. with_cash_from 1 (cash_by_stamp t) t) x.now y.now) (λ _ x y. Turns desk without_cash x.now y.now) (λ _ x y. Turns desk with_numbered_cash x.now y.now)
+    let ordered : map abstract_cash_row rows.items ≡ sort_by_key (λ (r : Cash). r.stamp) (map abstract_cash_row found.items) = ap (map abstract_cash_row) c.in_ok-rows.ensures.order ∙ rows_in_order found.items in
+    let step = step_then a b d found (Ok tt) (λ (all : Vec CashRow). IsUnchangedAndSatisfies desk (λ t. map abstract_cash_row all.items ≡ t.cash)) (λ _ x y. ChangesTablesBy desk (with_cash_numbered_from 1 (map abstract_cash_row rows.items)) x.now y.now)
+    (λ _ x y. ChangesTablesBy desk (λ t. with_cash_numbered_from 1 (cash_by_stamp t) t) x.now y.now)
+    (λ _ p q. all_added (map abstract_cash_row rows.items) a.now b.now d.now p.1 (λ t tree h. ordered ∙ ap (sort_by_key (λ (r : Cash). r.stamp)) (p.2 t tree h)) q) c.in_ok-found.ensures.step
+    (subst (λ (l : List CashRow). Rattle.brk_sql.specs.Model.IsTransactionStep b d (Ok tt) (λ _ x y. ChangesTablesBy desk (with_cash_numbered_from 1 (map abstract_cash_row l)) x.now y.now)) c.deref.ensures.value c.in_ok-add_all_cash_rows.ensures.step) in
+    step_then a d e tt c.remove_cash_rows.result (λ _ x y. ChangesTablesBy desk (λ t. with_cash_numbered_from 1 (cash_by_stamp t) t) x.now y.now) (λ _ x y. ChangesTablesBy desk without_cash_transactions x.now y.now) (λ _ x y. ChangesTablesBy desk with_all_cash_numbered x.now y.now)
     (λ _ p q. all_moved a.now d.now e.now p q) step c.remove_cash_rows.ensures.step

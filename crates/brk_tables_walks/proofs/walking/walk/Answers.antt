@@ -93,9 +93,9 @@ returns-in-Err-visit-clause-early g c clean =
     let still_so : IsUnchanged (state g.S.Store c.args.conn.now) (state g.S.Store now) = unchanged_then _ _ _ was.3 (rw c.in-Ok-Some.is at (moved.same late)) in
     record {
       records = was.0;
-      next = c.in-Ok-record_in.item;
+      next = c.in-Ok-decode_record.item;
       is_open = was.3.0.was_open;
-      begins = begins_at _ _ _ _ still_so.0.now_is _ (subst (Begins _ _ (state g.S.Store now)) (sym (map_one g.R.Record.cells was.0 _ _ c.in-Ok-record_in.ensures.value)) (given_begin g.S.Store _ _ now _ on));
+      begins = begins_at _ _ _ _ still_so.0.now_is _ (subst (Begins _ _ (state g.S.Store now)) (sym (map_one g.R.Record.cells was.0 _ _ c.in-Ok-decode_record.ensures.value)) (given_begin g.S.Store _ _ now _ on));
       at = c.rows.visitor;
       taken = was.2;
       stopped = c.in-Err-visit.ensures.stops;
@@ -126,8 +126,8 @@ rows-preserved g c =
       λ clean.
           let was = i.4 (omega (arith, moved.survives.clean, clean)) in
           let on = (rw (c.in-Ok-Some.is, c.in-Ok-Some.field-0-is) at (moved.ok clean)) c.args.sql.now (bound c.args.params.now) (map g.R.Record.cells was.0) was.1 in
-          let it = c.in-Ok-record_in.item in
-          (was.0 ++ it ∷ [], subst (HasGiven g.S.Store _ _ _) (sym (map_one g.R.Record.cells was.0 _ _ c.in-Ok-record_in.ensures.value)) on, folds_one _ _ was.0 _ it _ was.2 c.in-Ok-visit.ensures.takes, unchanged_then _ _ _ was.3 (rw c.in-Ok-Some.is at (moved.same clean))),
+          let it = c.in-Ok-decode_record.item in
+          (was.0 ++ it ∷ [], subst (HasGiven g.S.Store _ _ _) (sym (map_one g.R.Record.cells was.0 _ _ c.in-Ok-decode_record.ensures.value)) on, folds_one _ _ was.0 _ it _ was.2 c.in-Ok-visit.ensures.takes, unchanged_then _ _ _ was.3 (rw c.in-Ok-Some.is at (moved.same clean))),
     )
 
 pub returns-clause-early : goal.returns-clause-early
@@ -148,13 +148,13 @@ returns-clause-kept g c clean =
 pub returns-clause-crash : goal.returns-clause-crash
 returns-clause-crash g c = search rules
 
-pub returns-in-Err-record_in-clause-early : goal.returns-in-Err-record_in-clause-early
-returns-in-Err-record_in-clause-early g c clean =
+pub returns-in-Err-decode_record-clause-early : goal.returns-in-Err-decode_record-clause-early
+returns-in-Err-decode_record-clause-early g c clean =
     let moved = c.next.follows.holds-at-none in
     let now = c.next.follows.lender-at-none.conn.now in
     let late : HasCleanDisk (state g.S.Store now) = search rules in
     let was = c.rows.invariant.4 (omega (arith, moved.survives.clean, late)) in
-    (c.in-Err-record_in.ensures.fault, record { records = was.0; begins = inr (was.3.0.was_open, begins_at _ _ _ _ was.3.0.now_is _ (given_begin g.S.Store _ _ c.rows.rows.conn.now _ was.1)); taken = was.2 })
+    (c.in-Err-decode_record.ensures.fault, record { records = was.0; begins = inr (was.3.0.was_open, begins_at _ _ _ _ was.3.0.now_is _ (given_begin g.S.Store _ _ c.rows.rows.conn.now _ was.1)); taken = was.2 })
 
 pub returns-in-Err-clause-leads : goal.returns-in-Err-clause-leads
 returns-in-Err-clause-leads g c = g.met.V.Visitor.reflexive _
@@ -168,11 +168,11 @@ returns-in-Err-clause-fault g c = inr refl
 pub returns-in-Err-next-clause-fault : goal.returns-in-Err-next-clause-fault
 returns-in-Err-next-clause-fault g c = inr refl
 
-pub returns-in-Err-record_in-clause-fault : goal.returns-in-Err-record_in-clause-fault
-returns-in-Err-record_in-clause-fault g c = c.in-Err-record_in.ensures.fault
+pub returns-in-Err-decode_record-clause-fault : goal.returns-in-Err-decode_record-clause-fault
+returns-in-Err-decode_record-clause-fault g c = c.in-Err-decode_record.ensures.fault
 
 pub returns-in-Err-visit-clause-fault : goal.returns-in-Err-visit-clause-fault
-returns-in-Err-visit-clause-fault g c = (c.rows.visitor, c.in-Ok-record_in.item, c.in-Err-visit.ensures.stops)
+returns-in-Err-visit-clause-fault g c = (c.rows.visitor, c.in-Ok-decode_record.item, c.in-Err-visit.ensures.stops)
 
 pub returns-clause-fault : goal.returns-clause-fault
 returns-clause-fault g c = inr refl

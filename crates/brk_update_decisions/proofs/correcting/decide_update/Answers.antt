@@ -1,11 +1,11 @@
 use Rattle.std.proofs.Common.{◌≡◌}
 use Rattle.brk_money.specs.declared.fault.Fault.{Fault}
 use Rattle.brk_model.specs.Tables.{Tables}
-use Rattle.brk_orders.specs.Records.{update_of}
+use Rattle.brk_orders.specs.Records.{text_update_command}
 use Rattle.brk_decisions.specs.Decisions.{Decides}
 use Rattle.brk_decisions.proofs.Deciding.{decided}
 use Rattle.brk_decisions.proofs.Looking.{read_both}
-use Rattle.brk_update_theorems.specs.Corrections.{IsFoundForUpdate}
+use Rattle.brk_update_theorems.specs.Corrections.{UpdateFactsMatchTables}
 use Rattle.brk_update_decisions.proofs.Deciding.{Known, update_decided}
 use Rattle.brk_update_decisions.proofs.correcting.decide_update.Goals as goal
 
@@ -15,7 +15,7 @@ returns-clause-read g c =
     let u = c.args.update.now in
     let last = c.in_ok-last.last in
     let found = c.in_ok-found.found in
-    decided g.S.Store old c.find.new.store found (λ f. Known u f last) (Decides c.args.now (update_of u)) c.plan_update.result
-    (read_both g.S.Store old c.last.new.self c.find.new.store {H = Fault} last found found (λ last (t : Tables). last ≡ t.last) (λ f (t : Tables). IsFoundForUpdate t u f) (λ f. Known u f last)
+    decided g.S.Store old c.read_update_facts.new.store found (λ f. Known u f last) (Decides c.args.now (text_update_command u)) c.plan_update.result
+    (read_both g.S.Store old c.last.new.self c.read_update_facts.new.store {H = Fault} last found found (λ last (t : Tables). last ≡ t.last) (λ f (t : Tables). UpdateFactsMatchTables t u f) (λ f. Known u f last)
     (λ t e f. (e, f)) c.in_ok-last.ensures.read c.in_ok-found.ensures.read)
     (update_decided u found last c.args.now c.get-moment.ensures.high c.plan_update.result c.plan_update.ensures.planned)

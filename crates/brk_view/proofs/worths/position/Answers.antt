@@ -1,10 +1,10 @@
 use Rattle.std.proofs.Common.{◌∙◌, ap, map, refl}
-use Rattle.brk_view.specs.Worths.{worth_record}
+use Rattle.brk_view.specs.Worths.{account_worth_record}
 use Rattle.brk_view.proofs.Shown.{position_shown}
 use Rattle.brk_view.proofs.worths.position.Goals as goal
 
 pub returns-clause-view : goal.returns-clause-view
-returns-clause-view c = λ t test e. ap (map worth_record) c.in_ok-ordered.ensures.order ∙ position_shown t test c.args.accounts.items e
+returns-clause-view c = λ t test e. ap (map account_worth_record) c.in_ok-ordered.ensures.order ∙ position_shown t test c.args.accounts.items e
 
 pub returns-clause-carried : goal.returns-clause-carried
 returns-clause-carried c = (c.in_ok-ordered.ordered, refl, c.in_ok-ordered.ensures.order)

@@ -2,7 +2,7 @@ use Rattle.std.proofs.Common.{◌≡◌, ◌∙◌, ◌<◌, ◌+◌, ◌++◌, 
 use Rattle.std.specs.Result.{IsOk, is_ok}
 use Rattle.std.specs.Vec.{vec_capacity}
 use Rattle.std.proofs.lemmas.List.{append-nil, append_assoc, take_all, take_more}
-use Rattle.brk_io.specs.Calls.{AreMade}
+use Rattle.brk_io.specs.Calls.{IsCallSequence}
 use Rattle.brk_io.proofs.Calls.{made_then}
 use Rattle.brk_desk.specs.Keeping.{OutcomePost}
 use Rattle.brk_desk.proofs.Made.{run_of}
@@ -28,7 +28,7 @@ loop-made-preserved g c =
       made = (
         made.0 ++ outcome ∷ [],
         pushed ∙ ap (λ items. items ++ outcome ∷ []) made.1 ∙ append_assoc c.args.out.now.items made.0 (outcome ∷ []),
-        subst (λ done. AreMade (λ old now call outcome new. OutcomePost g.S.Store old new now call outcome) first done (made.0 ++ outcome ∷ []) last) taken more,
+        subst (λ done. IsCallSequence (λ old now call outcome new. OutcomePost g.S.Store old new now call outcome) first done (made.0 ++ outcome ∷ []) last) taken more,
       );
       room = (let r = c.loop-made.invariant.room in let u = c.push.ensures.upper_bound in let k = c.push.ensures.capacity in omega arith);
     }
@@ -43,6 +43,6 @@ pub returns-clause-ran : goal.returns-clause-ran
 returns-clause-ran g c =
     let calls = c.args.calls.now in
     let made = c.loop-made.invariant.made in
-    let whole : AreMade (λ old now call outcome new. OutcomePost g.S.Store old new now call outcome) c.args.self.now calls made.0 c.loop-made.self =
-    subst (λ done. AreMade (λ old now call outcome new. OutcomePost g.S.Store old new now call outcome) c.args.self.now done made.0 c.loop-made.self) (take_all c.loop-made.made-index calls c.loop-made-test.false) made.2 in
+    let whole : IsCallSequence (λ old now call outcome new. OutcomePost g.S.Store old new now call outcome) c.args.self.now calls made.0 c.loop-made.self =
+    subst (λ done. IsCallSequence (λ old now call outcome new. OutcomePost g.S.Store old new now call outcome) c.args.self.now done made.0 c.loop-made.self) (take_all c.loop-made.made-index calls c.loop-made-test.false) made.2 in
     (made.0, made.1, run_of g.S.Store c.args.self.now c.loop-made.self calls made.0 whole)

@@ -1,10 +1,10 @@
 use Rattle.std.proofs.Common.{ap, ◌∙◌}
 use Rattle.std.proofs.lemmas.Result.{IfOk-weaker}
-use Rattle.brk_plans.specs.Replies.{reply_of}
-use Rattle.brk_http_model.specs.Routes.{parts_at}
+use Rattle.brk_plans.specs.Replies.{abstract_reply}
+use Rattle.brk_http_model.specs.Routes.{split_at_byte}
 use Rattle.brk_http_theorems.proofs.Commas.{fields_cut}
 use Rattle.brk_http.proofs.at_desk.DeskServiceService.reply_fields.Goals as goal
 
 pub returns-in-Ok : goal.returns-in-Ok
 returns-in-Ok g c =
-    IfOk-weaker c.line_fields.result _ _ (λ fields h. h ∙ ap (parts_at 44) (c.as_str.ensures.value ∙ c.in-Ok.ensures.line) ∙ fields_cut (reply_of c.args.reply.now)) c.line_fields.ensures
+    IfOk-weaker c.fields_of_stored_line.result _ _ (λ fields h. h ∙ ap (split_at_byte 44) (c.as_str.ensures.value ∙ c.in-Ok.ensures.line) ∙ fields_cut (abstract_reply c.args.reply.now)) c.fields_of_stored_line.ensures

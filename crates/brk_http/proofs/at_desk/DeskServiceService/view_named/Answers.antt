@@ -1,5 +1,5 @@
 use Rattle.std.proofs.Common.{codes, refl, sym}
-use Rattle.brk_http_model.specs.Asked.{all_forms}
+use Rattle.brk_http_model.specs.Asked.{model_parsers}
 use Rattle.brk_http.proofs.Named.{is_named, not_named}
 use Rattle.brk_http.proofs.at_desk.DeskServiceService.view_named.Goals as goal
 
@@ -37,4 +37,4 @@ pub returns-in-volume : goal.returns-in-volume
 returns-in-volume g c = (sym c.in-volume.is, is_named c.args.name.now (codes "volume") refl c.in-volume.is)
 
 pub returns-in_default : goal.returns-in_default
-returns-in_default g c = not_named c.args.name.now all_forms.views (c.in_default.not-submitted, (c.in_default.not-estimate, (c.in_default.not-customer, (c.in_default.not-taxid, (c.in_default.not-recent, (c.in_default.not-status, (c.in_default.not-trades, (c.in_default.not-accounttrades, (c.in_default.not-symboltrades, (c.in_default.not-lots, (c.in_default.not-volume, tt)))))))))))
+returns-in_default g c = not_named c.args.name.now model_parsers.views (c.in_default.not-submitted, (c.in_default.not-estimate, (c.in_default.not-customer, (c.in_default.not-taxid, (c.in_default.not-recent, (c.in_default.not-status, (c.in_default.not-trades, (c.in_default.not-accounttrades, (c.in_default.not-symboltrades, (c.in_default.not-lots, (c.in_default.not-volume, tt)))))))))))

@@ -1,5 +1,5 @@
 use Rattle.std.proofs.Common.{[], ◌∷◌, refl, inr}
-use Rattle.brk_report_lines.specs.Written.{BreaksIn}
+use Rattle.brk_report_lines.specs.Written.{FailsWithinLines}
 use Rattle.brk_report_lines.proofs.Composed.{appends_none}
 use Rattle.brk_report.proofs.Handing.{on_err}
 use Rattle.brk_report.proofs.visitors.LinesVisitorLinesFault.visit.Goals as goal
@@ -9,4 +9,4 @@ returns-in_default-clause-stops g c = (inr refl, ([], g.R.Line.line c.args.item.
 
 pub returns-in_err-write_line-clause-stops : goal.returns-in_err-write_line-clause-stops
 returns-in_err-write_line-clause-stops g c =
-    on_err (BreaksIn (g.R.Line.line c.args.item.now ∷ []) _ _) _ _ c.from_residual.ensures.1 (c.in_err-write_line.ensures.written (g.R.Line.line c.args.item.now) c.line.ensures.line c.line.ensures.fault)
+    on_err (FailsWithinLines (g.R.Line.line c.args.item.now ∷ []) _ _) _ _ c.from_residual.ensures.1 (c.in_err-write_line.ensures.written (g.R.Line.line c.args.item.now) c.line.ensures.line c.line.ensures.fault)

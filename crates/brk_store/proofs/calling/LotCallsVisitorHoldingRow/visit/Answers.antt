@@ -2,14 +2,14 @@ use Rattle.std.proofs.Common.{Result, Ok, Err, OnOk, IfErr, ℕ, List, rules, Bo
 use Rattle.std.specs.Fn.{Mut}
 use Rattle.brk_lots.specs.declared.lot.Lot.{Lot}
 use Rattle.brk_changes.specs.declared.holding_row.HoldingRow.{HoldingRow}
-use Rattle.brk_store.specs.Calling.{CalledAtLot}
+use Rattle.brk_store.specs.Calling.{IsCallWithLot}
 use Rattle.brk_store.proofs.calling.LotCallsVisitorHoldingRow.visit.Goals as goal
 
-ok_at : {F E : Type 0} (m : Mut F (Bor (List ℕ) × (Bor Lot × Unit {0})) (Result (Unit {0}) E)) (f : F) (x : HoldingRow) (r : Result (Unit {0}) E) (f' : F) → CalledAtLot m f x r f' → OnOk r (CalledAtLot m f x (Ok tt) f')
+ok_at : {F E : Type 0} (m : Mut F (Bor (List ℕ) × (Bor Lot × Unit {0})) (Result (Unit {0}) E)) (f : F) (x : HoldingRow) (r : Result (Unit {0}) E) (f' : F) → IsCallWithLot m f x r f' → OnOk r (IsCallWithLot m f x (Ok tt) f')
 ok_at m f x (Ok u) f' h = h
 ok_at m f x (Err e) f' h = tt
 
-err_at : {F E : Type 0} (m : Mut F (Bor (List ℕ) × (Bor Lot × Unit {0})) (Result (Unit {0}) E)) (f : F) (x : HoldingRow) (r : Result (Unit {0}) E) (f' : F) → CalledAtLot m f x r f' → IfErr r (λ e. CalledAtLot m f x (Err e) f')
+err_at : {F E : Type 0} (m : Mut F (Bor (List ℕ) × (Bor Lot × Unit {0})) (Result (Unit {0}) E)) (f : F) (x : HoldingRow) (r : Result (Unit {0}) E) (f' : F) → IsCallWithLot m f x r f' → IfErr r (λ e. IsCallWithLot m f x (Err e) f')
 err_at m f x (Ok u) f' h = tt
 err_at m f x (Err e) f' h = h
 

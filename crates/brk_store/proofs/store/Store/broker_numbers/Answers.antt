@@ -1,7 +1,7 @@
 use Rattle.std.proofs.Common.{◌≡◌, ◌==◌, Some, None, Option, find, option_map, sym}
 use Rattle.brk_model.specs.Tables.{BrokerRow, Tables}
 use Rattle.brk_ref.specs.declared.broker.BrokerRow as broker
-use Rattle.brk_ref.specs.Records.{broker_row_of}
+use Rattle.brk_ref.specs.Records.{abstract_broker_row}
 use Rattle.brk_changes.specs.declared.broker_numbers.BrokerNumbers.{BrokerNumbers}
 use Rattle.brk_store.specs.Numbers.{AreBrokerTotals}
 use Rattle.brk_store.proofs.Retelling.{retold}
@@ -10,15 +10,15 @@ use Rattle.brk_store.proofs.store.Store.broker_numbers.Goals as goal
 pub returns-in_default-clause-read : goal.returns-in_default-clause-read
 returns-in_default-clause-read g c =
     retold g.S.Store c.args.self.now c.broker.new.self {V = Option broker.BrokerRow} {X = Option BrokerNumbers} None None
-    (λ o (t : Tables). option_map broker_row_of o ≡ find (λ (r : BrokerRow). r.id == c.args.broker) t.brokers)
+    (λ o (t : Tables). option_map abstract_broker_row o ≡ find (λ (r : BrokerRow). r.id == c.args.broker) t.brokers)
     (λ numbers (t : Tables). AreBrokerTotals numbers (find (λ (r : BrokerRow). r.id == c.args.broker) t.brokers))
     (λ t e. sym e)
     (rw c.in_default.is at c.in_ok-row.ensures.read)
 
-pub returns-in-Some-numbers_in-clause-read : goal.returns-in-Some-numbers_in-clause-read
-returns-in-Some-numbers_in-clause-read g c =
-    retold g.S.Store c.args.self.now c.broker.new.self (Some c.in-Some.row) (Some c.in-Some-numbers_in.numbers)
-    (λ o (t : Tables). option_map broker_row_of o ≡ find (λ (r : BrokerRow). r.id == c.args.broker) t.brokers)
+pub returns-in-Some-totals_in_broker_row-clause-read : goal.returns-in-Some-totals_in_broker_row-clause-read
+returns-in-Some-totals_in_broker_row-clause-read g c =
+    retold g.S.Store c.args.self.now c.broker.new.self (Some c.in-Some.row) (Some c.in-Some-totals_in_broker_row.numbers)
+    (λ o (t : Tables). option_map abstract_broker_row o ≡ find (λ (r : BrokerRow). r.id == c.args.broker) t.brokers)
     (λ numbers (t : Tables). AreBrokerTotals numbers (find (λ (r : BrokerRow). r.id == c.args.broker) t.brokers))
-    (λ t e. (broker_row_of c.in-Some.row, sym e, c.in-Some-numbers_in.ensures.0, c.in-Some-numbers_in.ensures.1))
+    (λ t e. (abstract_broker_row c.in-Some.row, sym e, c.in-Some-totals_in_broker_row.ensures.0, c.in-Some-totals_in_broker_row.ensures.1))
     (rw c.in-Some.is at c.in_ok-row.ensures.read)

@@ -1,6 +1,6 @@
 use Rattle.std.proofs.Common.{◌≡◌, ◌∷◌, [], length, refl, sym, arith}
 use Rattle.sqlite_value.specs.Order.{Row, column}
-use Rattle.brk_tables_schema.specs.Formed.{band_forms}
+use Rattle.brk_tables_schema.specs.Formed.{band_column_cell_checks}
 use Rattle.brk_tables_schema.proofs.Unformed.{handed_on, wrong_length}
 use Rattle.brk_tables_schema.proofs.reference_records.BandRecord.from_row.Goals as goal
 
@@ -11,9 +11,9 @@ six_columns _ h = absurd (omega (arith, h))
 
 pub returns-clause-value : goal.returns-clause-value
 returns-clause-value c =
-    rw (sym c.in_ok-tier_in.ensures.value, sym c.in_ok-type_in.ensures.value, sym c.in_ok-text_of.ensures.value, sym c.in_ok-qty_in.ensures.value, sym c.in_ok-qty_in-2.ensures.value, sym c.in_ok-rate_in.ensures.value)
-    (six_columns c.args.row.now c.in_ok-has_columns.ensures.columns)
+    rw (sym c.in_ok-tier_in.ensures.value, sym c.in_ok-type_in.ensures.value, sym c.in_ok-formed_text_in.ensures.value, sym c.in_ok-qty_in.ensures.value, sym c.in_ok-qty_in-2.ensures.value, sym c.in_ok-rate_in.ensures.value)
+    (six_columns c.args.row.now c.in_ok-check_column_count.ensures.columns)
 
-pub returns-in_err-has_columns-clause-form : goal.returns-in_err-has_columns-clause-form
-returns-in_err-has_columns-clause-form c =
-    λ h. wrong_length band_forms c.args.row.now (c.has_columns.ensures.form (handed_on c.has_columns.result c.from_residual.result _ c.from_residual.ensures.1 c.in_err-has_columns.was h))
+pub returns-in_err-check_column_count-clause-form : goal.returns-in_err-check_column_count-clause-form
+returns-in_err-check_column_count-clause-form c =
+    λ h. wrong_length band_column_cell_checks c.args.row.now (c.check_column_count.ensures.form (handed_on c.check_column_count.result c.from_residual.result _ c.from_residual.ensures.1 c.in_err-check_column_count.was h))

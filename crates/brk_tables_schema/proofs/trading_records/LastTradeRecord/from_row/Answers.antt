@@ -9,5 +9,5 @@ four_columns _ h = absurd (omega (arith, h))
 
 pub returns-clause-value : goal.returns-clause-value
 returns-clause-value c =
-    rw (sym c.in_ok-text_of.ensures.value, sym c.in_ok-stamp_in.ensures.value, sym c.in_ok-price_in.ensures.value, sym c.in_ok-volume_in.ensures.value)
-    (four_columns c.args.row.now c.in_ok-has_columns.ensures.columns)
+    rw (sym c.in_ok-formed_text_in.ensures.value, sym c.in_ok-stamp_in.ensures.value, sym c.in_ok-price_in.ensures.value, sym c.in_ok-volume_in.ensures.value)
+    (four_columns c.args.row.now c.in_ok-check_column_count.ensures.columns)

@@ -10,4 +10,4 @@ six_columns _ h = absurd (omega (arith, h))
 pub returns-clause-value : goal.returns-clause-value
 returns-clause-value c =
     rw (sym c.in_ok-move_id_in.ensures.value, sym c.in_ok-id_in.ensures.value, sym c.in_ok-maybe_id_in.ensures.value, sym c.in_ok-stamp_in.ensures.value, sym c.in_ok-cents_in.ensures.value, sym c.in_ok-text_in.ensures.value)
-    (six_columns c.args.row.now c.in_ok-has_columns.ensures.columns)
+    (six_columns c.args.row.now c.in_ok-check_column_count.ensures.columns)

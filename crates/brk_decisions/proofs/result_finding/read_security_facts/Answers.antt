@@ -1,0 +1,24 @@
+use Rattle.std.proofs.Common.{◌≡◌, option_map, refl, subst, sym}
+use Rattle.std.specs.Prelude.{IfSome}
+use Rattle.brk_money.specs.declared.fault.Fault.{Fault}
+use Rattle.brk_model.specs.Joins.{security_row_with_symbol}
+use Rattle.brk_model.specs.Records.{Band}
+use Rattle.brk_model.specs.Tables.{SecurityRow, Tables}
+use Rattle.brk_book_theorems.specs.TradeReads.{band_of_quantity}
+use Rattle.brk_decisions.specs.ResultFinds.{AreSecurityFacts, IsSecurityWithSymbol}
+use Rattle.brk_decisions.specs.declared.result_finding.SecurityFacts.{SecurityFacts}
+use Rattle.brk_decisions.proofs.Looking.{read_both}
+use Rattle.brk_decisions.proofs.result_finding.read_security_facts.Goals as goal
+
+pub returns-clause-read : goal.returns-clause-read
+returns-clause-read g c =
+    let trade = c.args.trade.now in
+    let security = c.in_ok-security.security in
+    let rate = c.in_ok-rate.rate in
+    let listed : SecurityFacts = record { name = security.name; rate = rate } in
+    read_both g.S.Store c.args.store.now c.require_security.new.store c.read_band_rate.new.store {H = Fault} security rate listed
+    (λ security (t : Tables). IsSecurityWithSymbol t trade.symbol security)
+    (λ rate (t : Tables). rate ≡ option_map (λ (b : Band). b.rate) (band_of_quantity t c.args.tier trade.kind security.exchange trade.qty))
+    (λ listed (t : Tables). IfSome (security_row_with_symbol t trade.symbol) (λ s. AreSecurityFacts t trade c.args.tier s listed))
+    (λ t e r. subst (λ x. IfSome x (λ (s : SecurityRow). AreSecurityFacts t trade c.args.tier s listed)) (sym e) (record { name = refl; rate = r }))
+    c.in_ok-security.ensures.read c.in_ok-rate.ensures.read

@@ -1,8 +1,0 @@
-use Rattle.std.proofs.Common.{rules}
-use Rattle.std.proofs.lemmas.List.{append_assoc}
-use Rattle.brk_explain_model.specs.TradeLines.{due_lines}
-use Rattle.brk_explain_lines.proofs.settlement_lines.due_lines.Goals as goal
-
-pub returns-clause-ok : goal.returns-clause-ok
-unfolding due_lines
-returns-clause-ok c = search (rules, append_assoc)

@@ -1,0 +1,31 @@
+use Rattle.std.proofs.Common.{◌≡◌, Some, map, refl}
+use Rattle.brk_money.specs.declared.fault.Fault.{Fault}
+use Rattle.brk_changes.specs.Rows.{abstract_history_row}
+use Rattle.brk_model.specs.Joins.{account_row_with_id, security_row_with_symbol}
+use Rattle.brk_model.specs.Tables.{Tables}
+use Rattle.brk_ref.specs.Records.{abstract_account_row, abstract_security_row}
+use Rattle.brk_explain_model.specs.Trades.{sorted_statuses_of_trade}
+use Rattle.brk_explain_rows.specs.declared.story.OrderStory.{OrderStory}
+use Rattle.brk_explain_reads.specs.Found.{IsOrderOfTrade}
+use Rattle.brk_explain_reads.proofs.Reading.{read_both}
+use Rattle.brk_explain_reads.proofs.orders.read_order_of_trade.Goals as goal
+
+pub returns-clause-read : goal.returns-clause-read
+returns-clause-read g c =
+    let old = c.args.store.now in
+    let trade = c.args.trade in
+    let account = c.in_ok-account.account in
+    let security = c.in_ok-security.security in
+    let statuses = c.in_ok-statuses.statuses in
+    let order : OrderStory = record { trade = trade; account = account; security = security; statuses = statuses } in
+    read_both g.S.Store old c.read_existing_security.new.store c.read_sorted_statuses.new.store {H = Fault} security statuses order
+    (λ security (t : Tables). (account_row_with_id t trade.account ≡ Some (abstract_account_row account)) × (security_row_with_symbol t trade.symbol ≡ Some (abstract_security_row security)))
+    (λ statuses (t : Tables). map abstract_history_row statuses.items ≡ sorted_statuses_of_trade t trade.id)
+    (λ order (t : Tables). IsOrderOfTrade trade order t)
+    (λ t k e. record { trade = refl; account = k.0; security = k.1; statuses = e })
+    (read_both g.S.Store old c.read_existing_account.new.store c.read_existing_security.new.store {H = Fault} account security security
+    (λ account (t : Tables). account_row_with_id t trade.account ≡ Some (abstract_account_row account))
+    (λ security (t : Tables). security_row_with_symbol t trade.symbol ≡ Some (abstract_security_row security))
+    (λ security (t : Tables). (account_row_with_id t trade.account ≡ Some (abstract_account_row account)) × (security_row_with_symbol t trade.symbol ≡ Some (abstract_security_row security)))
+    (λ t a s. (a, s)) c.in_ok-account.ensures.read c.in_ok-security.ensures.read)
+    c.in_ok-statuses.ensures.read

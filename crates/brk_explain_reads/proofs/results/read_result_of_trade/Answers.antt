@@ -1,0 +1,33 @@
+use Rattle.brk_money.specs.declared.fault.Fault.{Fault}
+use Rattle.brk_changes.specs.Rows.{abstract_trade_row}
+use Rattle.brk_model.specs.Tables.{Tables}
+use Rattle.brk_explain_reads.specs.Found.{AreTradeLotsInClosingOrder, AreTaxRatesAndBand, IsCashSumBeforeStamp, IsResultOfOrder, IsSettlementOfTrade}
+use Rattle.brk_explain_reads.proofs.Reading.{read_both}
+use Rattle.brk_explain_reads.proofs.StoryParts.{result_known, result_with}
+use Rattle.brk_explain_reads.proofs.results.read_result_of_trade.Goals as goal
+
+pub returns-clause-read : goal.returns-clause-read
+returns-clause-read g c =
+    let old = c.args.store.now in
+    let order = c.args.order.now in
+    let u = abstract_trade_row order.trade in
+    let price = c.in-Some.price in
+    let lots = c.in_ok-lots.lots in
+    let terms = c.in_ok-terms.terms in
+    let settled = c.in_ok-settled.settled in
+    let cash = c.in_ok-cash.cash in
+    read_both g.S.Store old c.read_settlement_of_trade.new.store c.read_cash_sum_before.new.store {H = Fault} settled cash (result_with price lots terms settled cash)
+    (λ settled (t : Tables). AreTradeLotsInClosingOrder t u lots × AreTaxRatesAndBand t order terms × IsSettlementOfTrade t u.id settled)
+    (λ cash (t : Tables). IsCashSumBeforeStamp t u.account u.stamp cash)
+    (λ story (t : Tables). IsResultOfOrder order story t)
+    (λ t k e. result_known t order price lots terms settled cash c.in-Some.is k.0 k.1 k.2 e)
+    (read_both g.S.Store old c.read_tax_rates_and_band.new.store c.read_settlement_of_trade.new.store {H = Fault} terms settled settled
+    (λ terms (t : Tables). AreTradeLotsInClosingOrder t u lots × AreTaxRatesAndBand t order terms)
+    (λ settled (t : Tables). IsSettlementOfTrade t u.id settled)
+    (λ settled (t : Tables). AreTradeLotsInClosingOrder t u lots × AreTaxRatesAndBand t order terms × IsSettlementOfTrade t u.id settled)
+    (λ t k s. (k.0, k.1, s))
+    (read_both g.S.Store old c.read_trade_lots.new.store c.read_tax_rates_and_band.new.store {H = Fault} lots terms terms
+    (λ lots (t : Tables). AreTradeLotsInClosingOrder t u lots) (λ terms (t : Tables). AreTaxRatesAndBand t order terms) (λ terms (t : Tables). AreTradeLotsInClosingOrder t u lots × AreTaxRatesAndBand t order terms)
+    (λ t a b. (a, b)) c.in_ok-lots.ensures.read c.in_ok-terms.ensures.read)
+    c.in_ok-settled.ensures.read)
+    c.in_ok-cash.ensures.read

@@ -1,0 +1,31 @@
+use Rattle.std.proofs.Common.{◌≡◌, ◌==◌, Some, ap, find, option_map, sym}
+use Rattle.std.specs.Prelude.{unwrap_or}
+use Rattle.brk_money.specs.declared.fault.Fault.{Fault}
+use Rattle.brk_changes.specs.Rows.{abstract_move_row, abstract_settlement_row}
+use Rattle.brk_model.specs.LookupView.{is_cash_row_of_trade}
+use Rattle.brk_model.specs.Tables.{SettlementRow, Tables}
+use Rattle.brk_explain_model.specs.Trades.{zero_settlement_row}
+use Rattle.brk_explain_reads.specs.Found.{IsSettlementOfTrade}
+use Rattle.brk_explain_reads.specs.declared.settled.Settled.{Settled}
+use Rattle.brk_explain_reads.proofs.Reading.{read_both}
+use Rattle.brk_explain_reads.proofs.settled.read_settlement_of_trade.Goals as goal
+
+pub returns-clause-read : goal.returns-clause-read
+returns-clause-read g c =
+    let old = c.args.store.now in
+    let trade = c.args.trade in
+    let settlement = c.in_ok-settlement.settlement in
+    let cash = c.in_ok-cash.cash in
+    let rule = c.in_ok-rule.rule in
+    let settled : Settled = record { settlement = settlement; cash = cash; rule = rule } in
+    read_both g.S.Store old c.cash_row.new.self c.settlement_day.new.self {H = Fault} cash rule settled
+    (λ cash (t : Tables). (find (λ (s : SettlementRow). s.trade == trade) t.settlements ≡ Some (abstract_settlement_row settlement)) × (option_map abstract_move_row cash ≡ find (is_cash_row_of_trade trade) t.moves))
+    (λ rule (t : Tables). rule ≡ t.rule)
+    (λ settled (t : Tables). IsSettlementOfTrade t trade settled)
+    (λ t k e. (sym (ap (λ o. unwrap_or o zero_settlement_row) k.0), k.1, e))
+    (read_both g.S.Store old c.read_existing_settlement.new.store c.cash_row.new.self {H = Fault} settlement cash cash
+    (λ settlement (t : Tables). find (λ (s : SettlementRow). s.trade == trade) t.settlements ≡ Some (abstract_settlement_row settlement))
+    (λ cash (t : Tables). option_map abstract_move_row cash ≡ find (is_cash_row_of_trade trade) t.moves)
+    (λ cash (t : Tables). (find (λ (s : SettlementRow). s.trade == trade) t.settlements ≡ Some (abstract_settlement_row settlement)) × (option_map abstract_move_row cash ≡ find (is_cash_row_of_trade trade) t.moves))
+    (λ t a b. (a, b)) c.in_ok-settlement.ensures.read c.in_ok-cash.ensures.read)
+    c.in_ok-rule.ensures.read

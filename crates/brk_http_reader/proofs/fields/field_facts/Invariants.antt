@@ -1,7 +1,0 @@
-use Rattle.std.proofs.Common.{◌≡◌, ◌≤◌, map, take, IfOk}
-use Rattle.httparse.specs.Spans.{header_bytes}
-use Rattle.brk_http_reader.specs.Seen.{seen_of}
-use Rattle.brk_http_reader.proofs.fields.field_facts.Given as goal
-
-abbrev pub invariant-loop-header : goal.invariant-loop-header
-invariant-loop-header l = (l.seen ≡ seen_of (map (header_bytes l.front) (take l.header-index l.headers))) × IfOk l.seen.len (λ n. n ≤ 65536)

@@ -1,5 +1,0 @@
-use Rattle.brk_model_theorems.proofs.BatchLaws.{computes}
-use Rattle.brk_model_theorems.proofs.batches.batch_is_computed.Goals as goal
-
-pub returns : goal.returns
-returns c = computes

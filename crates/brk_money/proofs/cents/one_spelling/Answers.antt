@@ -1,5 +1,0 @@
-use Rattle.brk_money.proofs.Plain.{cents_injective}
-use Rattle.brk_money.proofs.cents.one_spelling.Goals as goal
-
-pub returns : goal.returns
-returns c = cents_injective

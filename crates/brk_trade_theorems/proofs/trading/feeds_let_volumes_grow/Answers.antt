@@ -1,5 +1,0 @@
-use Rattle.brk_book_theorems.proofs.Volumes.{volumes_grow}
-use Rattle.brk_trade_theorems.proofs.trading.feeds_let_volumes_grow.Goals as goal
-
-pub returns : goal.returns
-returns c = volumes_grow
