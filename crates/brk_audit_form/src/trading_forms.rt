@@ -1,8 +1,4 @@
-ghost use Rattle.std.specs.Prelude.{◌≡◌, ◌||◌, not, nat_le};
-ghost use Rattle.brk_money.specs.Kinds.{is_same_trade_status};
-ghost use Rattle.brk_money.specs.Moments.{greatest_day};
-ghost use Rattle.brk_money.specs.declared.status.Status.TheVariants.{Completed};
-ghost use Rattle.brk_model.specs.Derived as derived;
+ghost use Rattle.std.specs.Prelude.{◌≡◌};
 ghost use Rattle.brk_model.specs.Form as form;
 ghost use Rattle.brk_changes.specs.Rows as of;
 ghost use Rattle.brk_changes.specs.Sheets.{tables_in_sheets};
@@ -37,7 +33,7 @@ fn row_has_price_exactly_if_completed(sheets: &Sheets, row: &TradeRow) -> bool
 // Returns true if the due day of a completion at `stamp` is within the calendar, by the settlement
 // day `rule`. Returns true for other statuses.
 fn settles_within_calendar(rule: Option<Day>, status: Status, stamp: Stamp) -> bool
-    ensures { result ≡ (not (is_same_trade_status status Completed) || nat_le (derived.due_day_of_completion_stamp rule stamp) greatest_day) }
+    ensures { result ≡ form.is_due_within_calendar rule status stamp }
 {
     status != Status::Completed || due_day_after_completion(rule, stamp).is_some()
 }

@@ -50,11 +50,11 @@ account_names t a e =
 knows_broker : (t : Tables) (a : AccountRow) → is_well_formed_account_row t a ≡ true → BrokerOfAccountExists (base_of_tables t) (account_of_row a)
 unfolding base_of_tables
 knows_broker t a e =
-    found_mapped (λ b. b.id == a.broker) (λ b. record { id = b.id; name = b.name }) t.brokers ∙ some-is-any (λ b. b.id == a.broker) t.brokers ∙ (account_names t a e).1
+    found_mapped (λ b. b.id == a.broker) (λ b. record { id = b.id; name = b.name }) t.brokers ∙ (account_names t a e).1
 
 knows_customer : (t : Tables) (a : AccountRow) → is_well_formed_account_row t a ≡ true → CustomerOfAccountExists (base_of_tables t) (account_of_row a)
 unfolding base_of_tables
-knows_customer t a e = some-is-any (λ c. c.id == a.customer) t.customers ∙ (account_names t a e).0
+knows_customer t a e = (account_names t a e).0
 
 trade_names : (schema : Schema) (t : Tables) (row : TradeRow) → is_well_formed_trade_row schema t row ≡ true → (has_security t row.symbol ≡ true) × (has_account t row.account ≡ true)
 trade_names schema t row e =

@@ -19,7 +19,8 @@ use Rattle.brk_model.specs.Sheets.{sheets, tables_sorted_by_key}
 use Rattle.brk_model.specs.Tests.{bands_overlap}
 use Rattle.brk_ref.specs.Records.{abstract_tax_rate}
 use Rattle.brk_ref.specs.declared.tax.Tax.{Tax}
-use Rattle.brk_book_theorems.specs.Reads.{contains_permission, contains_security, contains_charge, overlaps_some_band, tax_rate_with_id, rate_by_tax_id, contains_tax_rate, pays_tax, rate_sum_of_customer}
+use Rattle.brk_model.specs.Form.{has_security}
+use Rattle.brk_book_theorems.specs.Reads.{contains_permission, contains_charge, overlaps_some_band, tax_rate_with_id, rate_by_tax_id, contains_tax_rate, pays_tax, rate_sum_of_customer}
 use Rattle.brk_book_theorems.proofs.Order.{by_key-filter}
 use Rattle.brk_book_theorems.proofs.Reading.{find-key, find-id, find-map, is_some-map, some-is-any, any-sorted}
 use Rattle.brk_book_theorems.proofs.NewKeys.{same_bytes, code_same, same_codes, both, and_both}
@@ -80,7 +81,7 @@ pub reads_has_permission : (base : Base) (account : ℕ) (tax_id : Text)
 reads_has_permission base account tax_id =
     ap is_some (reads_permission base account tax_id) ∙ some-is-any (λ q. (q.account == account) && bytes_eq q.tax_id tax_id) base.permissions
 
-pub reads_has_security : (base : Base) (symbol : Text) → contains_security (sheets base) symbol ≡ is_some (security_with_symbol base symbol)
+pub reads_has_security : (base : Base) (symbol : Text) → has_security (sheets base) symbol ≡ is_some (security_with_symbol base symbol)
 reads_has_security base symbol = ap is_some (reads_security base symbol) ∙ is_some-map security_row (security_with_symbol base symbol)
 
 pub reads_has_charge : (base : Base) (kind : TradeType) (tier : ℕ) → contains_charge (sheets base) kind tier ≡ is_some (charge_for_type_and_tier base kind tier)

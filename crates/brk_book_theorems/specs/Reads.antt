@@ -8,21 +8,9 @@ use Rattle.brk_model.specs.Records.{Band, TaxRate}
 use Rattle.brk_model.specs.Tables.{Tables}
 use Rattle.brk_model.specs.Tests.{bands_overlap}
 
--- True if the tables contain a broker with the id `id`.
-abbrev pub contains_broker : Tables → ℕ → Bool
-contains_broker t id = is_some (find (λ r. r.id == id) t.brokers)
-
--- True if the tables contain a customer with the id `id`.
-abbrev pub contains_customer : Tables → ℕ → Bool
-contains_customer t id = is_some (find (λ r. r.id == id) t.customers)
-
 -- True if the tables contain a customer with the tax id `tax_id`.
 abbrev pub contains_tax_id : Tables → Text → Bool
 contains_tax_id t tax_id = is_some (find (λ r. bytes_eq r.tax_id tax_id) t.customers)
-
--- True if the tables contain an account with the id `id`.
-abbrev pub contains_account : Tables → ℕ → Bool
-contains_account t id = is_some (find (λ r. r.id == id) t.accounts)
 
 -- The number of accounts of the customer.
 abbrev pub account_count_of_customer : Tables → ℕ → ℕ
@@ -31,10 +19,6 @@ account_count_of_customer t customer = length (filter (λ r. r.customer == custo
 -- True if the account has a permission for the tax id.
 abbrev pub contains_permission : Tables → ℕ → Text → Bool
 contains_permission t account tax_id = is_some (find (λ r. (r.account == account) && bytes_eq r.tax_id tax_id) t.permissions)
-
--- True if the tables contain a security with the symbol.
-abbrev pub contains_security : Tables → Text → Bool
-contains_security t symbol = is_some (find (λ r. bytes_eq r.symbol symbol) t.securities)
 
 -- True if the tables contain a charge for the trade type and the customer tier.
 abbrev pub contains_charge : Tables → TradeType → ℕ → Bool

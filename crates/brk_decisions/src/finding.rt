@@ -3,7 +3,8 @@
 ghost use Rattle.std.specs.Prelude.{◌≡◌, IfErr};
 ghost use Rattle.brk_model.specs.Run.{IsCallFault};
 ghost use Rattle.brk_trade_theorems.specs.Found.{ReferenceFactsMatchTables, AccountFactsMatchTables};
-ghost use Rattle.brk_book_theorems.specs.Reads.{account_count_of_customer, contains_account, contains_broker, contains_customer, contains_security, contains_tax_id, contains_tax_rate};
+ghost use Rattle.brk_model.specs.Form.{has_account, has_broker, has_customer, has_security};
+ghost use Rattle.brk_book_theorems.specs.Reads.{account_count_of_customer, contains_tax_id, contains_tax_rate};
 ghost use Rattle.brk_store.specs.Holds.{ReadPost};
 
 use crate::terms::{
@@ -32,7 +33,7 @@ pub(crate) const NOTHING: ReferenceFacts = ReferenceFacts {
 
 // Returns true if the broker exists. Changes nothing. Fails with `Memory` or `Store` only.
 fn broker_exists<S: Alter>(store: &mut Store<S>, id: Id) -> Result<bool, Fault>
-    ensures read { ReadPost S.Store store.old store.new result (λ there t. there ≡ contains_broker t id) }
+    ensures read { ReadPost S.Store store.old store.new result (λ there t. there ≡ has_broker t id) }
     ensures fault { IfErr result IsCallFault }
 {
     Ok(store.broker(id)?.is_some())
@@ -40,7 +41,7 @@ fn broker_exists<S: Alter>(store: &mut Store<S>, id: Id) -> Result<bool, Fault>
 
 // Returns true if the customer exists. Changes nothing. Fails with `Memory` or `Store` only.
 pub(crate) fn customer_exists<S: Alter>(store: &mut Store<S>, id: Id) -> Result<bool, Fault>
-    ensures read { ReadPost S.Store store.old store.new result (λ there t. there ≡ contains_customer t id) }
+    ensures read { ReadPost S.Store store.old store.new result (λ there t. there ≡ has_customer t id) }
     ensures fault { IfErr result IsCallFault }
 {
     Ok(store.customer(id)?.is_some())
@@ -56,7 +57,7 @@ fn tax_id_exists<S: Alter>(store: &mut Store<S>, tax_id: &TaxId) -> Result<bool,
 
 // Returns true if the account exists. Changes nothing. Fails with `Memory` or `Store` only.
 pub(crate) fn account_exists<S: Alter>(store: &mut Store<S>, id: Id) -> Result<bool, Fault>
-    ensures read { ReadPost S.Store store.old store.new result (λ there t. there ≡ contains_account t id) }
+    ensures read { ReadPost S.Store store.old store.new result (λ there t. there ≡ has_account t id) }
     ensures fault { IfErr result IsCallFault }
 {
     Ok(store.account(id)?.is_some())
@@ -80,7 +81,7 @@ fn read_broker_facts<S: Alter>(
     store: &mut Store<S>,
     broker: &Broker,
 ) -> Result<ReferenceFacts, Fault>
-    ensures read { ReadPost S.Store store.old store.new result (λ found t. found.same_id ≡ contains_broker t broker.now.id) }
+    ensures read { ReadPost S.Store store.old store.new result (λ found t. found.same_id ≡ has_broker t broker.now.id) }
     ensures fault { IfErr result IsCallFault }
 {
     let same_id = broker_exists(store, broker.id)?;
@@ -92,7 +93,7 @@ fn read_customer_facts<S: Alter>(
     store: &mut Store<S>,
     customer: &Customer,
 ) -> Result<ReferenceFacts, Fault>
-    ensures read { ReadPost S.Store store.old store.new result (λ found t. (found.same_id ≡ contains_customer t customer.now.id) × (found.same_tax_id ≡ contains_tax_id t customer.now.tax_id)) }
+    ensures read { ReadPost S.Store store.old store.new result (λ found t. (found.same_id ≡ has_customer t customer.now.id) × (found.same_tax_id ≡ contains_tax_id t customer.now.tax_id)) }
     ensures fault { IfErr result IsCallFault }
 {
     let same_id = customer_exists(store, customer.id)?;
@@ -131,7 +132,7 @@ fn read_new_security_facts<S: Alter>(
     store: &mut Store<S>,
     symbol: &Symbol,
 ) -> Result<ReferenceFacts, Fault>
-    ensures read { ReadPost S.Store store.old store.new result (λ found t. found.same_id ≡ contains_security t symbol.now) }
+    ensures read { ReadPost S.Store store.old store.new result (λ found t. found.same_id ≡ has_security t symbol.now) }
     ensures fault { IfErr result IsCallFault }
 {
     let same_id = security_exists(store, symbol)?;

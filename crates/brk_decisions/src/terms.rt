@@ -2,7 +2,8 @@
 
 ghost use Rattle.std.specs.Prelude.{◌≡◌, ◌==◌, ◌≤◌, IfErr, SomeIff, Some, filter, map};
 ghost use Rattle.brk_trade_theorems.specs.Found.{CustomerTaxFactsMatchTables};
-ghost use Rattle.brk_book_theorems.specs.Reads.{contains_account, contains_charge, overlaps_some_band, contains_permission, contains_security, contains_tax_rate, pays_tax, rate_by_tax_id, rate_sum_of_customer, tax_rate_with_id};
+ghost use Rattle.brk_model.specs.Form.{has_account, has_security};
+ghost use Rattle.brk_book_theorems.specs.Reads.{contains_charge, overlaps_some_band, contains_permission, contains_tax_rate, pays_tax, rate_by_tax_id, rate_sum_of_customer, tax_rate_with_id};
 ghost use Rattle.brk_model.specs.Limits.{greatest_tax_rate};
 ghost use Rattle.brk_model.specs.Run.{IsCallFault};
 ghost use Rattle.brk_ref.specs.Records.{abstract_band, abstract_tax_rate};
@@ -34,7 +35,7 @@ pub(crate) fn security_exists<S: Alter>(
     store: &mut Store<S>,
     symbol: &Symbol,
 ) -> Result<bool, Fault>
-    ensures read { ReadPost S.Store store.old store.new result (λ there t. there ≡ contains_security t symbol.now) }
+    ensures read { ReadPost S.Store store.old store.new result (λ there t. there ≡ has_security t symbol.now) }
     ensures fault { IfErr result IsCallFault }
 {
     Ok(store.security(symbol)?.is_some())
@@ -136,7 +137,7 @@ pub(crate) fn read_permission_facts<S: Alter>(
     permission: &Permission,
 ) -> Result<ReferenceFacts, Fault>
     ensures read { ReadPost S.Store store.old store.new result (λ found t.
-        (found.account ≡ contains_account t permission.now.account) × (found.same_id ≡ contains_permission t permission.now.account permission.now.tax_id)) }
+        (found.account ≡ has_account t permission.now.account) × (found.same_id ≡ contains_permission t permission.now.account permission.now.tax_id)) }
     ensures fault { IfErr result IsCallFault }
 {
     let account = account_exists(store, permission.account)?;

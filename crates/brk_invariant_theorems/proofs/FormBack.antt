@@ -22,7 +22,7 @@ use Rattle.brk_model.specs.Tables.{Tables, account_row, broker_row, history_rows
 use Rattle.brk_model.specs.Sheets.{sheets, tables_sorted_by_key}
 use Rattle.brk_model.specs.Adopted.{base_of_tables, posting_of_move_row}
 use Rattle.brk_model.specs.Joins.{history_rows_with_trade_id, trade_row_with_id}
-use Rattle.brk_model.specs.Form.{is_well_formed_account_row, is_well_formed_broker_row, is_well_formed_cash_row, is_well_formed_charge_row, is_well_formed_customer_row, is_within_customer_limits, is_well_formed_customer_tax_row, has_account, has_broker, has_customer, satisfies_form_condition, has_security, has_trade, is_well_formed_history_row, is_amount, is_cash_row_name_of_trade, is_cash_type_of_trade, is_id, is_price, is_quantity_in_schema, is_well_formed_last_trade_row, has_distinct_tax_ids, is_well_formed_permission_row, price_matches_completion, is_well_formed_security_row, is_well_formed_settlement_row, is_well_formed_summary_row, is_well_formed_trade_row, is_movement_name_and_amount, is_well_formed_move_row}
+use Rattle.brk_model.specs.Form.{is_well_formed_account_row, is_well_formed_broker_row, is_well_formed_cash_row, is_well_formed_charge_row, is_well_formed_customer_row, is_within_customer_limits, is_well_formed_customer_tax_row, has_account, has_broker, has_customer, satisfies_form_condition, has_security, has_trade, is_well_formed_history_row, is_amount, is_cash_row_name_of_trade, is_cash_type_of_trade, is_id, is_up_to_last_stamp, is_price, is_quantity_in_schema, is_well_formed_last_trade_row, has_distinct_tax_ids, is_well_formed_permission_row, price_matches_completion, is_well_formed_security_row, is_well_formed_settlement_row, is_well_formed_summary_row, is_well_formed_trade_row, is_movement_name_and_amount, is_well_formed_move_row}
 use Rattle.brk_model.specs.Forms.{is_acl, is_exchange, is_name, is_symbol, is_tax_id}
 use Rattle.brk_model.specs.Keys.{KeyPart, word, rows_sorted_by_key, is_row_key_less, account_key, band_key, broker_key, cash_key, charge_key, customer_key, customer_tax_key, history_key, kept_key, last_trade_key, permission_key, security_key, settlement_key, summary_key, tax_rate_key, trade_key}
 use Rattle.brk_book_theorems.specs.Books.{BooksInvariant}
@@ -43,7 +43,7 @@ use Rattle.brk_audit_theorems.proofs.Parts.{KeyParts, key_parts}
 use Rattle.brk_model_theorems.specs.FormParts.{SatisfiesFormParts}
 use Rattle.brk_model_theorems.proofs.FormParts.{form_parts}
 use Rattle.brk_model_theorems.proofs.Conjunctions.{parts3, parts4, parts5, parts6, parts10}
-use Rattle.brk_invariant_theorems.specs.Sound.{AuditInvariant, BaseTradeAuditInvariant, HasDistinctKeys, TaxCustomerIsListed, is_up_to_last_stamp, customer_tax_id_key, has_cash_text_for_name, is_well_formed_movement}
+use Rattle.brk_invariant_theorems.specs.Sound.{AuditInvariant, BaseTradeAuditInvariant, HasDistinctKeys, TaxCustomerIsListed, customer_tax_id_key, has_cash_text_for_name, is_well_formed_movement}
 use Rattle.brk_invariant_theorems.proofs.OneTrade.{false_true}
 use Rattle.brk_model_theorems.proofs.Conjunctions.{and5, and6}
 use Rattle.brk_invariant_theorems.proofs.FormRows.{any_mark, found_trades, has_account_is, has_customer_is, has_rate_is, rates_same, row_of, same_name}

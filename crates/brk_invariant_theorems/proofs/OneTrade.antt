@@ -14,7 +14,7 @@ use Rattle.brk_model.specs.Lists.{sort_by, update_where}
 use Rattle.brk_model.specs.Records.{StatusChange, Trade}
 use Rattle.brk_model.specs.Base.{Base, completed_trades, has_status, is_completed, trade_with_status_change, last_status_stamp_of_trade, completion_price}
 use Rattle.brk_model.specs.Derived.{deal_of_trade, deals_of_position, trades_of_account, trades_of_position, shares_of_position}
-use Rattle.brk_model.specs.Form.{is_price, is_quantity_in_schema}
+use Rattle.brk_model.specs.Form.{is_up_to_last_stamp, is_price, is_quantity_in_schema}
 use Rattle.brk_model.specs.Tests.{stamp_of_next_command}
 use Rattle.brk_model.specs.Ways.{is_strictly_ascending, is_valid_status_sequence}
 use Rattle.brk_book_theorems.proofs.Same.{All-filter, All-map, All-mapped, map-last}
@@ -22,7 +22,7 @@ use Rattle.brk_book_theorems.proofs.Completing.{All-passing}
 use Rattle.brk_book_theorems.proofs.LotReading.{All-sort}
 use Rattle.brk_audit_theorems.specs.Told.{HasValidTransitions, HasAscendingStamps}
 use Rattle.brk_audit_theorems.proofs.Marks.{no_more_ways, same_statuses, three_ways, two_ways}
-use Rattle.brk_invariant_theorems.specs.Sound.{StatusChangeIsUpToLastStamp, AuditInvariant, TradeAuditInvariant, BaseTradeAuditInvariant, is_up_to_last_stamp, has_price_exactly_if_completed}
+use Rattle.brk_invariant_theorems.specs.Sound.{StatusChangeIsUpToLastStamp, AuditInvariant, TradeAuditInvariant, BaseTradeAuditInvariant, has_price_exactly_if_completed}
 use Rattle.brk_invariant_theorems.proofs.Bounds.{IsCheap, replay_all}
 
 pub false_true : {A : Type 0} → false ≡ true → A

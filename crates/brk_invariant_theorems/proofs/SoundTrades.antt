@@ -26,7 +26,7 @@ use Rattle.brk_model.specs.Feed.{is_triggered_by_tick, security_after_tick, base
 use Rattle.brk_model.specs.Results.{cash_row_name}
 use Rattle.brk_model.specs.Shares.{signed_by_side}
 use Rattle.brk_model.specs.Updates.{updated_cash_row_name, updated_cash_type, updated_executor_name, selected_trade_ids, selected_ids_of_account, selected_ids_of_symbol, trade_stamp_is_between, trades_oldest_first, alternate_word}
-use Rattle.brk_model.specs.Form.{is_well_formed_charge_row, is_cash_type_of_trade, is_price, is_quantity_in_schema, is_tier, is_id}
+use Rattle.brk_model.specs.Form.{is_well_formed_charge_row, is_cash_type_of_trade, is_up_to_last_stamp, is_price, is_quantity_in_schema, is_tier, is_id}
 use Rattle.brk_model.specs.Forms.{is_exchange, is_name, is_symbol}
 use Rattle.brk_model.specs.Step.{base_after_command_unstamped}
 use Rattle.brk_model.specs.Tests.{stamp_of_next_command, checks_of_command, status_check}
@@ -46,7 +46,7 @@ use Rattle.brk_audit_theorems.proofs.Again.{both_all}
 use Rattle.brk_audit_theorems.proofs.Climbs.{In, each_in, of_all}
 use Rattle.brk_audit_theorems.proofs.Marks.{filtered}
 use Rattle.brk_model_theorems.proofs.Conjunctions.{parts5}
-use Rattle.brk_invariant_theorems.specs.Sound.{HasDueDayInCalendar, StatusChangeIsUpToLastStamp, AuditInvariant, BaseTradeAuditInvariant, is_up_to_last_stamp, is_well_formed_security}
+use Rattle.brk_invariant_theorems.specs.Sound.{HasDueDayInCalendar, StatusChangeIsUpToLastStamp, AuditInvariant, BaseTradeAuditInvariant, is_well_formed_security}
 use Rattle.brk_invariant_theorems.specs.InForm.{MeetsAuditFormats, TickMeetsAuditFormats}
 use Rattle.brk_invariant_theorems.proofs.Bounds.{All-take}
 use Rattle.brk_invariant_theorems.proofs.OneTrade.{false_true, leaves_way, past_before, past_itself, price_low, qty_low, rising_more, sound_last, updated_all}

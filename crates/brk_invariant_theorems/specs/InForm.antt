@@ -8,18 +8,17 @@ use Rattle.brk_model.specs.Limits.{greatest_amount, greatest_commission_rate}
 use Rattle.brk_model.specs.Schemas.{third_schema}
 use Rattle.brk_model.specs.Records.{Band, Key}
 use Rattle.brk_model.specs.Commands.{Command, Listing, Order, Tick, AddBroker, AddCustomer, AddAccount, AddPermission, AddSecurity, AddCharge, AddBand, AddTaxRate, AddCustomerTax, PlaceOrder, FeedTicks, CancelTrade, CompleteTrade, ChangeExecutors, ChangeCashTypes, ChangeCashNames, DepositCash, WithdrawCash, SetOneDay}
-use Rattle.brk_model.specs.Forms.{is_batch_name, is_exchange, is_name, is_symbol}
-use Rattle.brk_model.specs.Form.{is_well_formed_charge_row, is_well_formed_customer_row, is_id, is_price, is_quantity_in_schema, is_tier, is_well_formed_tax_rate_row}
+use Rattle.brk_model.specs.Form.{has_well_formed_bounds, is_well_formed_charge_row, is_well_formed_customer_row, is_price, is_quantity_in_schema, is_well_formed_key, are_well_formed_listing_texts, is_well_formed_tax_rate_row}
 use Rattle.brk_invariant_theorems.specs.Sound.{is_well_formed_account, is_well_formed_broker, is_well_formed_permission}
 
 -- True if the symbol, name, exchange, sector and price of the listing are well-formed.
 abbrev pub is_well_formed_listing : Listing → Bool
-is_well_formed_listing l = is_symbol l.symbol && is_name l.name && is_exchange l.exchange && is_name l.sector && is_price l.price
+is_well_formed_listing l = are_well_formed_listing_texts l.symbol l.name l.exchange l.sector && is_price l.price
 
 -- True if the tier, the exchange, both bounds and the rate of the band are well-formed. The order
 -- of the bounds is not checked here.
 abbrev pub is_well_formed_band : Band → Bool
-is_well_formed_band b = is_tier b.tier && is_exchange b.exchange && is_quantity_in_schema third_schema b.from_qty && is_quantity_in_schema third_schema b.to_qty && nat_le b.rate greatest_commission_rate
+is_well_formed_band b = has_well_formed_bounds third_schema b && nat_le b.rate greatest_commission_rate
 
 -- The order's quantity is well-formed, and also its price if it has one.
 pub record OrderMeetsAuditFormats (o : Order) : Type 0 where
@@ -59,4 +58,4 @@ MeetsAuditFormats (SetOneDay day) = nat_le day greatest_day ≡ true
 
 -- The batch name and the row number of the key are well-formed.
 abbrev pub IsWellFormedKey : Key → Type 0
-IsWellFormedKey key = is_batch_name key.batch && is_id key.row ≡ true
+IsWellFormedKey key = is_well_formed_key key ≡ true

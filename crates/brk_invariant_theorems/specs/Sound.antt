@@ -1,19 +1,18 @@
 -- The audit invariant: what an audit of a base's tables needs beyond the books invariant:
 -- well-formed fields, unique keys, existing references, and limits.
-use Rattle.std.specs.Prelude.{◌≡◌, ◌≤◌, ⊤, ℕ, ◌+◌, ◌==◌, ◌&&◌, ◌||◌, not, Bool, true, false, if◌then◌else◌, List, [], ◌∷◌, Option, is_some, is_none, nat_le, nat_abs, length, filter, map, find, sum_by, codes, decimal, bytes_eq, ◌++◌}
+use Rattle.std.specs.Prelude.{◌≡◌, ◌≤◌, ⊤, ℕ, ◌+◌, ◌==◌, ◌&&◌, ◌||◌, Bool, true, List, [], ◌∷◌, Option, is_some, nat_le, nat_abs, length, filter, map, find, sum_by, codes, decimal, bytes_eq, ◌++◌}
 use Rattle.std.specs.List.{AllByRecursion}
 use Rattle.std.specs.Option.{option_map_or}
 use Rattle.brk_money.specs.Spelling.{Text}
 use Rattle.brk_money.specs.Moments.{greatest_day}
-use Rattle.brk_money.specs.Kinds.{is_same_trade_status, trade_type_name}
-use Rattle.brk_money.specs.declared.status.Status.TheVariants.{Completed}
+use Rattle.brk_money.specs.Kinds.{trade_type_name}
 use Rattle.brk_model.specs.Limits.{greatest_amount, greatest_charge, greatest_id, greatest_summary, greatest_tax_rate, most_accounts_per_customer}
 use Rattle.brk_model.specs.Records.{Account, Band, Broker, Charge, Customer, CustomerTax, Kept, StatusChange, Movement, Permission, Security, SettleRule, TaxRate, Trade}
 use Rattle.brk_model.specs.Base.{Base, completed_trades, account_with_id_in_list, is_completed}
-use Rattle.brk_model.specs.Derived.{settlement_amount, balance_of_account, commission_total_of_broker, due_day_of_completion_stamp, postings, holding_summary_quantity}
+use Rattle.brk_model.specs.Derived.{settlement_amount, balance_of_account, commission_total_of_broker, postings, holding_summary_quantity}
 use Rattle.brk_model.specs.Schemas.{third_schema}
-use Rattle.brk_model.specs.Forms.{is_acl, is_exchange, is_name, is_symbol, is_tax_id}
-use Rattle.brk_model.specs.Form.{is_well_formed_band_row, is_well_formed_charge_row, is_well_formed_customer_row, is_amount, is_cash_type_of_trade, is_id, is_movement_name_and_amount, is_price, is_quantity_in_schema, is_well_formed_kept_row, is_well_formed_tax_rate_row}
+use Rattle.brk_model.specs.Forms.{is_acl, is_name, is_tax_id}
+use Rattle.brk_model.specs.Form.{is_well_formed_band_row, is_well_formed_charge_row, is_well_formed_customer_row, is_amount, is_cash_type_of_trade, is_due_within_calendar, is_id, is_movement_name_and_amount, is_up_to_last_stamp, is_price, has_price_exactly_if, is_quantity_in_schema, is_well_formed_kept_row, are_well_formed_listing_texts, is_well_formed_tax_rate_row}
 use Rattle.brk_model.specs.Ways.{is_strictly_ascending}
 use Rattle.brk_model.specs.Keys.{KeyPart, word, charge_key, customer_key, customer_tax_key, kept_key, tax_rate_key}
 use Rattle.brk_audit_theorems.specs.Told.{HasValidTransitions, HasNoStrayTexts, HasAscendingStamps, broker_id_key}
@@ -26,10 +25,6 @@ HasDistinctKeys key (x ∷ xs) = AllByRecursion (λ y. key y ≡ key x → ⊥) 
 -- The tax id of a customer, as a key.
 abbrev pub customer_tax_id_key : Customer → List KeyPart
 customer_tax_id_key c = word c.tax_id ∷ []
-
--- True if the stamp is at most the last stamp `last`; false if `last` is `None`.
-abbrev pub is_up_to_last_stamp : Option ℕ → ℕ → Bool
-is_up_to_last_stamp last stamp = option_map_or (λ l. nat_le stamp l) last false
 
 -- ---- fields are well-formed
 
@@ -47,7 +42,7 @@ is_well_formed_permission p = is_acl p.acl && is_tax_id p.tax_id && is_name p.la
 
 -- True if the symbol, name, exchange, sector and last price of the security are well-formed.
 abbrev pub is_well_formed_security : Security → Bool
-is_well_formed_security s = is_symbol s.symbol && is_name s.name && is_exchange s.exchange && is_name s.sector && is_price s.last_price
+is_well_formed_security s = are_well_formed_listing_texts s.symbol s.name s.exchange s.sector && is_price s.last_price
 
 -- True if the trade's number, quantity, bid, charge, commission and tax are within their limits.
 abbrev pub has_trade_numbers_in_range : Trade → Bool
@@ -62,11 +57,11 @@ StatusChangeIsUpToLastStamp last m = is_up_to_last_stamp last m.stamp ≡ true
 -- If the status change is a completion, its due day by the settlement day `rule` is within the
 -- calendar. Vacuous for other statuses.
 abbrev pub HasDueDayInCalendar : SettleRule → StatusChange → Type 0
-HasDueDayInCalendar rule m = (not (is_same_trade_status m.status Completed) || nat_le (due_day_of_completion_stamp rule m.stamp) greatest_day) ≡ true
+HasDueDayInCalendar rule m = is_due_within_calendar rule m.status m.stamp ≡ true
 
 -- True if the trade is completed and has a well-formed price, or is not completed and has no price.
 abbrev pub has_price_exactly_if_completed : Trade → Bool
-has_price_exactly_if_completed t = if is_completed t then option_map_or is_price t.price false else is_none t.price
+has_price_exactly_if_completed t = has_price_exactly_if (is_completed t) t.price
 
 -- True if the trade's cash text is one of the two texts for its type, its quantity and the security
 -- name `name`.

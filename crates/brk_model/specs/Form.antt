@@ -1,16 +1,17 @@
 -- The audit condition `Form`: formats, limits, references and keys of the rows of a database.
-use Rattle.std.specs.Prelude.{ℕ, Bool, true, false, not, ◌&&◌, ◌||◌, ◌==◌, nat_le, if◌then◌else◌, List, [], ◌∷◌, map, filter, length, is_some, is_none, ℤ, pos, nat_abs, int_lt, codes, bytes_eq, flat_map, option_to_list}
+use Rattle.std.specs.Prelude.{ℕ, Bool, true, false, not, ◌&&◌, ◌||◌, ◌==◌, nat_le, if◌then◌else◌, List, [], ◌∷◌, map, filter, find, length, Option, is_some, is_none, ℤ, pos, nat_abs, int_lt, codes, bytes_eq, flat_map, option_to_list}
 use Rattle.std.specs.List.{list_any, list_all, range_with_len}
 use Rattle.std.specs.Option.{option_map_or}
 use Rattle.std.specs.Str.{is_utf8}
 use Rattle.brk_money.specs.Spelling.{Text}
 use Rattle.brk_money.specs.Moments.{greatest_day, greatest_stamp}
 use Rattle.brk_money.specs.Kinds.{is_same_trade_status}
+use Rattle.brk_money.specs.declared.status.Status.{Status}
 use Rattle.brk_money.specs.declared.status.Status.TheVariants.{Completed}
 use Rattle.brk_model.specs.Limits.{greatest_price, greatest_charge, greatest_commission_rate, greatest_tax_rate, greatest_amount, greatest_id, greatest_cash_row_number, most_accounts_per_customer}
 use Rattle.brk_model.specs.Lists.{all_distinct}
 use Rattle.brk_model.specs.Schemas.{Schema}
-use Rattle.brk_model.specs.Records.{Customer, Permission, Charge, Band, TaxRate, CustomerTax, Kept}
+use Rattle.brk_model.specs.Records.{Customer, Permission, Charge, Band, TaxRate, CustomerTax, Key, Kept, SettleRule}
 use Rattle.brk_model.specs.Base.{tax_rate_sum_of_customer}
 use Rattle.brk_model.specs.Tables.{Tables, BrokerRow, AccountRow, SecurityRow, LastTradeRow, TradeRow, HistoryRow, RequestRow, HoldingRow, SummaryRow, HoldingHistoryRow, SettlementRow, CashRow, MoveRow}
 use Rattle.brk_model.specs.Derived.{due_day_of_completion_stamp}
@@ -45,10 +46,14 @@ is_tier n = nat_le 1 n && nat_le n 3
 abbrev pub is_amount : ℤ → Bool
 is_amount z = nat_le (nat_abs z) greatest_amount
 
+-- True if the stamp is at most the last stamp `last`; false if `last` is `None`.
+abbrev pub is_up_to_last_stamp : Option ℕ → ℕ → Bool
+is_up_to_last_stamp last stamp = option_map_or (λ l. nat_le stamp l) last false
+
 -- True if the stamp is not after the last stamp of the tables; false if the tables have no last
 -- stamp.
 abbrev pub is_at_most_last_stamp : Tables → ℕ → Bool
-is_at_most_last_stamp tables stamp = option_map_or (λ last. nat_le stamp last) tables.last false
+is_at_most_last_stamp tables stamp = is_up_to_last_stamp tables.last stamp
 
 -- True if the tables have a TRADE row with the id `id`.
 abbrev pub has_trade : Tables → ℕ → Bool
@@ -64,16 +69,20 @@ has_security tables symbol = is_some (security_row_with_symbol tables symbol)
 
 -- True if the tables have a CUSTOMER row with the id `id`.
 abbrev pub has_customer : Tables → ℕ → Bool
-has_customer tables id = list_any (λ c. c.id == id) tables.customers
+has_customer tables id = is_some (find (λ c. c.id == id) tables.customers)
 
 -- True if the tables have a BROKER row with the id `id`.
 abbrev pub has_broker : Tables → ℕ → Bool
-has_broker tables id = list_any (λ b. b.id == id) tables.brokers
+has_broker tables id = is_some (find (λ b. b.id == id) tables.brokers)
+
+-- True if the batch name and the row number of the key are well-formed.
+abbrev pub is_well_formed_key : Key → Bool
+is_well_formed_key key = is_batch_name key.batch && is_id key.row
 
 -- True if the key of a row of KEPT is a well-formed batch name and a row number; the texts of the
 -- row are not checked.
 abbrev pub is_well_formed_kept_row : Kept → Bool
-is_well_formed_kept_row k = is_batch_name k.key.batch && is_id k.key.row
+is_well_formed_kept_row k = is_well_formed_key k.key
 
 -- True if the id and the name of a row of BROKER are well-formed and its commission total is within
 -- its limit; the trade count is not checked.
@@ -95,11 +104,14 @@ is_well_formed_account_row t a =
 abbrev pub is_well_formed_permission_row : Tables → Permission → Bool
 is_well_formed_permission_row t p = has_account t p.account && is_acl p.acl && is_tax_id p.tax_id && is_name p.last_name && is_name p.first_name
 
+-- True if the symbol, the name, the exchange and the sector of a security are well-formed.
+abbrev pub are_well_formed_listing_texts : Text → Text → Text → Text → Bool
+are_well_formed_listing_texts symbol name exchange sector = is_symbol symbol && is_name name && is_exchange exchange && is_name sector
+
 -- True if the symbol, the name, the exchange and the sector of a row of SECURITY are well-formed,
 -- and a LAST_TRADE row of the symbol exists.
 abbrev pub is_well_formed_security_row : Tables → SecurityRow → Bool
-is_well_formed_security_row t s =
-    is_symbol s.symbol && is_name s.name && is_exchange s.exchange && is_name s.sector && list_any (λ l. bytes_eq l.symbol s.symbol) t.last_trades
+is_well_formed_security_row t s = are_well_formed_listing_texts s.symbol s.name s.exchange s.sector && list_any (λ l. bytes_eq l.symbol s.symbol) t.last_trades
 
 -- True if the security of a row of LAST_TRADE exists, its stamp is not after the last stamp, and
 -- its price and volume are within their limits.
@@ -110,12 +122,14 @@ is_well_formed_last_trade_row t l = has_security t l.symbol && is_at_most_last_s
 abbrev pub is_well_formed_charge_row : Charge → Bool
 is_well_formed_charge_row c = is_tier c.tier && nat_le c.amount greatest_charge
 
+-- True if the tier, the exchange and both bounds of the band are well-formed in the schema `schema`.
+abbrev pub has_well_formed_bounds : Schema → Band → Bool
+has_well_formed_bounds schema b = is_tier b.tier && is_exchange b.exchange && is_quantity_in_schema schema b.from_qty && is_quantity_in_schema schema b.to_qty
+
 -- True if the tier, the exchange, the bounds and the rate of a row of COMMISSION_RATE are
 -- well-formed in the schema `schema`, and its lower bound is at most its upper bound.
 abbrev pub is_well_formed_band_row : Schema → Band → Bool
-is_well_formed_band_row schema b =
-    is_tier b.tier && is_exchange b.exchange && is_quantity_in_schema schema b.from_qty && is_quantity_in_schema schema b.to_qty && nat_le b.from_qty b.to_qty
-    && nat_le b.rate greatest_commission_rate
+is_well_formed_band_row schema b = has_well_formed_bounds schema b && nat_le b.from_qty b.to_qty && nat_le b.rate greatest_commission_rate
 
 -- True if the id and the name of a row of TAXRATE are well-formed and its rate is within its limit.
 abbrev pub is_well_formed_tax_rate_row : TaxRate → Bool
@@ -125,11 +139,14 @@ is_well_formed_tax_rate_row r = is_id r.id && is_name r.name && nat_le r.rate gr
 abbrev pub is_well_formed_customer_tax_row : Tables → CustomerTax → Bool
 is_well_formed_customer_tax_row t x = has_customer t x.customer && list_any (λ r. r.id == x.tax) t.tax_rates
 
+-- True if `is_done` is true and the price is valid, or `is_done` is false and there is no price.
+abbrev pub has_price_exactly_if : Bool → Option ℕ → Bool
+has_price_exactly_if is_done price = if is_done then option_map_or is_price price false else is_none price
+
 -- True if the TRADE row has a valid price and its trade has a TRADE_HISTORY row with the status
 -- `Completed`, or it has no price and its trade has no such row.
 abbrev pub price_matches_completion : Tables → TradeRow → Bool
-price_matches_completion t row =
-    if list_any (λ h. is_same_trade_status h.status Completed) (history_rows_with_trade_id t row.id) then option_map_or is_price row.price false else is_none row.price
+price_matches_completion t row = has_price_exactly_if (list_any (λ h. is_same_trade_status h.status Completed) (history_rows_with_trade_id t row.id)) row.price
 
 -- True if the id, the quantity, the bid, the charge, the commission and the tax of a row of TRADE
 -- are within their limits, its stamp is not after the last stamp, its security and account exist,
@@ -139,10 +156,15 @@ is_well_formed_trade_row schema t row =
     is_id row.id && is_at_most_last_stamp t row.stamp && has_security t row.symbol && is_quantity_in_schema schema row.qty && is_price row.bid && has_account t row.account && price_matches_completion t row
     && nat_le row.charge greatest_charge && nat_le row.commission greatest_amount && nat_le row.tax greatest_amount
 
+-- True if the status is not `Completed`, or the due day of a completion with this stamp is within
+-- the calendar.
+abbrev pub is_due_within_calendar : SettleRule → Status → ℕ → Bool
+is_due_within_calendar rule status stamp = not (is_same_trade_status status Completed) || nat_le (due_day_of_completion_stamp rule stamp) greatest_day
+
 -- True if the trade of a row of TRADE_HISTORY exists, its stamp is not after the last stamp, and,
 -- for a completion, the due day is within the calendar.
 abbrev pub is_well_formed_history_row : Tables → HistoryRow → Bool
-is_well_formed_history_row t h = has_trade t h.trade && is_at_most_last_stamp t h.stamp && (not (is_same_trade_status h.status Completed) || nat_le (due_day_of_completion_stamp t.rule h.stamp) greatest_day)
+is_well_formed_history_row t h = has_trade t h.trade && is_at_most_last_stamp t h.stamp && is_due_within_calendar t.rule h.status h.stamp
 
 -- True if the quantity and the bid of a row of TRADE_REQUEST are within their limits, and its
 -- trade, security and broker exist.

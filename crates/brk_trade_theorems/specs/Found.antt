@@ -6,21 +6,22 @@ use Rattle.brk_ref.specs.Records.{abstract_band}
 use Rattle.brk_plans.specs.declared.reference.ReferenceFacts.{ReferenceFacts}
 use Rattle.brk_plans.specs.declared.reference.Reference.{Reference}
 use Rattle.brk_plans.specs.declared.reference.Reference.TheVariants as reference
-use Rattle.brk_book_theorems.specs.Reads.{contains_broker, contains_customer, contains_tax_id, contains_account, account_count_of_customer, contains_permission, contains_security, contains_charge, overlaps_some_band, contains_tax_rate, rate_by_tax_id, pays_tax, rate_sum_of_customer}
+use Rattle.brk_model.specs.Form.{has_account, has_broker, has_customer, has_security}
+use Rattle.brk_book_theorems.specs.Reads.{contains_tax_id, account_count_of_customer, contains_permission, contains_charge, overlaps_some_band, contains_tax_rate, rate_by_tax_id, pays_tax, rate_sum_of_customer}
 
 -- The facts `found` about the account `id`, its customer and its broker are true of the tables:
 -- which of the three exist, and how many accounts the customer has.
 pub record AccountFactsMatchTables (t : Tables) (id customer broker : ℕ) (found : ReferenceFacts) : Type 0 where
-  pub same_id : found.same_id ≡ contains_account t id
-  pub customer_there : found.customer ≡ contains_customer t customer
-  pub broker_there : found.broker ≡ contains_broker t broker
+  pub same_id : found.same_id ≡ has_account t id
+  pub customer_there : found.customer ≡ has_customer t customer
+  pub broker_there : found.broker ≡ has_broker t broker
   pub count : found.accounts ≡ account_count_of_customer t customer
 
 -- The facts `found` about a customer's tax are true of the tables: whether the customer exists and
 -- already pays the tax, the tax rate, and the sum of the customer's rates. The sum is `None` if it
 -- exceeds the greatest rate.
 pub record CustomerTaxFactsMatchTables (t : Tables) (customer tax : ℕ) (found : ReferenceFacts) : Type 0 where
-  pub customer_there : found.customer ≡ contains_customer t customer
+  pub customer_there : found.customer ≡ has_customer t customer
   pub rate_there : found.rate ≡ rate_by_tax_id t tax
   pub same_id : found.same_id ≡ pays_tax t customer tax
   pub sum : SomeIff found.rates (rate_sum_of_customer t customer ≤ greatest_tax_rate) (rate_sum_of_customer t customer)
@@ -28,12 +29,12 @@ pub record CustomerTaxFactsMatchTables (t : Tables) (customer tax : ℕ) (found 
 -- The facts `found` about a record of reference data are true of the tables. Facts that records of
 -- its kind do not need may have any value.
 abbrev pub ReferenceFactsMatchTables : Tables → Reference → ReferenceFacts → Type 0
-ReferenceFactsMatchTables t (reference.Broker broker) found = found.same_id ≡ contains_broker t broker.id
-ReferenceFactsMatchTables t (reference.Customer customer) found = (found.same_id ≡ contains_customer t customer.id) × (found.same_tax_id ≡ contains_tax_id t customer.tax_id)
+ReferenceFactsMatchTables t (reference.Broker broker) found = found.same_id ≡ has_broker t broker.id
+ReferenceFactsMatchTables t (reference.Customer customer) found = (found.same_id ≡ has_customer t customer.id) × (found.same_tax_id ≡ contains_tax_id t customer.tax_id)
 ReferenceFactsMatchTables t (reference.Account account) found = AccountFactsMatchTables t account.id account.customer account.broker found
 ReferenceFactsMatchTables t (reference.Permission permission) found =
-    (found.account ≡ contains_account t permission.account) × (found.same_id ≡ contains_permission t permission.account permission.tax_id)
-ReferenceFactsMatchTables t (reference.Security listing) found = found.same_id ≡ contains_security t listing.security.symbol
+    (found.account ≡ has_account t permission.account) × (found.same_id ≡ contains_permission t permission.account permission.tax_id)
+ReferenceFactsMatchTables t (reference.Security listing) found = found.same_id ≡ has_security t listing.security.symbol
 ReferenceFactsMatchTables t (reference.Charge charge) found = found.same_id ≡ contains_charge t charge.kind charge.tier
 ReferenceFactsMatchTables t (reference.Band band) found = found.overlaps ≡ overlaps_some_band t (abstract_band band)
 ReferenceFactsMatchTables t (reference.TaxRate tax) found = found.same_id ≡ contains_tax_rate t tax.id
