@@ -1,5 +1,5 @@
 -- The output of a statement, which changes nothing.
-use Rattle.std.specs.Prelude.{◌≡◌, ◌⊎◌, ◌+ℤ◌, ℕ, ℤ, List, [], Option, Some, Result, Ok, Err, length, map, nat_lt, false, IsTrue}
+use Rattle.std.specs.Prelude.{◌≡◌, ◌⊎◌, ◌+ℤ◌, ℕ, ℤ, List, [], IfErr, Option, Some, Result, Ok, Err, length, map, nat_lt, false, IsTrue}
 use Rattle.std.specs.Io.KnownBytes.{Appends}
 use Rattle.sqlite_trees.specs.declared.store.Store.{Ghosts}
 use Rattle.sqlite.specs.Held.{Held, state}
@@ -32,6 +32,11 @@ pub record PreservesDesk {S : Type 0} (g : Ghosts S) (old new : Held S) : Type 0
 -- they are.
 abbrev pub HoldsForStoredTables : {S : Type 0} → Ghosts S → Held S → Held S → (Tables → Type 0) → Type 0
 HoldsForStoredTables g old new So = HasCleanDisk (state g new) → (t : Tables) → HoldsRows g old t → So t
+
+-- A fault of the desk that left lines unwritten is `Memory` or `Store`.
+abbrev pub IsLinesFault : LinesFault → Type 0
+IsLinesFault (lines.Desk fault) = IsCallFault fault
+IsLinesFault lines.Write = Unit {0}
 
 -- ---- the parts of a statement
 
@@ -72,11 +77,20 @@ WritesStatement t account from to old new (Err (Refused refusal)) = statement t 
 WritesStatement t account from to old new (Err (Desk fault)) = IsCallFault fault × (Appends old new [] ⊎ ((lines : List Text) × AreStatementLines t account from to lines × WroteWholeLinesNotLast lines old new))
 WritesStatement t account from to old new (Err Write) = (lines : List Text) × AreStatementLines t account from to lines × WroteWholeLinesAndPart lines old new
 
+-- The result is no fault of the desk, or it is `Memory` or `Store`. Vacuous for a refusal and for
+-- a fault of the writer.
+abbrev pub IsReportFault : ReportFault → Type 0
+IsReportFault (Refused refusal) = Unit {0}
+IsReportFault (Desk fault) = IsCallFault fault
+IsReportFault Write = Unit {0}
+
 -- The postcondition of writing the statement of `account` from the day `from` to the day `to`. The
 -- desk is unchanged.
 pub record StatementPost {S : Type 0} (g : Ghosts S) (old new : Held S) (account from to : ℕ) (before after : Option Text) (result : Result (Unit {0}) ReportFault) : Type 0 where
   -- The output is as specified for the rows that the store holds, whatever they are.
   pub told : HoldsForStoredTables g old new (λ t. WritesStatement t account from to before after result)
+  -- A fault of the desk is `Memory` or `Store`, whether or not the disk assumption holds.
+  pub fault : IfErr result IsReportFault
   pub keeps : PreservesDesk g old new
   -- Nothing is written if the statement is refused.
   pub unwritten : (refusal : _) → result ≡ Err (Refused refusal) → after ≡ before

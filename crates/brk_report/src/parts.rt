@@ -1,6 +1,7 @@
 //! The parts of a statement, each of which ends with a line that no walk writes.
 
-ghost use Rattle.brk_report.specs.Stated.{PreservesDesk, HoldsForStoredTables};
+ghost use Rattle.std.specs.Prelude.{IfErr};
+ghost use Rattle.brk_report.specs.Stated.{PreservesDesk, IsLinesFault, HoldsForStoredTables};
 ghost use Rattle.brk_report.specs.Parts.{WritesCashAndClosingLines, lot_and_total_lines, statement_header_lines};
 ghost use Rattle.brk_report_lines.specs.Written.{WritesLines};
 
@@ -45,6 +46,7 @@ pub(crate) fn write_cash_and_closing_lines<W: Write, S: Alter>(
     writer: &mut W,
 ) -> Result<u64, LinesFault>
     ensures keeps { PreservesDesk S.Store desk.old desk.new }
+    ensures fault { IfErr result IsLinesFault }
     ensures written { HoldsForStoredTables S.Store desk.old desk.new (λ t. WritesCashAndClosingLines t account from to opening (W.contents writer.old) (W.contents writer.new) result) }
 {
     let moved = write_cash_lines(alloc, desk, account, from, to, opening, writer)?;
@@ -63,6 +65,7 @@ pub(crate) fn write_lot_and_total_lines<W: Write, S: Alter>(
     writer: &mut W,
 ) -> Result<(), LinesFault>
     ensures keeps { PreservesDesk S.Store desk.old desk.new }
+    ensures fault { IfErr result IsLinesFault }
     ensures written { HoldsForStoredTables S.Store desk.old desk.new (λ t. WritesLines (lot_and_total_lines t account holdings cash) (W.contents writer.old) (W.contents writer.new) result) }
 {
     let lots = write_lot_lines(alloc, desk, account, writer)?;

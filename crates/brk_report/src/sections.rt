@@ -1,8 +1,8 @@
 //! The parts of a statement that the desk walks over. None of them changes the desk.
 
-ghost use Rattle.std.specs.Prelude.{◌≡◌, ◌+ℤ◌};
+ghost use Rattle.std.specs.Prelude.{◌≡◌, ◌+ℤ◌, IfErr};
 ghost use Rattle.brk_model.specs.Statement.{cash_move_rows_before_day, cash_move_rows_of_account, cash_row_total};
-ghost use Rattle.brk_report.specs.Stated.{IsTotalOrFault, PreservesDesk, HoldsForStoredTables, WritesCashLines, WritesLotLines};
+ghost use Rattle.brk_report.specs.Stated.{IsTotalOrFault, PreservesDesk, IsLinesFault, HoldsForStoredTables, WritesCashLines, WritesLotLines};
 ghost use Rattle.brk_report.specs.Stops.{fault_of_walk_error};
 
 use crate::visitors::{CashLines, Lines, Moved, Sum};
@@ -31,6 +31,7 @@ pub(crate) fn balance_before_day<S: Alter>(
     opening: Cents,
 ) -> Result<Wide, LinesFault>
     ensures keeps { PreservesDesk S.Store desk.old desk.new }
+    ensures fault { IfErr result IsLinesFault }
     ensures sum { HoldsForStoredTables S.Store desk.old desk.new (λ t. IsTotalOrFault (opening +ℤ cash_row_total (cash_move_rows_before_day from (cash_move_rows_of_account t account))) result) }
 {
     let Some(last) = last_stamp_before_day(from) else {
@@ -57,6 +58,7 @@ pub(crate) fn write_cash_lines<W: Write, S: Alter>(
     writer: &mut W,
 ) -> Result<Moved, LinesFault>
     ensures keeps { PreservesDesk S.Store desk.old desk.new }
+    ensures fault { IfErr result IsLinesFault }
     ensures written { HoldsForStoredTables S.Store desk.old desk.new (λ t. WritesCashLines t account from to opening (W.contents writer.old) (W.contents writer.new) result) }
 {
     let mut visitor = CashLines {
@@ -87,6 +89,7 @@ pub(crate) fn write_lot_lines<W: Write, S: Alter>(
     writer: &mut W,
 ) -> Result<u64, LinesFault>
     ensures keeps { PreservesDesk S.Store desk.old desk.new }
+    ensures fault { IfErr result IsLinesFault }
     ensures written { HoldsForStoredTables S.Store desk.old desk.new (λ t. WritesLotLines t account (W.contents writer.old) (W.contents writer.new) result) }
 {
     let mut lines = Lines {

@@ -1,4 +1,4 @@
-use Rattle.std.proofs.Common.{◌≡◌, ◌+ℤ◌, List, Ok, length, map, refl, rules, sym, subst}
+use Rattle.std.proofs.Common.{◌≡◌, ◌+ℤ◌, [], ◌∷◌, List, Ok, length, map, refl, rules, sym, subst}
 use Rattle.std.specs.Io.KnownBytes.{Appends}
 use Rattle.sqlite.specs.Held.{state}
 use Rattle.sqlite.specs.State.{HasCleanDisk}
@@ -12,7 +12,7 @@ use Rattle.brk_report.specs.Stated.{WritesCashLines}
 use Rattle.brk_report.specs.declared.visitors.CashLines.{CashLines}
 use Rattle.brk_report.specs.declared.visitors.Moved.{Moved}
 use Rattle.brk_report.proofs.Days.{rows_within}
-use Rattle.brk_report.proofs.Section.{added_all, written_all, written_first}
+use Rattle.brk_report.proofs.Section.{added_all, in_broken, known_end, written_all, written_first}
 use Rattle.brk_report.proofs.sections.write_cash_lines.Goals as goal
 
 pub returns-in-Ok-clause-written : goal.returns-in-Ok-clause-written
@@ -45,3 +45,9 @@ returns-in-Err-clause-written g c =
     (λ p x q h. (h.2, h.1)) (λ p x e q h. h) c.in-Err.stop c.in-Err.is in
     subst (λ (rows : List tables.MoveRow). FailsWithinFirstLines (map text_line_of_cash_row rows) (g.W.Write.contents c.args.writer.now) (g.W.Write.contents c.visit_cash.new.visitor.writer.now) c.fault_from_walk_error.result) days
     (subst (λ e. FailsWithinFirstLines (map text_line_of_cash_row (list t)) (g.W.Write.contents c.args.writer.now) (g.W.Write.contents c.visit_cash.new.visitor.writer.now) e) (sym c.fault_from_walk_error.ensures) w))
+
+pub returns-in-Err-clause-fault : goal.returns-in-Err-clause-fault
+returns-in-Err-clause-fault g c =
+    known_end g.S.Store _ _ abstract_move_row (cash_rows_in_span c.args.account c.first_stamp_of_day.result c.last_stamp_of_day.result) _ _ _ _ c.visit_cash.result c.visit_cash.ensures.walked
+    (λ (p : CashLines g.row.W.Denot) x e (q : CashLines g.row.W.Denot) h. in_broken (text_line_of_cash_row (abstract_move_row x) ∷ []) (g.W.Write.contents p.writer.now) (g.W.Write.contents q.writer.now) e h)
+    c.in-Err.stop c.in-Err.is c.fault_from_walk_error.result c.fault_from_walk_error.ensures

@@ -3,7 +3,9 @@ use Rattle.brk_model.specs.Statement.{cash_move_rows_of_account, cash_move_rows_
 use Rattle.brk_report_lines.specs.Written.{FailsWithinLines, WritesLines}
 use Rattle.brk_report_lines.proofs.Composed.{breaks_before, breaks_behind}
 use Rattle.brk_report.specs.Parts.{cash_and_closing_lines, lot_and_total_lines, statement_header_lines}
-use Rattle.brk_report.proofs.Handing.{behind, breaks_as}
+use Rattle.brk_report.specs.Stated.{IsLinesFault}
+use Rattle.brk_report.proofs.Handing.{behind, breaks_as, on_err}
+use Rattle.brk_report.proofs.Section.{in_broken}
 use Rattle.brk_report.proofs.Keeping.{clean_then}
 use Rattle.brk_report.proofs.Whole.{lines_at, none_of}
 use Rattle.brk_report.proofs.stating.write_statement_lines.Goals as goal
@@ -49,3 +51,12 @@ returns-clause-written g c = λ clean t holds.
     (behind (statement_header_lines c.args.account c.args.head.now.name c.args.from c.args.to opening) (days ++ rest) _ _ _ _ c.in_ok-write_header_lines.ensures
     (behind days rest _ _ _ _ done.0
     (subst (λ (n : ℕ). WritesLines (lot_and_total_lines t c.args.account c.args.head.now.holdings n) (g.W.Write.contents c.write_cash_and_closing_lines.new.writer) (g.W.Write.contents c.write_lot_and_total_lines.new.writer) c.write_lot_and_total_lines.result) done.1 (c.write_lot_and_total_lines.ensures.written clean t second))))
+
+pub returns-in_err-opening-clause-fault : goal.returns-in_err-opening-clause-fault
+returns-in_err-opening-clause-fault g c = on_err IsLinesFault _ _ c.from_residual.ensures.1 c.in_err-opening.ensures.fault
+
+pub returns-in_err-write_header_lines-clause-fault : goal.returns-in_err-write_header_lines-clause-fault
+returns-in_err-write_header_lines-clause-fault g c = on_err IsLinesFault _ _ c.from_residual-in_err-write_header_lines.ensures.1 (in_broken _ _ _ _ c.in_err-write_header_lines.ensures)
+
+pub returns-in_err-cash-clause-fault : goal.returns-in_err-cash-clause-fault
+returns-in_err-cash-clause-fault g c = on_err IsLinesFault _ _ c.from_residual-in_err-cash.ensures.1 c.in_err-cash.ensures.fault
