@@ -82,7 +82,7 @@ impl<S: Alter> Desk<S> {
     ///
     /// After a fault, too, a crash may expose the command as committed. With a key, retry under the
     /// same key: the command is then executed at most once. Without a key a retry may execute it
-    /// twice, so read the tables before it.
+    /// twice, so read the tables before a retry.
     pub fn call(
         &mut self,
         alloc: Global,
@@ -95,7 +95,7 @@ impl<S: Alter> Desk<S> {
         book(alloc, &mut self.store, now, command, key)
     }
 
-    /// Returns the view of a query, or the refusal. Changes nothing.
+    /// Returns the view of a query, or the refusal.
     ///
     /// Fails with `Memory` or `Store` only. The open database is unchanged, whatever the result.
     ///
@@ -115,9 +115,9 @@ impl<S: Alter> Desk<S> {
     ///
     /// A crash exposes a state that a crash before the run could expose, or the tables of the
     /// represented base with every acknowledged command applied, and at most one more command: one
-    /// that returned a fault, with no change acknowledged after it. It exposes only the latter if
-    /// the run acknowledges a change, or if a crash before the run exposed only the represented
-    /// base.
+    /// that returned a fault, with no change acknowledged after it. It exposes only such tables if
+    /// the run acknowledges a change, or if a crash before the run exposed only the tables of the
+    /// represented base.
     pub fn run(
         &mut self,
         alloc: Global,
@@ -153,14 +153,14 @@ impl<S: Alter> Desk<S> {
     /// Audits the database by the conditions of schema 3 and writes nothing. Returns `Ok` only if
     /// its rows pass.
     ///
-    /// Fails with `Damaged` and the first condition that fails, or with `Memory` or `Store`. A desk
-    /// that represents a base never returns `Damaged`. The rows and the open database are
-    /// unchanged, whatever the result.
+    /// Fails with `Damaged` and the first condition that fails, or with `Memory` or `Store`. Under
+    /// the disk assumption a desk that represents a base never returns `Damaged`. The rows and the
+    /// open database are unchanged, whatever the result.
     ///
     /// A crash exposes only states that a crash before the call could expose.
     ///
-    /// The result is specified only under the premise of `Store::audit`, which every desk that
-    /// represents a base satisfies.
+    /// The result is specified only under the premise `ThirdNamesImplyDefinitions` on the database
+    /// (see `Store::audit`). Every desk that represents a base satisfies this premise.
     #[tactic(auto, using(crate::proofs::Audits::audits))]
     pub fn audit(&mut self, alloc: Global) -> Result<(), Fault>
         ensures audited { DeskAuditPost S.Store self.old self.new result }
@@ -169,8 +169,8 @@ impl<S: Alter> Desk<S> {
         self.store.audit(alloc)
     }
 
-    /// Returns the figures of an account's statement that are not rows, or `None` if the account
-    /// does not exist.
+    /// Returns what a statement of an account needs besides rows of tables: the name, the opening
+    /// balance and the market value of the holdings. Returns `None` if the account does not exist.
     ///
     /// Fails with `Memory` or `Store` only. The open database is unchanged, whatever the result.
     ///
@@ -185,8 +185,8 @@ impl<S: Alter> Desk<S> {
     /// Returns the rows that the explanation of a trade needs, or `None` if the trade does not
     /// exist.
     ///
-    /// Fails with `Memory` or `Store` only; with `Store` also if a row does not exist that another
-    /// row names, or if a completed trade has no price or no settlement. The open database is
+    /// Fails with `Memory` or `Store` only; with `Store` also if a row names another row that does
+    /// not exist, or if a completed trade has no price or no settlement. The open database is
     /// unchanged, whatever the result.
     ///
     /// A crash exposes only states that a crash before the call could expose.

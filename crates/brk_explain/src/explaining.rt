@@ -94,7 +94,7 @@ fn write_account_explanation<W: Write, S: Alter>(
 /// one.
 ///
 /// A crash exposes only states that were possible before the call.
-pub fn explain<W: Write, S: Alter>(
+pub fn write_explanation<W: Write, S: Alter>(
     alloc: Global,
     desk: &mut Desk<S>,
     what: Explain,

@@ -7,5 +7,5 @@ pub mod sections;
 pub mod visitors;
 
 pub use brk_report_lines::ReportFault;
-pub use explaining::explain;
+pub use explaining::write_explanation;
 pub use parse::{Explain, parse_explain_request};

@@ -1,4 +1,4 @@
-use Rattle.brk_explain.proofs.explaining.explain.Goals as goal
+use Rattle.brk_explain.proofs.explaining.write_explanation.Goals as goal
 
 pub returns-in-Trade : goal.returns-in-Trade
 returns-in-Trade g c = record { explained = rw c.in-Trade.is c.write_trade_explanation.ensures.told }
