@@ -907,6 +907,7 @@ STATEMENTS = {
     'brk_tables_walks': [
         (select, 'CashBetween', 'move', [('CM_CA_ID', 1), ('CM_DTS', 2, 'Ge'), ('CM_DTS', 3, 'Le')], [('CM_DTS', False), ('CM_ID', False)]),
         (select, 'LotsBySymbol', 'holding', [('H_CA_ID', 1)], [('H_S_SYMB', False), ('H_DTS', False), ('H_T_ID', False)]),
+        (select, 'CompletedByAge', 'trade', [('T_ST_ID', 1)], [('T_DTS', False), ('T_ID', False)]),
     ],
     'brk_tables_views': [
         (select, 'TwentyOfAccount', 'trade', [('T_CA_ID', 1), ('T_DTS', 2, 'Ge'), ('T_DTS', 3, 'Le')], [('T_DTS', False), ('T_ID', False)], ('lit', 20)),
@@ -916,6 +917,8 @@ STATEMENTS = {
         (select, 'ChangesOf', 'holding_history', [('HH_H_T_ID', 1)], [('HH_H_T_ID', False), ('HH_T_ID', False)]),
         (select, 'BrokersNamed', 'broker', [('B_NAME', 1)], [('B_ID', False)]),
         (select, 'RequestsOfBroker', 'request', [('TR_B_ID', 1)], [('TR_T_ID', False)]),
+        (select, 'AccountsOfBroker', 'account', [('CA_B_ID', 1)], [('CA_ID', False)], None, ['CA_ID']),
+        (select, 'CompletedOfHolding', 'trade', [('T_CA_ID', 1), ('T_S_SYMB', 2), ('T_ST_ID', 3)], [('T_DTS', False), ('T_ID', False)], None, ['T_ID']),
     ],
 }
 

@@ -2,10 +2,10 @@
 
 use crate::escape::{Piece, append_output_line, append_written_bytes};
 use crate::failed::Failed;
-use crate::place::{Place, adopt_into_place};
+use crate::place::{Place, adopt_database};
 use crate::tables::append_rows_of_all_tables;
 use crate::views::{append_refusal_line, execute_ask_command, execute_print_command};
-use brk_explain::{explain, parse_explain_request};
+use brk_explain::{parse_explain_request, write_explanation};
 use brk_http::serve_stream;
 use brk_import::brk_desk::Desk;
 use brk_import::{Clock, FaultKind, run_batch};
@@ -150,12 +150,13 @@ fn execute_explain_command(
     for word in words.split(' ') {
         asked.push(word.as_bytes())?;
     }
-    let what = match parse_explain_request(&asked) {
-        Ok(what) => what,
-        Err(refusal) => return append_refusal_line(out, refusal),
+    let what = match parse_explain_request(alloc, &asked) {
+        Ok(Ok(what)) => what,
+        Ok(Err(refusal)) => return append_refusal_line(out, refusal),
+        Err(_) => return append_output_line(out, "! fault"),
     };
     let mut lines = Vec::new(alloc);
-    let ended = explain(alloc, desk, what, &mut lines);
+    let ended = write_explanation(alloc, desk, &what, &mut lines);
     append_written_bytes(out, &lines)?;
     match ended {
         Ok(()) => Ok(()),
@@ -184,7 +185,7 @@ fn execute_audit_command(alloc: Global, out: &mut String, place: Place) -> Resul
             Ok(Place::Open(desk))
         }
         Place::Database(conn) => {
-            let (place, audited) = adopt_into_place(alloc, conn);
+            let (place, audited) = adopt_database(alloc, conn);
             append_audit_result(out, audited)?;
             Ok(place_without_desk(place))
         }
@@ -204,7 +205,7 @@ fn place_without_desk(place: Place) -> Place {
 fn execute_adopt_command(alloc: Global, out: &mut String, place: Place) -> Result<Place, Failed> {
     match place.into_conn() {
         Some(conn) => {
-            let (place, adopted) = adopt_into_place(alloc, conn);
+            let (place, adopted) = adopt_database(alloc, conn);
             append_audit_result(out, adopted)?;
             Ok(place)
         }
@@ -247,7 +248,7 @@ fn execute_tables_command(alloc: Global, out: &mut String, place: Place) -> Resu
     match place.into_conn() {
         Some(mut conn) => {
             append_rows_of_all_tables(alloc, out, &mut conn)?;
-            let (place, _) = adopt_into_place(alloc, conn);
+            let (place, _) = adopt_database(alloc, conn);
             Ok(place)
         }
         None => Ok(Place::Nothing),

@@ -47,7 +47,7 @@ impl Place {
 
 /// Adopts the database of a connection. Returns its desk if its rows pass the audit, otherwise the
 /// database with the fault.
-pub fn adopt_into_place(alloc: Global, conn: Connection<MemStore>) -> (Place, Result<(), Fault>) {
+pub fn adopt_database(alloc: Global, conn: Connection<MemStore>) -> (Place, Result<(), Fault>) {
     match Store::adopt(alloc, conn) {
         Ok(store) => (Place::Open(Desk::new(store)), Ok(())),
         Err((conn, fault)) => (Place::Database(conn), Err(fault)),

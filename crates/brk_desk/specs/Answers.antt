@@ -1,4 +1,5 @@
--- The outcome of the model that an outcome represents, and the outcomes of calls.
+-- From the result of a desk's call to its outcome (`Outcome` of this crate), and from that to the
+-- outcome of the model (`run.Outcome` of brk_model).
 use Rattle.std.specs.Prelude.{Result, Ok, Err}
 use Rattle.brk_money.specs.declared.fault.Fault.{Fault}
 use Rattle.brk_money.specs.declared.refusal.Refusal.{Refusal}
@@ -10,7 +11,8 @@ use Rattle.brk_commit.specs.declared.answer.Answer as desk
 use Rattle.brk_desk.specs.declared.call.Outcome.{Outcome}
 use Rattle.brk_desk.specs.declared.call.Outcome.TheVariants as came
 
--- The outcome of the model that the outcome of a desk's call represents.
+-- The outcome of the model that the outcome of a desk's call represents. An answer becomes the
+-- answer of the model, and a view the list of its records of texts.
 abbrev pub model_outcome : Outcome → run.Outcome
 model_outcome (came.Did answer) = run.Did (model_answer answer)
 model_outcome (came.Saw view) = run.Saw (records_of_view view)

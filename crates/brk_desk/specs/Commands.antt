@@ -1,4 +1,4 @@
--- The call of the model that a call represents.
+-- From a desk's call (`Call` of this crate) to the call of the model (`run.Call` of brk_model).
 use Rattle.std.specs.Prelude.{ℕ}
 use Rattle.brk_commit.specs.Keys.{optional_model_key}
 use Rattle.brk_commands.specs.Commands.{abstract_command}

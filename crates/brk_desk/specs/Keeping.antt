@@ -1,4 +1,6 @@
--- The postconditions of a desk's calls: a query, a run and an audit.
+-- The postconditions of a desk's calls: a query, a run and an audit. That of a command is
+-- `CallPost` of brk_commit. A clause with the premise `HasCleanDisk` for the new state, and the
+-- promise on crashes in `survives`, are vacuous if the disk assumption fails after the call.
 use Rattle.brk_model.specs.Form.{has_utf8_texts}
 use Rattle.std.specs.Prelude.{◌≡◌, ℕ, List, None, map, length, Result, IfOk, IfErr, IsTrue}
 use Rattle.std.specs.List.{AllByRecursion}
@@ -40,18 +42,19 @@ use Rattle.brk_desk.specs.declared.call.Call.TheVariants as call
 use Rattle.brk_desk.specs.declared.call.Outcome.{Outcome}
 use Rattle.brk_desk.specs.declared.call.Outcome.TheVariants as came
 
--- The postcondition of a query: the result equals that of the model for every base that the store
--- represented, or is a fault. The query changes nothing.
+-- The postcondition of a query, which writes nothing: the result is that of the model for every
+-- base that the store represented, or a fault.
 pub record AskPost {S : Type 0} (g : Ghosts S) (old new : Held S) (query : Query) (result : Result (Result View Refusal) Fault) : Type 0 where
   -- At `Ok` the result, a view or a refusal, equals that of the model for each base that the store
   -- represented. Vacuous if the disk assumption fails.
   pub answered : HasCleanDisk (state g new) → IfOk result (λ seen. (base : Base) → Represents g old base → ask base query ≡ model_query_result seen)
   -- A returned view has the variant of the query, and carries the rows that the query selects from
-  -- the tables of the base. Says nothing if the disk assumption fails.
+  -- the tables of the base. Vacuous if the disk assumption fails.
   pub carried : HasCleanDisk (state g new) → IfOk result (λ seen. IfOk seen (λ view. (base : Base) → Represents g old base → HasRowsOfQuery query view (sheets base)))
   -- The store represents every base that it represented, whatever the result.
   pub kept : PreservesRepresentation g old new
-  -- The error is `Memory` or `Store`.
+  -- A fault is `Memory` or `Store`, whether or not the disk assumption holds. A refusal is no
+  -- fault.
   pub fault : IfErr result IsCallFault
   -- A crash exposes only states that a crash before the call could expose.
   pub survives : Survives (state g old) (state g new) (λ _. ⊥)
@@ -60,15 +63,16 @@ pub record AskPost {S : Type 0} (g : Ghosts S) (old new : Held S) (query : Query
   -- If the disk assumption holds after the call, it held before.
   pub clean : HasCleanDisk (state g new) → HasCleanDisk (state g old)
 
--- The call, executed at the clock reading `now`, satisfies its own postcondition, `CallPost` or
--- `AskPost`, with the result that `outcome` carries.
+-- The call, executed at the clock reading `now` from the state `old` to the state `new`, satisfies
+-- its own postcondition, `CallPost` or `AskPost`, with the result that `outcome` carries.
 abbrev pub OutcomePost : {S : Type 0} → Ghosts S → Held S → Held S → ℕ → Call → Outcome → Type 0
 OutcomePost g old new now (call.Do command key) outcome =
     (result : Result desk.Answer Fault) × (outcome ≡ outcome_of_command result) × CallPost g old new now (abstract_command command) (optional_model_key key) result
 OutcomePost g old new now (call.Ask query) outcome =
     (result : Result (Result View Refusal) Fault) × (outcome ≡ outcome_of_query result) × AskPost g old new (abstract_query query) result
 
--- No outcome is `Done`: each is of a query, a refusal, a stored reply or a fault.
+-- No outcome is `Done`, that is, `Did` with the answer `Done`: each is of a query, a refusal, a
+-- stored reply or a fault.
 abbrev pub OutcomesAcknowledgeNothing : List Outcome → Type 0
 OutcomesAcknowledgeNothing outcomes = AllByRecursion AcknowledgesNothing (map model_outcome outcomes)
 
@@ -77,9 +81,10 @@ abbrev pub FailsWithMemoryOrStore : Outcome → Type 0
 FailsWithMemoryOrStore (came.Failed fault) = IsCallFault fault
 FailsWithMemoryOrStore _ = Unit {0}
 
--- The trees contain the tables of some base that a crash may expose after the calls from `base`
--- (`MayBeRecovered`), with texts in UTF-8: it has every acknowledged command, and at most one more,
--- which returned a fault and after which no change was acknowledged.
+-- The trees (the contents of a database on disk) contain the tables of some base that a crash may
+-- expose after the calls from `base` (`MayBeRecovered`), and the texts of these tables are UTF-8.
+-- That base has the change of every acknowledged command, and of at most one command more, which
+-- returned a fault and after which no change was acknowledged.
 abbrev pub AreRecoverableTrees : Base → List (ℕ × Call) → List Outcome → Trees → Type 0
 AreRecoverableTrees base calls outcomes trees =
     (after : Base) × MayBeRecovered base (map model_call calls) (map model_outcome outcomes) after × AreTreesOfRows (sheets after) trees × IsTrue (has_utf8_texts (sheets after))
@@ -89,12 +94,13 @@ AreRecoverableTrees base calls outcomes trees =
 abbrev pub MayBeExposedAfterRun : {S : Type 0} → Ghosts S → Held S → List (ℕ × Call) → List Outcome → Trees → Type 0
 MayBeExposedAfterRun g old calls outcomes trees = IsTrue (state g old).is_open × ((base : Base) → Represents g old base → AreRecoverableTrees base calls outcomes trees)
 
--- The postcondition of a sequence of calls that were executed in order: one outcome for each call;
--- and for every base that the store represented, the calls with their outcomes are a run of the
--- model (`Run`), and the store represents the base after it.
+-- The postcondition of a sequence of calls that were executed in order. For every base that the
+-- store represented, the calls with their outcomes are a run of the model (`Run`), and the store
+-- represents the base after this run.
 pub record RunPost {S : Type 0} (g : Ghosts S) (old new : Held S) (calls : List (ℕ × Call)) (outcomes : List Outcome) : Type 0 where
+  -- There is one outcome for each call.
   pub count : length outcomes ≡ length calls
-  -- Vacuous if the disk assumption fails after the calls.
+  -- The calls refine a run of the model. Vacuous if the disk assumption fails after the calls.
   pub ran : HasCleanDisk (state g new) → (base : Base) → Represents g old base
       → (after : Base) × Represents g new after × Run base (map model_call calls) (map model_outcome outcomes) after
   -- Each fault is `Memory` or `Store`.
@@ -104,8 +110,8 @@ pub record RunPost {S : Type 0} (g : Ghosts S) (old new : Held S) (calls : List 
   pub same : HasCleanDisk (state g new) → IsTrue (state g new).is_open → OutcomesAcknowledgeNothing outcomes → WasOpenAndIsUnchanged (state g old) (state g new)
   -- The store is open after the calls only if it was open before.
   pub opened : HasCleanDisk (state g new) → IsTrue (state g new).is_open → IsTrue (state g old).is_open
-  -- Crash safety: a crash exposes a state that a crash before the calls could expose, or
-  -- recoverable trees.
+  -- Crash safety: a crash exposes a state that a crash before the calls could expose or, only if
+  -- the store was open, recoverable trees (`AreRecoverableTrees`).
   pub survives : Survives (state g old) (state g new) (MayBeExposedAfterRun g old calls outcomes)
   -- If some outcome is `Done`, a crash exposes only recoverable trees.
   pub durable : HasCleanDisk (state g new) → (base : Base) → Represents g old base → ¬ OutcomesAcknowledgeNothing outcomes
@@ -120,24 +126,29 @@ pub record RunPost {S : Type 0} (g : Ghosts S) (old new : Held S) (calls : List 
   pub in_form : AllByRecursion CallMeetsAuditFormats (map model_call calls)
 
 -- After the calls from `base` the store represents some base whose tables pass the audit of schema
--- 3 and add up, and each result that was accepted was taxed on exactly the shares that it closed
--- (`IsRunWithSumsAndTaxes`).
+-- 3, and whose broker totals, balances and summaries equal the sums of their rows. The row of each
+-- trade that an accepted `CompleteTrade` completed has the tax of its completion, on exactly the
+-- shares that it closed (`IsRunWithSumsAndTaxes`).
 abbrev pub ReachesAuditedState : {S : Type 0} → Ghosts S → Held S → Base → List (ℕ × Call) → List Outcome → Type 0
 ReachesAuditedState g new base calls outcomes = (after : Base) × Represents g new after × PassesAudit third_schema (sheets after) × IsRunWithSumsAndTaxes base (map model_call calls) (map model_outcome outcomes) after
 
 -- The guarantee of a run: under the disk assumption the calls reach an audited state
--- (`ReachesAuditedState`) from any base that the store represented (`kept`); from the empty base,
--- if the tables had no rows (`made`); and from the base that rows of any schema determine, if they
--- pass the audit of that schema, have texts in UTF-8, and the store held them upgraded to schema 3
+-- (`ReachesAuditedState`) from any base that the store represented (`kept`), from tables without
+-- rows (`made`), and from rows of any schema that pass their audit and were upgraded to schema 3
 -- (`adopted`).
 pub record RunGuarantee {S : Type 0} (g : Ghosts S) (old new : Held S) (calls : List (ℕ × Call)) (outcomes : List Outcome) : Type 0 where
+  -- From any base that the store represented.
   pub kept : HasCleanDisk (state g new) → (base : Base) → Represents g old base → ReachesAuditedState g new base calls outcomes
+  -- From the empty base, if the tables had no rows.
   pub made : HasCleanDisk (state g new) → HoldsRows g old tables_without_rows → ReachesAuditedState g new empty_base calls outcomes
+  -- From the base that the rows `rows` of any schema determine, if the store held these rows
+  -- upgraded to schema 3, and the rows before the upgrade pass the audit of their schema and have
+  -- texts in UTF-8.
   pub adopted : HasCleanDisk (state g new) → (schema : known.Schema) (rows : Tables) → HoldsRows g old (tables_upgraded_from_schema (abstract_schema schema) rows) → IsTrue (has_utf8_texts rows) → PassesAudit (abstract_schema schema) rows
       → ReachesAuditedState g new (base_of_tables rows) calls outcomes
 
--- The postcondition of an audit of the desk's store, which writes nothing. It never returns
--- `Damaged` if the store represents a base.
+-- The postcondition of an audit of the desk's store, which writes nothing. Under the disk
+-- assumption the audit never returns `Damaged` if the store represents a base (`passes`).
 pub record DeskAuditPost {S : Type 0} (g : Ghosts S) (old new : Held S) (result : Result (Unit {0}) Fault) : Type 0 where
   pub audited : AuditPost g old new result
   pub passes : HasCleanDisk (state g new) → (base : Base) → Represents g old base → OnAuditAnswer result (λ failing. failing ≡ None)

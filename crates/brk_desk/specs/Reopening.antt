@@ -28,12 +28,15 @@ pub record RepresentsDurableBase {S : Type 0} (g : Ghosts S) (store : Held S) (b
   pub keeps : Represents g store base
   pub alone : CrashStatesSatisfy g store (AreTreesOfRows (sheets base))
 
--- The connection was just opened over these trees.
+-- The connection is as one that was opened over `trees` and not used since: under the disk
+-- assumption it is open, no transaction is open on it, its current state is its committed state,
+-- and the trees of this state are `trees`.
 pub record IsJustOpened {S : Type 0} (g : Ghosts S) (trees : Trees) (conn : Held S) : Type 0 where
   pub over : IsOpenedOverTrees g trees conn
   pub opens : HasCleanDisk (state g conn) → Opens (state g conn)
 
--- The connection was just opened over a state that a crash of the store `left` may expose.
+-- The connection is as one that was just opened (`IsJustOpened`) over a state of the disk that a
+-- crash in the state `left` of a store may expose.
 abbrev pub IsReopenedAfterCrash : {S : Type 0} → Ghosts S → Held S → Held S → Type 0
 IsReopenedAfterCrash g left conn = (trees : Trees) × (state g left).may_leave trees × IsJustOpened g trees conn
 

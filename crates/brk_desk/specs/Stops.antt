@@ -8,14 +8,15 @@ use Rattle.brk_model.specs.Keyed.{keyed_step}
 use Rattle.brk_model.specs.Records.{Key}
 use Rattle.brk_model.specs.Run.{Call, Do, Outcome, Did, Failed, Run}
 
--- The outcome acknowledges no change: it is any outcome other than `Done`.
+-- The outcome acknowledges no change: it is any outcome other than `Done`, that is, `Did` with the
+-- answer `Done`.
 abbrev pub AcknowledgesNothing : Outcome → Type 0
 AcknowledgesNothing (Did (Done reply)) = ⊥
 AcknowledgesNothing _ = Unit {0}
 
--- One of the calls is a command that returned a fault, no outcome after it is `Done`, and `after`
--- is the base after this command is executed after the calls before it, which run from `base` with
--- their outcomes.
+-- One of the calls is a command that returned a fault, and no outcome after it is `Done`. The calls
+-- before this command run from `base` with their outcomes, and `after` is the base after the
+-- command is then executed in spite of its fault. The calls after it add no change to `after`.
 pub record HasUnacknowledgedCommand (base : Base) (calls : List (ℕ × Call)) (outcomes : List Outcome) (after : Base) : Type 0 where
   -- The calls before the command, the command with its clock reading and its key, and the calls
   -- after it.
@@ -25,10 +26,13 @@ pub record HasUnacknowledgedCommand (base : Base) (calls : List (ℕ × Call)) (
   pub key : Rattle.std.specs.Prelude.Option Key
   pub later : List (ℕ × Call)
   pub calls_are : calls ≡ earlier ++ (now, Do command key) ∷ later
+  -- The outcomes of the calls before the command, its fault, and the outcomes of the calls after
+  -- it.
   pub told : List Outcome
   pub fault : Fault
   pub rest : List Outcome
   pub outcomes_are : outcomes ≡ told ++ Failed fault ∷ rest
+  -- The base before the command, which the calls before it reach.
   pub before : Base
   pub ran : Run base earlier told before
   pub quiet : AllByRecursion AcknowledgesNothing rest

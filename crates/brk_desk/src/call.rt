@@ -19,14 +19,14 @@ pub enum Call {
 /// The outcome of a call.
 #[derive(Drop)]
 pub enum Outcome {
-    /// The command was answered.
+    /// The answer of the command: `Done`, `Again` or `Refused`.
     Did(Answer),
     /// The view of the query.
     Saw(View),
     /// The query was refused.
     NoView(Refusal),
-    /// The call failed. The open store is unchanged, but a crash may still find a command
-    /// committed.
+    /// The call failed. The open store is unchanged, but if the call was a command, a crash may
+    /// still expose it as committed.
     Failed(Fault),
 }
 

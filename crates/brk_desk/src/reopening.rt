@@ -1,4 +1,4 @@
-//! Theorem: every state that a crash exposes is adopted without damage.
+//! Theorem: the adoption of a state that a crash exposes never reports damage.
 
 ghost use Rattle.std.specs.Prelude.{◌≡◌, ◌⊎◌, ℕ, List, None, Ok, Option, Result, map};
 ghost use Rattle.sqlite.specs.Held.{Held, state};
@@ -37,9 +37,11 @@ use sqlite::Alter;
 /// `StoreNamesImplyDefinitions`, the store represents the base that its rows determine, and a crash
 /// exposes only the tables of this base.
 ///
-/// `call`, `run`: after a crash in a call or in a run of such a store, the adopted store represents
-/// the base with every acknowledged command, or with one command more (`MayBeRecovered`). A crash
-/// then exposes only the tables of this base, so these two hold again after each further crash.
+/// `call`, `run`: let the store represent a base, and let a crash expose only the tables of this
+/// base (`RepresentsDurableBase`), as after `made` or `adopted`. After a crash that follows a call
+/// or a run of this store, the adopted store represents the base with every acknowledged command,
+/// or with one command more (`MayBeRecovered`). A crash then exposes only the tables of the base
+/// that it represents, so these two clauses apply again after each further crash.
 ///
 /// `making`: after a crash in the creation of the tables, the adopted store represents the empty
 /// base, unless a crash before the creation could expose the state; of such a state nothing is

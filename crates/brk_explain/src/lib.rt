@@ -1,4 +1,5 @@
-//! Explains a trade or an account of a desk: writes the derivation of its amounts.
+//! Explains a trade, an account, a holding or a broker of a desk: writes the derivation of its
+//! amounts.
 #![tactic(auto)]
 
 pub mod explaining;
@@ -7,5 +8,5 @@ pub mod sections;
 pub mod visitors;
 
 pub use brk_report_lines::ReportFault;
-pub use explaining::explain;
+pub use explaining::write_explanation;
 pub use parse::{Explain, parse_explain_request};

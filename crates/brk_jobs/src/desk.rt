@@ -14,7 +14,7 @@ use std::io::{Read, Write};
 
 // Executes a job on an open desk, and returns the outcome. Nothing remains to be done for an audit,
 // which passed when the desk was opened.
-fn execute_at_desk<R: Read + Drop, W: Write, S: Alter>(
+fn execute_job_at_desk<R: Read + Drop, W: Write, S: Alter>(
     rt: &HostRuntime,
     desk: &mut Desk<S>,
     job: &Job,
@@ -61,7 +61,7 @@ fn execute_at_desk<R: Read + Drop, W: Write, S: Alter>(
 // Executes a job on the desk of a store, and returns the outcome and the store. Each call of a
 // function over any store, at a store of files, takes the prover some twenty seconds, so this crate
 // has one such call, of this function.
-fn execute_at_store<R: Read + Drop, W: Write, S: Alter>(
+fn execute_job_at_store<R: Read + Drop, W: Write, S: Alter>(
     rt: &HostRuntime,
     store: Store<S>,
     job: &Job,
@@ -69,13 +69,13 @@ fn execute_at_store<R: Read + Drop, W: Write, S: Alter>(
     output: &mut W,
 ) -> (Ending, Store<S>) {
     let mut desk = Desk::new(store);
-    let ending = execute_at_desk(rt, &mut desk, job, input, output);
+    let ending = execute_job_at_desk(rt, &mut desk, job, input, output);
     (ending, desk.into_store())
 }
 
 /// Executes a job on the desk in a file that was opened, closes the file and returns the outcome.
 /// If the file could not be opened, returns its fault.
-pub(crate) fn execute_in_file<R: Read + Drop, W: Write>(
+pub(crate) fn execute_job_in_file<R: Read + Drop, W: Write>(
     rt: &HostRuntime,
     opened: Result<FileDesk, Fault>,
     job: &Job,
@@ -84,7 +84,7 @@ pub(crate) fn execute_in_file<R: Read + Drop, W: Write>(
 ) -> Ending {
     match opened {
         Ok(store) => {
-            let (ending, store) = execute_at_store(rt, store, job, input, output);
+            let (ending, store) = execute_job_at_store(rt, store, job, input, output);
             merge_close_result(ending, file::close(store))
         }
         Err(fault) => Ending::Open(fault),
@@ -92,7 +92,7 @@ pub(crate) fn execute_in_file<R: Read + Drop, W: Write>(
 }
 
 /// Executes a job on a new desk in memory, and returns the outcome.
-pub(crate) fn execute_in_memory<R: Read + Drop, W: Write>(
+pub(crate) fn execute_job_in_memory<R: Read + Drop, W: Write>(
     rt: &HostRuntime,
     job: &Job,
     input: R,
@@ -103,7 +103,7 @@ pub(crate) fn execute_in_memory<R: Read + Drop, W: Write>(
     };
     match Store::create(conn) {
         Ok(store) => {
-            let (ending, _store) = execute_at_store(rt, store, job, input, output);
+            let (ending, _store) = execute_job_at_store(rt, store, job, input, output);
             ending
         }
         Err((_, fault)) => Ending::Open(fault),

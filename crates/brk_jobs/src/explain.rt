@@ -1,7 +1,7 @@
 use crate::borrowed::bytes_of_arguments;
 use brk_desk::Desk;
 use brk_exit::Ending;
-use brk_explain::{ReportFault, explain, parse_explain_request};
+use brk_explain::{ReportFault, parse_explain_request, write_explanation};
 use brk_money::Fault;
 use sqlite::Alter;
 use std::alloc::Global;
@@ -18,11 +18,12 @@ pub(crate) fn execute_explain_job<S: Alter, W: Write>(
     let Ok(words) = bytes_of_arguments(alloc, words) else {
         return Ending::Open(Fault::Memory);
     };
-    let what = match parse_explain_request(&words) {
-        Ok(what) => what,
-        Err(refusal) => return Ending::Report(ReportFault::Refused(refusal)),
+    let what = match parse_explain_request(alloc, &words) {
+        Ok(Ok(what)) => what,
+        Ok(Err(refusal)) => return Ending::Report(ReportFault::Refused(refusal)),
+        Err(fault) => return Ending::Open(fault),
     };
-    match explain(alloc, desk, what, output) {
+    match write_explanation(alloc, desk, &what, output) {
         Ok(()) => Ending::Done,
         Err(fault) => Ending::Report(fault),
     }

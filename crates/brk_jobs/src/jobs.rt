@@ -1,5 +1,5 @@
 use crate::audit::write_audit_ok;
-use crate::desk::{execute_in_file, execute_in_memory};
+use crate::desk::{execute_job_in_file, execute_job_in_memory};
 use brk_args::{Job, UsageFault, read_words};
 use brk_exit::Ending;
 use brk_files as file;
@@ -54,15 +54,15 @@ fn execute_job<R: Read + Drop, W: Write>(
     output: &mut W,
 ) -> Ending {
     let ending = match place_of_job(job) {
-        Place::Memory => execute_in_memory(rt, job, input, output),
-        Place::Made(path) => execute_in_file(
+        Place::Memory => execute_job_in_memory(rt, job, input, output),
+        Place::Made(path) => execute_job_in_file(
             rt,
             file::open_or_create(rt, path),
             job,
             input,
             output,
         ),
-        Place::Kept(path) => execute_in_file(rt, file::open(rt, path), job, input, output),
+        Place::Kept(path) => execute_job_in_file(rt, file::open(rt, path), job, input, output),
     };
     match (job, ending) {
         (Job::Audit { .. }, Ending::Done) => write_audit_ok(output),

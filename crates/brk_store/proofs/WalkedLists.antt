@@ -13,23 +13,27 @@ use Rattle.sqlite_value.proofs.OrderLemmas.{value_cmp-Int}
 use Rattle.sqlite_trees.specs.declared.store.Store.{Ghosts}
 use Rattle.sqlite.specs.Effect.{Database}
 use Rattle.sqlite.specs.Held.{Held, state}
-use Rattle.brk_changes.specs.Rows.{abstract_holding_row, abstract_move_row}
+use Rattle.brk_changes.specs.Rows.{abstract_holding_row, abstract_move_row, abstract_trade_row}
 use Rattle.brk_changes.specs.declared.move_row.MoveRow as row
 use Rattle.brk_changes.specs.declared.holding_row.HoldingRow as holding
+use Rattle.brk_changes.specs.declared.trade_row.TradeRow as trade
 use Rattle.brk_model.specs.Keys.{word, rows_sorted_by_key, is_row_key_less}
-use Rattle.brk_model.specs.Lists.{insert_by, sort_by, is_text_less}
+use Rattle.brk_model.specs.Joins.{trade_rows_oldest_first}
+use Rattle.brk_model.specs.Lists.{insert_by, is_pair_less, sort_by, sort_by_key, is_text_less}
 use Rattle.brk_model.specs.Statement.{lot_rows_of_account}
-use Rattle.brk_model.specs.Tables.{HoldingRow, MoveRow, Tables}
+use Rattle.brk_model.specs.Tables.{AccountRow, HoldingRow, MoveRow, Tables, TradeRow}
+use Rattle.brk_money.specs.Kinds.{is_same_trade_status}
+use Rattle.brk_money.specs.declared.status.Status.TheVariants.{Completed}
 use Rattle.brk_sql.specs.Rows.{IsStrictlyAscending}
-use Rattle.brk_tables_schema.specs.Desk.{CashMoves, Holdings, order}
+use Rattle.brk_tables_schema.specs.Desk.{Accounts, CashMoves, Holdings, Trades, order}
 use Rattle.brk_tables_schema.specs.Made.{HasRows}
 use Rattle.brk_book_theorems.proofs.Bools.{same_text, texts_back}
 use Rattle.brk_book_theorems.proofs.LotReading.{All-sort}
-use Rattle.brk_book_theorems.proofs.Order.{by_key-filter, key_total}
-use Rattle.brk_tables_walks.specs.Lists.{cash_rows_between, lots_by_symbol, cash_sort_key, lot_sort_key}
+use Rattle.brk_book_theorems.proofs.Order.{by_key-filter, key_total, nat_one_way, nat_splits, sort_filter}
+use Rattle.brk_tables_walks.specs.Lists.{cash_rows_between, completed_trades_by_stamp_and_id, lots_by_symbol, cash_sort_key, lot_sort_key, stamp_and_id_key}
 use Rattle.brk_tables_walks.specs.Walks.{TableWalkPost}
 use Rattle.brk_tables_walks.specs.declared.walking.WalkError.{WalkError}
-use Rattle.brk_store.specs.Walked.{WalkPost, cash_rows_in_span}
+use Rattle.brk_store.specs.Walked.{WalkPost, cash_rows_in_span, completed_trades_by_stamp}
 use Rattle.brk_store.proofs.Walking.{is_walked}
 
 -- ---- rows that stand by a number need no more of it in their order
@@ -135,6 +139,34 @@ cash_same account from to t climb =
     (λ x y k. cash_tie (nat_lt y.stamp x.stamp) (nat_lt x.stamp y.stamp) (nat_lt y.id x.id) (nat_lt x.id y.id) (not_above x.id y.id k))
     (climb_filter (λ (r : MoveRow). r.id) mine t.moves climb))
 
+-- ---- completed trades
+
+pub completed_same : (t : Tables) → Climb (λ r. r.id) t.trades → completed_trades_by_stamp_and_id t ≡ completed_trades_by_stamp t
+completed_same t climb =
+    let done = λ (r : TradeRow). is_same_trade_status r.status Completed in
+    sort_same (λ (r : TradeRow). r.id) (is_row_key_less stamp_and_id_key) (λ a b. nat_lt a.stamp b.stamp) (filter done t.trades)
+    (λ x y k. cash_tie (nat_lt y.stamp x.stamp) (nat_lt x.stamp y.stamp) (nat_lt y.id x.id) (nat_lt x.id y.id) (not_above x.id y.id k))
+    (climb_filter (λ (r : TradeRow). r.id) done t.trades climb)
+
+-- the first stamp decides, as numbers climb
+old_tie : (a e p : Bool) → p ≡ false → a || (e && p) ≡ a
+old_tie true e p k = refl
+old_tie false true p k = k
+old_tie false false p k = refl
+
+pub oldest_same : (q : TradeRow → Bool) (t : Tables) → Climb (λ r. r.id) t.trades → trade_rows_oldest_first (filter q t.trades) ≡ sort_by_key (λ (r : TradeRow). r.stamp) (filter q t.trades)
+oldest_same q t climb =
+    sort_same (λ (r : TradeRow). r.id) (λ a b. is_pair_less a.stamp b.stamp a.id b.id) (λ a b. nat_lt a.stamp b.stamp) (filter q t.trades)
+    (λ x y k. old_tie (nat_lt y.stamp x.stamp) (y.stamp == x.stamp) (nat_lt y.id x.id) (not_above x.id y.id k))
+    (climb_filter (λ (r : TradeRow). r.id) q t.trades climb)
+
+-- completed trades that pass a test
+pub completed_filter : (q : TradeRow → Bool) (t : Tables) → filter q (completed_trades_by_stamp t) ≡ sort_by_key (λ (r : TradeRow). r.stamp) (filter (λ r. is_same_trade_status r.status Completed && q r) t.trades)
+completed_filter q t =
+    let done = λ (r : TradeRow). is_same_trade_status r.status Completed in
+    sym (sort_filter (λ (a b : TradeRow). nat_lt a.stamp b.stamp) q (filter done t.trades) (λ x y z. nat_splits x.stamp y.stamp z.stamp) (λ x y. nat_one_way x.stamp y.stamp))
+    ∙ ap (sort_by_key (λ (r : TradeRow). r.stamp)) (sym (filter_both done q t.trades))
+
 -- ---- tables of a database climb
 
 less_number : (m n : ℕ) → slice_cmp value_cmp (Int (pos m) ∷ []) (Int (pos n) ∷ []) ≡ Less → nat_lt m n ≡ true
@@ -156,6 +188,12 @@ holdings_climb t db has = climbs (λ (r : HoldingRow). r.trade) (order Holdings)
 pub moves_climb : (t : Tables) (db : Database) → HasRows t db → Climb (λ r. r.id) t.moves
 moves_climb t db has = climbs (λ (r : MoveRow). r.id) (order CashMoves) (λ x y k. less_number x.id y.id k) t.moves (has.1.rows CashMoves).rising
 
+pub trades_climb : (t : Tables) (db : Database) → HasRows t db → Climb (λ r. r.id) t.trades
+trades_climb t db has = climbs (λ (r : TradeRow). r.id) (order Trades) (λ x y k. less_number x.id y.id k) t.trades (has.1.rows Trades).rising
+
+pub accounts_climb : (t : Tables) (db : Database) → HasRows t db → Climb (λ r. r.id) t.accounts
+accounts_climb t db has = climbs (λ (r : AccountRow). r.id) (order Accounts) (λ x y k. less_number x.id y.id k) t.accounts (has.1.rows Accounts).rising
+
 -- ---- walks of a store
 
 pub lots_walked : {S V E : Type 0} (g : Ghosts S) (old new : Held S) (account : ℕ) (takes : V → holding.HoldingRow → V → Type 0) (stops : V → holding.HoldingRow → E → V → Type 0) (before after : V) (result : Result (Unit {0}) (WalkError E))
@@ -167,3 +205,8 @@ pub cash_walked : {S V E : Type 0} (g : Ghosts S) (old new : Held S) (account fr
     → TableWalkPost g old new abstract_move_row (cash_rows_between account from to) takes stops before after result → WalkPost g old new abstract_move_row (cash_rows_in_span account from to) takes stops before after result
 cash_walked g old new account from to takes stops before after result w =
     is_walked g old new abstract_move_row (cash_rows_between account from to) (cash_rows_in_span account from to) takes stops before after (λ t has. cash_same account from to t (moves_climb t (state g old).now has)) result w
+
+pub completed_walked : {S V E : Type 0} (g : Ghosts S) (old new : Held S) (takes : V → trade.TradeRow → V → Type 0) (stops : V → trade.TradeRow → E → V → Type 0) (before after : V) (result : Result (Unit {0}) (WalkError E))
+    → TableWalkPost g old new abstract_trade_row completed_trades_by_stamp_and_id takes stops before after result → WalkPost g old new abstract_trade_row completed_trades_by_stamp takes stops before after result
+completed_walked g old new takes stops before after result w =
+    is_walked g old new abstract_trade_row completed_trades_by_stamp_and_id completed_trades_by_stamp takes stops before after (λ t has. completed_same t (trades_climb t (state g old).now has)) result w

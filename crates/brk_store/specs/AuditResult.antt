@@ -7,9 +7,9 @@ use Rattle.brk_store.specs.Audited.{IsAuditOfStoredRows, IsAuditOfDatabase}
 use Rattle.brk_store.specs.declared.examining.AuditResult.{AuditResult}
 use Rattle.brk_store.specs.declared.examining.AuditResult.TheVariants.{Passes, Fails}
 
--- What the result of an audit claims of the database is true. `Passes schema`: the database has
--- rows of `schema`, with texts in UTF-8, and the audit by the conditions of `schema` finds no
--- condition that they fail. `Fails failing`: `failing` is the answer of an audit of the database
+-- The statement that the result of an audit makes about the database is true. `Passes schema`: the
+-- database has rows of `schema`, with texts in UTF-8, and they pass the audit by the conditions of
+-- `schema`. `Fails failing`: an audit of the database returns the condition `failing`
 -- (`IsAuditOfDatabase`).
 abbrev pub IsTrueAuditResult : AuditResult → Database → Type 0
 IsTrueAuditResult (Passes schema) db = (t : Tables) × IsAuditOfStoredRows (abstract_schema schema) t db None

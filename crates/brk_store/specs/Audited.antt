@@ -1,4 +1,9 @@
--- Answers of an audit of a database, and the postconditions of an audit and of an adoption.
+-- Answers of an audit of a database, and the postconditions of an audit and of an adoption. In this
+-- file a desk of a database is a set of tables, not a `Desk`: a database has a desk of a schema if
+-- it has the tables of this schema by their names and columns, none that a later schema adds, and
+-- one row of DESK, with the number of the schema (`HasDesk`). A clause with the premise
+-- `HasCleanDisk` for the new state, and the promise on crashes in `survives`, are vacuous if the
+-- disk assumption fails after the call.
 use Rattle.std.specs.Prelude.{◌≡◌, ◌≢◌, ◌⊎◌, ⊤, Option, Some, None, Result, Ok, Err, OnOk, OnErr, IsTrue}
 use Rattle.sqlite_trees.specs.declared.store.Store.{Ghosts}
 use Rattle.sqlite_trees.specs.Tree.{Trees}
@@ -30,23 +35,24 @@ use Rattle.brk_store.specs.Holds.{AreTreesOfRows, HoldsRows, WasOpenAndIsUnchang
 -- ---- answers of an audit
 
 -- The database `db` contains the tables of `schema` with the rows `t`, whose texts are UTF-8, and
--- `answer` is the audit of `t` by the conditions of `schema`: the first condition that fails, or
--- `None`.
+-- `answer` is the result of the audit of `t` by the conditions of `schema`: the first condition
+-- that fails, or `None`.
 abbrev pub IsAuditOfStoredRows : Schema → Tables → Database → Option Condition → Type 0
 IsAuditOfStoredRows schema t db answer = HasRowsInSchema schema t db × IsTrue (has_utf8_texts t) × IsAuditResult schema t answer
 
--- `answer` is what an audit of the database `db` by the one schema `schema` returns: the first
+-- `answer` is the result of an audit of the database `db` by the one schema `schema`: the first
 -- condition that fails, or `None` if the rows pass.
 abbrev pub IsAuditBySchema : Schema → Database → Option Condition → Type 0
--- No audit answers `NotEmpty`, which only a creation returns.
+-- No audit returns `NotEmpty`, which only a creation returns.
 IsAuditBySchema schema db (Some condition.NotEmpty) = ⊥
 -- The database has no desk of the schema.
 IsAuditBySchema schema db (Some condition.Schema) = ¬ HasDesk schema db
--- The database has a desk of the schema, and the audit of any rows that it has, with texts in
--- UTF-8, answers `Form`.
+-- The database has a desk of the schema, and the audit of all rows `t` that it contains with texts
+-- in UTF-8 returns `Form`. So `Form` is the answer, too, if it contains no such rows, for example
+-- because a text is not UTF-8.
 IsAuditBySchema schema db (Some condition.Form) =
     HasDesk schema db × ((t : Tables) → HasRowsInSchema schema t db → IsTrue (has_utf8_texts t) → IsAuditResult schema t (Some condition.Form))
--- The answer is the audit of the rows that the database has.
+-- Any other answer, `None` included, is the result of the audit of rows that the database has.
 IsAuditBySchema schema db answer = (t : Tables) × IsAuditOfStoredRows schema t db answer
 
 -- The database has a desk of the given schema. For `None`: it has a desk of no schema.
@@ -54,9 +60,9 @@ abbrev pub IsDeskSchema : Option known.Schema → Database → Type 0
 IsDeskSchema (Some schema) db = HasDesk (abstract_schema schema) db
 IsDeskSchema None db = (schema : known.Schema) → ¬ HasDesk (abstract_schema schema) db
 
--- `answer` is what an audit of the database `db` returns that audits its desk by the conditions of
--- the desk's own schema. `NotEmpty` is never the answer; `Schema` is the answer if there is no desk
--- of any schema.
+-- `answer` is the result of an audit of the database `db` by the conditions of the schema of which
+-- it has a desk. `NotEmpty` is never the answer. `Schema` is the answer if there is no desk of any
+-- schema.
 abbrev pub IsAuditOfDatabase : Database → Option Condition → Type 0
 IsAuditOfDatabase db (Some condition.NotEmpty) = ⊥
 IsAuditOfDatabase db (Some condition.Schema) = IsDeskSchema None db
@@ -110,8 +116,8 @@ pub record AuditPost {S : Type 0} (g : Ghosts S) (old new : Held S) (result : Re
 
 -- Rows of some schema in the database `db` pass the audit of this schema, and the database `after`
 -- contains the tables of schema 3 with the tables of the base that these rows determine. The other
--- tables of `db` still exist in `after`, with their rows unless a foreign key of their own writes
--- them.
+-- tables of `db` still exist in `after`, with their rows, unless a foreign key of their own changes
+-- or deletes these rows by CASCADE, SET NULL or SET DEFAULT.
 abbrev pub UpgradesPassingRows : Database → Database → Type 0
 UpgradesPassingRows db after =
     (schema : known.Schema) × (t : Tables) × (passed : IsAuditOfStoredRows (abstract_schema schema) t db None) × HasRows (sheets (base_of_tables t)) after × PreservesTablesOutside (IsTableOfSchema (abstract_schema schema)) passed.0.0 db after
@@ -150,7 +156,8 @@ pub record AdoptPost {S : Type 0} (g : Ghosts S) (old new : Held S) (result : Re
 
 -- The abstraction relation: the store holds the tables of `base`, and `base` satisfies the books
 -- invariant and the audit invariant and has texts in UTF-8. The clause on the rows is vacuous if
--- the disk assumption fails, or once the store is closed.
+-- the disk assumption fails, or once the store is closed; then the store represents every base that
+-- satisfies the other clauses.
 pub record Represents {S : Type 0} (g : Ghosts S) (store : Held S) (base : Base) : Type 0 where
   pub rows : HoldsRows g store (sheets base)
   pub books : BooksInvariant base

@@ -1,4 +1,7 @@
--- The rows that a store holds, and the postconditions of its calls.
+-- The rows that a store holds, and the postconditions of its calls. A store, its connection and its
+-- database are open if `is_open` of their state is true. A clause with the premise `HasCleanDisk`
+-- for the new state, and the promise on crashes in `survives`, are vacuous if the disk assumption
+-- fails after the call.
 use Rattle.std.specs.Prelude.{◌≡◌, ◌⊎◌, ℕ, true, false, Result, Err, IfOk, OnOk, OnErr, IsTrue}
 use Rattle.sqlite_trees.specs.declared.store.Store.{Ghosts}
 use Rattle.sqlite_trees.specs.Tree.{Trees}
@@ -14,8 +17,8 @@ use Rattle.brk_tables_schema.specs.Desk.{Which, desk}
 use Rattle.brk_tables_schema.specs.Made.{HasRows}
 use Rattle.brk_tables_create.specs.Present.{has_table_of_desk}
 
--- The database of `store` contains all tables of a desk with exactly the rows `t`. Vacuous if the
--- disk assumption fails (`HasCleanDisk`), or once the store is closed.
+-- The database of `store` contains all tables of a desk in schema 3, with exactly the rows `t`.
+-- Vacuous if the disk assumption fails (`HasCleanDisk`), or once the store is closed.
 abbrev pub HoldsRows : {S : Type 0} → Ghosts S → Held S → Tables → Type 0
 HoldsRows g store t = HasCleanDisk (state g store) → IsTrue (state g store).is_open → HasRows t (state g store).now
 
@@ -24,18 +27,18 @@ HoldsRows g store t = HasCleanDisk (state g store) → IsTrue (state g store).is
 abbrev pub AreTreesOfRows : Tables → Trees → Type 0
 AreTreesOfRows t trees = (db : Database) × HasRows t db × (trees ≡ db.trees)
 
--- Every state of the disk that a crash may expose now satisfies `P`.
+-- Every state of the disk that a crash in this state of the store may expose satisfies `P`.
 abbrev pub CrashStatesSatisfy : {S : Type 0} → Ghosts S → Held S → (Trees → Type 0) → Type 0
 CrashStatesSatisfy g store P = (trees : Trees) → (state g store).may_leave trees → P trees
 
--- The database `old` was open, and neither its current nor its committed state differs in `new`.
+-- The state `old` is open, and the state `new` has its current and its committed database.
 pub record WasOpenAndIsUnchanged (old new : State) : Type 0 where
   pub was_open : IsTrue old.is_open
   pub now : new.now ≡ old.now
   pub committed : new.committed ≡ old.committed
 
--- The postcondition of a call that reads and writes nothing. `Told` is the relation between the
--- returned value and the rows.
+-- The postcondition of a read, which writes nothing. `Told` is the relation between the returned
+-- value and the rows.
 pub record ReadPost {S V E : Type 0} (g : Ghosts S) (old new : Held S) (result : Result V E) (Told : V → Tables → Type 0) : Type 0 where
   -- A returned value satisfies `Told` with the rows that the store held. Vacuous if the disk
   -- assumption fails after the call.
@@ -56,7 +59,8 @@ pub record ApplyPost {S V E : Type 0} (g : Ghosts S) (old new : Held S) (result 
   -- At `Ok` the store was open, is open, and has committed its current state.
   pub opened : HasCleanDisk (state g new) → OnOk result (IsTrue (state g old).is_open × IsTrue (state g new).is_open × ((state g new).committed ≡ (state g new).now))
   -- At `Ok` the database schema is unchanged. The rows of each table that is not the desk's are
-  -- unchanged too, unless a foreign key of that table acts on them.
+  -- unchanged too, unless a foreign key of that table changes or deletes them by CASCADE, SET NULL
+  -- or SET DEFAULT.
   pub others : HasCleanDisk (state g new) → OnOk result ((t : Tables) (tree : Which → ℕ) → HasTables desk t tree (state g old).now → PreservesUnrelatedTables tree (state g old).now (state g new).now)
   -- At an error the store holds the rows that it held before.
   pub kept : OnErr result ((t : Tables) → HoldsRows g old t → HoldsRows g new t)
@@ -74,13 +78,14 @@ pub record CreatePost {S : Type 0} (g : Ghosts S) (old new : Held S) (result : R
   pub made : OnOk result (HoldsRows g new tables_without_rows)
   -- At `Ok` the store was open, is open, and has committed its current state.
   pub opened : HasCleanDisk (state g new) → OnOk result (IsTrue (state g old).is_open × IsTrue (state g new).is_open × ((state g new).committed ≡ (state g new).now))
-  -- At `Ok` none of the tables existed.
+  -- At `Ok` no table with the name of a desk's table existed.
   pub absent : HasCleanDisk (state g new) → OnOk result (has_table_of_desk (state g old).now.schema ≡ false)
   -- At `Ok` each table that existed still exists, with its rows.
   pub others : HasCleanDisk (state g new) → OnOk result (PreservesAllTables (state g old).now (state g new).now)
-  -- The error is `Damaged(NotEmpty)` only if one of the tables existed.
+  -- The error is `Damaged(NotEmpty)` only if a table with the name of a desk's table existed.
   pub taken : HasCleanDisk (state g new) → result ≡ Err (Damaged NotEmpty) → has_table_of_desk (state g old).now.schema ≡ true
-  -- If one of the tables existed, the error is `Damaged(NotEmpty)`, or `Store`.
+  -- If a table with the name of a desk's table existed, the error is `Damaged(NotEmpty)`, or
+  -- `Store`.
   pub occupied : HasCleanDisk (state g new) → has_table_of_desk (state g old).now.schema ≡ true
       → (result ≡ Err (Damaged NotEmpty)) ⊎ (result ≡ Err Store)
   -- At an error: if the database is open after the call, it was open before and is unchanged.
@@ -90,8 +95,9 @@ pub record CreatePost {S : Type 0} (g : Ghosts S) (old new : Held S) (result : R
   -- At `Ok` a crash exposes only the tables without rows.
   pub durable : HasCleanDisk (state g new) → OnOk result (CrashStatesSatisfy g new (AreTreesOfRows tables_without_rows))
 
--- The connection was opened over `trees`: under the disk assumption it is live, and its database
--- has these trees.
+-- The connection was opened over `trees`. Under the disk assumption it is live, that is, its
+-- current and its committed state are well-formed databases if it is open, and the trees of its
+-- current state are `trees`.
 pub record IsOpenedOverTrees {S : Type 0} (g : Ghosts S) (trees : Trees) (conn : Held S) : Type 0 where
   pub live : HasCleanDisk (state g conn) → IsLive (state g conn)
   pub same : HasCleanDisk (state g conn) → (state g conn).now.trees ≡ trees

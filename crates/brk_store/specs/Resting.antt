@@ -18,7 +18,8 @@ borrowed_store p = p.store
 abbrev pub number_of_rows_read : {S P : Type 0} → Pages S P → ℕ
 number_of_rows_read p = p.read
 
--- The lots `ls` are exactly those that the source has yet to return, if the rows of its store are
--- some `t`. Such a `t` exists.
+-- For some rows `t` that the store of the source holds, `ls` are exactly the lots that the source
+-- has yet to return. Any rows `t` count as held if the disk assumption fails, or once the store is
+-- closed.
 abbrev pub AreRemainingLots : {S : Type 0} → Ghosts S → Pages S Page → List Lot → Type 0
 AreRemainingLots g p ls = (t : Tables) × HoldsRows g p.store.now t × (ls ≡ remaining_page_lots (drop p.page.given p.page.rows.items) p.ended p.read (lot_rows_from_end p.lifo p.account p.symbol.now t))

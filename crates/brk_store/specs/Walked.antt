@@ -1,11 +1,16 @@
--- The postconditions of the walks of a store.
+-- The postconditions of the walks of a store. A clause with the premise `HasCleanDisk` for the new
+-- state, and the promise on crashes in `survives`, are vacuous if the disk assumption fails after
+-- the call.
 use Rattle.std.specs.Prelude.{◌≡◌, ℕ, ◌&&◌, List, ◌++◌, filter, nat_le, Result, Ok, Err, OnOk, IfErr, IsTrue}
 use Rattle.sqlite_trees.specs.declared.store.Store.{Ghosts}
 use Rattle.sqlite.specs.Held.{Held, state}
 use Rattle.sqlite.specs.State.{HasCleanDisk, Survives}
 use Rattle.brk_money.specs.declared.fault.Fault.{Fault}
+use Rattle.brk_model.specs.Lists.{sort_by_key}
 use Rattle.brk_model.specs.Statement.{cash_move_rows_of_account}
-use Rattle.brk_model.specs.Tables.{Tables, MoveRow}
+use Rattle.brk_model.specs.Tables.{Tables, MoveRow, TradeRow}
+use Rattle.brk_money.specs.Kinds.{is_same_trade_status}
+use Rattle.brk_money.specs.declared.status.Status.TheVariants.{Completed}
 use Rattle.brk_tables_walks.specs.Walk.{IsWalkError}
 use Rattle.brk_tables_walks.specs.Walks.{StopsBeforeEnd, TakesInOrder}
 use Rattle.brk_tables_walks.specs.declared.walking.WalkError.{WalkError}
@@ -17,6 +22,10 @@ use Rattle.brk_store.specs.Holds.{HoldsRows, WasOpenAndIsUnchanged}
 abbrev pub cash_rows_in_span : ℕ → ℕ → ℕ → Tables → List MoveRow
 cash_rows_in_span account from to t = filter (λ r. nat_le from r.stamp && nat_le r.stamp to) (cash_move_rows_of_account t account)
 
+-- The completed trades of all accounts, sorted by the stamp of completion, ascending.
+abbrev pub completed_trades_by_stamp : Tables → List TradeRow
+completed_trades_by_stamp t = sort_by_key (λ r. r.stamp) (filter (λ r. is_same_trade_status r.status Completed) t.trades)
+
 -- The records `all` equal the whole `list` of the rows that the store holds.
 abbrev pub IsWholeStoredList : {S M : Type 0} → Ghosts S → Held S → (Tables → List M) → List M → Type 0
 IsWholeStoredList g store list all = (t : Tables) → HoldsRows g store t → all ≡ list t
@@ -26,7 +35,7 @@ abbrev pub IsPrefixOfStoredList : {S M : Type 0} → Ghosts S → Held S → (Ta
 IsPrefixOfStoredList {S} {M} g store list first = (t : Tables) → HoldsRows g store t → (rest : List M) × (first ++ rest ≡ list t)
 
 -- The postcondition of a walk, which passes the records of a list to a visitor, one at a time and
--- in order, until the visitor stops.
+-- in order, until the last record, an error of the visitor or a fault.
 pub record WalkPost {S X M V E : Type 0} (g : Ghosts S) (old new : Held S) (of : X → M) (list : Tables → List M) (takes : V → X → V → Type 0) (stops : V → X → E → V → Type 0)
     (before after : V) (result : Result (Unit {0}) (WalkError E)) : Type 0 where
   -- At `Ok` the visitor has taken every record.
@@ -55,7 +64,8 @@ MatchesWalkResult {E} gives (Err (Failed fault)) result = (e : E) × (result ≡
 
 -- The closure was called with the records of the list, in order, one at a time, until it returned
 -- an error or the walk failed. The result is `Ok` after the last record, the closure's error, or an
--- error that `gives` relates to the fault. All this as `WalkPost` specifies a walk.
+-- error that `gives` relates to the fault. The calls satisfy `WalkPost`, with the closure as the
+-- visitor.
 abbrev pub CallsClosureOnEach : {S X M F E : Type 0} → Ghosts S → Held S → Held S → (X → M) → (Tables → List M) → (F → X → Result (Unit {0}) E → F → Type 0) → (Fault → E → Type 0) → F → Result (Unit {0}) E → Type 0
 CallsClosureOnEach {S} {X} {M} {F} {E} g old new of list called gives call result =
     (last : F) × (outcome : Result (Unit {0}) (WalkError E)) × WalkPost g old new of list (λ p x q. called p x (Ok tt) q) (λ p x e q. called p x (Err e) q) call last outcome × MatchesWalkResult gives outcome result

@@ -81,8 +81,10 @@ impl<S: Alter> Store<S> {
     ///
     /// A crash exposes only states that a crash before the call could expose.
     ///
-    /// The result is specified only under the premise of `Store::adopt`, for schema 3. Every store
-    /// that holds rows satisfies it (`stored_rows_imply_definitions`).
+    /// The result is specified only under the premise `ThirdNamesImplyDefinitions` on the database:
+    /// if it has all tables of schema 3 by their names and columns, they are defined as a desk
+    /// defines them. Every store that holds rows satisfies this premise
+    /// (`stored_rows_imply_definitions`).
     pub fn audit(&mut self, alloc: Global) -> Result<(), Fault>
         ensures audited { AuditPost S.Store self.old self.new result }
         ensures condition { IfErr result (λ f. f ≢ fault.Damaged NotEmpty) }

@@ -1,4 +1,4 @@
-//! The transaction of a read.
+//! The transaction of a read, an audit or an adoption.
 
 ghost use Rattle.std.specs.Prelude.{◌≡◌, IsTrue, false, true};
 ghost use Rattle.sqlite.specs.Held.{state};

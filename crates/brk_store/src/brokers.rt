@@ -1,7 +1,7 @@
-//! Reads of brokers by name and of a broker's requests. Each read is a transaction of its own,
-//! which is rolled back.
+//! Reads of brokers by name, and of a broker's requests and accounts. Each read is a transaction of
+//! its own, which is rolled back.
 
-ghost use Rattle.std.specs.Prelude.{◌==◌, IfErr, bytes_eq};
+ghost use Rattle.std.specs.Prelude.{◌≡◌, ◌==◌, IfErr, bytes_eq, filter, map};
 ghost use Rattle.brk_changes.specs.Rows.{abstract_request_row};
 ghost use Rattle.brk_model.specs.Run.{IsCallFault};
 ghost use Rattle.brk_ref.specs.Records.{abstract_broker_row};
@@ -19,8 +19,8 @@ use std::alloc::Global;
 
 #[tactic(auto, using(crate::proofs::Ending::is_read_of))]
 impl<S: Alter> Store<S> {
-    /// Returns the brokers with a name, sorted by id, ascending. Changes nothing. Fails with
-    /// `Memory` or `Store`.
+    /// Returns the brokers with the name `name`, sorted by id, ascending. Changes nothing. Fails
+    /// with `Memory` or `Store`.
     pub fn brokers_named(&mut self, alloc: Global, name: &Name) -> Result<Vec<BrokerRow>, Fault>
         ensures read { ReadPost S.Store self.old self.new result (AreMatchingRows Brokers abstract_broker_row (λ r. bytes_eq r.name name.now)) }
         ensures fault { IfErr result IsCallFault }
@@ -41,5 +41,15 @@ impl<S: Alter> Store<S> {
     {
         let mut tx = begin_transaction(&mut self.conn);
         brk_tables_views::requests_of_broker(&mut tx, alloc, broker)
+    }
+
+    /// Returns the ids of the accounts of a broker, ascending. Changes nothing. Fails with `Memory`
+    /// or `Store`.
+    pub fn accounts_of_broker(&mut self, alloc: Global, broker: Id) -> Result<Vec<Id>, Fault>
+        ensures read { ReadPost S.Store self.old self.new result (λ all t. all.items ≡ map (λ r. r.id) (filter (λ r. r.broker == broker) t.accounts)) }
+        ensures fault { IfErr result IsCallFault }
+    {
+        let mut tx = begin_transaction(&mut self.conn);
+        brk_tables_views::accounts_of_broker(&mut tx, alloc, broker)
     }
 }

@@ -9,6 +9,7 @@ pub mod calling;
 mod cash;
 mod changing;
 mod examining;
+mod holdings;
 mod looking;
 mod lot_changes;
 mod moments;

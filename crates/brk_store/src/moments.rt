@@ -20,8 +20,8 @@ use std::alloc::Global;
 
 #[tactic(auto, using(crate::proofs::Ending::is_read_of))]
 impl<S: Alter> Store<S> {
-    /// Returns the first twenty trades of an account in a span, both ends included, the oldest
-    /// first. Changes nothing. Fails with `Memory` or `Store`.
+    /// Returns the first twenty trades of an account whose stamps are in a span, both ends
+    /// included, the oldest first. Changes nothing. Fails with `Memory` or `Store`.
     pub fn twenty_trades_of_account(
         &mut self,
         alloc: Global,
@@ -35,8 +35,8 @@ impl<S: Alter> Store<S> {
         brk_tables_views::twenty_trades_of_account(&mut tx, alloc, account, span.first, span.last)
     }
 
-    /// Returns the first twenty trades of a symbol in a span, both ends included, the oldest first.
-    /// Changes nothing. Fails with `Memory` or `Store`.
+    /// Returns the first twenty trades of a symbol whose stamps are in a span, both ends included,
+    /// the oldest first. Changes nothing. Fails with `Memory` or `Store`.
     pub fn twenty_trades_of_symbol(
         &mut self,
         alloc: Global,
@@ -50,8 +50,8 @@ impl<S: Alter> Store<S> {
         brk_tables_views::twenty_trades_of_symbol(&mut tx, alloc, symbol, span.first, span.last)
     }
 
-    /// Returns the oldest trade of an account at or after a stamp, or `None` if there is none.
-    /// Changes nothing. Fails with `Store` only.
+    /// Returns the first trade of an account, sorted by stamp and then by id, whose stamp is
+    /// `first` or later, or `None` if there is none. Changes nothing. Fails with `Store` only.
     pub fn first_trade_since(
         &mut self,
         account: Id,

@@ -17,7 +17,8 @@ use brk_ref::Symbol;
 use sqlite::Alter;
 use std::alloc::Global;
 
-// The number of rows of a page, unless it is the last. The statements have this number too.
+// The number of rows of a page, unless it is the last one, which may have fewer. The SQL statements
+// that read a page contain this number too.
 const PAGE_SIZE: usize = 16;
 
 /// The rows of a page, and the number of them that were returned as lots.
@@ -141,8 +142,8 @@ impl<S: Alter> Store<S> {
     /// Returns a source of the lots of an account in a security, the newest first if `lifo`,
     /// otherwise the oldest first. It has read no row yet.
     ///
-    /// A call of the source fails with `Memory` or `Store`. The remaining lots and the open
-    /// database are then unchanged, so the call may be retried.
+    /// A call of the source may fail, with `Memory` or `Store` only. The remaining lots and the
+    /// open database are then unchanged, so the call may be retried.
     ///
     /// A crash during its reads exposes only states that a crash before them could expose.
     pub fn lot_pages<'a>(

@@ -28,7 +28,7 @@ impl<S: Alter> Store<S> {
         brk_tables_schema::last_stamp(&mut tx)
     }
 
-    /// Returns the broker with an id, or `None` if there is none. Changes nothing. Fails with
+    /// Returns the broker with the id `id`, or `None` if there is none. Changes nothing. Fails with
     /// `Store` only.
     pub fn broker(&mut self, id: Id) -> Result<Option<BrokerRow>, Fault>
         ensures read { ReadPost S.Store self.old self.new result (IsFirstMatch Brokers abstract_broker_row (λ r. r.id == id)) }
@@ -38,8 +38,8 @@ impl<S: Alter> Store<S> {
         brk_tables_reference::broker_by_id(&mut tx, id)
     }
 
-    /// Returns the customer with an id, or `None` if there is none. Changes nothing. Fails with
-    /// `Store` only.
+    /// Returns the customer with the id `id`, or `None` if there is none. Changes nothing. Fails
+    /// with `Store` only.
     pub fn customer(&mut self, id: Id) -> Result<Option<Customer>, Fault>
         ensures read { ReadPost S.Store self.old self.new result (IsFirstMatch Customers abstract_customer (λ r. r.id == id)) }
         ensures fault { OnErr result (result ≡ Err fault.Store) }
@@ -48,8 +48,8 @@ impl<S: Alter> Store<S> {
         brk_tables_reference::customer_by_id(&mut tx, id)
     }
 
-    /// Returns the customer with a tax id, or `None` if there is none. Changes nothing. Fails with
-    /// `Store` only.
+    /// Returns the customer with the tax id `tax_id`, or `None` if there is none. Changes nothing.
+    /// Fails with `Store` only.
     pub fn customer_by_tax_id(&mut self, tax_id: &TaxId) -> Result<Option<Customer>, Fault>
         ensures read { ReadPost S.Store self.old self.new result (IsFirstMatch Customers abstract_customer (λ r. bytes_eq r.tax_id tax_id.now)) }
         ensures fault { OnErr result (result ≡ Err fault.Store) }
@@ -58,8 +58,8 @@ impl<S: Alter> Store<S> {
         brk_tables_reference::customer_by_tax_id(&mut tx, tax_id)
     }
 
-    /// Returns the account with an id, or `None` if there is none. Changes nothing. Fails with
-    /// `Store` only.
+    /// Returns the account with the id `id`, or `None` if there is none. Changes nothing. Fails
+    /// with `Store` only.
     pub fn account(&mut self, id: Id) -> Result<Option<AccountRow>, Fault>
         ensures read { ReadPost S.Store self.old self.new result (IsFirstMatch Accounts abstract_account_row (λ r. r.id == id)) }
         ensures fault { OnErr result (result ≡ Err fault.Store) }
@@ -78,8 +78,8 @@ impl<S: Alter> Store<S> {
         brk_tables_reference::accounts_of_customer(&mut tx, alloc, customer)
     }
 
-    /// Returns the row of KEPT under a key, or `None` if there is none. Changes nothing. Fails with
-    /// `Store` only.
+    /// Returns the row of KEPT under `key`, which has the stored request and the stored reply, or
+    /// `None` if there is none. Changes nothing. Fails with `Store` only.
     pub fn kept(&mut self, key: &Key) -> Result<Option<Kept>, Fault>
         ensures read { ReadPost S.Store self.old self.new result (IsFirstMatch KeptRows abstract_kept_row (λ k. bytes_eq k.key.batch key.now.batch && (k.key.row == key.now.row))) }
         ensures fault { OnErr result (result ≡ Err fault.Store) }

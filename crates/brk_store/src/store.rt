@@ -4,8 +4,9 @@ use brk_money::Fault;
 use sqlite::{Alter, Connection};
 use std::marker::Model;
 
-/// The database of a connection that contains the tables of a desk. No transaction is open on it
-/// between calls. Contracts see a store as the state of its connection.
+/// A connection to a database with the tables of a desk. `HoldsRows` states which rows these have;
+/// the type itself ensures only that no transaction is open between calls. Contracts see a store as
+/// the state of its connection.
 pub struct Store<S: Alter> {
     pub(crate) conn: Connection<S>,
 }
@@ -37,13 +38,13 @@ impl<S: Alter> Store<S> {
     ghost use Rattle.brk_store.specs.Holds.{ApplyPost, CreatePost};
 
     /// Creates the tables of a desk, without rows but the one of DESK, in the database of `conn`,
-    /// commits them and returns the store. Tables that existed keep their rows.
+    /// commits them and returns the store. Other tables keep their rows.
     ///
     /// Errors return the connection; a database that is still open is unchanged.
-    /// `Damaged(NotEmpty)` is returned only if one of the tables exists. `Store` is returned also
-    /// if a transaction is open on `conn`, and then the connection is unchanged; otherwise no
-    /// transaction is open on the returned connection. If one of the tables exists, the result is
-    /// one of these two errors.
+    /// `Damaged(NotEmpty)` is returned only if a table with the name of a desk's table exists; if
+    /// one exists, the error is this one or `Store`. `Store` is returned also if a transaction is
+    /// open on `conn`, and then the connection is unchanged; otherwise no transaction is open on
+    /// the returned connection.
     ///
     /// A crash exposes a state that a crash before the call could expose, or the tables without
     /// rows; after `Ok` only the latter. After an error, too, a crash may expose the created
@@ -64,7 +65,8 @@ impl<S: Alter> Store<S> {
     }
 
     /// Applies `changes` in order, in one transaction, and commits them. Tables that are not the
-    /// desk's keep their rows, unless a foreign key of their own writes them.
+    /// desk's keep their rows, unless a foreign key of their own changes or deletes these rows by
+    /// CASCADE, SET NULL or SET DEFAULT.
     ///
     /// Fails with `Store` only. The rows and the open database are then unchanged.
     ///

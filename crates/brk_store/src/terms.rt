@@ -30,8 +30,8 @@ impl<S: Alter> Store<S> {
         brk_tables_reference::permission_by_key(&mut tx, account, tax_id)
     }
 
-    /// Returns the security with a symbol, or `None` if there is none. Changes nothing. Fails with
-    /// `Store` only.
+    /// Returns the security with the symbol `symbol`, or `None` if there is none. Changes nothing.
+    /// Fails with `Store` only.
     pub fn security(&mut self, symbol: &Symbol) -> Result<Option<Security>, Fault>
         ensures read { ReadPost S.Store self.old self.new result (IsFirstMatch Securities abstract_security_row (λ r. bytes_eq r.symbol symbol.now)) }
         ensures fault { OnErr result (result ≡ Err fault.Store) }
@@ -66,8 +66,8 @@ impl<S: Alter> Store<S> {
         brk_tables_reference::bands_for(&mut tx, alloc, tier, kind, exchange)
     }
 
-    /// Returns the tax with an id, or `None` if there is none. Changes nothing. Fails with `Store`
-    /// only.
+    /// Returns the tax with the id `id`, or `None` if there is none. Changes nothing. Fails with
+    /// `Store` only.
     pub fn tax_rate(&mut self, id: Id) -> Result<Option<Tax>, Fault>
         ensures read { ReadPost S.Store self.old self.new result (IsFirstMatch TaxRates abstract_tax_rate (λ r. r.id == id)) }
         ensures fault { OnErr result (result ≡ Err fault.Store) }

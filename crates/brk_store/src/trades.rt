@@ -23,7 +23,7 @@ use std::alloc::Global;
 
 #[tactic(auto, using(crate::proofs::Ending::is_read_of))]
 impl<S: Alter> Store<S> {
-    /// Returns the trade with an id, or `None` if there is none. Changes nothing. Fails with
+    /// Returns the trade with the id `id`, or `None` if there is none. Changes nothing. Fails with
     /// `Store` only.
     pub fn trade(&mut self, id: Id) -> Result<Option<TradeRow>, Fault>
         ensures read { ReadPost S.Store self.old self.new result (IsFirstMatch Trades abstract_trade_row (λ r. r.id == id)) }
@@ -85,8 +85,8 @@ impl<S: Alter> Store<S> {
         brk_tables_trading::requests_at_or_below(&mut tx, alloc, symbol, kind, price)
     }
 
-    /// Returns the last trade of a symbol, or `None` if there is none. Changes nothing. Fails with
-    /// `Store` only.
+    /// Returns the LAST_TRADE row of a symbol, which has its last price on the market, or `None` if
+    /// there is none. Changes nothing. Fails with `Store` only.
     pub fn last_trade(&mut self, symbol: &Symbol) -> Result<Option<LastTrade>, Fault>
         ensures read { ReadPost S.Store self.old self.new result (IsFirstMatch LastTrades abstract_last_trade_row (λ r. bytes_eq r.symbol symbol.now)) }
         ensures fault { OnErr result (result ≡ Err fault.Store) }

@@ -55,8 +55,8 @@ impl<S: Alter> Store<S> {
     /// The result and the crash states are specified only under a premise on the database
     /// (`StoreNamesImplyDefinitions`): if it has all tables of a desk of some schema by their names
     /// and columns, then these are defined as a desk defines them, with the same types, keys and
-    /// references, and no foreign key of theirs writes rows. A database without such tables, an
-    /// empty one too, satisfies it.
+    /// references, and none of their foreign keys has CASCADE, SET NULL or SET DEFAULT. A database
+    /// without such tables, an empty one too, satisfies this premise.
     pub fn adopt(alloc: Global, mut conn: Connection<S>) -> Result<Store<S>, (Connection<S>, Fault)>
         ensures adopted { MatchResult result (λ store. AdoptPost S.Store conn store (Ok tt)) (λ e. AdoptPost S.Store conn e.0 (Err e.1)) }
         ensures condition { IfErr result (λ e. e.1 ≢ fault.Damaged NotEmpty) }

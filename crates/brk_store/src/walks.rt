@@ -1,15 +1,15 @@
-//! Walks: reads that pass the rows of an account, one at a time, to a visitor or a closure. The
-//! store is borrowed for the whole walk.
+//! Walks: reads that pass rows, one at a time, to a visitor or a closure. The store is borrowed for
+//! the whole walk.
 
 ghost use Rattle.std.specs.Fn.{CalledAt};
-ghost use Rattle.brk_changes.specs.Rows.{abstract_holding_row, abstract_move_row};
+ghost use Rattle.brk_changes.specs.Rows.{abstract_holding_row, abstract_move_row, abstract_trade_row};
 ghost use Rattle.brk_model.specs.Statement.{lot_rows_of_account};
 ghost use Rattle.brk_store.specs.Calling.{IsCallWithLot};
-ghost use Rattle.brk_store.specs.Walked.{CallsClosureOnEach, WalkPost, cash_rows_in_span};
+ghost use Rattle.brk_store.specs.Walked.{CallsClosureOnEach, WalkPost, cash_rows_in_span, completed_trades_by_stamp};
 
 use crate::Store;
 use crate::calling::{Calls, LotCalls};
-use brk_changes::{HoldingRow, MoveRow};
+use brk_changes::{HoldingRow, MoveRow, TradeRow};
 use brk_lots::Lot;
 use brk_money::{Fault, Id, Stamp};
 use brk_tables_walks::{Visitor, WalkError};
@@ -57,6 +57,25 @@ impl<S: Alter> Store<S> {
         ensures walked { WalkPost S.Store self.old self.new abstract_holding_row (λ t. lot_rows_of_account t account) V.takes V.stops visitor.old visitor.new result }
     {
         brk_tables_walks::walk_lots::<S, E, V>(&mut self.conn, account, visitor)
+    }
+
+    /// Passes the completed trades of all accounts to a visitor, sorted by the stamp of completion,
+    /// ascending. Returns `Ok` only after the visitor has taken the last trade.
+    ///
+    /// Fails with `Cause` and the visitor's error, or with `Failed` and the fault `Memory` or
+    /// `Store` after a prefix of the trades. The open database is unchanged, whatever the result.
+    ///
+    /// A crash exposes only states that a crash before the call could expose.
+    pub fn visit_completed_trades<E, V: Visitor<TradeRow, E>>(
+        &mut self,
+        visitor: &mut V,
+    ) -> Result<(), WalkError<E>>
+        requires ready { V.ready visitor.old }
+        ensures ready { V.ready visitor.new }
+        ensures leads { V.leads visitor.old visitor.new }
+        ensures walked { WalkPost S.Store self.old self.new abstract_trade_row completed_trades_by_stamp V.takes V.stops visitor.old visitor.new result }
+    {
+        brk_tables_walks::walk_completed_trades::<S, E, V>(&mut self.conn, visitor)
     }
 
     /// Calls a closure with each cash row of an account with a stamp from `from` to `to`, both

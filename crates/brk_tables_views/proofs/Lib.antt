@@ -5,5 +5,8 @@ pub mod ChangesBy
 pub mod ChangesOf
 pub mod BrokersNamed
 pub mod RequestsOfBroker
+pub mod AccountsOfBroker
+pub mod CompletedOfHolding
 pub mod MomentReads
 pub mod ListReads
+pub mod IdReads

@@ -33,10 +33,10 @@ use Rattle.brk_tables_views.proofs.TwentyOfSymbol
 -- ---- the oldest trades first
 
 -- the moment of a trade, and then its id
-abbrev trade_age : TradeRow → List KeyPart
+abbrev pub trade_age : TradeRow → List KeyPart
 trade_age r = number r.stamp ∷ number r.id ∷ []
 
-abbrev rising : TradeRow → TradeRow → Ordering
+abbrev pub rising : TradeRow → TradeRow → Ordering
 rising = ordering_by_key trade_age
 
 by_numbers : (m n j k : ℕ) → nat_lt m n || ((m == n) && nat_lt j k) ≡ nat_lt m n || (not (nat_lt n m) && (nat_lt j k || (not (nat_lt k j) && false)))
@@ -48,11 +48,11 @@ unfolding Rattle.brk_model.specs.Lists.sort_by
 sorted key [] = refl
 sorted key (x ∷ xs) = ap (insert_row_by_key key x) (sorted key xs) ∙ inserted key x (sort_by (ordering_by_key key) xs)
 
-oldest_are : (rows : List TradeRow) → trade_rows_oldest_first rows ≡ sort_by rising rows
+pub oldest_are : (rows : List TradeRow) → trade_rows_oldest_first rows ≡ sort_by rising rows
 oldest_are rows = (λ i. model.sort_by (λ (a b : TradeRow). by_numbers a.stamp b.stamp a.id b.id i) rows) ∙ sorted trade_age rows
 
 -- trades of one moment and one id are one
-second : (a b : Ordering) → is_eq (ordering_then a b) ≡ true → is_eq b ≡ true
+pub second : (a b : Ordering) → is_eq (ordering_then a b) ≡ true → is_eq b ≡ true
 second Less b h = absurd (let f = h in cc)
 second Equal b h = h
 second Greater b h = absurd (let f = h in cc)

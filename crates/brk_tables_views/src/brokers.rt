@@ -1,11 +1,11 @@
-//! Brokers by name, which several brokers may share, and the requests of a broker.
+//! Brokers by name, which several brokers may share, and the requests and accounts of a broker.
 
-ghost use Rattle.std.specs.Prelude.{◌≡◌, ◌==◌, IfErr, bytes_eq};
+ghost use Rattle.std.specs.Prelude.{◌≡◌, ◌==◌, IfErr, bytes_eq, filter, map};
 ghost use Rattle.brk_model.specs.Run.{IsCallFault};
 ghost use Rattle.brk_ref.specs.Records.{abstract_broker_row};
 ghost use Rattle.brk_changes.specs.Rows.{abstract_request_row};
 ghost use Rattle.brk_tables_schema.specs.Desk.{Brokers, Requests};
-ghost use Rattle.brk_tables_schema.specs.Statements.{ReadsMatchingRows};
+ghost use Rattle.brk_tables_schema.specs.Statements.{ReadsMatchingRows, ReadsDeskTables};
 
 use brk_changes::RequestRow;
 use brk_money::{Fault, Id};
@@ -49,6 +49,24 @@ pub fn requests_of_broker<S: Alter>(
     let rows = select_rows(
         tx,
         "SELECT TR_T_ID, TR_TT_ID, TR_S_SYMB, TR_QTY, TR_BID_PRICE, TR_B_ID FROM TRADE_REQUEST WHERE TR_B_ID = ?1 ORDER BY TR_T_ID",
+        &[id_value(broker)],
+    )?;
+    decode_rows(alloc, &rows)
+}
+
+/// Returns the ids of the accounts of a broker, ascending. Fails with `Memory` or `Store`.
+pub fn accounts_of_broker<S: Alter>(
+    tx: &mut Transaction<'_, S>,
+    alloc: Global,
+    broker: Id,
+) -> Result<Vec<Id>, Fault>
+    ensures same_reference { tx.new.conn.ghost_name ≡ tx.old.conn.ghost_name }
+    ensures step { ReadsDeskTables S.Store tx.old tx.new result (λ all t. all.items ≡ map (λ r. r.id) (filter (λ r. r.broker == broker) t.accounts)) }
+    ensures fault { IfErr result IsCallFault }
+{
+    let rows = select_rows(
+        tx,
+        "SELECT CA_ID FROM CUSTOMER_ACCOUNT WHERE CA_B_ID = ?1 ORDER BY CA_ID",
         &[id_value(broker)],
     )?;
     decode_rows(alloc, &rows)

@@ -1,7 +1,9 @@
 pub mod Starts
 pub mod CashBetween
 pub mod LotsBySymbol
+pub mod CompletedByAge
 pub mod Walked
 pub mod Telling
 pub mod TellingCash
+pub mod TellingTrades
 pub mod Walks

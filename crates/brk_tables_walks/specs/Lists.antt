@@ -1,7 +1,9 @@
 -- The rows of each walk, in order. The sort key ends with the key of the row, so it is unique.
 use Rattle.std.specs.Prelude.{ℕ, Bool, ◌==◌, ◌&&◌, nat_le, List, [], ◌∷◌, filter}
 use Rattle.brk_model.specs.Keys.{KeyPart, number, word, rows_sorted_by_key}
-use Rattle.brk_model.specs.Tables.{Tables, HoldingRow, MoveRow}
+use Rattle.brk_model.specs.Tables.{Tables, HoldingRow, MoveRow, TradeRow}
+use Rattle.brk_money.specs.Kinds.{is_same_trade_status}
+use Rattle.brk_money.specs.declared.status.Status.TheVariants.{Completed}
 
 -- The sort key of a lot: its symbol, then the stamp at which it was opened, then the trade that
 -- opened it.
@@ -24,3 +26,12 @@ is_cash_between account from to row = (row.account == account) && (nat_le from r
 -- then by number, ascending.
 abbrev pub cash_rows_between : ℕ → ℕ → ℕ → Tables → List MoveRow
 cash_rows_between account from to t = rows_sorted_by_key cash_sort_key (filter (is_cash_between account from to) t.moves)
+
+-- The sort key of a trade: the stamp of its last status change, then its id.
+abbrev pub stamp_and_id_key : TradeRow → List KeyPart
+stamp_and_id_key r = number r.stamp ∷ number r.id ∷ []
+
+-- The completed trades of all accounts, sorted by the stamp of completion and then by id, both
+-- ascending.
+abbrev pub completed_trades_by_stamp_and_id : Tables → List TradeRow
+completed_trades_by_stamp_and_id t = rows_sorted_by_key stamp_and_id_key (filter (λ row. is_same_trade_status row.status Completed) t.trades)

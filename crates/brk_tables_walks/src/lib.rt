@@ -1,13 +1,15 @@
-//! Walks over the rows of an open query, one at a time: the lots of an account, and cash rows by
-//! stamp.
+//! Walks over the rows of an open query, one at a time: the lots of an account, cash rows by stamp,
+//! and completed trades.
 #![tactic(auto)]
 
 pub mod cash;
 pub mod lots;
+pub mod trades;
 pub mod visitor;
 pub mod walking;
 
 pub use cash::walk_cash_between;
 pub use lots::walk_lots;
+pub use trades::walk_completed_trades;
 pub use visitor::Visitor;
 pub use walking::{WalkError, walk};

@@ -156,7 +156,7 @@ fn a_result_without_a_trade_is_refused(rt: HostRuntime) -> Result<(), Fail> {
 fn case_without_later_stamp() -> Case {
     Case {
         last: Stamp::GREATEST,
-        ..purchase()
+        ..submitted_cash_purchase()
     }
 }
 
@@ -164,7 +164,7 @@ fn case_without_later_stamp() -> Case {
 fn case_beyond_broker_limit() -> Case {
     Case {
         commissions: 100_000_000_000_000_000,
-        ..late()
+        ..case_without_later_stamp()
     }
 }
 
@@ -173,7 +173,7 @@ fn case_beyond_balance_limit() -> Case {
     Case {
         held: Some(9_999_999_899),
         balance: -100_000_000_000_000_000,
-        ..beyond_broker()
+        ..case_beyond_broker_limit()
     }
 }
 
@@ -181,7 +181,7 @@ fn case_beyond_balance_limit() -> Case {
 fn case_beyond_summary_limit() -> Case {
     Case {
         held: Some(9_999_999_900),
-        ..beyond_balance()
+        ..case_beyond_balance_limit()
     }
 }
 
@@ -189,7 +189,7 @@ fn case_beyond_summary_limit() -> Case {
 fn case_without_commission_band() -> Case {
     Case {
         rate: None,
-        ..beyond_summary()
+        ..case_beyond_summary_limit()
     }
 }
 
@@ -197,7 +197,7 @@ fn case_without_commission_band() -> Case {
 fn case_of_wrong_status(status: Status) -> Case {
     Case {
         status,
-        ..without_band()
+        ..case_without_commission_band()
     }
 }
 
@@ -229,17 +229,17 @@ fn results_are_refused_by_the_first_cause(rt: HostRuntime) -> Result<(), Fail> {
 fn broker_and_balance_limits_of_results(rt: HostRuntime) -> Result<(), Fail> {
     let last_cent = Case {
         commissions: 99_999_999_999_998_990,
-        ..purchase()
+        ..submitted_cash_purchase()
     };
     let one_more = Case {
         commissions: 99_999_999_999_998_991,
-        ..purchase()
+        ..submitted_cash_purchase()
     };
     // A margin trade does not change the balance.
     let on_margin = Case {
         is_cash: false,
         balance: -100_000_000_000_000_000,
-        ..purchase()
+        ..submitted_cash_purchase()
     };
     let told = "1709251200017,10.10,0.00,-1025.10,2024-03-03,0.00,0.00,-1000000000000000.00";
     for (case, wanted) in [
@@ -269,7 +269,7 @@ fn summary_limits_of_results(rt: HostRuntime) -> Result<(), Fail> {
             kind,
             qty,
             held: Some(held),
-            ..purchase()
+            ..submitted_cash_purchase()
         };
         expect_result_reply(&rt, alloc, case, wanted)?;
     }

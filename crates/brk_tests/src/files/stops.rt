@@ -336,7 +336,8 @@ fn crash_upgrade_at_each_call(alloc: Global, change: &str) -> Result<bool, Fail>
     Ok(!is_always)
 }
 
-// Checks crashes at each call of the upgrade from schema 1.
+// Checks that the upgrade from schema 1 is atomic if it crashes at any call of the log or the
+// database file, and that a retry completes it.
 #[test]
 fn crashes_while_schema_1_is_upgraded(rt: HostRuntime) -> Result<(), Fail> {
     let is_ended = crash_upgrade_at_each_call(rt.alloc(), FIRST)?;
@@ -344,7 +345,8 @@ fn crashes_while_schema_1_is_upgraded(rt: HostRuntime) -> Result<(), Fail> {
     Ok(())
 }
 
-// Checks crashes at each call of the upgrade from schema 2.
+// Checks that the upgrade from schema 2 is atomic if it crashes at any call of the log or the
+// database file, and that a retry completes it.
 #[test]
 fn crashes_while_schema_2_is_upgraded(rt: HostRuntime) -> Result<(), Fail> {
     let is_ended = crash_upgrade_at_each_call(rt.alloc(), SECOND)?;

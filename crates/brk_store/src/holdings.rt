@@ -1,0 +1,35 @@
+//! Reads of the completed trades of a holding. Each read is a transaction of its own, which is
+//! rolled back.
+
+ghost use Rattle.std.specs.Prelude.{◌≡◌, ◌==◌, ◌&&◌, IfErr, bytes_eq, filter, map};
+ghost use Rattle.brk_model.specs.Joins.{trade_rows_oldest_first};
+ghost use Rattle.brk_model.specs.Run.{IsCallFault};
+ghost use Rattle.brk_money.specs.Kinds.{is_same_trade_status};
+ghost use Rattle.brk_money.specs.declared.status.Status.TheVariants.{Completed};
+ghost use Rattle.brk_store.specs.Holds.{ReadPost};
+
+use crate::Store;
+use crate::beginning::begin_transaction;
+use brk_money::{Fault, Id};
+use brk_ref::Symbol;
+use sqlite::Alter;
+use std::alloc::Global;
+
+#[tactic(auto, using(crate::proofs::Ending::is_read_of))]
+impl<S: Alter> Store<S> {
+    /// Returns the ids of the completed trades of an account in a security, the oldest first.
+    /// Changes nothing. Fails with `Memory` or `Store`.
+    pub fn completed_trades_of_holding(
+        &mut self,
+        alloc: Global,
+        account: Id,
+        symbol: &Symbol,
+    ) -> Result<Vec<Id>, Fault>
+        ensures read { ReadPost S.Store self.old self.new result (λ all t.
+            all.items ≡ map (λ r. r.id) (trade_rows_oldest_first (filter (λ r. (r.account == account) && (bytes_eq r.symbol symbol.now && is_same_trade_status r.status Completed)) t.trades))) }
+        ensures fault { IfErr result IsCallFault }
+    {
+        let mut tx = begin_transaction(&mut self.conn);
+        brk_tables_views::completed_trades_of_holding(&mut tx, alloc, account, symbol)
+    }
+}

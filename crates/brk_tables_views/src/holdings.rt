@@ -1,0 +1,41 @@
+//! The completed trades of a holding: those of an account in a security.
+
+ghost use Rattle.std.specs.Prelude.{◌≡◌, ◌==◌, ◌&&◌, IfErr, bytes_eq, filter, map};
+ghost use Rattle.brk_model.specs.Joins.{trade_rows_oldest_first};
+ghost use Rattle.brk_model.specs.Run.{IsCallFault};
+ghost use Rattle.brk_money.specs.Kinds.{is_same_trade_status};
+ghost use Rattle.brk_money.specs.declared.status.Status.TheVariants.{Completed};
+ghost use Rattle.brk_tables_schema.specs.Statements.{ReadsDeskTables};
+
+use brk_money::{Fault, Id, Status};
+use brk_ref::Symbol;
+use brk_tables_schema::calls::select_rows;
+use brk_tables_schema::record::decode_rows;
+use brk_tables_schema::values::{id_value, status_value, text_value};
+use sqlite::{Alter, Transaction};
+use std::alloc::Global;
+
+/// Returns the ids of the completed trades of an account in a security, the oldest first: sorted by
+/// the stamp of completion, then by id. Fails with `Memory` or `Store`.
+pub fn completed_trades_of_holding<S: Alter>(
+    tx: &mut Transaction<'_, S>,
+    alloc: Global,
+    account: Id,
+    symbol: &Symbol,
+) -> Result<Vec<Id>, Fault>
+    ensures same_reference { tx.new.conn.ghost_name ≡ tx.old.conn.ghost_name }
+    ensures step { ReadsDeskTables S.Store tx.old tx.new result (λ all t.
+        all.items ≡ map (λ r. r.id) (trade_rows_oldest_first (filter (λ r. (r.account == account) && (bytes_eq r.symbol symbol.now && is_same_trade_status r.status Completed)) t.trades))) }
+    ensures fault { IfErr result IsCallFault }
+{
+    let rows = select_rows(
+        tx,
+        "SELECT T_ID FROM TRADE WHERE T_CA_ID = ?1 AND T_S_SYMB = ?2 AND T_ST_ID = ?3 ORDER BY T_DTS, T_ID",
+        &[
+            id_value(account),
+            text_value(symbol.as_str()),
+            status_value(Status::Completed),
+        ],
+    )?;
+    decode_rows(alloc, &rows)
+}

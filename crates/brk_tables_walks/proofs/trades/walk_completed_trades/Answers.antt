@@ -1,0 +1,24 @@
+use Rattle.std.proofs.Common.{[], ◌∷◌, rules}
+use Rattle.sqlite_value.specs.declared.value.Value.TheVariants.{Text as Words}
+use Rattle.sqlite.specs.Held.{state}
+use Rattle.brk_money.specs.Kinds.{trade_status_code}
+use Rattle.brk_money.specs.declared.status.Status.TheVariants.{Completed}
+use Rattle.brk_tables_schema.specs.Cells.{trade_cells}
+use Rattle.brk_changes.specs.Rows.{abstract_trade_row}
+use Rattle.brk_tables_schema.proofs.TradingBack.{trade_back, trade_is_back}
+use Rattle.brk_tables_walks.specs.Lists.{completed_trades_by_stamp_and_id}
+use Rattle.brk_tables_walks.proofs.CompletedByAge
+use Rattle.brk_tables_walks.proofs.TellingTrades.{completed_start, tells_completed_by_age}
+use Rattle.brk_tables_walks.proofs.Walks.{walks}
+use Rattle.brk_tables_walks.proofs.trades.walk_completed_trades.Goals as goal
+
+pub walk-requires-clause-query : goal.walk-requires-clause-query
+walk-requires-clause-query g c = CompletedByAge.plain
+
+pub returns-clause-walked : goal.returns-clause-walked
+returns-clause-walked g c =
+    let old = c.args.conn.now in
+    let new = c.walk.new.conn in
+    walks abstract_trade_row trade_cells trade_back trade_is_back g.S.Store old new completed_trades_by_stamp_and_id g.V.Visitor.takes g.V.Visitor.stops _ _ _ CompletedByAge.statement (Words (trade_status_code Completed) ∷ [])
+    (tells_completed_by_age (state g.S.Store old) (state g.S.Store old)) (λ rows up begins. completed_start (state g.S.Store old) rows up begins)
+    c.walk.ensures.crash (c.is_autocommit-settled.ensures.settled (search rules)) (rw c.status_value.ensures at c.walk.ensures.all) (rw c.status_value.ensures at c.walk.ensures.early) c.walk.ensures.kept c.walk.ensures.fault
