@@ -1,8 +1,4 @@
-ghost use Rattle.std.specs.Prelude.{◌≡◌, ◌||◌, not, nat_le};
-ghost use Rattle.brk_money.specs.Kinds.{same_status};
-ghost use Rattle.brk_money.specs.Moments.{last_day};
-ghost use Rattle.brk_money.specs.declared.status.Status.TheVariants.{Completed};
-ghost use Rattle.brk_model.specs.Derived as derived;
+ghost use Rattle.std.specs.Prelude.{◌≡◌};
 ghost use Rattle.brk_model.specs.Form as form;
 ghost use Rattle.brk_changes.specs.Rows as of;
 ghost use Rattle.brk_changes.specs.Sheets.{tables_in_sheets};
@@ -32,7 +28,7 @@ fn has_its_price(sheets: &Sheets, row: &TradeRow) -> bool
 
 // Returns whether a completion has its settlement day within the calendar; true for other statuses.
 fn settles(rule: Option<Day>, status: Status, stamp: Stamp) -> bool
-    ensures { result ≡ (not (same_status status Completed) || nat_le (derived.due_after rule stamp) last_day) }
+    ensures { result ≡ form.is_due_within_calendar rule status stamp }
 {
     status != Status::Completed || due_after(rule, stamp).is_some()
 }

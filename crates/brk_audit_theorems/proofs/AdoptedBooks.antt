@@ -50,11 +50,11 @@ account_names t a e =
 knows_broker : (t : Tables) (a : AccountRow) → account_form t a ≡ true → BrokerExists (base_of t) (account_of_row a)
 unfolding base_of
 knows_broker t a e =
-    found_mapped (λ b. b.id == a.broker) (λ b. record { id = b.id; name = b.name }) t.brokers ∙ some-is-any (λ b. b.id == a.broker) t.brokers ∙ (account_names t a e).1
+    found_mapped (λ b. b.id == a.broker) (λ b. record { id = b.id; name = b.name }) t.brokers ∙ (account_names t a e).1
 
 knows_customer : (t : Tables) (a : AccountRow) → account_form t a ≡ true → CustomerExists (base_of t) (account_of_row a)
 unfolding base_of
-knows_customer t a e = some-is-any (λ c. c.id == a.customer) t.customers ∙ (account_names t a e).0
+knows_customer t a e = (account_names t a e).0
 
 trade_names : (schema : Schema) (t : Tables) (row : TradeRow) → trade_form schema t row ≡ true → (has_security t row.symbol ≡ true) × (has_account t row.account ≡ true)
 trade_names schema t row e =

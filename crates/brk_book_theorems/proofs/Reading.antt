@@ -10,7 +10,8 @@ use Rattle.brk_model.specs.Derived.{postings_of}
 use Rattle.brk_model.specs.Keys.{KeyPart, number, key_before, row_before, by_key, customer_key, account_key}
 use Rattle.brk_model.specs.Tables.{tables_at, broker_row, account_row}
 use Rattle.brk_model.specs.Sheets.{sheets, sheets_of}
-use Rattle.brk_book_theorems.specs.Reads.{finds_broker, finds_customer, finds_tax_id, finds_account, accounts_of}
+use Rattle.brk_model.specs.Form.{has_account, has_broker, has_customer}
+use Rattle.brk_book_theorems.specs.Reads.{finds_tax_id, accounts_of}
 use Rattle.brk_book_theorems.proofs.Order.{key_one_way, by_key-filter}
 
 -- ---- in sorted rows
@@ -153,13 +154,13 @@ unfolding tables_at sheets_of
 reads_account base id =
     find-id (λ r. r.id) id (map (account_row base.accounts (postings_of base)) base.accounts) ∙ find-map (λ r. r.id == id) (account_row base.accounts (postings_of base)) base.accounts
 
-pub reads_has_broker : (base : Base) (id : ℕ) → finds_broker (sheets base) id ≡ is_some (broker_with base id)
+pub reads_has_broker : (base : Base) (id : ℕ) → has_broker (sheets base) id ≡ is_some (broker_with base id)
 reads_has_broker base id = ap is_some (reads_broker base id) ∙ is_some-map _ (broker_with base id)
 
-pub reads_has_customer : (base : Base) (id : ℕ) → finds_customer (sheets base) id ≡ is_some (customer_with base id)
+pub reads_has_customer : (base : Base) (id : ℕ) → has_customer (sheets base) id ≡ is_some (customer_with base id)
 reads_has_customer base id = ap is_some (reads_customer base id)
 
-pub reads_same_customer : (base : Base) (id : ℕ) → finds_customer (sheets base) id ≡ list_any (λ c. c.id == id) base.customers
+pub reads_same_customer : (base : Base) (id : ℕ) → has_customer (sheets base) id ≡ list_any (λ c. c.id == id) base.customers
 unfolding tables_at sheets_of
 reads_same_customer base id = some-any customer_key (λ c. c.id == id) base.customers
 
@@ -167,7 +168,7 @@ pub reads_tax_id : (base : Base) (tax_id : Text) → finds_tax_id (sheets base) 
 unfolding tables_at sheets_of
 reads_tax_id base tax_id = some-any customer_key (λ c. bytes_eq c.tax_id tax_id) base.customers
 
-pub reads_has_account : (base : Base) (id : ℕ) → finds_account (sheets base) id ≡ is_some (account_with base id)
+pub reads_has_account : (base : Base) (id : ℕ) → has_account (sheets base) id ≡ is_some (account_with base id)
 reads_has_account base id = ap is_some (reads_account base id) ∙ is_some-map _ (account_with base id)
 
 pub reads_count : (base : Base) (customer : ℕ) → accounts_of (sheets base) customer ≡ length (filter (λ a. a.customer == customer) base.accounts)

@@ -19,7 +19,8 @@ use Rattle.brk_model.specs.Sheets.{sheets, sheets_of}
 use Rattle.brk_model.specs.Tests.{bands_meet}
 use Rattle.brk_ref.specs.Records.{tax_of}
 use Rattle.brk_ref.specs.declared.tax.Tax.{Tax}
-use Rattle.brk_book_theorems.specs.Reads.{finds_permission, finds_security, finds_charge, has_overlap, tax_rate_of, rate_of, finds_tax_rate, pays_tax, rates_of_customer}
+use Rattle.brk_model.specs.Form.{has_security}
+use Rattle.brk_book_theorems.specs.Reads.{finds_permission, finds_charge, has_overlap, tax_rate_of, rate_of, finds_tax_rate, pays_tax, rates_of_customer}
 use Rattle.brk_book_theorems.proofs.Order.{by_key-filter}
 use Rattle.brk_book_theorems.proofs.Reading.{find-key, find-id, find-map, is_some-map, some-is-any, any-sorted}
 use Rattle.brk_book_theorems.proofs.NewKeys.{same_bytes, code_same, same_codes, both, and_both}
@@ -80,7 +81,7 @@ pub reads_has_permission : (base : Base) (account : ℕ) (tax_id : Text)
 reads_has_permission base account tax_id =
     ap is_some (reads_permission base account tax_id) ∙ some-is-any (λ q. (q.account == account) && bytes_eq q.tax_id tax_id) base.permissions
 
-pub reads_has_security : (base : Base) (symbol : Text) → finds_security (sheets base) symbol ≡ is_some (security_with base symbol)
+pub reads_has_security : (base : Base) (symbol : Text) → has_security (sheets base) symbol ≡ is_some (security_with base symbol)
 reads_has_security base symbol = ap is_some (reads_security base symbol) ∙ is_some-map security_row (security_with base symbol)
 
 pub reads_has_charge : (base : Base) (kind : TradeType) (tier : ℕ) → finds_charge (sheets base) kind tier ≡ is_some (charge_with base kind tier)

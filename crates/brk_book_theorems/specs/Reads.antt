@@ -8,21 +8,9 @@ use Rattle.brk_model.specs.Records.{Band, TaxRate}
 use Rattle.brk_model.specs.Tables.{Tables}
 use Rattle.brk_model.specs.Tests.{bands_meet}
 
--- True if a broker has the id.
-abbrev pub finds_broker : Tables → ℕ → Bool
-finds_broker t id = is_some (find (λ r. r.id == id) t.brokers)
-
--- True if a customer has the id.
-abbrev pub finds_customer : Tables → ℕ → Bool
-finds_customer t id = is_some (find (λ r. r.id == id) t.customers)
-
 -- True if a customer has the tax id.
 abbrev pub finds_tax_id : Tables → Text → Bool
 finds_tax_id t tax_id = is_some (find (λ r. bytes_eq r.tax_id tax_id) t.customers)
-
--- True if an account has the id.
-abbrev pub finds_account : Tables → ℕ → Bool
-finds_account t id = is_some (find (λ r. r.id == id) t.accounts)
 
 -- The number of accounts of the customer.
 abbrev pub accounts_of : Tables → ℕ → ℕ
@@ -31,10 +19,6 @@ accounts_of t customer = length (filter (λ r. r.customer == customer) t.account
 -- True if the account has a permission for the tax id.
 abbrev pub finds_permission : Tables → ℕ → Text → Bool
 finds_permission t account tax_id = is_some (find (λ r. (r.account == account) && bytes_eq r.tax_id tax_id) t.permissions)
-
--- True if a security has the symbol.
-abbrev pub finds_security : Tables → Text → Bool
-finds_security t symbol = is_some (find (λ r. bytes_eq r.symbol symbol) t.securities)
 
 -- True if there is a charge for the type and the tier.
 abbrev pub finds_charge : Tables → TradeType → ℕ → Bool

@@ -3,7 +3,8 @@
 ghost use Rattle.std.specs.Prelude.{◌≡◌, IfErr};
 ghost use Rattle.brk_model.specs.Run.{MayFail};
 ghost use Rattle.brk_trade_theorems.specs.Found.{IsFound, IsFoundForAccount};
-ghost use Rattle.brk_book_theorems.specs.Reads.{accounts_of, finds_account, finds_broker, finds_customer, finds_security, finds_tax_id, finds_tax_rate};
+ghost use Rattle.brk_model.specs.Form.{has_account, has_broker, has_customer, has_security};
+ghost use Rattle.brk_book_theorems.specs.Reads.{accounts_of, finds_tax_id, finds_tax_rate};
 ghost use Rattle.brk_store.specs.Holds.{ReadPost};
 
 use crate::terms::{
@@ -32,7 +33,7 @@ pub(crate) const NOTHING: ReferenceFacts = ReferenceFacts {
 
 // Returns true if the broker exists.
 fn is_broker_there<S: Alter>(store: &mut Store<S>, id: Id) -> Result<bool, Fault>
-    ensures read { ReadPost S.Store store.old store.new result (λ there t. there ≡ finds_broker t id) }
+    ensures read { ReadPost S.Store store.old store.new result (λ there t. there ≡ has_broker t id) }
     ensures fault { IfErr result MayFail }
 {
     Ok(store.broker(id)?.is_some())
@@ -40,7 +41,7 @@ fn is_broker_there<S: Alter>(store: &mut Store<S>, id: Id) -> Result<bool, Fault
 
 // Returns true if the customer exists.
 pub(crate) fn is_customer_there<S: Alter>(store: &mut Store<S>, id: Id) -> Result<bool, Fault>
-    ensures read { ReadPost S.Store store.old store.new result (λ there t. there ≡ finds_customer t id) }
+    ensures read { ReadPost S.Store store.old store.new result (λ there t. there ≡ has_customer t id) }
     ensures fault { IfErr result MayFail }
 {
     Ok(store.customer(id)?.is_some())
@@ -56,7 +57,7 @@ fn is_tax_id_there<S: Alter>(store: &mut Store<S>, tax_id: &TaxId) -> Result<boo
 
 // Returns true if the account exists.
 pub(crate) fn is_account_there<S: Alter>(store: &mut Store<S>, id: Id) -> Result<bool, Fault>
-    ensures read { ReadPost S.Store store.old store.new result (λ there t. there ≡ finds_account t id) }
+    ensures read { ReadPost S.Store store.old store.new result (λ there t. there ≡ has_account t id) }
     ensures fault { IfErr result MayFail }
 {
     Ok(store.account(id)?.is_some())
@@ -76,7 +77,7 @@ fn count_accounts<S: Alter>(
 
 // Reads the facts that decide on a broker.
 fn find_for_broker<S: Alter>(store: &mut Store<S>, broker: &Broker) -> Result<ReferenceFacts, Fault>
-    ensures read { ReadPost S.Store store.old store.new result (λ found t. found.same_id ≡ finds_broker t broker.now.id) }
+    ensures read { ReadPost S.Store store.old store.new result (λ found t. found.same_id ≡ has_broker t broker.now.id) }
     ensures fault { IfErr result MayFail }
 {
     let same_id = is_broker_there(store, broker.id)?;
@@ -88,7 +89,7 @@ fn find_for_customer<S: Alter>(
     store: &mut Store<S>,
     customer: &Customer,
 ) -> Result<ReferenceFacts, Fault>
-    ensures read { ReadPost S.Store store.old store.new result (λ found t. (found.same_id ≡ finds_customer t customer.now.id) × (found.same_tax_id ≡ finds_tax_id t customer.now.tax_id)) }
+    ensures read { ReadPost S.Store store.old store.new result (λ found t. (found.same_id ≡ has_customer t customer.now.id) × (found.same_tax_id ≡ finds_tax_id t customer.now.tax_id)) }
     ensures fault { IfErr result MayFail }
 {
     let same_id = is_customer_there(store, customer.id)?;
@@ -127,7 +128,7 @@ fn find_for_security<S: Alter>(
     store: &mut Store<S>,
     symbol: &Symbol,
 ) -> Result<ReferenceFacts, Fault>
-    ensures read { ReadPost S.Store store.old store.new result (λ found t. found.same_id ≡ finds_security t symbol.now) }
+    ensures read { ReadPost S.Store store.old store.new result (λ found t. found.same_id ≡ has_security t symbol.now) }
     ensures fault { IfErr result MayFail }
 {
     let same_id = is_security_there(store, symbol)?;

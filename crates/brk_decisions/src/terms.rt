@@ -2,7 +2,8 @@
 
 ghost use Rattle.std.specs.Prelude.{◌≡◌, ◌==◌, ◌≤◌, IfErr, SomeIff, Some, filter, map};
 ghost use Rattle.brk_trade_theorems.specs.Found.{IsFoundForTax};
-ghost use Rattle.brk_book_theorems.specs.Reads.{finds_account, finds_charge, has_overlap, finds_permission, finds_security, finds_tax_rate, pays_tax, rate_of, rates_of_customer, tax_rate_of};
+ghost use Rattle.brk_model.specs.Form.{has_account, has_security};
+ghost use Rattle.brk_book_theorems.specs.Reads.{finds_charge, has_overlap, finds_permission, finds_tax_rate, pays_tax, rate_of, rates_of_customer, tax_rate_of};
 ghost use Rattle.brk_model.specs.Limits.{greatest_tax_rate};
 ghost use Rattle.brk_model.specs.Run.{MayFail};
 ghost use Rattle.brk_ref.specs.Records.{band_of, tax_of};
@@ -33,7 +34,7 @@ pub(crate) fn is_security_there<S: Alter>(
     store: &mut Store<S>,
     symbol: &Symbol,
 ) -> Result<bool, Fault>
-    ensures read { ReadPost S.Store store.old store.new result (λ there t. there ≡ finds_security t symbol.now) }
+    ensures read { ReadPost S.Store store.old store.new result (λ there t. there ≡ has_security t symbol.now) }
     ensures fault { IfErr result MayFail }
 {
     Ok(store.security(symbol)?.is_some())
@@ -127,7 +128,7 @@ pub(crate) fn find_for_permission<S: Alter>(
     permission: &Permission,
 ) -> Result<ReferenceFacts, Fault>
     ensures read { ReadPost S.Store store.old store.new result (λ found t.
-        (found.account ≡ finds_account t permission.now.account) × (found.same_id ≡ finds_permission t permission.now.account permission.now.tax_id)) }
+        (found.account ≡ has_account t permission.now.account) × (found.same_id ≡ finds_permission t permission.now.account permission.now.tax_id)) }
     ensures fault { IfErr result MayFail }
 {
     let account = is_account_there(store, permission.account)?;

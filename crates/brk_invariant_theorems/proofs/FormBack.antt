@@ -22,7 +22,7 @@ use Rattle.brk_model.specs.Tables.{Tables, account_row, broker_row, history_rows
 use Rattle.brk_model.specs.Sheets.{sheets, sheets_of}
 use Rattle.brk_model.specs.Adopted.{base_of, posting_of_move}
 use Rattle.brk_model.specs.Joins.{history_in, trade_in}
-use Rattle.brk_model.specs.Form.{account_form, broker_form, cash_form, charge_form, customer_form, customer_limits, customer_tax_form, has_account, has_broker, has_customer, has_form, has_security, has_trade, history_form, is_amount, is_cash_name, is_cash_type, is_id, is_price, is_qty, last_trade_form, distinct_tax_ids, permission_form, price_form, security_form, settlement_form, summary_form, trade_form, is_movement, move_form}
+use Rattle.brk_model.specs.Form.{account_form, broker_form, cash_form, charge_form, customer_form, customer_limits, customer_tax_form, has_account, has_broker, has_customer, has_form, has_security, has_trade, history_form, is_amount, is_cash_name, is_cash_type, is_id, is_up_to_last_stamp, is_price, is_qty, last_trade_form, distinct_tax_ids, permission_form, price_form, security_form, settlement_form, summary_form, trade_form, is_movement, move_form}
 use Rattle.brk_model.specs.Forms.{is_acl, is_exchange, is_name, is_symbol, is_tax_id}
 use Rattle.brk_model.specs.Keys.{KeyPart, word, by_key, row_before, account_key, band_key, broker_key, cash_key, charge_key, customer_key, customer_tax_key, history_key, kept_key, last_trade_key, permission_key, security_key, settlement_key, summary_key, tax_rate_key, trade_key}
 use Rattle.brk_book_theorems.specs.Books.{BooksInvariant}
@@ -43,7 +43,7 @@ use Rattle.brk_audit_theorems.proofs.Parts.{KeyParts, key_parts}
 use Rattle.brk_model_theorems.specs.FormParts.{FormParts}
 use Rattle.brk_model_theorems.proofs.FormParts.{form_parts}
 use Rattle.brk_model_theorems.proofs.Conjunctions.{parts3, parts4, parts5, parts6, parts10}
-use Rattle.brk_invariant_theorems.specs.Sound.{AuditInvariant, IsSoundTrade, DistinctKeys, NamesCustomer, is_past, tax_id_key, is_named_by, movement_fields}
+use Rattle.brk_invariant_theorems.specs.Sound.{AuditInvariant, IsSoundTrade, DistinctKeys, NamesCustomer, tax_id_key, is_named_by, movement_fields}
 use Rattle.brk_invariant_theorems.proofs.OneTrade.{false_true}
 use Rattle.brk_model_theorems.proofs.Conjunctions.{and5, and6}
 use Rattle.brk_invariant_theorems.proofs.FormRows.{any_mark, found_trades, has_account_is, has_customer_is, has_rate_is, rates_same, row_of, same_name}
@@ -239,9 +239,9 @@ trade_back : (base : Base) (t : Trade) → BooksInvariant base → HasValidHisto
 unfolding sheets_of tables_at
 trade_back base t books told h =
     let T : Tables = sheets base in
-    let f = parts10 (is_id t.id) (is_past base.last (moment_of t)) (has_security T t.symbol) (is_qty third_schema t.qty) (is_price t.bid) (has_account T t.account) (price_form T (trade_row t))
+    let f = parts10 (is_id t.id) (is_up_to_last_stamp base.last (moment_of t)) (has_security T t.symbol) (is_qty third_schema t.qty) (is_price t.bid) (has_account T t.account) (price_form T (trade_row t))
     (nat_le t.charge greatest_charge) (nat_le t.commission greatest_amount) (nat_le t.tax greatest_amount) h.row in
-    let marks = All-map t.marks (λ m k. parts3 (has_trade T t.id) (is_past base.last m.stamp) (not (same_status m.status Completed) || nat_le (due_after base.rule m.stamp) last_day) k)
+    let marks = All-map t.marks (λ m k. parts3 (has_trade T t.id) (is_up_to_last_stamp base.last m.stamp) (not (same_status m.status Completed) || nat_le (due_after base.rule m.stamp) last_day) k)
     (All-unmapped (λ r. history_form T r ≡ true) (row_of t.id) t.marks h.history) in
     let done : list_any (λ h. same_status h.status Completed) (history_in T t.id) ≡ is_completed t =
     ap (list_any (λ h. same_status h.status Completed))
@@ -330,7 +330,7 @@ sound_back base books told form =
     (back_rows (permission_form T) permission_key base.permissions f.permissions) in
     let securities = All-map base.securities (λ s h. parts5 (is_symbol s.symbol) (is_name s.name) (is_exchange s.exchange) (is_name s.sector) (list_any (λ l. bytes_eq l.symbol s.symbol) T.last_trades) h)
     (back_mapped (security_form T) security_key security_row base.securities f.securities) in
-    let lasts = All-map base.securities (λ s h. parts4 (has_security T s.symbol) (is_past base.last s.moment) (is_price s.last_price) (nat_le s.volume greatest_amount) h)
+    let lasts = All-map base.securities (λ s h. parts4 (has_security T s.symbol) (is_up_to_last_stamp base.last s.moment) (is_price s.last_price) (nat_le s.volume greatest_amount) h)
     (back_mapped (last_trade_form T) last_trade_key last_trade_row base.securities f.last_trades) in
     let paid = All-map base.customer_taxes (λ x h. and_parts (has_customer T x.customer) (list_any (λ r. r.id == x.tax) T.tax_rates) h)
     (back_rows (customer_tax_form T) customer_tax_key base.customer_taxes f.customer_taxes) in

@@ -22,7 +22,7 @@ use Rattle.brk_model.specs.Tables.{HistoryRow, Tables, account_row, broker_row, 
 use Rattle.brk_model.specs.Sheets.{sheets, sheets_of}
 use Rattle.brk_model.specs.Adopted.{base_of}
 use Rattle.brk_model.specs.Joins.{history_in, trade_in}
-use Rattle.brk_model.specs.Form.{account_form, band_form, broker_form, cash_form, charge_form, customer_form, customer_limits, customer_tax_form, has_account, has_broker, has_customer, has_form, has_security, has_trade, history_form, holding_form, holding_history_form, is_amount, is_cash_name, is_cash_type, is_id, is_price, is_qty, kept_form, last_trade_form, permission_form, price_form, request_form, same_numbers, security_form, settlement_form, summary_form, tax_rate_form, trade_form, is_movement, move_form, trades_moved}
+use Rattle.brk_model.specs.Form.{account_form, band_form, broker_form, cash_form, charge_form, customer_form, customer_limits, customer_tax_form, has_account, has_broker, has_customer, has_form, has_security, has_trade, history_form, holding_form, holding_history_form, is_amount, is_cash_name, is_cash_type, is_id, is_up_to_last_stamp, is_price, is_qty, kept_form, last_trade_form, permission_form, price_form, request_form, same_numbers, security_form, settlement_form, summary_form, tax_rate_form, trade_form, is_movement, move_form, trades_moved}
 use Rattle.brk_model.specs.Forms.{is_acl, is_exchange, is_name, is_symbol, is_tax_id}
 use Rattle.brk_model.specs.Keys.{KeyPart, word, by_key, row_before, account_key, band_key, broker_key, cash_key, charge_key, customer_key, customer_tax_key, history_key, holding_history_key, holding_key, kept_key, last_trade_key, permission_key, request_key, security_key, settlement_key, summary_key, tax_rate_key, trade_key, move_key}
 use Rattle.brk_model.specs.Ways.{is_valid_sequence}
@@ -45,7 +45,7 @@ use Rattle.brk_audit_theorems.proofs.AgainStatus.{all_list, first_of_two, some_l
 use Rattle.brk_audit_theorems.proofs.Marks.{filtered, last_has, no_more_ways, three_ways}
 use Rattle.brk_audit_theorems.proofs.Members.{All-flat_map}
 use Rattle.brk_audit_theorems.proofs.Sorted.{All-rows}
-use Rattle.brk_invariant_theorems.specs.Sound.{IsDueInTime, IsPastMark, AuditInvariant, IsSoundTrade, NamesAccount, NamesCustomer, NamesTax, account_fields, is_past, permission_fields, security_fields, is_named_by, movement_fields}
+use Rattle.brk_invariant_theorems.specs.Sound.{IsDueInTime, IsPastMark, AuditInvariant, IsSoundTrade, NamesAccount, NamesCustomer, NamesTax, account_fields, permission_fields, security_fields, is_named_by, movement_fields}
 use Rattle.brk_invariant_theorems.proofs.OneTrade.{false_true, price_of_done}
 use Rattle.brk_invariant_theorems.proofs.SoundRecords.{sum-same}
 use Rattle.brk_invariant_theorems.proofs.SortedRows.{bands_sort, overlap_none, tax_ids_apart}
@@ -64,11 +64,10 @@ pub has_security_is : (base : Base) (symbol : Text) → has_security (sheets bas
 has_security_is base symbol = ap is_some (reads_security base symbol) ∙ is_some-map security_row (security_with base symbol)
 
 pub has_customer_is : (base : Base) (id : ℕ) → has_customer (sheets base) id ≡ is_some (customer_with base id)
-has_customer_is base id = sym (some-is-any (λ c. c.id == id) (sheets base).customers) ∙ ap is_some (reads_customer base id)
+has_customer_is base id = ap is_some (reads_customer base id)
 
 pub has_broker_is : (base : Base) (id : ℕ) → has_broker (sheets base) id ≡ is_some (broker_with base id)
-has_broker_is base id =
-    sym (some-is-any (λ b. b.id == id) (sheets base).brokers) ∙ ap is_some (reads_broker base id) ∙ is_some-map (broker_row base.accounts (completed base)) (broker_with base id)
+has_broker_is base id = ap is_some (reads_broker base id) ∙ is_some-map (broker_row base.accounts (completed base)) (broker_with base id)
 
 pub has_rate_is : (base : Base) (id : ℕ) → list_any (λ r. r.id == id) (sheets base).tax_rates ≡ is_some (tax_rate_with base id)
 has_rate_is base id = sym (some-is-any (λ r. r.id == id) (sheets base).tax_rates) ∙ ap is_some (reads_tax_rate base id)
@@ -124,10 +123,10 @@ last_of : (t : Trade) (ms : List StatusChange) → t.marks ≡ ms → is_valid_s
 last_of t [] e w = false_true w
 last_of t (m ∷ ms) e w = let l = some_last m ms in (l.0, ap (last_or None) e ∙ l.1)
 
-moment_past : (base : Base) (t : Trade) → IsSoundTrade base t → is_past base.last (moment_of t) ≡ true
+moment_past : (base : Base) (t : Trade) → IsSoundTrade base t → is_up_to_last_stamp base.last (moment_of t) ≡ true
 moment_past base t h =
     let l = last_of t t.marks refl h.way in
-    ap (λ o. is_past base.last (option_map_or (λ m. m.stamp) o 0)) l.1 ∙ last_has (IsPastMark base.last) None t.marks l.0 tt h.past l.1
+    ap (λ o. is_up_to_last_stamp base.last (option_map_or (λ m. m.stamp) o 0)) l.1 ∙ last_has (IsPastMark base.last) None t.marks l.0 tt h.past l.1
 
 moment_due : (base : Base) (t : Trade) → IsSoundTrade base t → is_completed t ≡ true → nat_le (due_day base.rule t) last_day ≡ true
 moment_due base t h d =
@@ -169,7 +168,7 @@ trade_whole : (base : Base) (t : Trade) → Known base t → trade_form third_sc
 unfolding sheets_of tables_at
 trade_whole base t h =
     let f = parts6 (is_id t.id) (is_qty third_schema t.qty) (is_price t.bid) (nat_le t.charge greatest_charge) (nat_le t.commission greatest_amount) (nat_le t.tax greatest_amount) h.sound.fields in
-    and10 (is_id t.id) (is_past base.last (moment_of t)) (has_security (sheets base) t.symbol) (is_qty third_schema t.qty) (is_price t.bid) (has_account (sheets base) t.account) (price_form (sheets base) (trade_row t))
+    and10 (is_id t.id) (is_up_to_last_stamp base.last (moment_of t)) (has_security (sheets base) t.symbol) (is_qty third_schema t.qty) (is_price t.bid) (has_account (sheets base) t.account) (price_form (sheets base) (trade_row t))
     (nat_le t.charge greatest_charge) (nat_le t.commission greatest_amount) (nat_le t.tax greatest_amount)
     f.0 (moment_past base t h.sound) (has_security_is base t.symbol ∙ h.security) f.1 f.2 (has_account_is base t.account ∙ h.account) (priced_row base t h) f.3 f.4 f.5
 
@@ -181,7 +180,7 @@ numbers_whole n (t ∷ ts) k =
 mark_whole : (base : Base) (t : Trade) (m : StatusChange) → Known base t → IsPastMark base.last m → IsDueInTime base.rule m → history_form (sheets base) (row_of t.id m) ≡ true
 unfolding sheets_of tables_at
 mark_whole base t m h p d =
-    and3 (has_trade (sheets base) t.id) (is_past base.last m.stamp) (not (same_status m.status Completed) || nat_le (due_after base.rule m.stamp) last_day) (there base t h) p d
+    and3 (has_trade (sheets base) t.id) (is_up_to_last_stamp base.last m.stamp) (not (same_status m.status Completed) || nat_le (due_after base.rule m.stamp) last_day) (there base t h) p d
 
 request_whole : (base : Base) (t : Trade) → BooksInvariant base → Known base t → request_form third_schema (sheets base) (request_row base.accounts t) ≡ true
 request_whole base t books h =
@@ -193,7 +192,7 @@ request_whole base t books h =
 holding_whole : (base : Base) (done : List Trade) (t : Trade) → Done base t → holding_form (sheets base) (holding_row done t) ≡ true
 unfolding sheets_of tables_at
 holding_whole base done t h =
-    and5 (has_trade (sheets base) t.id) (has_account (sheets base) t.account) (has_security (sheets base) t.symbol) (is_past base.last (moment_of t)) (is_price (price_of t))
+    and5 (has_trade (sheets base) t.id) (has_account (sheets base) t.account) (has_security (sheets base) t.symbol) (is_up_to_last_stamp base.last (moment_of t)) (is_price (price_of t))
     (there base t h.0) (has_account_is base t.account ∙ h.0.account) (has_security_is base t.symbol ∙ h.0.security) (moment_past base t h.0.sound) (price_of_done t h.0.sound.priced h.1)
 
 row_in : (base : Base) (t : Trade) → Known base t → trade_in (sheets base) t.id ≡ Some (trade_row t)
@@ -221,7 +220,7 @@ posted_whole base t books told h c = record {
   amount = h.0.sound.amount h.1;
 }
 
-made_past : (o : Option ℕ) (m : Movement) → IsMadeBy o m → is_past o m.stamp ≡ true
+made_past : (o : Option ℕ) (m : Movement) → IsMadeBy o m → is_up_to_last_stamp o m.stamp ≡ true
 made_past None m e = absurd e
 made_past (Some l) m e = le-leb m.stamp l e
 
@@ -282,12 +281,12 @@ security_whole base s h n =
     and5 (is_symbol s.symbol) (is_name s.name) (is_exchange s.exchange) (is_name s.sector) (list_any (λ l. bytes_eq l.symbol s.symbol) (sheets base).last_trades)
     f.0 f.1 f.2 f.3 (has_last_is base s.symbol ∙ n)
 
-last_trade_whole : (base : Base) (s : Security) → security_fields s ≡ true → is_some (security_with base s.symbol) ≡ true → is_past base.last s.moment ≡ true → HasVolume s
+last_trade_whole : (base : Base) (s : Security) → security_fields s ≡ true → is_some (security_with base s.symbol) ≡ true → is_up_to_last_stamp base.last s.moment ≡ true → HasVolume s
     → last_trade_form (sheets base) (last_trade_row s) ≡ true
 unfolding sheets_of tables_at
 last_trade_whole base s h n m v =
     let f = parts5 (is_symbol s.symbol) (is_name s.name) (is_exchange s.exchange) (is_name s.sector) (is_price s.last_price) h in
-    and4 (has_security (sheets base) s.symbol) (is_past base.last s.moment) (is_price s.last_price) (nat_le s.volume greatest_amount) (has_security_is base s.symbol ∙ n) m f.4 (le-leb s.volume greatest_amount v)
+    and4 (has_security (sheets base) s.symbol) (is_up_to_last_stamp base.last s.moment) (is_price s.last_price) (nat_le s.volume greatest_amount) (has_security_is base s.symbol ∙ n) m f.4 (le-leb s.volume greatest_amount v)
 
 pub rates_same : (base : Base) (customer : ℕ) → rates_of (base_of (sheets base)) customer ≡ rates_of base customer
 unfolding base_of
@@ -345,9 +344,9 @@ form_of base books k =
           (All-map base.securities (λ s h. security_whole base s h.0 h.1) (both_all (λ s. security_fields s ≡ true) (λ s. is_some (security_with base s.symbol) ≡ true) base.securities k.securities listed));
       last_trades = mapped_form (last_trade_form T) last_trade_key last_trade_row base.securities
           (All-map base.securities (λ s h. last_trade_whole base s h.0.0 h.0.1 h.1.0 h.1.1)
-          (both_all (λ s. (security_fields s ≡ true) × (is_some (security_with base s.symbol) ≡ true)) (λ s. (is_past base.last s.moment ≡ true) × HasVolume s) base.securities
+          (both_all (λ s. (security_fields s ≡ true) × (is_some (security_with base s.symbol) ≡ true)) (λ s. (is_up_to_last_stamp base.last s.moment ≡ true) × HasVolume s) base.securities
           (both_all (λ s. security_fields s ≡ true) (λ s. is_some (security_with base s.symbol) ≡ true) base.securities k.securities listed)
-          (both_all (λ s. is_past base.last s.moment ≡ true) HasVolume base.securities k.moments books.volumes)));
+          (both_all (λ s. is_up_to_last_stamp base.last s.moment ≡ true) HasVolume base.securities k.moments books.volumes)));
       charges = rows_form charge_form charge_key base.charges k.charges;
       bands = rows_form (band_form third_schema) band_key base.bands k.bands;
       apart = overlap_none (by_key band_key base.bands) (bands_sort (row_before band_key) base.bands books.apart);

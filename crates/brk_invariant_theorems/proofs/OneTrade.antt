@@ -14,7 +14,7 @@ use Rattle.brk_model.specs.Lists.{sort_by, update_where}
 use Rattle.brk_model.specs.Records.{StatusChange, Trade}
 use Rattle.brk_model.specs.Base.{Base, completed, has_status, is_completed, marked, moment_of, price_of}
 use Rattle.brk_model.specs.Derived.{deal_of, deals_in, of_account, of_position, shares_in}
-use Rattle.brk_model.specs.Form.{is_price, is_qty}
+use Rattle.brk_model.specs.Form.{is_up_to_last_stamp, is_price, is_qty}
 use Rattle.brk_model.specs.Tests.{next_stamp}
 use Rattle.brk_model.specs.Ways.{is_rising, is_valid_sequence}
 use Rattle.brk_book_theorems.proofs.Same.{All-filter, All-map, All-mapped, map-last}
@@ -22,7 +22,7 @@ use Rattle.brk_book_theorems.proofs.Completing.{All-passing}
 use Rattle.brk_book_theorems.proofs.LotReading.{All-sort}
 use Rattle.brk_audit_theorems.specs.Told.{HasValidTransitions, StampsRise}
 use Rattle.brk_audit_theorems.proofs.Marks.{no_more_ways, same_statuses, three_ways, two_ways}
-use Rattle.brk_invariant_theorems.specs.Sound.{IsPastMark, AuditInvariant, IsSoundBy, IsSoundTrade, is_past, is_priced}
+use Rattle.brk_invariant_theorems.specs.Sound.{IsPastMark, AuditInvariant, IsSoundBy, IsSoundTrade, is_priced}
 use Rattle.brk_invariant_theorems.proofs.Bounds.{IsCheap, replay_all}
 
 pub false_true : {A : Type 0} → false ≡ true → A
@@ -30,15 +30,15 @@ false_true e = absurd (cc)
 
 -- ---- stamps
 
-pub past_then : (last : Option ℕ) (now n : ℕ) → is_past last n ≡ true → is_past (Some (option_map_or (λ l. max now (l + 1)) last now)) n ≡ true
+pub past_then : (last : Option ℕ) (now n : ℕ) → is_up_to_last_stamp last n ≡ true → is_up_to_last_stamp (Some (option_map_or (λ l. max now (l + 1)) last now)) n ≡ true
 past_then None now n e = false_true e
 past_then (Some l) now n e = let h = leb-true n l e in le-leb n (max now (l + 1)) (omega (arith, h))
 
-pub past_before : (last : Option ℕ) (now n : ℕ) → is_past last n ≡ true → n < option_map_or (λ l. max now (l + 1)) last now
+pub past_before : (last : Option ℕ) (now n : ℕ) → is_up_to_last_stamp last n ≡ true → n < option_map_or (λ l. max now (l + 1)) last now
 past_before None now n e = false_true e
 past_before (Some l) now n e = let h = leb-true n l e in omega (arith, h)
 
-pub past_itself : (n : ℕ) → is_past (Some n) n ≡ true
+pub past_itself : (n : ℕ) → is_up_to_last_stamp (Some n) n ≡ true
 past_itself n = le-leb n n (omega arith)
 
 pub rising_more : (ms : List ℕ) (n : ℕ) → is_rising ms ≡ true → AllByRecursion (λ m. m < n) ms → is_rising (ms ++ n ∷ []) ≡ true

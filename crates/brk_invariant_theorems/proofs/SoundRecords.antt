@@ -13,7 +13,7 @@ use Rattle.brk_model.specs.Records.{Account, Band, Broker, Charge, Customer, Cus
 use Rattle.brk_model.specs.Base.{Base, account_with, broker_in, completed, customer_with, rates_of, tax_rate_with}
 use Rattle.brk_model.specs.Derived.{amount_of, balance_of, cash_trades, commissions_of, of_account, of_broker, posted_to, postings, postings_of}
 use Rattle.brk_model.specs.Commands.{Command, Listing, Reply, AddBroker, AddCustomer, AddAccount, AddPermission, AddSecurity, AddCharge, AddBand, AddTaxRate, AddCustomerTax}
-use Rattle.brk_model.specs.Form.{band_form, charge_form, customer_form, is_amount, is_id, is_qty, is_tier, kept_form, tax_rate_form}
+use Rattle.brk_model.specs.Form.{band_form, charge_form, customer_form, is_amount, is_id, is_up_to_last_stamp, is_qty, is_tier, kept_form, tax_rate_form}
 use Rattle.brk_model.specs.Forms.{is_exchange, is_name}
 use Rattle.brk_model.specs.Keys.{KeyPart, number, word, charge_key, customer_key, customer_tax_key, kept_key, tax_rate_key}
 use Rattle.brk_model.specs.Keyed.{keeping, kept_under}
@@ -34,7 +34,7 @@ use Rattle.brk_book_theorems.proofs.Steps.{in_order}
 use Rattle.brk_audit_theorems.proofs.Again.{both_all}
 use Rattle.brk_model_theorems.proofs.Conjunctions.{parts3, parts5}
 use Rattle.brk_audit_theorems.specs.Told.{broker_id}
-use Rattle.brk_invariant_theorems.specs.Sound.{AuditInvariant, IsSoundBy, IsSoundTrade, DistinctKeys, NamesAccount, NamesCustomer, NamesTax, account_fields, broker_fields, is_named_by, is_past, permission_fields, security_fields, tax_id_key}
+use Rattle.brk_invariant_theorems.specs.Sound.{AuditInvariant, IsSoundBy, IsSoundTrade, DistinctKeys, NamesAccount, NamesCustomer, NamesTax, account_fields, broker_fields, is_named_by, permission_fields, security_fields, tax_id_key}
 use Rattle.brk_invariant_theorems.specs.InForm.{IsInForm, IsKeyInForm}
 use Rattle.brk_invariant_theorems.proofs.OneTrade.{past_itself, sound_last}
 
@@ -314,7 +314,7 @@ sound_security base now x k books form e =
       terms = l.terms;
       listed = record {
         securities = All-append (λ s. security_fields s ≡ true) base.securities (s ∷ []) k.securities (form, tt);
-        moments = All-append (λ s. is_past (Some stamp) s.moment ≡ true) base.securities (s ∷ []) l.moments (past_itself stamp, tt);
+        moments = All-append (λ s. is_up_to_last_stamp (Some stamp) s.moment ≡ true) base.securities (s ∷ []) l.moments (past_itself stamp, tt);
       };
       trades = All-map base.trades (λ t h. trade_listed c (base.securities ++ s ∷ []) t
           (ap (λ o. option_map_or (λ s. s.name) o []) (find-more (λ u. bytes_eq u.symbol t.symbol) base.securities (s ∷ []) h.1)) h.0)

@@ -26,7 +26,7 @@ use Rattle.brk_model.specs.Feed.{is_triggered, ticked, with_tick, with_ticks}
 use Rattle.brk_model.specs.Results.{cash_text}
 use Rattle.brk_model.specs.Shares.{signed}
 use Rattle.brk_model.specs.Updates.{changed_cash_name, changed_cash_type, changed_executor, chosen, chosen_of_account, chosen_of_symbol, is_within, oldest_first, other_word}
-use Rattle.brk_model.specs.Form.{charge_form, is_cash_type, is_price, is_qty, is_tier, is_id}
+use Rattle.brk_model.specs.Form.{charge_form, is_cash_type, is_up_to_last_stamp, is_price, is_qty, is_tier, is_id}
 use Rattle.brk_model.specs.Forms.{is_exchange, is_name, is_symbol}
 use Rattle.brk_model.specs.Step.{records_after}
 use Rattle.brk_model.specs.Tests.{next_stamp, tests, wrong_status}
@@ -46,7 +46,7 @@ use Rattle.brk_audit_theorems.proofs.Again.{both_all}
 use Rattle.brk_audit_theorems.proofs.Climbs.{In, each_in, of_all}
 use Rattle.brk_audit_theorems.proofs.Marks.{filtered}
 use Rattle.brk_model_theorems.proofs.Conjunctions.{parts5}
-use Rattle.brk_invariant_theorems.specs.Sound.{IsDueInTime, IsPastMark, AuditInvariant, IsSoundTrade, is_past, security_fields}
+use Rattle.brk_invariant_theorems.specs.Sound.{IsDueInTime, IsPastMark, AuditInvariant, IsSoundTrade, security_fields}
 use Rattle.brk_invariant_theorems.specs.InForm.{IsInForm, IsTickInForm}
 use Rattle.brk_invariant_theorems.proofs.Bounds.{All-take}
 use Rattle.brk_invariant_theorems.proofs.OneTrade.{false_true, leaves_way, past_before, past_itself, price_low, qty_low, rising_more, sound_last, updated_all}
@@ -56,7 +56,7 @@ use Rattle.brk_invariant_theorems.proofs.SoundRecords.{LeavesSound, trade_listed
 
 -- ---- other trades and securities, and the same completed trades
 
-sound_moved : (c : Base) (ss : List Security) (ts : List Trade) → AuditInvariant c → AllByRecursion (λ s. security_fields s ≡ true) ss → AllByRecursion (λ s. is_past c.last s.moment ≡ true) ss
+sound_moved : (c : Base) (ss : List Security) (ts : List Trade) → AuditInvariant c → AllByRecursion (λ s. security_fields s ≡ true) ss → AllByRecursion (λ s. is_up_to_last_stamp c.last s.moment ≡ true) ss
     → AllByRecursion (IsSoundTrade (record c { securities = ss; trades = ts })) ts → filter is_completed ts ≡ completed c → AuditInvariant (record c { securities = ss; trades = ts })
 sound_moved c ss ts k f m h e =
     record {
@@ -263,7 +263,7 @@ tick_sound b stamp tick form k waits =
     let P : Trade → Type 0 = λ t. IsSoundTrade c t × Waits stamp t in (
       sound_moved c ss ts k
           (updated_all (λ s. security_fields s ≡ true) (λ s. security_fields s ≡ true) (λ s. bytes_eq s.symbol tick.symbol) (ticked stamp tick) b.securities (λ s i h. ticked_fields stamp tick s form h) (λ s h. h) k.securities)
-          (updated_all (λ s. is_past (Some stamp) s.moment ≡ true) (λ s. is_past (Some stamp) s.moment ≡ true) (λ s. bytes_eq s.symbol tick.symbol) (ticked stamp tick) b.securities
+          (updated_all (λ s. is_up_to_last_stamp (Some stamp) s.moment ≡ true) (λ s. is_up_to_last_stamp (Some stamp) s.moment ≡ true) (λ s. bytes_eq s.symbol tick.symbol) (ticked stamp tick) b.securities
           (λ s i h. past_itself stamp) (λ s h. h) k.moments)
           (updated_all P (IsSoundTrade (record c { securities = ss; trades = ts })) (is_triggered tick) (marked stamp Submitted) b.trades
           (λ t i h. trade_listed c ss (marked stamp Submitted t) (names_stay stamp tick t.symbol q b.securities)

@@ -8,17 +8,16 @@ use Rattle.brk_model.specs.Limits.{greatest_amount, greatest_rate}
 use Rattle.brk_model.specs.Schemas.{third_schema}
 use Rattle.brk_model.specs.Records.{Band, Key}
 use Rattle.brk_model.specs.Commands.{Command, Listing, Order, Tick, AddBroker, AddCustomer, AddAccount, AddPermission, AddSecurity, AddCharge, AddBand, AddTaxRate, AddCustomerTax, PlaceOrder, FeedTicks, CancelTrade, CompleteTrade, ChangeExecutors, ChangeCashTypes, ChangeCashNames, DepositCash, WithdrawCash, SetOneDay}
-use Rattle.brk_model.specs.Forms.{is_batch_name, is_exchange, is_name, is_symbol}
-use Rattle.brk_model.specs.Form.{charge_form, customer_form, is_id, is_price, is_qty, is_tier, tax_rate_form}
+use Rattle.brk_model.specs.Form.{has_well_formed_bounds, charge_form, customer_form, is_price, is_qty, is_well_formed_key, are_well_formed_listing_texts, tax_rate_form}
 use Rattle.brk_invariant_theorems.specs.Sound.{account_fields, broker_fields, permission_fields}
 
 -- True if the fields of the listing are well-formed.
 abbrev pub listing_fields : Listing → Bool
-listing_fields l = is_symbol l.symbol && is_name l.name && is_exchange l.exchange && is_name l.sector && is_price l.price
+listing_fields l = are_well_formed_listing_texts l.symbol l.name l.exchange l.sector && is_price l.price
 
 -- True if the fields of the band are well-formed. The order of its bounds is checked elsewhere.
 abbrev pub band_fields : Band → Bool
-band_fields b = is_tier b.tier && is_exchange b.exchange && is_qty third_schema b.from_qty && is_qty third_schema b.to_qty && nat_le b.rate greatest_rate
+band_fields b = has_well_formed_bounds third_schema b && nat_le b.rate greatest_rate
 
 -- The order's quantity is well-formed, and its price if it has one.
 pub record IsOrderInForm (o : Order) : Type 0 where
@@ -58,4 +57,4 @@ IsInForm (SetOneDay day) = nat_le day last_day ≡ true
 
 -- The key has a well-formed batch name and row number.
 abbrev pub IsKeyInForm : Key → Type 0
-IsKeyInForm key = is_batch_name key.batch && is_id key.row ≡ true
+IsKeyInForm key = is_well_formed_key key ≡ true

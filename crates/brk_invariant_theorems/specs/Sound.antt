@@ -1,19 +1,18 @@
 -- The audit invariant: what an audit of a base's tables needs beyond the books invariant:
 -- well-formed fields, unique keys, existing references, and limits.
-use Rattle.std.specs.Prelude.{◌≡◌, ◌≤◌, ⊤, ℕ, ◌+◌, ◌==◌, ◌&&◌, ◌||◌, not, Bool, true, false, if◌then◌else◌, List, [], ◌∷◌, Option, is_some, is_none, nat_le, nat_abs, length, filter, map, find, sum_by, codes, decimal, bytes_eq, ◌++◌}
+use Rattle.std.specs.Prelude.{◌≡◌, ◌≤◌, ⊤, ℕ, ◌+◌, ◌==◌, ◌&&◌, ◌||◌, Bool, true, List, [], ◌∷◌, Option, is_some, nat_le, nat_abs, length, filter, map, find, sum_by, codes, decimal, bytes_eq, ◌++◌}
 use Rattle.std.specs.List.{AllByRecursion}
 use Rattle.std.specs.Option.{option_map_or}
 use Rattle.brk_money.specs.Spelling.{Text}
 use Rattle.brk_money.specs.Moments.{last_day}
-use Rattle.brk_money.specs.Kinds.{same_status, type_name}
-use Rattle.brk_money.specs.declared.status.Status.TheVariants.{Completed}
+use Rattle.brk_money.specs.Kinds.{type_name}
 use Rattle.brk_model.specs.Limits.{greatest_amount, greatest_charge, greatest_id, greatest_summary, greatest_tax_rate, most_accounts}
 use Rattle.brk_model.specs.Records.{Account, Band, Broker, Charge, Customer, CustomerTax, Kept, StatusChange, Movement, Permission, Security, SettleRule, TaxRate, Trade}
 use Rattle.brk_model.specs.Base.{Base, completed, find_account, is_completed}
-use Rattle.brk_model.specs.Derived.{amount_of, balance_of, commissions_of, due_after, postings, summary_of}
+use Rattle.brk_model.specs.Derived.{amount_of, balance_of, commissions_of, postings, summary_of}
 use Rattle.brk_model.specs.Schemas.{third_schema}
-use Rattle.brk_model.specs.Forms.{is_acl, is_exchange, is_name, is_symbol, is_tax_id}
-use Rattle.brk_model.specs.Form.{band_form, charge_form, customer_form, is_amount, is_cash_type, is_id, is_movement, is_price, is_qty, kept_form, tax_rate_form}
+use Rattle.brk_model.specs.Forms.{is_acl, is_name, is_tax_id}
+use Rattle.brk_model.specs.Form.{band_form, charge_form, customer_form, is_amount, is_cash_type, is_due_within_calendar, is_id, is_movement, is_up_to_last_stamp, is_price, has_price_exactly_if, is_qty, kept_form, are_well_formed_listing_texts, tax_rate_form}
 use Rattle.brk_model.specs.Ways.{is_rising}
 use Rattle.brk_model.specs.Keys.{KeyPart, word, charge_key, customer_key, customer_tax_key, kept_key, tax_rate_key}
 use Rattle.brk_audit_theorems.specs.Told.{HasValidTransitions, HasNoStrayTexts, StampsRise, broker_id}
@@ -26,10 +25,6 @@ DistinctKeys key (x ∷ xs) = AllByRecursion (λ y. key y ≡ key x → ⊥) xs 
 -- The tax id of a customer as a key.
 abbrev pub tax_id_key : Customer → List KeyPart
 tax_id_key c = word c.tax_id ∷ []
-
--- True if the stamp is at most the last stamp; false if there is no last stamp.
-abbrev pub is_past : Option ℕ → ℕ → Bool
-is_past last stamp = option_map_or (λ l. nat_le stamp l) last false
 
 -- ---- fields are well-formed
 
@@ -47,7 +42,7 @@ permission_fields p = is_acl p.acl && is_tax_id p.tax_id && is_name p.last_name 
 
 -- True if the fields of the security are well-formed.
 abbrev pub security_fields : Security → Bool
-security_fields s = is_symbol s.symbol && is_name s.name && is_exchange s.exchange && is_name s.sector && is_price s.last_price
+security_fields s = are_well_formed_listing_texts s.symbol s.name s.exchange s.sector && is_price s.last_price
 
 -- True if the fields of the trade are well-formed.
 abbrev pub trade_fields : Trade → Bool
@@ -57,15 +52,15 @@ trade_fields t = is_id t.id && is_qty third_schema t.qty && is_price t.bid && na
 
 -- The stamp of the status change is at most the last stamp.
 abbrev pub IsPastMark : Option ℕ → StatusChange → Type 0
-IsPastMark last m = is_past last m.stamp ≡ true
+IsPastMark last m = is_up_to_last_stamp last m.stamp ≡ true
 
 -- The due day is within the calendar if the status change is a completion.
 abbrev pub IsDueInTime : SettleRule → StatusChange → Type 0
-IsDueInTime rule m = (not (same_status m.status Completed) || nat_le (due_after rule m.stamp) last_day) ≡ true
+IsDueInTime rule m = is_due_within_calendar rule m.status m.stamp ≡ true
 
 -- True if the trade is completed and has a well-formed price, or is not completed and has no price.
 abbrev pub is_priced : Trade → Bool
-is_priced t = if is_completed t then option_map_or is_price t.price false else is_none t.price
+is_priced t = has_price_exactly_if (is_completed t) t.price
 
 -- True if the cash text is one of the two texts of the trade for the security name `name`.
 abbrev pub is_named_by : Trade → Text → Bool
@@ -181,7 +176,7 @@ pub record AreTermsSound (all_customers : List Customer) (all_charges : List Cha
 -- Securities are well-formed, and none has a last trade after the last stamp.
 pub record AreListedSound (last : Option ℕ) (all_securities : List Security) : Type 0 where
   pub securities : AllByRecursion (λ s. security_fields s ≡ true) all_securities
-  pub moments : AllByRecursion (λ s. is_past last s.moment ≡ true) all_securities
+  pub moments : AllByRecursion (λ s. is_up_to_last_stamp last s.moment ≡ true) all_securities
 
 -- The sums of completed trades and movements are within their limits.
 pub record AreSumsSound (accounts : List Account) (done : List Trade) (movements : List Movement) : Type 0 where

@@ -1,16 +1,17 @@
 -- The audit condition `Form`: formats, limits, references and keys of the rows of a database.
-use Rattle.std.specs.Prelude.{ℕ, Bool, true, false, not, ◌&&◌, ◌||◌, ◌==◌, nat_le, if◌then◌else◌, List, [], ◌∷◌, map, filter, length, is_some, is_none, ℤ, pos, nat_abs, int_lt, codes, bytes_eq, flat_map, option_to_list}
+use Rattle.std.specs.Prelude.{ℕ, Bool, true, false, not, ◌&&◌, ◌||◌, ◌==◌, nat_le, if◌then◌else◌, List, [], ◌∷◌, map, filter, find, length, Option, is_some, is_none, ℤ, pos, nat_abs, int_lt, codes, bytes_eq, flat_map, option_to_list}
 use Rattle.std.specs.List.{list_any, list_all, range_with_len}
 use Rattle.std.specs.Option.{option_map_or}
 use Rattle.std.specs.Str.{is_utf8}
 use Rattle.brk_money.specs.Spelling.{Text}
 use Rattle.brk_money.specs.Moments.{last_day, last_stamp}
 use Rattle.brk_money.specs.Kinds.{same_status}
+use Rattle.brk_money.specs.declared.status.Status.{Status}
 use Rattle.brk_money.specs.declared.status.Status.TheVariants.{Completed}
 use Rattle.brk_model.specs.Limits.{greatest_price, greatest_charge, greatest_rate, greatest_tax_rate, greatest_amount, greatest_id, greatest_move_id, most_accounts}
 use Rattle.brk_model.specs.Lists.{all_distinct}
 use Rattle.brk_model.specs.Schemas.{Schema}
-use Rattle.brk_model.specs.Records.{Customer, Permission, Charge, Band, TaxRate, CustomerTax, Kept}
+use Rattle.brk_model.specs.Records.{Customer, Permission, Charge, Band, TaxRate, CustomerTax, Key, Kept, SettleRule}
 use Rattle.brk_model.specs.Base.{rates_of}
 use Rattle.brk_model.specs.Tables.{Tables, BrokerRow, AccountRow, SecurityRow, LastTradeRow, TradeRow, HistoryRow, RequestRow, HoldingRow, SummaryRow, HoldingHistoryRow, SettlementRow, CashRow, MoveRow}
 use Rattle.brk_model.specs.Derived.{due_after}
@@ -45,9 +46,13 @@ is_tier n = nat_le 1 n && nat_le n 3
 abbrev pub is_amount : ℤ → Bool
 is_amount z = nat_le (nat_abs z) greatest_amount
 
--- True if the stamp is not after the last stamp of the tables; false if they have none.
+-- True if the stamp is at most the last stamp; false if there is no last stamp.
+abbrev pub is_up_to_last_stamp : Option ℕ → ℕ → Bool
+is_up_to_last_stamp last stamp = option_map_or (λ l. nat_le stamp l) last false
+
+-- True if the stamp is at most the last stamp of the tables; false if they have none.
 abbrev pub is_stamp : Tables → ℕ → Bool
-is_stamp tables stamp = option_map_or (λ last. nat_le stamp last) tables.last false
+is_stamp tables stamp = is_up_to_last_stamp tables.last stamp
 
 -- True if the trade exists.
 abbrev pub has_trade : Tables → ℕ → Bool
@@ -63,15 +68,19 @@ has_security tables symbol = is_some (security_in tables symbol)
 
 -- True if the customer exists.
 abbrev pub has_customer : Tables → ℕ → Bool
-has_customer tables id = list_any (λ c. c.id == id) tables.customers
+has_customer tables id = is_some (find (λ c. c.id == id) tables.customers)
 
 -- True if the broker exists.
 abbrev pub has_broker : Tables → ℕ → Bool
-has_broker tables id = list_any (λ b. b.id == id) tables.brokers
+has_broker tables id = is_some (find (λ b. b.id == id) tables.brokers)
+
+-- True if the batch name and the row number of the key are well-formed.
+abbrev pub is_well_formed_key : Key → Bool
+is_well_formed_key key = is_batch_name key.batch && is_id key.row
 
 -- True if the key of a row of KEPT is well-formed.
 abbrev pub kept_form : Kept → Bool
-kept_form k = is_batch_name k.key.batch && is_id k.key.row
+kept_form k = is_well_formed_key k.key
 
 -- True if the id, the name and the commission total of a row of BROKER are well-formed.
 abbrev pub broker_form : BrokerRow → Bool
@@ -91,10 +100,13 @@ account_form t a =
 abbrev pub permission_form : Tables → Permission → Bool
 permission_form t p = has_account t p.account && is_acl p.acl && is_tax_id p.tax_id && is_name p.last_name && is_name p.first_name
 
+-- True if the symbol, the name, the exchange and the sector of a security are well-formed.
+abbrev pub are_well_formed_listing_texts : Text → Text → Text → Text → Bool
+are_well_formed_listing_texts symbol name exchange sector = is_symbol symbol && is_name name && is_exchange exchange && is_name sector
+
 -- True if the columns of a row of SECURITY are well-formed, and its last trade exists.
 abbrev pub security_form : Tables → SecurityRow → Bool
-security_form t s =
-    is_symbol s.symbol && is_name s.name && is_exchange s.exchange && is_name s.sector && list_any (λ l. bytes_eq l.symbol s.symbol) t.last_trades
+security_form t s = are_well_formed_listing_texts s.symbol s.name s.exchange s.sector && list_any (λ l. bytes_eq l.symbol s.symbol) t.last_trades
 
 -- True if the columns of a row of LAST_TRADE are well-formed, and its security exists.
 abbrev pub last_trade_form : Tables → LastTradeRow → Bool
@@ -104,12 +116,14 @@ last_trade_form t l = has_security t l.symbol && is_stamp t l.stamp && is_price 
 abbrev pub charge_form : Charge → Bool
 charge_form c = is_tier c.tier && nat_le c.amount greatest_charge
 
+-- True if the tier, the exchange and both bounds of the band are well-formed.
+abbrev pub has_well_formed_bounds : Schema → Band → Bool
+has_well_formed_bounds schema b = is_tier b.tier && is_exchange b.exchange && is_qty schema b.from_qty && is_qty schema b.to_qty
+
 -- True if the columns of a row of COMMISSION_RATE are well-formed, and its lower bound is at most
 -- its upper bound.
 abbrev pub band_form : Schema → Band → Bool
-band_form schema b =
-    is_tier b.tier && is_exchange b.exchange && is_qty schema b.from_qty && is_qty schema b.to_qty && nat_le b.from_qty b.to_qty
-    && nat_le b.rate greatest_rate
+band_form schema b = has_well_formed_bounds schema b && nat_le b.from_qty b.to_qty && nat_le b.rate greatest_rate
 
 -- True if the columns of a row of TAXRATE are well-formed.
 abbrev pub tax_rate_form : TaxRate → Bool
@@ -119,11 +133,14 @@ tax_rate_form r = is_id r.id && is_name r.name && nat_le r.rate greatest_tax_rat
 abbrev pub customer_tax_form : Tables → CustomerTax → Bool
 customer_tax_form t x = has_customer t x.customer && list_any (λ r. r.id == x.tax) t.tax_rates
 
+-- True if `is_done` is true and the price is valid, or `is_done` is false and there is no price.
+abbrev pub has_price_exactly_if : Bool → Option ℕ → Bool
+has_price_exactly_if is_done price = if is_done then option_map_or is_price price false else is_none price
+
 -- True if the trade has a valid price and its history has a completion, or it has no price and its
 -- history has none.
 abbrev pub price_form : Tables → TradeRow → Bool
-price_form t row =
-    if list_any (λ h. same_status h.status Completed) (history_in t row.id) then option_map_or is_price row.price false else is_none row.price
+price_form t row = has_price_exactly_if (list_any (λ h. same_status h.status Completed) (history_in t row.id)) row.price
 
 -- True if the id, the stamp, the quantity and the bid of a row of TRADE and its charge, commission
 -- and tax are within their limits, its security and account exist, and its price agrees with its
@@ -133,10 +150,15 @@ trade_form schema t row =
     is_id row.id && is_stamp t row.stamp && has_security t row.symbol && is_qty schema row.qty && is_price row.bid && has_account t row.account && price_form t row
     && nat_le row.charge greatest_charge && nat_le row.commission greatest_amount && nat_le row.tax greatest_amount
 
+-- True if the status is not that of a completion, or the due day of a completion with this stamp is
+-- within the calendar.
+abbrev pub is_due_within_calendar : SettleRule → Status → ℕ → Bool
+is_due_within_calendar rule status stamp = not (same_status status Completed) || nat_le (due_after rule stamp) last_day
+
 -- True if the trade of a row of TRADE_HISTORY exists and its stamp is well-formed; the due day of a
 -- completion is within the calendar.
 abbrev pub history_form : Tables → HistoryRow → Bool
-history_form t h = has_trade t h.trade && is_stamp t h.stamp && (not (same_status h.status Completed) || nat_le (due_after t.rule h.stamp) last_day)
+history_form t h = has_trade t h.trade && is_stamp t h.stamp && is_due_within_calendar t.rule h.status h.stamp
 
 -- True if the columns of a row of TRADE_REQUEST are well-formed, and its trade, security and broker
 -- exist.

@@ -51,10 +51,10 @@ same_bytes a b h = (bytes_eq-Decides a b).0 h
 
 module _ (schema : Schema) (t : Tables) (p : FormParts schema t) where
   pub customer_id : (id : ℕ) → has_customer t id ≡ true → is_id id ≡ true
-  customer_id id h = let c = any_gives (λ c. c.id == id) customer_form t.customers h p.customers in subst (λ n. is_id n ≡ true) (eqb-true c.0.id id c.1) (parts5 _ _ _ _ _ c.2).0
+  customer_id id h = let c = find_gives (λ c. c.id == id) customer_form t.customers h p.customers in subst (λ n. is_id n ≡ true) (eqb-true c.0.id id c.1) (parts5 _ _ _ _ _ c.2).0
 
   pub broker_id : (id : ℕ) → has_broker t id ≡ true → is_id id ≡ true
-  broker_id id h = let b = any_gives (λ b. b.id == id) broker_form t.brokers h p.brokers in subst (λ n. is_id n ≡ true) (eqb-true b.0.id id b.1) (parts3 _ _ _ b.2).0
+  broker_id id h = let b = find_gives (λ b. b.id == id) broker_form t.brokers h p.brokers in subst (λ n. is_id n ≡ true) (eqb-true b.0.id id b.1) (parts3 _ _ _ b.2).0
 
   pub tax_id : (id : ℕ) → list_any (λ r. r.id == id) t.tax_rates ≡ true → is_id id ≡ true
   tax_id id h = let r = any_gives (λ r. r.id == id) tax_rate_form t.tax_rates h p.tax_rates in subst (λ n. is_id n ≡ true) (eqb-true r.0.id id r.1) (parts3 _ _ _ r.2).0

@@ -11,12 +11,9 @@ use crate::result_found::ResultFound;
 use crate::settling::{
     amount_of, balance_after, commission_at, commissions_after, due_day, tax_upon, values_of,
 };
-use brk_changes::{Amount, is_submitted};
+use brk_changes::{Amount, Schema, is_submitted};
 use brk_lots::Closing;
 use brk_money::{Cents, Day, Limit, Price, Rate, Refusal, Side, Stamp};
-
-// The greatest number of shares of a security that an account holds, bought or sold short.
-const GREATEST_SUMMARY: u128 = 9_999_999_999;
 
 /// The figures of a completed trade, in cents (Trade-Result).
 #[derive(Clone, Copy, PartialEq, Eq)]
@@ -69,7 +66,7 @@ fn summary_after(found: &ResultFound) -> Option<i64>
 {
     let held = i128::from(found.summary.unwrap_or(0));
     let after = held + signed(found.trade.kind.side(), found.trade.qty.get());
-    if after.unsigned_abs() > GREATEST_SUMMARY {
+    if after.unsigned_abs() > u128::from(Schema::Third.greatest_summary()) {
         return None;
     }
     Some(after as i64)

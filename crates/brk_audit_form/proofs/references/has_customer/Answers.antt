@@ -4,7 +4,7 @@ use Rattle.std.proofs.lemmas.List.Sorted.{answers_always}
 use Rattle.brk_ref.specs.Records.{customer_of}
 use Rattle.brk_changes.specs.Sheets.{tables_in_sheets}
 use Rattle.brk_audit_theorems.proofs.Parts.{key_parts}
-use Rattle.brk_audit_form.proofs.Searches.{number_found}
+use Rattle.brk_audit_form.proofs.Searches.{number_found, any_found}
 use Rattle.brk_audit_form.proofs.references.has_customer.Goals as goal
 
 pub returns : goal.returns
@@ -15,3 +15,4 @@ returns c =
     number_found customer_of (λ r. r.id) s.customers.items c.deref.result.now c.get-number.result c.binary_search_by_key.result c.is_ok.result
     c.deref.ensures.value (key_parts (tables_in_sheets s) c.requires).customers found.bound place c.is_ok.ensures.value
     ∙ ap (λ n. list_any (λ r. r.id == n) (map customer_of s.customers.items)) c.get-number.ensures.value
+    ∙ any_found (λ r. r.id == c.args.id) (map customer_of s.customers.items)

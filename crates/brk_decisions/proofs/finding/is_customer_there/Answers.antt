@@ -1,7 +1,7 @@
 use Rattle.std.proofs.Common.{◌≡◌, ◌==◌, ◌∙◌, find, option_map}
 use Rattle.brk_model.specs.Tables.{Tables}
 use Rattle.brk_ref.specs.Records.{customer_of}
-use Rattle.brk_book_theorems.specs.Reads.{finds_customer}
+use Rattle.brk_model.specs.Form.{has_customer}
 use Rattle.brk_book_theorems.proofs.Reading.{is_there}
 use Rattle.brk_store.proofs.Retelling.{retold}
 use Rattle.brk_decisions.proofs.finding.is_customer_there.Goals as goal
@@ -9,7 +9,7 @@ use Rattle.brk_decisions.proofs.finding.is_customer_there.Goals as goal
 pub returns : goal.returns
 returns g c = record {
   read = retold g.S.Store c.args.store.now c.customer.new.self c.in_ok-customer.field-0 c.is_some.result
-      (λ o (t : Tables). option_map customer_of o ≡ find (λ r. r.id == c.args.id) t.customers) (λ there (t : Tables). there ≡ finds_customer t c.args.id)
+      (λ o (t : Tables). option_map customer_of o ≡ find (λ r. r.id == c.args.id) t.customers) (λ there (t : Tables). there ≡ has_customer t c.args.id)
       (λ t e. c.is_some.ensures ∙ is_there customer_of c.in_ok-customer.field-0 (find (λ r. r.id == c.args.id) t.customers) e)
       c.in_ok-customer.ensures.read;
   fault = tt;
