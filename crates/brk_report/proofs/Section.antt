@@ -1,5 +1,5 @@
 -- What a walk with a visitor that writes lines has written, and what one that adds up has added.
-use Rattle.std.proofs.Common.{◌≡◌, ℕ, ◌+◌, ℤ, ◌+ℤ◌, List, [], ◌∷◌, ◌++◌, Option, Result, Ok, Err, length, map, refl, sym, ap, subst, ◌∙◌, arith}
+use Rattle.std.proofs.Common.{◌≡◌, ℕ, ◌+◌, ℤ, ◌+ℤ◌, List, [], ◌∷◌, ◌++◌, IfErr, Option, Result, Ok, Err, length, map, inr, refl, sym, ap, subst, ◌∙◌, arith}
 use Rattle.std.specs.List.{FoldsTo}
 use Rattle.std.specs.Io.KnownBytes.{Appends}
 use Rattle.std.proofs.KnownBytes.{Appends-trans}
@@ -7,6 +7,7 @@ use Rattle.sqlite_trees.specs.declared.store.Store.{Ghosts}
 use Rattle.sqlite.specs.Held.{Held, state}
 use Rattle.sqlite.specs.State.{HasCleanDisk}
 use Rattle.brk_money.specs.Spelling.{Text}
+use Rattle.brk_money.specs.declared.fault.Fault.TheVariants as faults
 use Rattle.brk_model.specs.Lists.{total_by}
 use Rattle.brk_model.specs.Statement.{lines_text}
 use Rattle.brk_model.specs.Tables.{Tables}
@@ -14,7 +15,8 @@ use Rattle.brk_store.specs.Holds.{Holds}
 use Rattle.brk_store.specs.Walked.{WalkPost}
 use Rattle.brk_tables_walks.specs.declared.walking.WalkError.{WalkError}
 use Rattle.brk_tables_walks.specs.declared.walking.WalkError.TheVariants.{Failed, Cause}
-use Rattle.brk_report_lines.specs.Written.{BreaksIn, BreaksOff, ended}
+use Rattle.brk_report_lines.specs.Written.{BreaksIn, BreaksOff, WritesLines, ended}
+use Rattle.brk_report.specs.Stated.{MayBreak}
 use Rattle.brk_report_lines.specs.declared.fault.LinesFault.{LinesFault}
 use Rattle.brk_report_lines.specs.declared.fault.LinesFault.TheVariants.{Desk, Write}
 use Rattle.brk_report_lines.proofs.Composed.{appends_none, breaks_before, breaks_behind}
@@ -29,6 +31,27 @@ map_parts f (x ∷ xs) ys = ap (λ l. f x ∷ l) (map_parts f xs ys)
 weaker : (lines : List Text) (a b : Option Text) (e : LinesFault) → BreaksIn lines a b e → BreaksOff lines a b e
 weaker lines a b (Desk f) h = (h.0, (h.1.0, h.1.1 ∷ h.1.2, h.1.3, h.1.4))
 weaker lines a b Write h = h
+
+-- ---- why it ended
+
+pub in_broken : (lines : List Text) (a b : Option Text) (e : LinesFault) → BreaksIn lines a b e → MayBreak e
+in_broken lines a b (Desk f) h = h.0
+in_broken lines a b Write h = tt
+
+pub in_written : {Y : Type 0} (lines : List Text) (a b : Option Text) (r : Result Y LinesFault) → WritesLines lines a b r → IfErr r MayBreak
+in_written lines a b (Ok y) h = tt
+in_written lines a b (Err e) h = in_broken lines a b e h
+
+-- an amount that is too large is the fault `Store`
+pub of_store : (e : LinesFault) → e ≡ Desk faults.Store → MayBreak e
+of_store e same = subst MayBreak (sym same) (inr refl)
+
+-- the fault of a walk, whatever the disk
+module _ {S X M V : Type 0} (g : Ghosts S) (old new : Held S) (of : X → M) (list : Tables → List M) (takes : V → X → V → Type 0) (stops : V → X → LinesFault → V → Type 0) (before after : V)
+    (result : Result (Unit {0}) (WalkError LinesFault)) (walked : WalkPost g old new of list takes stops before after result) where
+  pub known_end : ((p : V) (x : X) (e : LinesFault) (q : V) → stops p x e q → MayBreak e) → (stop : WalkError LinesFault) → result ≡ Err stop → (e : LinesFault) → e ≡ fault_of stop → MayBreak e
+  known_end may (Failed cause) is e same = let h = rw is at (walked.fault) in subst MayBreak (sym same) h
+  known_end may (Cause cause) is e same = let h = rw is at (walked.fault) in subst MayBreak (sym same) (may h.0 h.1 cause after h.2)
 
 module _ {S X M V : Type 0} (g : Ghosts S) (old new : Held S) (of : X → M) (list : Tables → List M) (takes : V → X → V → Type 0) (stops : V → X → LinesFault → V → Type 0) (before after : V)
     (t : Tables) (clean : HasCleanDisk (state g new)) (holds : Holds g old t) (result : Result (Unit {0}) (WalkError LinesFault)) (walked : WalkPost g old new of list takes stops before after result) where

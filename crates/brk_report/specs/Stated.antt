@@ -1,5 +1,5 @@
 -- The output of a statement, which changes nothing.
-use Rattle.std.specs.Prelude.{◌≡◌, ◌⊎◌, ◌+ℤ◌, ℕ, ℤ, List, [], Option, Some, Result, Ok, Err, length, map, nat_lt, false, IsTrue}
+use Rattle.std.specs.Prelude.{◌≡◌, ◌⊎◌, ◌+ℤ◌, ℕ, ℤ, List, [], IfErr, Option, Some, Result, Ok, Err, length, map, nat_lt, false, IsTrue}
 use Rattle.std.specs.Io.KnownBytes.{Appends}
 use Rattle.sqlite_trees.specs.declared.store.Store.{Ghosts}
 use Rattle.sqlite.specs.Held.{Held, state}
@@ -30,6 +30,11 @@ pub record Keeps {S : Type 0} (g : Ghosts S) (old new : Held S) : Type 0 where
 -- Under the disk assumption, `So` holds of the rows that the store held before, whatever they are.
 abbrev pub OverRows : {S : Type 0} → Ghosts S → Held S → Held S → (Tables → Type 0) → Type 0
 OverRows g old new So = HasCleanDisk (state g new) → (t : Tables) → Holds g old t → So t
+
+-- A fault of the desk that left lines unwritten is `Memory` or `Store`.
+abbrev pub MayBreak : LinesFault → Type 0
+MayBreak (lines.Desk fault) = MayFail fault
+MayBreak lines.Write = Unit {0}
 
 -- ---- the parts of a statement
 
@@ -67,10 +72,18 @@ States t account from to old new (Err (Refused refusal)) = statement t account f
 States t account from to old new (Err (Desk fault)) = MayFail fault × (Appends old new [] ⊎ ((lines : List Text) × AreLines t account from to lines × WroteFirst lines old new))
 States t account from to old new (Err Write) = (lines : List Text) × AreLines t account from to lines × WrotePart lines old new
 
+-- A fault of the desk that ended a statement early is `Memory` or `Store`.
+abbrev pub MayEnd : ReportFault → Type 0
+MayEnd (Refused refusal) = Unit {0}
+MayEnd (Desk fault) = MayFail fault
+MayEnd Write = Unit {0}
+
 -- The postcondition of a statement of an account, which only reads the desk.
 pub record IsStated {S : Type 0} (g : Ghosts S) (old new : Held S) (account from to : ℕ) (before after : Option Text) (result : Result (Unit {0}) ReportFault) : Type 0 where
   -- The output is as specified for the rows that the store holds, whatever they are.
   pub told : OverRows g old new (λ t. States t account from to before after result)
+  -- A fault of the desk is `Memory` or `Store`, whether or not the disk assumption holds.
+  pub fault : IfErr result MayEnd
   pub keeps : Keeps g old new
   -- Nothing is written if the statement is refused.
   pub unwritten : (refusal : _) → result ≡ Err (Refused refusal) → after ≡ before

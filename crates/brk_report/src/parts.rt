@@ -1,6 +1,7 @@
 //! The parts of a statement, each of which ends with a line that no walk writes.
 
-ghost use Rattle.brk_report.specs.Stated.{Keeps, OverRows};
+ghost use Rattle.std.specs.Prelude.{IfErr};
+ghost use Rattle.brk_report.specs.Stated.{Keeps, MayBreak, OverRows};
 ghost use Rattle.brk_report.specs.Parts.{WritesDays, held_lines, top_lines};
 ghost use Rattle.brk_report_lines.specs.Written.{WritesLines};
 
@@ -44,6 +45,7 @@ pub(crate) fn write_days<W: Write, S: Alter>(
     writer: &mut W,
 ) -> Result<u64, LinesFault>
     ensures keeps { Keeps S.Store desk.old desk.new }
+    ensures fault { IfErr result MayBreak }
     ensures written { OverRows S.Store desk.old desk.new (λ t. WritesDays t account from to opening (W.contents writer.old) (W.contents writer.new) result) }
 {
     let moved = write_cash(alloc, desk, account, from, to, opening, writer)?;
@@ -61,6 +63,7 @@ pub(crate) fn write_held<W: Write, S: Alter>(
     writer: &mut W,
 ) -> Result<(), LinesFault>
     ensures keeps { Keeps S.Store desk.old desk.new }
+    ensures fault { IfErr result MayBreak }
     ensures written { OverRows S.Store desk.old desk.new (λ t. WritesLines (held_lines t account holdings cash) (W.contents writer.old) (W.contents writer.new) result) }
 {
     let lots = write_lots(alloc, desk, account, writer)?;

@@ -1,8 +1,8 @@
 //! The parts of a statement that the desk walks over. None of them changes the desk.
 
-ghost use Rattle.std.specs.Prelude.{◌≡◌, ◌+ℤ◌};
+ghost use Rattle.std.specs.Prelude.{◌≡◌, ◌+ℤ◌, IfErr};
 ghost use Rattle.brk_model.specs.Statement.{cash_before, cash_in, cash_total};
-ghost use Rattle.brk_report.specs.Stated.{IsTotal, Keeps, OverRows, WritesCash, WritesLots};
+ghost use Rattle.brk_report.specs.Stated.{IsTotal, Keeps, MayBreak, OverRows, WritesCash, WritesLots};
 ghost use Rattle.brk_report.specs.Stops.{fault_of};
 
 use crate::visitors::{CashLines, Lines, Moved, Sum};
@@ -31,6 +31,7 @@ pub(crate) fn sum_before<S: Alter>(
     opening: Cents,
 ) -> Result<Wide, LinesFault>
     ensures keeps { Keeps S.Store desk.old desk.new }
+    ensures fault { IfErr result MayBreak }
     ensures sum { OverRows S.Store desk.old desk.new (λ t. IsTotal (opening +ℤ cash_total (cash_before from (cash_in t account))) result) }
 {
     let Some(last) = stamp_before(from) else {
@@ -57,6 +58,7 @@ pub(crate) fn write_cash<W: Write, S: Alter>(
     writer: &mut W,
 ) -> Result<Moved, LinesFault>
     ensures keeps { Keeps S.Store desk.old desk.new }
+    ensures fault { IfErr result MayBreak }
     ensures written { OverRows S.Store desk.old desk.new (λ t. WritesCash t account from to opening (W.contents writer.old) (W.contents writer.new) result) }
 {
     let mut visitor = CashLines {
@@ -81,6 +83,7 @@ pub(crate) fn write_lots<W: Write, S: Alter>(
     writer: &mut W,
 ) -> Result<u64, LinesFault>
     ensures keeps { Keeps S.Store desk.old desk.new }
+    ensures fault { IfErr result MayBreak }
     ensures written { OverRows S.Store desk.old desk.new (λ t. WritesLots t account (W.contents writer.old) (W.contents writer.new) result) }
 {
     let mut lines = Lines {

@@ -1,5 +1,6 @@
+ghost use Rattle.std.specs.Prelude.{IfErr};
 ghost use Rattle.brk_report.specs.Parts.{all_lines};
-ghost use Rattle.brk_report.specs.Stated.{IsStated, Keeps, OverRows};
+ghost use Rattle.brk_report.specs.Stated.{IsStated, Keeps, MayBreak, OverRows};
 ghost use Rattle.brk_report_lines.specs.Written.{WritesLines};
 
 use crate::parts::{write_days, write_held, write_top};
@@ -22,6 +23,7 @@ fn write_all<W: Write, S: Alter>(
     writer: &mut W,
 ) -> Result<(), LinesFault>
     ensures keeps { Keeps S.Store desk.old desk.new }
+    ensures fault { IfErr result MayBreak }
     ensures written { OverRows S.Store desk.old desk.new (λ t. WritesLines (all_lines t account head.now from to) (W.contents writer.old) (W.contents writer.new) result) }
 {
     let opening = sum_before(desk, account, from, head.opening)?;
@@ -36,9 +38,9 @@ fn write_all<W: Write, S: Alter>(
 /// whatever the result.
 ///
 /// Fails with `Refused` 18 if `from` is after `to`, otherwise with `Refused` 1 if the account does
-/// not exist; nothing is then written. After `Desk` only whole lines are written, from the first on
-/// and never the last one. After `Write` whole lines are written, from the first on, and a part of
-/// the next one.
+/// not exist; nothing is then written. Fails with `Desk(Memory)` or `Desk(Store)`: only whole lines
+/// are then written, from the first on and never the last one. After `Write` whole lines are
+/// written, from the first on, and a part of the next one.
 pub fn statement<W: Write, S: Alter>(
     alloc: Global,
     desk: &mut Desk<S>,

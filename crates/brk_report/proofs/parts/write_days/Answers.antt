@@ -3,7 +3,9 @@ use Rattle.std.specs.Io.KnownBytes.{Appends}
 use Rattle.brk_model.specs.Statement.{amount_line, cash_in, cash_line, cash_total, cash_within, lines_text}
 use Rattle.brk_report_lines.specs.Written.{BreaksIn}
 use Rattle.brk_report_lines.proofs.Composed.{breaks_behind, breaks_off, then_all}
-use Rattle.brk_report.proofs.Handing.{days_broke, wants}
+use Rattle.brk_report.specs.Stated.{MayBreak}
+use Rattle.brk_report.proofs.Handing.{days_broke, on_err, wants}
+use Rattle.brk_report.proofs.Section.{in_broken}
 use Rattle.brk_report.proofs.parts.write_days.Goals as goal
 
 pub returns-in_err-moved-clause-written : goal.returns-in_err-moved-clause-written
@@ -27,3 +29,11 @@ returns-clause-written g c = λ clean t holds.
           (c.in_ok-write_line.ensures.written (amount_line (codes "Closing") c.in_ok-moved.moved.total) c.amount_line.ensures.line (wants _ c.amount_line.ensures.fault))),
       rows.1,
     )
+
+pub returns-in_err-moved-clause-fault : goal.returns-in_err-moved-clause-fault
+returns-in_err-moved-clause-fault g c = on_err MayBreak _ _ c.from_residual.ensures.1 c.in_err-moved.ensures.fault
+
+pub returns-in_err-write_line-clause-fault : goal.returns-in_err-write_line-clause-fault
+returns-in_err-write_line-clause-fault g c =
+    on_err MayBreak _ _ c.from_residual-in_err-write_line.ensures.1
+    (in_broken _ _ _ _ (c.in_err-write_line.ensures.written (amount_line (codes "Closing") c.in_ok-moved.moved.total) c.amount_line.ensures.line (wants _ c.amount_line.ensures.fault)))

@@ -2,7 +2,9 @@ use Rattle.std.proofs.Common.{ℕ, [], ◌∷◌, ◌++◌, codes, decimal, leng
 use Rattle.brk_model.specs.Statement.{amount_line, lot_line, lots_in}
 use Rattle.brk_report_lines.specs.Written.{WritesLines}
 use Rattle.brk_report_lines.proofs.Composed.{breaks_behind, breaks_off}
-use Rattle.brk_report.proofs.Handing.{behind, breaks_as, line_first, wants}
+use Rattle.brk_report.specs.Stated.{MayBreak}
+use Rattle.brk_report.proofs.Handing.{behind, breaks_as, line_first, on_err, wants}
+use Rattle.brk_report.proofs.Section.{in_broken, in_written}
 use Rattle.brk_report.proofs.parts.write_held.Goals as goal
 
 pub returns-in_err-lots-clause-written : goal.returns-in_err-lots-clause-written
@@ -24,3 +26,16 @@ returns-clause-written g c = λ clean t holds.
     (c.in_ok-write_line.ensures.written (amount_line (codes "Holdings") c.args.holdings) c.amount_line.ensures.line (wants _ c.amount_line.ensures.fault))
     (subst (λ (n : ℕ). WritesLines ((codes "Cash rows " ++ decimal c.args.cash ++ codes ", lots " ++ decimal n) ∷ []) (g.W.Write.contents c.write_line.new.writer) (g.W.Write.contents c.write_line-2.new.writer) c.write_line-2.result) lots.1
     (c.write_line-2.ensures.written (codes "Cash rows " ++ decimal c.args.cash ++ codes ", lots " ++ decimal c.in_ok-lots.lots) c.counts_line.ensures.line (wants _ c.counts_line.ensures.fault))))
+
+pub returns-in_err-lots-clause-fault : goal.returns-in_err-lots-clause-fault
+returns-in_err-lots-clause-fault g c = on_err MayBreak _ _ c.from_residual.ensures.1 c.in_err-lots.ensures.fault
+
+pub returns-in_err-write_line-clause-fault : goal.returns-in_err-write_line-clause-fault
+returns-in_err-write_line-clause-fault g c =
+    on_err MayBreak _ _ c.from_residual-in_err-write_line.ensures.1
+    (in_broken _ _ _ _ (c.in_err-write_line.ensures.written (amount_line (codes "Holdings") c.args.holdings) c.amount_line.ensures.line (wants _ c.amount_line.ensures.fault)))
+
+pub returns-clause-fault : goal.returns-clause-fault
+returns-clause-fault g c =
+    in_written ((codes "Cash rows " ++ decimal c.args.cash ++ codes ", lots " ++ decimal c.in_ok-lots.lots) ∷ []) (g.W.Write.contents c.write_line.new.writer) (g.W.Write.contents c.write_line-2.new.writer) c.write_line-2.result
+    (c.write_line-2.ensures.written (codes "Cash rows " ++ decimal c.args.cash ++ codes ", lots " ++ decimal c.in_ok-lots.lots) c.counts_line.ensures.line (wants _ c.counts_line.ensures.fault))

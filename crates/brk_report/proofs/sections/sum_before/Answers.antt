@@ -5,7 +5,7 @@ use Rattle.brk_model.specs.Tables as tables
 use Rattle.brk_store.specs.Walked.{cash_of}
 use Rattle.brk_report.specs.declared.visitors.Sum.{Sum}
 use Rattle.brk_report.proofs.Days.{none_before, rows_before}
-use Rattle.brk_report.proofs.Section.{added_all}
+use Rattle.brk_report.proofs.Section.{added_all, known_end, of_store}
 use Rattle.brk_report.proofs.sections.sum_before.Goals as goal
 
 pub returns-in_default-clause-sum : goal.returns-in_default-clause-sum
@@ -17,3 +17,8 @@ returns-in-Ok-clause-sum g c = λ clean t holds.
     let days = rows_before t c.args.account c.args.from c.nearest.result c.in-Some.last (c.nearest.ensures.below (omega arith)) c.in-Some.ensures.0 c.in-Some.ensures.1 in
     let s = added_all g.S.Store _ _ move_row_of list _ _ _ _ t clean holds c.visit_cash.result c.visit_cash.ensures.walked (λ row. row.amount) (λ (v : Sum). v.total) (λ p x q h. h) c.in-Ok.field-0 c.in-Ok.is in
     s ∙ ap (λ z. z +ℤ cash_total (list t)) c.from-2.ensures ∙ ap (λ (rows : List tables.MoveRow). c.args.opening +ℤ cash_total rows) days
+
+pub returns-in-Err-clause-fault : goal.returns-in-Err-clause-fault
+returns-in-Err-clause-fault g c =
+    known_end g.S.Store _ _ move_row_of (cash_of c.args.account c.nearest.result c.in-Some.last) _ _ _ _ c.visit_cash.result c.visit_cash.ensures.walked
+    (λ p x e q h. of_store e h) c.in-Err.stop c.in-Err.is c.broken.result c.broken.ensures

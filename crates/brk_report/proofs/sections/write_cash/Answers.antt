@@ -1,4 +1,4 @@
-use Rattle.std.proofs.Common.{◌≡◌, ◌+ℤ◌, List, Ok, length, map, refl, rules, sym, subst}
+use Rattle.std.proofs.Common.{◌≡◌, ◌+ℤ◌, [], ◌∷◌, List, Ok, length, map, refl, rules, sym, subst}
 use Rattle.std.specs.Io.KnownBytes.{Appends}
 use Rattle.sqlite.specs.Held.{state}
 use Rattle.sqlite.specs.State.{HasCleanDisk}
@@ -12,7 +12,7 @@ use Rattle.brk_report.specs.Stated.{WritesCash}
 use Rattle.brk_report.specs.declared.visitors.CashLines.{CashLines}
 use Rattle.brk_report.specs.declared.visitors.Moved.{Moved}
 use Rattle.brk_report.proofs.Days.{rows_within}
-use Rattle.brk_report.proofs.Section.{added_all, written_all, written_first}
+use Rattle.brk_report.proofs.Section.{added_all, in_broken, known_end, written_all, written_first}
 use Rattle.brk_report.proofs.sections.write_cash.Goals as goal
 
 pub returns-in-Ok-clause-written : goal.returns-in-Ok-clause-written
@@ -45,3 +45,9 @@ returns-in-Err-clause-written g c =
     (λ p x q h. (h.2, h.1)) (λ p x e q h. h) c.in-Err.stop c.in-Err.is in
     subst (λ (rows : List tables.MoveRow). BreaksOff (map cash_line rows) (g.W.Write.contents c.args.writer.now) (g.W.Write.contents c.visit_cash.new.visitor.writer.now) c.broken.result) days
     (subst (λ e. BreaksOff (map cash_line (list t)) (g.W.Write.contents c.args.writer.now) (g.W.Write.contents c.visit_cash.new.visitor.writer.now) e) (sym c.broken.ensures) w))
+
+pub returns-in-Err-clause-fault : goal.returns-in-Err-clause-fault
+returns-in-Err-clause-fault g c =
+    known_end g.S.Store _ _ move_row_of (cash_of c.args.account c.first_stamp.result c.last_stamp.result) _ _ _ _ c.visit_cash.result c.visit_cash.ensures.walked
+    (λ (p : CashLines g.row.W.Denot) x e (q : CashLines g.row.W.Denot) h. in_broken (cash_line (move_row_of x) ∷ []) (g.W.Write.contents p.writer.now) (g.W.Write.contents q.writer.now) e h)
+    c.in-Err.stop c.in-Err.is c.broken.result c.broken.ensures

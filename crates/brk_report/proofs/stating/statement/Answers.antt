@@ -17,6 +17,7 @@ returns-then-get g c =
     record {
       stated = record {
         told = λ clean t holds. refused_days t c.args.account c.args.from c.args.to before;
+        fault = tt;
         keeps = keeps_still g.S.Store c.args.desk.now;
         unwritten = λ refusal is. refl;
       };
@@ -28,6 +29,7 @@ returns-in-Ok-None g c =
     record {
       stated = record {
         told = λ clean t holds. refused_account t c.args.account c.args.from c.args.to days ((rw (c.in-Ok-None.is, c.in-Ok-None.field-0-is) at (c.head.ensures.read.told clean)) t holds);
+        fault = tt;
         keeps = keeps_read g.S.Store _ _ c.head.result (IsHead c.args.account) c.head.ensures.read;
         unwritten = λ refusal is. refl;
       };
@@ -43,6 +45,7 @@ returns-in-Ok g c =
             let mid = clean_then g.S.Store c.head.new.self c.write_all.new.desk c.write_all.ensures.keeps clean in
             let is_head = (rw (c.in-Ok-Some.is, c.in-Ok-Some.field-0-is) at (c.head.ensures.read.told mid)) t holds in
             states_all t c.args.account c.in-Ok-Some.head c.args.from c.args.to days is_head _ _ (rw c.in-Ok.is at (c.write_all.ensures.written clean t (first.kept t holds)));
+        fault = tt;
         keeps = keeps_then g.S.Store c.args.desk.now c.head.new.self c.write_all.new.desk first c.write_all.ensures.keeps;
         unwritten = λ refusal is. absurd (let same = is in cc);
       };
@@ -58,6 +61,7 @@ returns-in-Err-Desk g c =
             let mid = clean_then g.S.Store c.head.new.self c.write_all.new.desk c.write_all.ensures.keeps clean in
             let is_head = (rw (c.in-Ok-Some.is, c.in-Ok-Some.field-0-is) at (c.head.ensures.read.told mid)) t holds in
             states_fault t c.args.account c.in-Ok-Some.head c.args.from c.args.to days is_head _ _ c.in-Err-Desk.fault (rw (c.in-Err-Desk.is, c.in-Err-Desk.field-0-is) at (c.write_all.ensures.written clean t (first.kept t holds)));
+        fault = rw (c.in-Err-Desk.is, c.in-Err-Desk.field-0-is) at c.write_all.ensures.fault;
         keeps = keeps_then g.S.Store c.args.desk.now c.head.new.self c.write_all.new.desk first c.write_all.ensures.keeps;
         unwritten = λ refusal is. absurd (let same = is in cc);
       };
@@ -73,6 +77,7 @@ returns g c =
             let mid = clean_then g.S.Store c.head.new.self c.write_all.new.desk c.write_all.ensures.keeps clean in
             let is_head = (rw (c.in-Ok-Some.is, c.in-Ok-Some.field-0-is) at (c.head.ensures.read.told mid)) t holds in
             states_write t c.args.account c.in-Ok-Some.head c.args.from c.args.to days is_head _ _ (rw (c.in-Err-Write.is, c.in-Err-Write.field-0-is) at (c.write_all.ensures.written clean t (first.kept t holds)));
+        fault = tt;
         keeps = keeps_then g.S.Store c.args.desk.now c.head.new.self c.write_all.new.desk first c.write_all.ensures.keeps;
         unwritten = λ refusal is. absurd (let same = is in cc);
       };

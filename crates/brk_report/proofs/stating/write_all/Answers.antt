@@ -3,7 +3,9 @@ use Rattle.brk_model.specs.Statement.{cash_in, cash_within}
 use Rattle.brk_report_lines.specs.Written.{BreaksIn, WritesLines}
 use Rattle.brk_report_lines.proofs.Composed.{breaks_before, breaks_behind}
 use Rattle.brk_report.specs.Parts.{days_lines, held_lines, top_lines}
-use Rattle.brk_report.proofs.Handing.{behind, breaks_as}
+use Rattle.brk_report.specs.Stated.{MayBreak}
+use Rattle.brk_report.proofs.Handing.{behind, breaks_as, on_err}
+use Rattle.brk_report.proofs.Section.{in_broken}
 use Rattle.brk_report.proofs.Keeping.{clean_then}
 use Rattle.brk_report.proofs.Whole.{lines_at, none_of}
 use Rattle.brk_report.proofs.stating.write_all.Goals as goal
@@ -49,3 +51,12 @@ returns-clause-written g c = λ clean t holds.
     (behind (top_lines c.args.account c.args.head.now.name c.args.from c.args.to opening) (days ++ rest) _ _ _ _ c.in_ok-write_top.ensures
     (behind days rest _ _ _ _ done.0
     (subst (λ (n : ℕ). WritesLines (held_lines t c.args.account c.args.head.now.holdings n) (g.W.Write.contents c.write_days.new.writer) (g.W.Write.contents c.write_held.new.writer) c.write_held.result) done.1 (c.write_held.ensures.written clean t second))))
+
+pub returns-in_err-opening-clause-fault : goal.returns-in_err-opening-clause-fault
+returns-in_err-opening-clause-fault g c = on_err MayBreak _ _ c.from_residual.ensures.1 c.in_err-opening.ensures.fault
+
+pub returns-in_err-write_top-clause-fault : goal.returns-in_err-write_top-clause-fault
+returns-in_err-write_top-clause-fault g c = on_err MayBreak _ _ c.from_residual-in_err-write_top.ensures.1 (in_broken _ _ _ _ c.in_err-write_top.ensures)
+
+pub returns-in_err-cash-clause-fault : goal.returns-in_err-cash-clause-fault
+returns-in_err-cash-clause-fault g c = on_err MayBreak _ _ c.from_residual-in_err-cash.ensures.1 c.in_err-cash.ensures.fault
