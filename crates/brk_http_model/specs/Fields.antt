@@ -22,7 +22,7 @@ equals_ignoring_case a b = pointwise nat_eq (map to_ascii_lowercase a) (map to_a
 abbrev pub values_of_field : Text → List HeadField → List Text
 values_of_field name pairs = filter_map (λ p. if equals_ignoring_case p.0 name then Some p.1 else None) pairs
 
--- True if the name of a field equals `name` in any case of letters.
+-- True if at least one field has a name that equals `name` in any case of letters.
 abbrev pub has_field_named : Text → List HeadField → Bool
 has_field_named name pairs = list_any (λ p. equals_ignoring_case p.0 name) pairs
 

@@ -11,8 +11,9 @@ use Rattle.brk_http_model.specs.Replies.{Response, Wrong, Came, is_fault_respons
 abbrev pub most_requests : ℕ
 most_requests = 1000
 
--- The type of a relation of calls: from a base, a call at a clock reading may have an outcome, and
--- a base may be the one after it.
+-- The type of a relation between a base, a clock reading, a call, an outcome and another base: on
+-- the first base and at the clock reading, the call may have the outcome and lead to the other
+-- base.
 abbrev pub CallRelation : Type 0 → Type 1
 CallRelation B = B → ℕ → Call → Outcome → B → Type 0
 

@@ -18,9 +18,10 @@ pub fn reply_fields_have_no_comma()
     ensures told { (reply : Reply) → answer_body (Again (line_text reply)) ≡ json_texts_object (codes "again") (reply_fields reply) }
 {}
 
-/// Proves that a row that was accepted in a batch returns its stored reply if it is sent as a
-/// request under its key, and that a row that was accepted as a request returns it in a batch. Any
-/// calls may lie between, and the retry leaves the base unchanged.
+/// Proves that batches and requests share keys. If a batch accepted a row, a request with the row
+/// under its key returns the stored reply, unless the call fails. If a request accepted a row, a
+/// batch answers the row under its key with the stored reply. Any calls may lie between, and the
+/// retry leaves the base unchanged.
 pub fn key_is_idempotent_across_interfaces()
     ensures booked_by_a_batch { (base mid after : Base) (now later : ℕ) (command : Command) (key : Key) (reply : Reply) (calls : List (ℕ × Call)) (outcomes : List Outcome)
         → step_of_row base now command key ≡ (Done reply, mid) → Run mid calls outcomes after

@@ -1,5 +1,4 @@
--- The batch text as a function, for examples: the result of a batch's bytes with the readings of a
--- clock.
+-- The result of a batch as a function of its bytes and of the clock readings, for examples.
 use Rattle.std.specs.Prelude.{ℕ, Bool, false, if◌then◌else◌, List, [], ◌∷◌, ◌++◌, length, take, Option, Some, None, codes, decimal, bytes_eq}
 use Rattle.csv.specs.Reading.{records, default_config}
 use Rattle.brk_money.specs.Spelling.{Text}

@@ -122,7 +122,8 @@ is_well_formed_last_trade_row t l = has_security t l.symbol && is_at_most_last_s
 abbrev pub is_well_formed_charge_row : Charge → Bool
 is_well_formed_charge_row c = is_tier c.tier && nat_le c.amount greatest_charge
 
--- True if the tier, the exchange and both bounds of the band are well-formed in the schema `schema`.
+-- True if the tier and the exchange of the band are well-formed, and both bounds are within the
+-- limits of the schema `schema`.
 abbrev pub has_well_formed_bounds : Schema → Band → Bool
 has_well_formed_bounds schema b = is_tier b.tier && is_exchange b.exchange && is_quantity_in_schema schema b.from_qty && is_quantity_in_schema schema b.to_qty
 
@@ -277,11 +278,12 @@ has_distinct_tax_ids [] = true
 has_distinct_tax_ids (c ∷ customers) = not (list_any (λ d. bytes_eq d.tax_id c.tax_id) customers) && has_distinct_tax_ids customers
 
 -- True if the tables `t` satisfy the condition `Form` in the schema `schema`. Columns are
--- well-formed and within its limits, and references resolve. The rows of every table are sorted by
--- key, and no key and no tax id occurs twice. Bands do not overlap, no customer is above its limits
--- of accounts and of tax rates, and trades are numbered from 1 without a gap. No trade has two rows
--- of CASH_MOVE, and at most `greatest_id` of these rows have no trade. The last stamp and the
--- settlement day are within the calendar. The tables that the schema lacks have no rows.
+-- well-formed and within its limits, and references resolve. The rows of every table that has a key
+-- are sorted by it, and no key and no tax id of a customer occurs twice. Bands do not overlap, no
+-- customer is above its limits of accounts and of tax rates, and trades are numbered from 1 without
+-- a gap. No trade has two rows of CASH_MOVE, and at most `greatest_id` of these rows have no trade.
+-- The last stamp and the settlement day, if they are set, are within the calendar. The tables that
+-- the schema lacks have no rows.
 unfoldable pub satisfies_form_condition : Schema → Tables → Bool
 satisfies_form_condition schema t =
     option_map_or (λ last. nat_le last greatest_stamp) t.last true

@@ -1,5 +1,5 @@
--- The formats of fields. A malformed field is refused; of several refusals the first in the order
--- of the format checks is returned.
+-- The formats of fields. A malformed field is refused; of several refusals the first in the
+-- sequence of the format checks is returned.
 use Rattle.std.specs.Prelude.{ℕ, Bool, not, ◌&&◌, ◌||◌, ◌==◌, nat_le, if◌then◌else◌, List, [], ◌∷◌, length, find, Option, Some, None, Result, Ok, Err, ℤ, pos, negsuc, nat_abs, codes, bytes_eq, chars}
 use Rattle.std.specs.List.{list_all}
 use Rattle.std.specs.Option.{option_and_then}
@@ -31,8 +31,8 @@ format_refusal_rank BadPrice = 2
 format_refusal_rank BadType = 3
 format_refusal_rank _ = 4
 
--- The function applied to the value if both were read; of two refusals, the first in the order of
--- the format checks.
+-- The function applied to the value if both were read, otherwise the refusal; of two refusals, the
+-- first in the sequence of the format checks.
 infixl 60 ◌⊛◌
 abbrev pub ◌⊛◌ : {A B : Type 0} → ReadResult (A → B) → ReadResult A → ReadResult B
 Ok f ⊛ Ok x = Ok (f x)
@@ -175,8 +175,7 @@ trade_type_with_code text = find (λ kind. bytes_eq (trade_type_code kind) text)
 abbrev pub read_trade_type : Text → ReadResult TradeType
 read_trade_type text = value_if_valid (λ kind. Bool.true) BadType (trade_type_with_code text)
 
--- True if the text is `yes_word`, false if it is `without_settlement_text`, otherwise the refusal
--- `BadText`.
+-- True if the text is `yes_word`, false if it is `no_word`, otherwise the refusal `BadText`.
 abbrev pub read_word_as_boolean : Text → Text → Text → ReadResult Bool
 read_word_as_boolean yes_word no_word text =
     if bytes_eq text yes_word then Ok Bool.true else if bytes_eq text no_word then Ok Bool.false else Err BadText
@@ -217,7 +216,8 @@ order_type_with_price (Some StopLoss) = priced_order_type (λ price. asked.StopL
 order_type_with_price (Some LimitSell) = priced_order_type (λ price. asked.LimitSell price)
 order_type_with_price (Some LimitBuy) = priced_order_type (λ price. asked.LimitBuy price)
 
--- The order type that two texts parse as: the code of the trade type and the price.
+-- The order type that two texts parse as, the code of the trade type and the price; otherwise the
+-- refusal `BadType` or `BadPrice`.
 abbrev pub read_order_type : Text → Text → ReadResult OrderType
 read_order_type type_text price_text = order_type_with_price (trade_type_with_code type_text) price_text
 

@@ -32,8 +32,8 @@ abbrev pub may_order_for_account : Base → ℕ → Executor → Bool
 may_order_for_account base account e =
     option_map_or (λ c. permitted c (filter (λ p. p.account == account) base.permissions) e) (customer_with_id base (customer_id_of_account base account)) true
 
--- The price that the order `o` asks for, or the last price of its security if its type has no price
--- (Trade-Order, frame 3).
+-- The price, in cents, that the order `o` asks for, or the last price of its security if its type
+-- has no price (Trade-Order, frame 3); 0 if that security does not exist.
 abbrev pub requested_price : Base → Order → ℕ
 requested_price base o = unwrap_or (price_of_order o.order_type) (last_price base o.symbol)
 

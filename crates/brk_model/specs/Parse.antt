@@ -154,7 +154,7 @@ NamedParser A = Text × (List Text → ReadResult A)
 abbrev pub read_and_wrap : {A B Input : Type 0} → (A → B) → (Input → ReadResult A) → Input → ReadResult B
 read_and_wrap wrap read input = Ok wrap ⊛ read input
 
--- The parsers of the row kinds for brokers, customers and accounts.
+-- The parsers of the row kinds for brokers, customers and accounts, each with the word of its kind.
 abbrev pub party_row_parsers : List (NamedParser Command)
 party_row_parsers =
     (codes "broker", read_and_wrap AddBroker read_broker)
@@ -162,7 +162,7 @@ party_row_parsers =
     ∷ (codes "account", read_and_wrap AddAccount read_account) ∷ []
 
 -- The parsers of the row kinds for permissions, securities, charges, bands, tax rates and the taxes
--- of customers.
+-- of customers, each with the word of its kind.
 abbrev pub other_reference_row_parsers : List (NamedParser Command)
 other_reference_row_parsers =
     (codes "permission", read_and_wrap AddPermission read_permission)
@@ -172,36 +172,37 @@ other_reference_row_parsers =
     ∷ (codes "taxrate", read_and_wrap AddTaxRate read_tax_rate)
     ∷ (codes "custtax", read_and_wrap AddCustomerTax read_customer_tax) ∷ []
 
--- The parsers of the nine kinds of reference rows.
+-- The parsers of the nine kinds of reference rows, each with the word of its kind.
 abbrev pub reference_row_parsers : List (NamedParser Command)
 reference_row_parsers = party_row_parsers ++ other_reference_row_parsers
 
--- The parsers of the row kinds for orders, feeds and cancels.
+-- The parsers of the row kinds for orders, feeds and cancels, each with the word of its kind.
 abbrev pub order_row_parsers : List (NamedParser Command)
 order_row_parsers =
     (codes "order", read_and_wrap PlaceOrder read_order)
     ∷ (codes "feed", read_and_wrap FeedTicks read_feed)
     ∷ (codes "cancel", read_and_wrap CancelTrade read_canceled_trade_id) ∷ []
 
--- The parser of the row kind for results, as a list of one.
+-- The parser of the row kind for results with the word of the kind, as a list of one.
 abbrev pub result_row_parsers : List (NamedParser Command)
 result_row_parsers = (codes "result", read_result_command) ∷ []
 
--- The parsers of the row kinds for the three text updates.
+-- The parsers of the row kinds for the three text updates, each with the word of its kind.
 abbrev pub update_row_parsers : List (NamedParser Command)
 update_row_parsers =
     (codes "upname", read_and_wrap ChangeExecutors read_distinct_ids)
     ∷ (codes "upcash", read_cash_type_update)
     ∷ (codes "uptext", read_cash_name_update) ∷ []
 
--- The parsers of the row kinds for deposits, withdrawals and the settlement day.
+-- The parsers of the row kinds for deposits, withdrawals and the settlement day, each with the word
+-- of its kind.
 abbrev pub movement_row_parsers : List (NamedParser Command)
 movement_row_parsers =
     (codes "deposit", read_movement_command (λ a n. DepositCash a n))
     ∷ (codes "withdraw", read_movement_command (λ a n. WithdrawCash a n))
     ∷ (codes "oneday", read_and_wrap SetOneDay read_settlement_day) ∷ []
 
--- The parsers of all row kinds.
+-- The parsers of all row kinds, each with the word of its kind.
 abbrev pub row_parsers : List (NamedParser Command)
 row_parsers = reference_row_parsers ++ order_row_parsers ++ result_row_parsers ++ update_row_parsers ++ movement_row_parsers
 

@@ -79,9 +79,10 @@ pub record StatusChange : Type 0 where
   pub stamp : ℕ
   pub status : Status
 
--- A trade as ordered, with its status changes and the values that its completion recorded. `price`
--- is the price at completion. `cash_type` is empty without a settlement, and `cash_text_of_trade`
--- without a cash row.
+-- A trade as ordered, with its status changes (`marks`) and the values that its completion
+-- recorded. `bid` is the requested price, `price` the price at completion, and `charge`,
+-- `commission` and `tax` are amounts, all in cents. `cash_type` is empty without a settlement, and
+-- `cash_name` without a cash row.
 pub record Trade : Type 0 where
   pub id : ℕ
   pub account : ℕ

@@ -15,14 +15,15 @@ use Rattle.brk_model.specs.Joins.{security_row_with_symbol, trade_rows_of_accoun
 abbrev pub broker_name_with_id : Tables → ℕ → Text
 broker_name_with_id tables id = option_map_or (λ row. row.name) (find (λ row. row.id == id) tables.brokers) []
 
--- One record with the last and the first name of the customer of the account `a`, and the name of
--- its broker.
+-- One record with the last and the first name of the customer of the account `a` and the name of
+-- its broker; no record if the customer does not exist, and an empty name if the broker does not.
 abbrev pub account_names_record : Tables → AccountRow → View
 account_names_record tables a =
     map (λ c. c.last_name ∷ c.first_name ∷ broker_name_with_id tables a.broker ∷ []) (filter (λ c. c.id == a.customer) tables.customers)
 
--- The record of a trade in the view `status`, with 10 fields, of which the last two are the name
--- and the exchange of its security.
+-- The record of a trade in the view `status`, with 10 fields: id, stamp, status, type, symbol,
+-- quantity, executor, charge, and the name and the exchange of its security, which are empty if the
+-- security does not exist.
 abbrev pub record_of_trade_status : Tables → TradeRow → List Text
 record_of_trade_status tables t =
     decimal t.id ∷ decimal t.stamp ∷ trade_status_name t.status ∷ trade_type_name t.kind ∷ t.symbol ∷ decimal t.qty ∷ t.executor ∷ nonnegative_cents_text t.charge

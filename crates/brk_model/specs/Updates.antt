@@ -26,8 +26,8 @@ updated_cash_type t =
     else alternate_word (codes "Margin Account") (codes "Margin") t.cash_type
 
 -- The updated name of the cash row of the trade `t` (CM_NAME), written anew from the trade and its
--- security: with " Shares of " if the old name contains " shares of ", otherwise with " shares of
--- ".
+-- security: with " Shares of " if the old name contains " shares of ", otherwise with
+-- " shares of ".
 abbrev pub updated_cash_row_name : Base → Trade → Text
 updated_cash_row_name base t =
     if contains_text (codes " shares of ") t.cash_name then cash_row_name (codes " Shares of ") base t else cash_row_name (codes " shares of ") base t

@@ -53,7 +53,8 @@ pub fn setting_rows_result_in_setting()
     ensures base { base_without_stored_replies (base_after_batch empty_base setting_rows) ≡ setting_base }
 {}
 
-/// Shows the refusals of ten malformed or inconsistent reference rows.
+/// Shows eleven reference rows: ten are malformed or inconsistent and are refused, and one tax rate
+/// is accepted.
 pub fn reference_row_refusals()
     ensures { BatchOutputsLines setting_base
         (codes "band,1,TMB,NYSE,999999,999999,50"

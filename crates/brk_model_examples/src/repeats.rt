@@ -164,7 +164,8 @@ pub fn cut_input_refuses_last_row()
     ensures header_alone { (batch_of_input setting_base twenty_clock_readings (codes "batch,C\n")).ending ≡ NoEnd }
 {}
 
-/// Shows malformed headers and wrong end records. The row before a wrong end record is executed.
+/// Shows malformed headers and wrong end records. The row before a wrong end record is executed,
+/// and records after a correct end record are ignored.
 pub fn headers_and_end_records_are_checked()
     ensures nothing { (batch_of_input setting_base twenty_clock_readings []).ending ≡ BadHeader }
     ensures no_name { (batch_of_input setting_base twenty_clock_readings (codes "batch,\nend,0\n")).ending ≡ BadHeader }

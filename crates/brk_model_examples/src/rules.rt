@@ -14,7 +14,8 @@ ghost use Rattle.brk_model_examples.specs.Rules.{account_with_tax_status, custom
 ghost use Rattle.brk_model_examples.specs.Setting.{setting_base};
 ghost use Rattle.brk_model_examples.specs.Trading.{base_after_sale_of_all, first_purchase, sale_first_in_first_out};
 
-/// Shows that half a cent is rounded up and less is rounded down, and that a loss is not taxed.
+/// Shows that half a cent of a commission is rounded up and less is rounded down, that a gain is
+/// taxed, and that a loss is not.
 pub fn half_cents_round_up()
     ensures half { commission 100 1 50 ≡ 1 }
     ensures less { commission 100 1 49 ≡ 0 }

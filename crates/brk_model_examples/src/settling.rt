@@ -30,8 +30,8 @@ pub fn settlement_day_is_set_once()
     ensures day { (tables_of_base purchase_with_settlement_day).rule ≡ Some 19784 }
 {}
 
-/// Shows that from the settlement day on a trade settles after one day. The due day of a trade that
-/// was completed before does not change.
+/// Shows that a trade that is completed on the settlement day or later settles after one day. The
+/// due day of a trade that was completed before does not change.
 pub fn settlement_after_one_day()
     ensures lines { (batch_of_input purchase_with_settlement_day (replicate 2 1709337600000) (bytes_of_batch (codes "G")
         (codes "order,100,TMB,ABC,200,,cash,fifo,Ann,Lee,T10"

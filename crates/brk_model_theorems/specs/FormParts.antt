@@ -43,7 +43,7 @@ pub record SatisfiesFormParts (schema : Schema) (t : Tables) : Type 0 where
   pub rule : option_map_or (λ day. nat_le day greatest_day) t.rule true ≡ true
   pub fits : lacks_rows_of_later_schemas schema t ≡ true
 
--- Every table is sorted by its key, strictly ascending.
+-- Every table that has a key is sorted by it, strictly ascending. DESK and SETTLE_RULE have none.
 pub record HasSortedTables (t : Tables) : Type 0 where
   pub kept : is_sorted_by_unique_key kept_key t.kept ≡ true
   pub brokers : is_sorted_by_unique_key broker_key t.brokers ≡ true

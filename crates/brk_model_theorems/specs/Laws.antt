@@ -34,7 +34,7 @@ stamps_of_outcome (Saw view) = []
 stamps_of_outcome (NoView refusal) = []
 stamps_of_outcome (Failed fault) = []
 
--- The stamps of the replies to the accepted commands, in the order of the outcomes.
+-- The stamps of the replies to the accepted commands, in the sequence of the outcomes.
 abbrev pub accepted_stamps : List Outcome → List ℕ
 accepted_stamps [] = []
 accepted_stamps (outcome ∷ outcomes) = stamps_of_outcome outcome ++ accepted_stamps outcomes
@@ -61,7 +61,8 @@ base_after_outcome base now call (Saw view) = base
 base_after_outcome base now call (NoView refusal) = base
 base_after_outcome base now call (Failed fault) = base
 
--- The base after exactly the calls whose commands were accepted, executed in order from `base`.
+-- The base after exactly the calls whose commands were accepted, executed in sequence from `base`
+-- on. Calls without an outcome, and outcomes without a call, are ignored.
 abbrev pub base_after_accepted_commands : Base → List (ℕ × Call) → List Outcome → Base
 base_after_accepted_commands base [] outcomes = base
 base_after_accepted_commands base (call ∷ calls) [] = base
@@ -76,7 +77,8 @@ abbrev pub IsAcceptedUnderKey : Key → Call → Outcome → Type 0
 IsAcceptedUnderKey key (Do command (Some other)) (Did (Done reply)) = other ≡ key
 IsAcceptedUnderKey key call outcome = ⊥
 
--- No call of the list is a command with the key `key` that its outcome accepts.
+-- No call of the list is a command with the key `key` that its outcome accepts. Vacuous for calls
+-- without an outcome.
 abbrev pub AcceptsNothingUnderKey : Key → List (ℕ × Call) → List Outcome → Type 0
 AcceptsNothingUnderKey key (call ∷ calls) (outcome ∷ outcomes) = ¬ (IsAcceptedUnderKey key call.1 outcome) × AcceptsNothingUnderKey key calls outcomes
 AcceptsNothingUnderKey key calls outcomes = ⊤
@@ -110,7 +112,8 @@ answer_to_retry (Refused refusal) = Refused refusal
 abbrev pub calls_with_new_keys : Base → List (RowCall Command) → List (RowCall Command)
 calls_with_new_keys base calls = filter (λ call. is_none (stored_row_with_key base call.key)) calls
 
--- The answers to the calls whose keys are not stored in the base.
+-- The answers to the calls whose keys are not stored in the base, in sequence, one for each call
+-- that has an answer.
 abbrev pub answers_for_new_keys : Base → List (RowCall Command) → List Answer → List Answer
 answers_for_new_keys base (call ∷ calls) (answer ∷ answers) =
     if is_none (stored_row_with_key base call.key) then answer ∷ answers_for_new_keys base calls answers else answers_for_new_keys base calls answers
@@ -123,7 +126,7 @@ MatchesStoredReply base None call answer = ⊤
 MatchesStoredReply base (Some k) call answer = answer ≡ (answer_to_repeated_row base call.command k).0
 
 -- Each call whose key is stored in the base is answered with the stored line if the row texts are
--- equal, and refused otherwise. Vacuous for other calls.
+-- equal, and refused otherwise. Vacuous for other calls, and for calls without an answer.
 abbrev pub MatchStoredReplies : Base → List (RowCall Command) → List Answer → Type 0
 MatchStoredReplies base (call ∷ calls) (answer ∷ answers) = MatchesStoredReply base (stored_row_with_key base call.key) call answer × MatchStoredReplies base calls answers
 MatchStoredReplies base calls answers = ⊤
@@ -152,7 +155,7 @@ IsStoredIfAccepted base call (Again line) = ⊤
 IsStoredIfAccepted base call (Refused refusal) = ⊤
 
 -- For each call whose answer is `Done`, the base stores its row text and its reply under its key.
--- Vacuous for other answers.
+-- Vacuous for other answers, and for calls without an answer.
 abbrev pub AcceptedCallsAreStored : Base → List (RowCall Command) → List Answer → Type 0
 AcceptedCallsAreStored base (call ∷ calls) (answer ∷ answers) = IsStoredIfAccepted base call answer × AcceptedCallsAreStored base calls answers
 AcceptedCallsAreStored base calls answers = ⊤

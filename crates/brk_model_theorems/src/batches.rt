@@ -29,17 +29,18 @@ pub fn batch_rows_form_a_run()
         → Run base (map call_of_batch_row calls) (map Did answers) after }
 {}
 
-/// Proves that a retry of a complete batch that refused no row changes nothing and is answered with
-/// the stored lines. The retry may start from the base after the batch or from any later one, at
-/// any clock readings. The format check may be any.
+/// Proves that a retry of a complete batch that refused no row completes, changes nothing and is
+/// answered with the stored lines. The retry may start from the base after the batch, or from any
+/// base that a run reaches from it, at any clock readings. It holds for any format check of rows.
 pub fn a_retried_batch_changes_nothing()
     ensures { (form : Fields → ReadResult Command) (base later : Base) (moments others : List ℕ) (input : List ℕ) (answers : List Answer) (first second : Batch Base) → IsBatchWithoutRefusals form base moments input answers first
         → SomeRunLeadsTo first.base later → IsResultOfBatch form step_of_row later others input second → second ≡ complete_batch (map answer_to_retry answers, later) }
 {}
 
 /// Proves that the rows that a retry of a complete batch without refusals decides change nothing
-/// and are answered with the stored lines. It holds for any number of decided rows, so also for a
-/// retry that fails.
+/// and are answered with the stored lines. It holds for any number of decided rows, so for a retry
+/// that fails, too. The retry may start from the base after the batch, or from any base that a run
+/// reaches from it.
 pub fn retried_rows_change_nothing()
     ensures { (form : Fields → ReadResult Command) (base later last : Base) (moments others : List ℕ) (input : List ℕ) (answers told : List Answer)
         (first : Batch Base) (name : List ℕ) (rows : List Fields) → IsBatchWithoutRefusals form base moments input answers first

@@ -28,8 +28,8 @@ pub fn other_row_under_same_key_is_refused()
 
 /// Proves that a row that is refused under an unused key changes nothing and stores no key. If the
 /// reason of a refusal is not `KeyReused`, the key was unused. A key stays unused in any run that
-/// accepts no row under it. From a base that does not store the key, the row is accepted if the
-/// command is.
+/// accepts no row under it. Under a key that the base does not store, a row is accepted if `step`
+/// accepts its command.
 pub fn refused_row_stores_no_key()
     ensures keeps_none { (base after : Base) (now : ℕ) (command : Command) (key : Key) (refusal : Refusal) → keyed_step base now command (Some key) ≡ (Refused refusal, after)
         → stored_row_with_key base key ≡ None → (after ≡ base) × (stored_row_with_key after key ≡ None) }

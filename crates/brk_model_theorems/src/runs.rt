@@ -20,8 +20,8 @@ pub fn accepted_commands_determine_the_base()
     ensures { (base after : Base) (calls : List (ℕ × Call)) (outcomes : List Outcome) → Run base calls outcomes after → after ≡ base_after_accepted_commands base calls outcomes }
 {}
 
-/// Proves that the stamps of a run's accepted commands are strictly ascending and greater than the
-/// last stamp before the run.
+/// Proves that the stamps of a run's accepted commands are strictly ascending, and greater than the
+/// last stamp before the run if there is one.
 pub fn accepted_stamps_ascend_strictly()
     ensures { (base after : Base) (calls : List (ℕ × Call)) (outcomes : List Outcome) → Run base calls outcomes after → AscendsFrom base.last (accepted_stamps outcomes) }
 {}
