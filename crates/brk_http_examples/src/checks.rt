@@ -26,7 +26,8 @@ pub fn head_ends_at_first_empty_line()
 {}
 
 /// Shows the length of a body by the fields of a head, or the problem of its length. Names of
-/// fields are compared in any case of letters.
+/// fields are compared in any case of letters, and a Transfer-Encoding is a problem whatever the
+/// length.
 pub fn content_length_gives_body_length()
     ensures absent { body_length_of_fields ((codes "Host", codes "x") ∷ []) ≡ Ok 0 }
     ensures zeros { body_length_of_fields ((codes "content-LENGTH", codes "000000012") ∷ []) ≡ Ok 12 }

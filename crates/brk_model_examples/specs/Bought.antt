@@ -149,23 +149,22 @@ cash_row_of_older_schema = record bought_tables { cash = first_schema_tables.cas
 unfoldable pub trade_above_older_limit : Tables
 trade_above_older_limit = record bought_tables { trades = map {B = TradeRow} (λ t. record t { qty = 1000000 }) bought_tables.trades }
 
--- The tables after the first purchase, in which a commission band has a quantity above the limit of
--- the schemas before the third.
+-- The tables after the first purchase with only one commission band, whose greatest quantity is
+-- above the limit of the schemas before the third.
 unfoldable pub band_above_older_limit : Tables
 band_above_older_limit = record bought_tables { bands = record { tier = 1; kind = MarketBuy; exchange = codes "NYSE"; from_qty = 1; to_qty = 9999999; rate = 100 } ∷ [] }
 
--- The tables after the first purchase, with a settlement day that is after the day of the
--- completion.
+-- The tables after the first purchase, with the day after the completion as the settlement day.
 unfoldable pub settlement_day_after_completion : Tables
 settlement_day_after_completion = record bought_tables { rule = Some 19784 }
 
--- The tables after the first purchase, with a settlement day that is not after the day of the
--- completion.
+-- The tables after the first purchase, with the day of the completion as the settlement day.
 unfoldable pub settlement_day_before_completion : Tables
 settlement_day_before_completion = record bought_tables { rule = Some 19783 }
 
 -- The tables after the first purchase, with a second cash row that has no trade, at `stamp`, of
--- `amount` cents, with the name `name`. The balance includes the amount.
+-- `amount` cents, with the name `name`. The balance includes the amount, and the last stamp is one
+-- millisecond after the completion.
 abbrev pub tables_with_movement : ℕ → ℤ → Text → Tables
 tables_with_movement stamp amount name = record bought_tables {
   last = Some 1709251200018;

@@ -24,10 +24,11 @@ customer_as_executor = record { first_name = codes "Ann"; last_name = codes "Lee
 abbrev pub executor_with_other_tax_id : Executor
 executor_with_other_tax_id = record { first_name = codes "Ann"; last_name = codes "Lee"; tax_id = codes "T11" }
 
--- A permission with the names and the tax id of the executor with the customer's names.
+-- A permission with the names and the tax id of `executor_with_other_tax_id`.
 abbrev pub permission_of_namesake : Permission
 permission_of_namesake = record { account = 100; acl = codes "0000"; tax_id = codes "T11"; last_name = codes "Lee"; first_name = codes "Ann" }
 
--- A permission with another first name and the tax id of the executor with the customer's names.
+-- A permission with another last name, and with the first name and the tax id of
+-- `executor_with_other_tax_id`.
 abbrev pub permission_of_other_name : Permission
 permission_of_other_name = record { account = 100; acl = codes "0000"; tax_id = codes "T11"; last_name = codes "Kay"; first_name = codes "Ann" }

@@ -10,7 +10,8 @@ two_purchase_deals =
     record { trade = 1; side = Buy; qty = 100; price = 1010; stamp = 1; is_lifo = Bool.false }
     ∷ record { trade = 2; side = Buy; qty = 200; price = 1200; stamp = 2; is_lifo = Bool.false } ∷ []
 
--- A deal of `qty` shares at 13.00 after the deals of `two_purchase_deals`, on the side `side`.
+-- A deal of `qty` shares at 13.00 on the side `side`, after the deals of `two_purchase_deals`; it
+-- closes the last shares first if `is_lifo`.
 abbrev pub deal_against_two_lots : Side → ℕ → Bool → Deal
 deal_against_two_lots side qty is_lifo = record { trade = 9; side = side; qty = qty; price = 1300; stamp = 3; is_lifo = is_lifo }
 

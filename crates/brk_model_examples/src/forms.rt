@@ -11,7 +11,8 @@ ghost use Rattle.brk_model_examples.specs.Setting.{setting_base};
 
 /// Shows that of several malformed fields of a row the refusal is returned that is first in the
 /// sequence text, quantity, price, type; that the price must fit the type; and that the number of
-/// ticks is checked last.
+/// ticks is checked last. A feed without ticks, a row of an unknown kind and a row without fields
+/// are refused with `BadText`.
 pub fn refusals_follow_format_check_order()
     ensures text_first { parse_row (codes "charge" ∷ codes "TMX" ∷ codes "9" ∷ codes "5.00" ∷ []) ≡ Err BadText }
     ensures qty_then { parse_row (codes "order" ∷ codes "1" ∷ codes "TMX" ∷ codes "ABC" ∷ codes "0" ∷ codes "x" ∷ codes "cash" ∷ codes "fifo" ∷ codes "A" ∷ codes "B" ∷ codes "C" ∷ []) ≡ Err BadQty }

@@ -9,8 +9,9 @@ ghost use Rattle.brk_model_examples.specs.Moving.{sold_with_movements};
 ghost use Rattle.brk_model_examples.specs.Setting.{setting_base};
 ghost use Rattle.brk_model_examples.specs.Trading.{base_after_fifo_sale};
 
-/// Shows that a balance may fall below 0 and rise to its limit, but not above it. The reply to a
-/// movement has the number of its cash row, which follows those of the trades.
+/// Shows that a balance may fall below 0 and rise to its limit, but not above it. A withdrawal of
+/// 0.00 and a deposit to an account that does not exist are refused. The reply to a movement has
+/// the number of its cash row, which follows those of the trades.
 pub fn movements_respect_balance_limit()
     ensures lines { BatchOutputsLines base_after_fifo_sale
         (codes "deposit,100,100.00"

@@ -8,7 +8,8 @@ ghost use Rattle.brk_model_examples.specs.Setting.{setting_base, setting_rows};
 ghost use Rattle.brk_model_examples.specs.Extremes.{customer_with_ten_accounts};
 
 /// Shows the answers to a broker, a customer and two accounts. The second account is refused,
-/// because its customer does not exist, and its key is not recorded.
+/// because its customer does not exist, and its key is not recorded. The output of a batch without
+/// rows is its end line alone.
 pub fn refused_reference_row_records_no_key()
     ensures rows { BatchOutputsLines empty_base
         (codes "broker,1,Bo"

@@ -61,7 +61,7 @@ pub fn last_day_for_one_day_settlement()
 {}
 
 /// Shows that a settlement day is refused if its text is not the canonical text of a day of the
-/// calendar, or if there is not exactly one field.
+/// calendar, or if there is not exactly one field. The last day of the calendar is accepted.
 pub fn malformed_days_are_refused()
     ensures { BatchOutputsLines setting_base
         (codes "oneday,2024-3-02"

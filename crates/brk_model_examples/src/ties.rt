@@ -39,7 +39,8 @@ pub fn equal_stamps_are_sorted_by_id()
 {}
 
 /// Shows that the view `volume` sorts brokers by volume, descending, then by name, then by id. A
-/// repeated name counts once, and an unknown name adds nothing.
+/// repeated name counts once, an unknown name adds nothing, and the view of a sector without
+/// pending requests is empty.
 pub fn equal_volumes_are_sorted_by_name()
     ensures tech { view_by_name_and_arguments (base_after_batch base_with_pending_orders
         (codes "broker,2,Bo"

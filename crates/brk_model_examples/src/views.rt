@@ -6,7 +6,7 @@ ghost use Rattle.brk_money.specs.declared.refusal.Refusal.TheVariants.{BadText, 
 ghost use Rattle.brk_model_examples.specs.Batches.{view_by_name_and_arguments};
 ghost use Rattle.brk_model_examples.specs.Trading.{base_after_first_purchase, base_after_two_purchases, base_after_fifo_sale};
 
-/// Shows the position of a customer, by id and by tax id.
+/// Shows the position of a customer, by id and by tax id, and the refusal of an unknown id.
 pub fn position_view_of_customer()
     ensures by_id { view_by_name_and_arguments base_after_fifo_sale (codes "customer") (codes "10" ∷ [])
         ≡ Ok ((codes "100" ∷ codes "8403.40" ∷ codes "1500.00" ∷ [])
@@ -67,7 +67,8 @@ pub fn lookup_views_of_trade()
         ≡ Err BadText }
 {}
 
-/// Shows the changes of all lots that the oldest trade from a stamp on touched.
+/// Shows the changes of all lots that the oldest trade from a stamp on touched; the view is empty
+/// if there is no such trade.
 pub fn lots_view_of_oldest_trade()
     ensures last { view_by_name_and_arguments base_after_fifo_sale (codes "lots") (codes "100" ∷ codes "1709251200021" ∷ [])
         ≡ Ok ((codes "3" ∷ [])
