@@ -59,6 +59,7 @@ pub enum UsageFault {
 }
 
 impl From<AllocError> for UsageFault {
+    /// Returns the usage fault `Memory`.
     fn from(_error: AllocError) -> UsageFault {
         UsageFault::Memory
     }

@@ -29,7 +29,8 @@ pub fn stamp_of_system_time(time: SystemTime) -> Stamp
     }
 }
 
-// Reads the machine's clock. Returns its stamp, or 0 if the clock cannot be read.
+// Reads the machine's clock. Returns its stamp, or 0 if the clock cannot be read. No contract
+// states this.
 fn read_machine_clock<R: rt::Clock>(clock: &R) -> Stamp {
     match SystemTime::now(clock) {
         Ok(time) => stamp_of_system_time(time),
@@ -54,6 +55,7 @@ impl<'a, R: rt::Clock> Moments<'a, R> {
 impl<R: rt::Clock> Clock for Moments<'_, R> {
     ghost gives = { ReturnsReading };
 
+    /// Returns the fixed timestamp, or the reading of the machine's clock.
     fn now(&mut self) -> Stamp {
         match self {
             Moments::At(stamp) => *stamp,

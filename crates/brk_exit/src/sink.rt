@@ -7,10 +7,12 @@ use std::io::Write;
 
 /// A receiver of bytes that may fail.
 pub trait Sink {
-    /// The bytes that the sink has received, if they are known.
+    /// The bytes that the sink has received, or none if they are unknown. Unknown for a sink that
+    /// does not define them.
     ghost contents: { Self → Option (List ℕ) } = { λ _. None };
 
-    /// Holds if the sink failed in a step from the first state to the second.
+    /// Holds if the sink failed in a step from the first state to the second. Always holds for a
+    /// sink that defines no relation of its own.
     ghost fails: { Self → Self → Type 0 } = { λ _ _. Unit {0} };
 
     /// Sends all bytes. If the sink fails, it has received a prefix of them.
@@ -23,6 +25,7 @@ pub trait Sink {
 impl<W: Write> Sink for W {
     ghost contents = { W.contents };
 
+    /// Writes all bytes by calls of `write`. If the writer fails, it has received a prefix of them.
     fn send(&mut self, bytes: &[u8]) -> Result<(), NotWritten> {
         write_all_bytes(self, bytes)
     }

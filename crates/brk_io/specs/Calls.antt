@@ -1,9 +1,9 @@
 -- The calls that an engine makes of a desk.
 use Rattle.std.specs.Prelude.{◌≡◌, ℕ, List, [], ◌∷◌}
 
--- The desk changed from `old` to `new` by exactly these calls, in this order: call by call, `acts`
--- relates the desk before it, its clock reading and its content, its outcome and the desk after it.
--- False if the numbers of calls and of outcomes differ.
+-- The desk changed from `old` to `new` by exactly the calls of `calls`, in this order. For each
+-- call, `acts` relates the desk before it, its clock reading, its content, its outcome (of
+-- `outcomes`) and the desk after it. False if the numbers of calls and of outcomes differ.
 abbrev pub IsCallSequence : {D X O : Type 0} → (D → ℕ → X → O → D → Type 0) → D → List (ℕ × X) → List O → D → Type 0
 IsCallSequence acts old [] [] new = new ≡ old
 IsCallSequence {D} acts old (made ∷ calls) (outcome ∷ outcomes) new = (mid : D) × acts old made.0 made.1 outcome mid × IsCallSequence acts mid calls outcomes new

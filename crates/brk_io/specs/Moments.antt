@@ -1,8 +1,8 @@
 -- The readings of a clock.
 use Rattle.std.specs.Prelude.{◌≡◌, ◌⊎◌, ℕ, List, [], ◌∷◌}
 
--- The clock changed from `old` to `new` by exactly one reading for each of these timestamps, in
--- this order: each reading satisfies `gives`.
+-- The clock changed from `old` to `new` by exactly one reading for each timestamp of `moments`, in
+-- this order, and each reading satisfies `gives`.
 abbrev pub ClockReturnsInOrder : {C : Type 0} → (C → ℕ → C → Type 0) → C → List ℕ → C → Type 0
 ClockReturnsInOrder gives old [] new = new ≡ old
 ClockReturnsInOrder {C} gives old (moment ∷ moments) new = (mid : C) × gives old moment mid × ClockReturnsInOrder gives mid moments new

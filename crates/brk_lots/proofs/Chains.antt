@@ -35,7 +35,8 @@ change_by t d s us one h =
     ap (λ z. not (is_zero (z -ℤ lot_quantity (shares_after_deal us d) t))) (lot_counts s t us one)
     ∙ ap (λ z. not (is_zero (signed_by_side s (count_of t us) -ℤ z))) (lot_after d s us t (stays s d us one) h)
 
--- the rows of the deals that change the lot
+-- The HOLDING_HISTORY rows of the lot of the trade `t` that change its quantity, by the deals `ds`
+-- on the shares `us`.
 abbrev moved : ℕ → List Deal → List Share → List HoldingHistoryRow
 moved t ds us = filter row_changes_quantity (lot_rows_of_deals t us ds)
 

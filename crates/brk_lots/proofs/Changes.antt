@@ -53,6 +53,7 @@ shares_new_dropped t k (l ∷ ls) h =
 
 -- ---- the first shares of a walk are one of each lot
 
+-- True if another trade than `t` opened the share `v`.
 abbrev pub other_than : ℕ → Share → Bool
 other_than t v = not (eqb v.trade t)
 
@@ -89,15 +90,19 @@ firsts_walk (l ∷ ls) h = one (unsigned_abs l.qty) (size_positive l.qty h.0) (f
 
 -- ---- what the drop of k shares from the front changes
 
--- the counts before and after, lot by lot
+-- For each lot of `ls`, `before` of its trade is the number of its shares, and `after` of its trade
+-- is the number of those that are not among the first `k` shares of `ls`.
 abbrev Counts : (ℕ → ℕ) → (ℕ → ℕ) → ℕ → List Lot → Type 0
 Counts before after k [] = ⊤
 Counts before after k (l ∷ ls) = (before l.trade ≡ unsigned_abs l.qty) × (after l.trade ≡ unsigned_abs l.qty - k) × Counts before after (k - unsigned_abs l.qty) ls
 
+-- The change of the lot of the share `u` from the number `before` to the number `after` of its
+-- trade, with the side of `u`.
 abbrev pub row : (ℕ → ℕ) → (ℕ → ℕ) → Share → Touch
 row before after u = record { lot = u.trade; before = signed_by_side u.side (before u.trade); after = signed_by_side u.side (after u.trade) }
 
--- each opening trade of the shares before whose count changed: its count before and after, with their side
+-- The lots of the shares `before` whose number of shares differs among the shares `after`, each
+-- with its quantity before and after.
 abbrev pub changes : List Share → List Share → List Touch
 changes before after = map (row (λ t. count_of t before) (λ t. count_of t after)) (filter (λ u. not (eqb (count_of u.trade before) (count_of u.trade after))) (first_shares_of_lots before))
 
@@ -116,7 +121,8 @@ rows_touched before after (suc k) (l ∷ ls) w h =
     rw (h.0, h.1, signed_back l.qty) (ap (λ (ts : List Touch). record { lot = l.trade; before = l.qty; after = signed_by_side (side_of_qty l.qty) (unsigned_abs l.qty - suc k) } ∷ ts)
     (rows_touched before after (suc k - unsigned_abs l.qty) ls w.2 h.2)))
 
--- what is known of each lot's counts: they are those of the shares of the lots from here on
+-- The numbers `before` and `after` of the trade of the lot `m` are the numbers of its shares among
+-- the shares of `ls`, and among these without the first `k`.
 abbrev Agrees : (ℕ → ℕ) → (ℕ → ℕ) → ℕ → List Lot → Lot → Type 0
 Agrees before after k ls m = (before m.trade ≡ count_of m.trade (shares_of_lots ls)) × (after m.trade ≡ count_of m.trade (drop k (shares_of_lots ls)))
 

@@ -27,7 +27,7 @@ paid_is d ls w =
     ∙ ap (λ (vs : List Share). cost (take k vs)) (shares_end d.is_lifo ls)
     ∙ ap (λ n. cost (take n (list_in_closing_order d.is_lifo (shares_of_lots ls)))) (met_closes d ls w)
 
--- two values
+-- The buy value `b` and the sell value `s`, as one value.
 abbrev both : ℕ → ℕ → Values
 both b s = record { buy_value = b; sell_value = s }
 

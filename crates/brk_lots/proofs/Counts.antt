@@ -17,7 +17,7 @@ use Rattle.brk_lots.proofs.Runs.{count_of}
 use Rattle.brk_lots.proofs.Changes.{all_from, all_filter}
 use Rattle.brk_lots.proofs.Ends.{all_join}
 
--- all shares have one side
+-- All shares of `us` have the side `s`.
 abbrev pub OneSide : Side → List Share → Type 0
 OneSide s us = AllByRecursion (λ u. u.side ≡ s) us
 

@@ -11,7 +11,7 @@ use Rattle.brk_lots.proofs.Changes.{all_from}
 use Rattle.brk_lots.proofs.Ends.{all_join}
 use Rattle.brk_lots.proofs.Counts.{all_run}
 
--- a share that was opened before a deal, by another trade
+-- The share `v` was opened before the stamp of the deal `d`, by another trade.
 abbrev pub IsOlder : Deal → Share → Type 0
 IsOlder d v = (v.trade ≢ d.trade) × (v.stamp < d.stamp)
 

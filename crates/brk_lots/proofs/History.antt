@@ -17,7 +17,7 @@ use Rattle.brk_lots.proofs.Counts.{lot_counts, all_run, differ}
 use Rattle.brk_lots.proofs.Deals.{all_without}
 use Rattle.brk_lots.proofs.Plain.{after_is, lots_alike, lots_some}
 
--- not among those
+-- True if no share of `us` was opened by the trade of the share `v`.
 abbrev new_to : List Share → Share → Bool
 new_to us v = eqb (count_of v.trade us) 0
 
@@ -60,7 +60,7 @@ known (u ∷ us) =
     let one : count_of u.trade (u ∷ us) ≡ 1 + count_of u.trade us = shares_run_own 1 u us in
     (omega (arith, one), all_from (λ v. 0 < count_of v.trade us) (λ v. 0 < count_of v.trade us) (λ v. 0 < count_of v.trade (u ∷ us)) (λ v h k. known_more u us v h) us (known us) (known us))
 
--- no share is of a trade
+-- No share of `us` was opened by the trade `t`.
 abbrev Without : ℕ → List Share → Type 0
 Without t us = AllByRecursion (λ v. v.trade ≢ t) us
 

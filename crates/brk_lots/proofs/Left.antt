@@ -26,12 +26,13 @@ use Rattle.brk_lots.proofs.Ends.{walk_end, walk_of, shares_end, without_end, all
 use Rattle.brk_lots.proofs.Plain.{met_is, after_is}
 use Rattle.brk_lots.proofs.Upon.{rows_back, opened_back}
 
--- a lot with so many shares, or none
+-- The lot `l` with the given number of shares, as a list of one element, or the empty list for 0
+-- shares.
 abbrev pub with_shares : ℕ → Lot → List Lot
 with_shares zero l = []
 with_shares (suc m) l = record { trade = l.trade; price = l.price; qty = signed_by_side (side_of_qty l.qty) (suc m); stamp = l.stamp } ∷ []
 
--- lots without k shares from the front
+-- The lots without their first `k` shares; a lot without shares is not in the list.
 abbrev pub kept : ℕ → List Lot → List Lot
 kept k [] = []
 kept k (l ∷ ls) = with_shares (unsigned_abs l.qty - k) l ++ kept (k - unsigned_abs l.qty) ls
@@ -122,7 +123,7 @@ shares_left lifo k ls w =
 
 -- ---- what is left is a position
 
--- the rows leave of a lot some shares of its side
+-- After the touches `ts` the lot `l` has its side, with some number of shares.
 abbrev Shrinks : List Touch → Lot → Type 0
 Shrinks ts l = (m : ℕ) × (quantity_after_touches ts l ≡ signed_by_side (side_of_qty l.qty) m)
 
@@ -138,7 +139,7 @@ end_shrinks : (lifo : Bool) (k : ℕ) (ls : List Lot) → IsPositionInAnyOrder l
 end_shrinks true k ls w = subst (AllByRecursion (Shrinks (touches_of_first_shares k (reverse ls)))) (reverse-reverse ls) (all_reverse (Shrinks (touches_of_first_shares k (reverse ls))) (reverse ls) (walk_shrinks k (reverse ls) (walk_end true ls w)))
 end_shrinks false k ls w = walk_shrinks k ls w
 
--- what holds of a lot, however many shares it has
+-- `P` holds for the lot `l` with any number of shares above 0.
 abbrev OfShares : (Lot → Type 0) → Lot → Type 0
 OfShares P l = (m : ℕ) → AllByRecursion P (with_shares m l)
 
@@ -192,7 +193,7 @@ same_is Sell Sell e = refl
 
 -- ---- a closing, booked
 
--- the lot of some shares such as u
+-- The lot of `n + 1` shares that equal `u`.
 abbrev new_lot : Share → ℕ → Lot
 new_lot u n = record { trade = u.trade; price = u.price; qty = signed_by_side u.side (suc n); stamp = u.stamp }
 
@@ -252,7 +253,7 @@ lawful lifo q u ls p f a (suc n) e =
     (signed_differs u.side n)
     (opened_after lifo q n u ls p f a e)
 
--- what a deal leaves of the lots of a position, with the lot that it opens
+-- The lots of the position `ls` after the deal `d`, with the lot that the deal opens.
 abbrev pub lots_after : Deal → List Lot → List Lot
 lots_after d ls = lots_after_touches (touches_of_first_shares (closed_share_count d.side d.qty ls) (list_in_closing_order d.is_lifo ls)) ls ++ run_lots (d.qty - closed_share_count d.side d.qty ls) (opened_share d)
 

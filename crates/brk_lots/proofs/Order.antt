@@ -12,12 +12,12 @@ use Rattle.brk_lots.specs.Order.{FirstLotSatisfies, IsLaterOnSameSide, IsOneSide
 use Rattle.brk_lots.specs.Position.{IsLaterInPosition, IsPosition, AreOpenedByOtherTrades}
 use Rattle.brk_lots.proofs.Changes.{all_from}
 
--- no two lots are of one trade
+-- No two lots of the list were opened by the same trade.
 abbrev pub Distinct : List Lot → Type 0
 Distinct [] = Unit {0}
 Distinct (l ∷ ls) = AreOpenedByOtherTrades l.trade ls × Distinct ls
 
--- a number falls nowhere
+-- The number `n` of each lot is at most that of every later lot of the list.
 abbrev pub Ascends : (Lot → ℕ) → List Lot → Type 0
 Ascends n [] = Unit {0}
 Ascends n (l ∷ ls) = AllByRecursion (λ m. n l ≤ n m) ls × Ascends n ls
@@ -75,6 +75,7 @@ distinct_by (l ∷ m ∷ ls) a d =
 
 -- ---- distinct trades in any order
 
+-- 1 if the trade `n` opened the lot `l`, otherwise 0.
 abbrev of_trade : ℕ → Lot → ℕ
 of_trade n l = cond (eqb l.trade n) 1 0
 
@@ -142,15 +143,15 @@ same_lots l m e = at (eqb l.trade m.trade) (eqb l.price m.price) (eqb l.stamp m.
   at true false c p q r h = cc
   at false b c p q r h = cc
 
--- whether a lot is older than a stamp
+-- 1 if the lot `l` was opened before the stamp `n`, otherwise 0.
 abbrev older : ℕ → Lot → ℕ
 older n l = cond (ltb l.stamp n) 1 0
 
--- whether a lot is of a stamp or older
+-- 1 if the lot `l` was opened at the stamp `n` or before, otherwise 0.
 abbrev no_later : ℕ → Lot → ℕ
 no_later n l = cond (ltb n l.stamp) 0 1
 
--- whether a lot is of another's stamp, and not that lot
+-- 1 if the lot `l` has the stamp of the lot `m` and is another lot, otherwise 0.
 abbrev beside : Lot → Lot → ℕ
 beside m l = cond (eqb l.stamp m.stamp) (cond (same_lot l m) 0 1) 0
 

@@ -9,19 +9,20 @@ use Rattle.brk_model.specs.Shares.{Share, signed_by_side}
 use Rattle.brk_lots.specs.declared.lot.Lot.{Lot}
 use Rattle.brk_lots.specs.Lots.{side_of_qty}
 
--- how many of the shares a trade opened
+-- The number of the shares `us` that `trade` opened.
 abbrev pub count_of : ℕ → List Share → ℕ
 count_of trade us = count_by (λ u. eqb u.trade trade) us
 
--- what the shares cost when they were opened
+-- The sum of the prices at which the shares `us` were opened.
 abbrev pub cost : List Share → ℕ
 cost us = sum_by (λ u. u.price) us
 
--- the shares without k of them, from the back for last in first out, else from the front
+-- The shares `us` without their last `k` if `lifo` is true, otherwise without their first `k`.
 abbrev pub without : Bool → ℕ → List Share → List Share
 without lifo k us = cond lifo (take (length us - k) us) (drop k us)
 
--- the lot of n shares such as u, or none
+-- The lot of the given number of shares that equal `u`, as a list of one element, or the empty list
+-- for 0 shares.
 abbrev pub run_lots : ℕ → Share → List Lot
 run_lots zero u = []
 run_lots (suc n) u = record { trade = u.trade; price = u.price; qty = signed_by_side u.side (suc n); stamp = u.stamp } ∷ []

@@ -21,6 +21,7 @@ use Rattle.brk_lots.proofs.Counts.{OneSide, all_shares, walk_side}
 use Rattle.brk_lots.proofs.Deals.{all_without}
 use Rattle.brk_lots.proofs.Plain.{after_is, touches_are, lots_alike, met_is, bought_is, sold_is}
 
+-- True if the number `before` of the trade of the share `u` differs from the number `after`.
 abbrev changed : (ℕ → ℕ) → (ℕ → ℕ) → Share → Bool
 changed before after u = not (eqb (before u.trade) (after u.trade))
 

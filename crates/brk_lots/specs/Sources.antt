@@ -4,13 +4,13 @@ use Rattle.brk_lots.specs.declared.lot.Lot.{Lot}
 use Rattle.brk_lots.specs.Lots.{list_in_closing_order}
 use Rattle.brk_lots.specs.Position.{IsPositionInAnyOrder}
 
--- The disk assumption `told` holds, and `ls` satisfies `remaining`: these are the lots that the
--- source still yields.
+-- The disk assumption of a source, `told`, holds, and `ls` satisfies `remaining`: these are the
+-- lots that the source still yields.
 abbrev pub IsFaithfulRemainder : Type 0 → (List Lot → Type 0) → List Lot → Type 0
 IsFaithfulRemainder told remaining ls = told × remaining ls
 
--- The lots `ls` form a position, and the list of these lots satisfies `given`: from the oldest on,
--- or from the newest on if `lifo` is true.
+-- The lots `ls` form a position, in any order, and their list satisfies `given`: reversed if `lifo`
+-- is true, otherwise as it is.
 abbrev pub YieldsPosition : (List Lot → Type 0) → Bool → List Lot → Type 0
 YieldsPosition given lifo ls = given (list_in_closing_order lifo ls) × IsPositionInAnyOrder ls
 

@@ -29,8 +29,9 @@ abbrev pub cost_of_first_shares : ℕ → List Lot → ℕ
 cost_of_first_shares k [] = 0
 cost_of_first_shares k (l ∷ ls) = min k (unsigned_abs l.qty) * l.price + cost_of_first_shares (k - unsigned_abs l.qty) ls
 
--- The result of closing the lots `ls`: `over` is the quantity that closed no share, `taken` are the
--- touched lots, and `cost` is the value at which the closed shares were opened.
+-- `over`, `taken` and `cost` are the result of closing the lots `ls` by a trade of `qty` shares on
+-- `side`: the quantity that closed no share, the touched lots, and the value at which the closed
+-- shares were opened.
 pub record IsCloseAgainstLots (side : Side) (qty : ℕ) (ls : List Lot) (taken : List Touch) (over cost : ℕ) : Type 0 where
   pub left : over + closed_share_count side qty ls ≡ qty
   pub rows : taken ≡ touches_of_first_shares (closed_share_count side qty ls) ls

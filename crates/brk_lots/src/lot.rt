@@ -29,7 +29,8 @@ pub struct Touch {
 }
 
 impl Lot {
-    /// Returns the side of the trade that opened the lot, if the quantity is not 0.
+    /// Returns the side of the trade that opened the lot: `Sell` if the quantity is below 0,
+    /// otherwise `Buy`.
     pub fn side(&self) -> Side
         ensures { result ≡ side_of_qty self.now.qty }
     {

@@ -9,7 +9,8 @@ use Rattle.jiff_core.specs.declared.civil.date.Date.{Date}
 use Rattle.jiff_core.proofs.CalendarLemmas.{day_count-day, day_count-day_of_year, day_count-end, day_count-epoch, day_count-last_of_year, day_count-later_year, day_count-next_month, day_count-next_year, days_from_civil-day_count, days_in_month_bounds, days_in_year_bounds}
 use Rattle.brk_money.specs.Moments.{Civil, civil_date_of_day, date_after_year_start, date_after_month_start}
 
--- a date from a year on, that so many days go before
+-- The civil date `c` has a month from 1 to 12, a day of that month, and a year that is not before
+-- `year`. The number of its day, by `day_count`, is `count`.
 pub record IsDateAt (c : Civil) (year count : ℕ) : Type 0 where
   pub year_from : year ≤ c.year
   pub month_in : (1 ≤ c.month) × (c.month ≤ 12)
@@ -83,7 +84,7 @@ last_year c n h d = at (nat_lt 9999 c.year) refl
         let place = day_count-day_of_year (pos c.year) c.month c.day d.day_in.0 in
         absurd (omega (arith, later, next, day_count-end, place, d.counted, d.day_in.0, h))
 
--- the date of a day, as the calendar has it
+-- The calendar date of the day `n`.
 unfoldable pub date_at : (n : ℕ) → n ≤ 2_932_896 → Date
 date_at n h =
     let d = civil_at n in

@@ -82,7 +82,8 @@ ten_of (a ∷ b ∷ c ∷ d ∷ e ∷ f ∷ g ∷ h ∷ []) l = absurd (omega ar
 ten_of (a ∷ b ∷ c ∷ d ∷ e ∷ f ∷ g ∷ h ∷ i ∷ []) l = absurd (omega arith)
 ten_of (a ∷ b ∷ c ∷ d ∷ e ∷ f ∷ g ∷ h ∷ i ∷ j ∷ k ∷ ls) l = absurd (omega arith)
 
--- the parts that a text's digits are of, in pairs
+-- The digits in the ten bytes `bs` of a date are those of `century`, `year`, `month` and `day`, two
+-- of each.
 pub record ArePairs (bs : List ℕ) (century year month day : ℕ) : Type 0 where
   pub c1 : get_or bs 0 0 ≡ 48 + century / 10
   pub c2 : get_or bs 1 0 ≡ 48 + century % 10

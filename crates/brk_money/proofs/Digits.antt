@@ -20,7 +20,8 @@ own = numerals_by_fold _ (search rules) number_with_more_digits (search rules)
 pub whole_found : (bs : List ℕ) → all_ascii_digits bs ≡ true → number_with_more_digits 0 bs ≤ 10 ^ 17 → 0 < length bs → (get_or bs 0 0 ≡ 48 → length bs ≡ 1) → bs ≡ decimal (number_with_more_digits 0 bs)
 whole_found bs p small some first = sym (decimal-digits_value own bs p some first (omega arith))
 
--- what a number is written as
+-- The bytes `bs` are one or more decimal digits, without a leading zero unless there is only one,
+-- and `n` is their number.
 pub record IsWhole (bs : List ℕ) (n : ℕ) : Type 0 where
   pub digits : all_ascii_digits bs ≡ true
   pub reads : number_with_more_digits 0 bs ≡ n

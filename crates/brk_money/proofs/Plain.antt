@@ -9,7 +9,7 @@ use Rattle.std.proofs.lemmas.Str.Parse.{tells_all_ascii_digits}
 use Rattle.std.specs.Str.{all_ascii_digits}
 use Rattle.brk_money.proofs.Digits.{whole_only}
 
--- what an amount without a sign is, cut before its point
+-- The bytes `bs` consist of the digits of the whole units of `n` cents, a point and two digits.
 pub record IsPlain (bs : List ℕ) (n : ℕ) : Type 0 where
   pub long : 3 ≤ length bs
   pub whole : take (length bs - 3) bs ≡ decimal (n / 100)

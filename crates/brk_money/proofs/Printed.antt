@@ -6,7 +6,7 @@ use Rattle.std.proofs.lemmas.Fmt.{decimal_digit}
 use Rattle.brk_money.specs.Spelling.{Text, unsigned_cents_text, cents_text}
 use Rattle.std.specs.Int.Signed.{lt_z}
 
--- the parts of an amount without its sign
+-- The text of `n` cents without a sign, in the parts that are formatted.
 abbrev pub parts : ℕ → Text
 parts n = decimal (n / 100) ++ 46 ∷ (decimal (n % 100 / 10) ++ decimal (n % 10))
 

@@ -56,6 +56,7 @@ impl Cents {
 impl From<Amount> for Wide {
     ghost from_gives = { λ amount wide. wide ≡ pos amount };
 
+    /// Returns the amount, in cents.
     fn from(amount: Amount) -> Wide {
         Wide::new(i128::from(amount.get()))
     }

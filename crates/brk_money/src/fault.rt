@@ -4,7 +4,8 @@ ghost use Rattle.brk_money.specs.declared.fault.Fault.TheVariants.{Memory};
 
 use std::alloc::{AllocError, AllocFailed};
 
-/// A condition that is checked of the tables of a database, in the order of the checks.
+/// A condition on the tables of a database. The variants are in the order in which the conditions
+/// are checked.
 #[derive(Clone, Copy, Debug, PartialEq, Eq)]
 pub enum Condition {
     /// None of the desk's tables exists before they are created.
@@ -71,7 +72,8 @@ pub enum Fault {
 }
 
 impl Fault {
-    /// Returns the number that represents the fault, the same for every condition.
+    /// Returns the number that represents the fault: 90 for `Memory`, 91 for `Store`, and 92 for
+    /// `Damaged` with any condition.
     pub fn number(self) -> u8
         ensures { result ≡ fault_number self }
     {
@@ -86,6 +88,7 @@ impl Fault {
 impl From<AllocError> for Fault {
     ghost from_gives = { λ _ fault. fault ≡ Memory };
 
+    /// Returns the fault `Memory`.
     fn from(_error: AllocError) -> Fault {
         Fault::Memory
     }
@@ -94,6 +97,7 @@ impl From<AllocError> for Fault {
 impl<T: Drop> From<AllocFailed<T>> for Fault {
     ghost from_gives = { λ _ fault. fault ≡ Memory };
 
+    /// Returns the fault `Memory`.
     fn from(_error: AllocFailed<T>) -> Fault {
         Fault::Memory
     }

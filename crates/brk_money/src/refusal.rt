@@ -5,7 +5,8 @@ use crate::fault::Fault;
 use crate::status::Status;
 use std::fmt;
 
-/// The result of a call that plans or reads: the value or a refusal, or a fault if the call failed.
+/// The result of a call that may be refused: the value or the refusal, or a fault if the call
+/// failed.
 pub type Planned<T> = Result<Result<T, Refusal>, Fault>;
 
 /// A number or a sum that would leave its range.

@@ -58,7 +58,7 @@ impl TradeType {
         self.side() == Side::Sell
     }
 
-    /// Returns true if a trade of this type is at the market price (TT_IS_MRKT).
+    /// Returns true if a trade of this type is executed at the market price (TT_IS_MRKT).
     pub fn is_market(self) -> bool
         ensures { result ≡ is_market_type self }
     {

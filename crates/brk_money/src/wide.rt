@@ -40,6 +40,7 @@ impl Wide {
 impl From<Cents> for Wide {
     ghost from_gives = { λ cents wide. wide ≡ cents };
 
+    /// Returns the amount, in cents.
     fn from(cents: Cents) -> Wide {
         Wide(i128::from(cents.get()))
     }
@@ -48,6 +49,7 @@ impl From<Cents> for Wide {
 impl From<Price> for Wide {
     ghost from_gives = { λ price wide. wide ≡ pos price };
 
+    /// Returns the price, in cents.
     fn from(price: Price) -> Wide {
         Wide(i128::from(price.get()))
     }

@@ -13,7 +13,7 @@ use Rattle.brk_orders.specs.Records.{texts_of_order_fields}
 use Rattle.brk_orders.specs.declared.order.Told.{Told}
 use Rattle.brk_orders.proofs.Refused.{no_account, no_symbol, no_cash, no_end, no_executor, no_qty, late_order_type}
 
--- an order of its parts
+-- The order with these values.
 abbrev made : ℕ → Text → ℕ → OrderType → Bool → Bool → Executor → Order
 made a s q t c l e = record { account = a; order_type = t; symbol = s; qty = q; is_cash = c; is_lifo = l; executor = e }
 

@@ -27,7 +27,7 @@ texts_of_order_fields t =
 abbrev pub abstract_tick : tick.Tick → Tick
 abstract_tick t = record { symbol = t.symbol; price = t.price; qty = t.qty }
 
--- The list of one model's tick, that of the typed tick `t`.
+-- The list of one element, the model's tick with the values of the typed tick `t`.
 abbrev pub list_of_one_tick : tick.Tick → List Tick
 list_of_one_tick t = abstract_tick t ∷ []
 

@@ -69,8 +69,8 @@ fn rank_of_format_refusal(refusal: Refusal) -> u8
     }
 }
 
-// Returns the refusal of the earlier one of two format checks, and `one` if both have the same
-// rank.
+// Returns the one of two refusals whose format check is earlier, and `one` if both have equal
+// ranks.
 fn refusal_of_first_check(one: Refusal, other: Refusal) -> Refusal
     ensures { result ≡ (if nat_le (forms.format_refusal_rank one) (forms.format_refusal_rank other) then one else other) }
 {

@@ -11,12 +11,14 @@ use std::marker::{Model, PhantomData};
 
 /// A format of text, such as that of a symbol or of a name.
 pub trait Form {
+    /// True for the bytes of the texts that have the format.
     ghost form: { List ℕ → Bool };
 
     /// Returns true if the text has the format.
     fn has_form(text: &str) -> bool
         ensures { result ≡ form text.now };
 
+    /// Bytes that have the format are UTF-8.
     ghost is_utf8: { (bytes : List ℕ) → form bytes ≡ true → IsUtf8 bytes };
 }
 

@@ -40,7 +40,7 @@ not_true false e = refl
 
 -- ---- a name that is told once more, and one that is new
 
--- the test of a name that is not there yet
+-- True if `name` is not one of `names`.
 abbrev is_new : List Text → Text → Bool
 is_new names name = not (contains_name names name)
 

@@ -59,6 +59,8 @@ position_shown t test accounts e =
 
 -- ---- what an account did last
 
+-- True if the TRADE_HISTORY row `a` is before `b` when they are sorted by stamp, then by trade,
+-- descending.
 abbrev newest : tables.HistoryRow → tables.HistoryRow → Bool
 newest a b = is_pair_less b.stamp a.stamp b.trade a.trade
 
@@ -89,12 +91,14 @@ pub lookup_shown : (t : Tables) (test : tables.TradeRow → Bool) (trades : List
 unfolding Rattle.brk_model.specs.LookupView.trade_lookup_view
 lookup_shown t test trades e = records_shown t trades (take 20 (trade_rows_oldest_first (filter test t.trades))) e
 
+-- True if the TRADE row `a` is before `b` when they are sorted by stamp, then by id, ascending.
 abbrev older_row : tables.TradeRow → tables.TradeRow → Bool
 older_row a b = is_pair_less a.stamp b.stamp a.id b.id
 
 pub older_shown : (trades : List TradeRow) → map abstract_trade_row (sort_by is_older_trade trades) ≡ trade_rows_oldest_first (map abstract_trade_row trades)
 older_shown trades = sym (map_sorted is_older_trade older_row abstract_trade_row trades (λ a b. refl))
 
+-- True if the TRADE_HISTORY row `a` has a smaller stamp than `b`.
 abbrev older_status : tables.HistoryRow → tables.HistoryRow → Bool
 older_status a b = nat_lt a.stamp b.stamp
 
@@ -114,7 +118,8 @@ one_carried t trade settlement cash history moments e is = λ i. record {
   history = (e ∙ moments_carried history ∙ ap (λ rows. map status_of_history_row (sort_by (λ a b. nat_lt a.stamp b.stamp) rows)) is.comes) i;
 }
 
--- the records of the rows of a trade
+-- The records of the rows `r` of a trade: of the trade, its settlements, its cash rows and its
+-- statuses.
 abbrev shown_rows : LookedUpRows → View
 shown_rows r = model.trade_record r.trade ∷ map model.settlement_record r.settlements ++ map model.cash_record r.moves ++ map history_status_record r.history
 
@@ -141,9 +146,13 @@ map_take f zero xs = refl
 map_take f (suc n) [] = refl
 map_take f (suc n) (x ∷ xs) = ap (λ ys. f x ∷ ys) (map_take f n xs)
 
+-- True if the HOLDING_HISTORY row `a` is before `b` when they are sorted by the stamp of their
+-- trade in the tables `t`, then by lot, ascending.
 abbrev earlier_touch : Tables → tables.HoldingHistoryRow → tables.HoldingHistoryRow → Bool
 earlier_touch t a b = is_pair_less (model.stamp_of_touching_trade t a) (model.stamp_of_touching_trade t b) a.lot b.lot
 
+-- The record of the HOLDING_HISTORY row `row`: its lot, its trade, and the quantity of the lot
+-- before and after.
 abbrev change_record : tables.HoldingHistoryRow → List (List ℕ)
 change_record row = decimal row.lot ∷ decimal row.trade ∷ signed_decimal row.before ∷ signed_decimal row.after ∷ []
 
@@ -201,7 +210,7 @@ pub trade_carried : (t : Tables) (trade : TradeRow) (security : Security) → se
     → rows_of_trade_status (record { trade = trade; security = security }) ≡ trade_row_with_security t (abstract_trade_row trade)
 trade_carried t trade security e = λ i. (abstract_trade_row trade, sym e i)
 
--- the record of a trade with its security
+-- The record of a trade with its security.
 abbrev shown_status : tables.TradeRow × Option SecurityRow → List Text
 shown_status r =
     decimal r.0.id ∷ decimal r.0.stamp ∷ trade_status_name r.0.status ∷ trade_type_name r.0.kind ∷ r.0.symbol ∷ decimal r.0.qty ∷ r.0.executor ∷ nonnegative_cents_text r.0.charge

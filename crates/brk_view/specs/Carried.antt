@@ -24,9 +24,9 @@ first_twenty_lookups t test = map (table_rows_of_trade t) (take 20 (trade_rows_o
 abbrev pub last_fifty_trades_with_security : Tables → ℕ → List (TradeRow × Option SecurityRow)
 last_fifty_trades_with_security t account = map (trade_row_with_security t) (take 50 (trade_rows_recent_first (trade_rows_of_account t account)))
 
--- The view has the variant of the query, and its rows of trades and of lot changes are, in all
--- columns, those that the query selects from the tables `t`. Nothing more is said of a view of
--- accounts, submitted trades, an estimate or volumes, whose records show every value.
+-- The view has the variant of the query, and its rows of trades and of lot changes equal, in all
+-- columns, those that the query selects from the tables `t`. For a query of accounts, of submitted
+-- trades, of an estimate or of volumes it states the variant only.
 abbrev pub HasRowsOfQuery : Query → View → Tables → Type 0
 HasRowsOfQuery (PositionOf customer) (view.Position accounts) t = Unit {0}
 HasRowsOfQuery (PositionOfTaxId tax_id) (view.Position accounts) t = Unit {0}

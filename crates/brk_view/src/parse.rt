@@ -70,9 +70,9 @@ fn parse_account_or_later_query(alloc: Global, view: &str, arguments: &[&[u8]]) 
     }
 }
 
-/// Parses a query from the name of its view and its arguments, or returns the refusal of their
-/// form. Refuses an unknown name or a wrong number of arguments with `BadText`. Fails with `Memory`
-/// only.
+/// Parses a query from the name of its view and its arguments, or returns the refusal of malformed
+/// arguments. Refuses an unknown name or a wrong number of arguments with `BadText`. Fails with
+/// `Memory` only.
 ///
 /// `submitted` has no argument, and `estimate` the ten fields of an order, with their refusals.
 /// `customer` has the id of a customer, `taxid` a tax id, `recent` and `status` the id of an

@@ -20,7 +20,7 @@ pub struct SubmittedTrade {
     pub bid: Price,
 }
 
-/// The reply to a query, which `view_fields` writes as records of texts.
+/// The result of a query, which `view_fields` returns as records of texts.
 #[derive(Drop)]
 pub enum View {
     /// The balances and market values of a customer's accounts, sorted by market value, then by id,

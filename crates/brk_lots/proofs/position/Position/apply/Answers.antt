@@ -15,7 +15,7 @@ use Rattle.brk_lots.proofs.Upon.{rows_back}
 use Rattle.brk_lots.proofs.Left.{booked, booked_lots, lots_after}
 use Rattle.brk_lots.proofs.position.Position.apply.Goals as goal
 
--- lots that are what a closing leaves, with the lot that it opens
+-- `ms` are the lots `ls` after the touches of `closing`, followed by the lot that it opens.
 abbrev IsBooked : List Lot → Closing → List Lot → Type 0
 IsBooked ls closing ms = ms ≡ lots_after_touches closing.touched.items ls ++ option_to_list closing.opened
 
