@@ -15,7 +15,7 @@ is_first_status Submitted = true
 is_first_status Pending = true
 is_first_status Canceled = false
 
--- True if the trade's row has the status and the stamp of the history row.
+-- True if the trade's row `r` has the status and the stamp of the history row `h`.
 abbrev pub has_status_and_stamp_of : TradeRow → HistoryRow → Bool
 has_status_and_stamp_of r h = is_same_trade_status r.status h.status && (r.stamp == h.stamp)
 

@@ -29,7 +29,8 @@ commission_posting brokers r = if is_completed_row r then Some (record { key = b
 abbrev pub cash_posting : (ℕ → TaxStatus) → TradeRow → Option (Posting ℕ)
 cash_posting statuses r = if is_completed_cash_trade r then Some (record { key = r.account; amount = settlement_amount_at (statuses r.account) r }) else None
 
--- The sum of the amounts of the account's deposits and withdrawals; a withdrawal counts below 0.
+-- The sum of the amounts of the account's deposits and withdrawals, in cents; the amount of a
+-- withdrawal is below 0.
 abbrev pub movement_sum_of_account : Tables → ℕ → ℤ
 movement_sum_of_account t account = total_by (λ r. r.amount) (filter (λ r. is_none r.trade && (r.account == account)) t.moves)
 

@@ -43,21 +43,21 @@ pub(crate) fn is_tier(tier: Tier) -> bool
     1 <= tier.get() && tier.get() <= 3
 }
 
-/// Returns true if the signed amount is within its limits.
+/// Returns true if the signed amount is within its limits, in cents.
 pub(crate) fn is_balance_within_limit(cents: Cents) -> bool
     ensures { result ≡ form.is_amount cents }
 {
     cents.get().unsigned_abs() <= Cents::GREATEST
 }
 
-/// Returns true if the unsigned amount is within its limit.
+/// Returns true if the amount, in cents, is at most the greatest amount.
 pub(crate) fn is_amount(amount: Amount) -> bool
     ensures { result ≡ nat_le amount limits.greatest_amount }
 {
     amount.get() <= Amount::GREATEST
 }
 
-/// Returns true if the charge is within its limit.
+/// Returns true if the charge, in cents, is at most the greatest charge.
 pub(crate) fn is_charge_within_limit(charge: ChargeAmount) -> bool
     ensures { result ≡ nat_le charge limits.greatest_charge }
 {
@@ -74,7 +74,7 @@ pub(crate) fn is_stamp_up_to_last(sheets: &Sheets, stamp: Stamp) -> bool
     stamp.get() <= last.get()
 }
 
-/// Returns true if the text is well-formed.
+/// Returns true if the text has the format `F`.
 pub(crate) fn is_well_formed_text<F: Form>(text: &Text<F>) -> bool
     ensures { result ≡ F.form text.now }
 {

@@ -30,16 +30,16 @@ fn row_has_price_exactly_if_completed(sheets: &Sheets, row: &TradeRow) -> bool
     }
 }
 
-// Returns true if the due day of a completion at `stamp` is within the calendar, by the settlement
-// day `rule`. Returns true for other statuses.
+// Returns true if a completion at `stamp` has a due day within the calendar, by the settlement day
+// `rule`. Returns true for any other status.
 fn settles_within_calendar(rule: Option<Day>, status: Status, stamp: Stamp) -> bool
     ensures { result ≡ form.is_due_within_calendar rule status stamp }
 {
     status != Status::Completed || due_day_after_completion(rule, stamp).is_some()
 }
 
-// Returns true if the settlement text is one of the two texts of a cash trade, or of a margin trade
-// if `is_cash` is false.
+// Returns true if the settlement text is one of the two texts of a cash trade (`is_cash`), or one
+// of the two of a margin trade if `is_cash` is false.
 fn is_settlement_text_of(is_cash: bool, word: CashType) -> bool
     ensures { result ≡ form.is_cash_type_of_trade is_cash (of.cash_type_text word) }
 {

@@ -40,8 +40,9 @@ RecordsTaxOfResult later base now (Do (CompleteTrade id price) key) (Did (Done r
     (t : Trade) × (trade_with_id base id ≡ Some t) × TradeRowHasTax later id (tax_at_completion base now price t)
 RecordsTaxOfResult later base now call outcome = ⊤
 
--- For each accepted result of a run from `base`, the row of its trade in the tables `later` has the
--- tax of its completion. Vacuous for other calls and for other outcomes.
+-- Each outcome is one that its call can have in the base that the calls before it lead to, from
+-- `base` on. For each accepted result, the row of its trade in the tables `later` has the tax of
+-- its completion. Vacuous for other calls and outcomes, and after the end of the shorter list.
 abbrev pub RecordsTaxesOfResults : Tables → Base → List (ℕ × Call) → List Outcome → Type 0
 RecordsTaxesOfResults later base (call ∷ calls) (outcome ∷ outcomes) =
     RecordsTaxOfResult later base call.0 call.1 outcome

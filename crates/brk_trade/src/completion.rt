@@ -43,8 +43,8 @@ fn append_completed_trade_changes(
     Ok(())
 }
 
-// Returns the row change of a touched lot: it is deleted if no share is left of it, and otherwise
-// its quantity is set.
+// Returns the row change of a touched lot: the lot is deleted if none of its shares is left, and
+// otherwise its quantity is set.
 fn create_touched_lot_change(touch: &Touch) -> Change
     ensures { result ≡ spec.row_change_of_touched_lot touch.now }
 {

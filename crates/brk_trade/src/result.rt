@@ -18,7 +18,7 @@ use brk_money::{Fault, Planned, Price, Refusal, Stamp, stamp_after};
 use brk_plans::{Completed, Plan, Reply};
 use std::alloc::Global;
 
-// Returns the figures of a completed trade that its reply has.
+// Returns those figures of a completed trade that its reply has.
 fn create_completed_reply(outcome: &ResultNumbers) -> Completed
     ensures { result ≡ reply_of_completed_result outcome.now }
 {
@@ -34,8 +34,9 @@ fn create_completed_reply(outcome: &ResultNumbers) -> Completed
     }
 }
 
-// Returns the lots that the trade closes, and the one that it opens, if any. Fails with `Memory` or
-// a fault of the source. Reads no lot if the account holds no shares that the trade would close.
+// Returns the lots that the trade closes, and the lot that it opens, if it opens one. Fails with
+// `Memory` or a fault of the source. Reads no lot if the account holds no shares that the trade
+// would close.
 fn close_or_open_lots<L: LotSource>(
     alloc: Global,
     source: &mut L,
