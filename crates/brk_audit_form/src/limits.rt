@@ -8,42 +8,43 @@ use brk_changes::{Schema, Sheets};
 use brk_money::{Amount, Cents, Id, MoveId, Price, Qty, Stamp};
 use brk_ref::{ChargeAmount, Form, Text, Tier};
 
-/// Returns true if the id is within its limits.
+/// Returns true if the id is from 1 to the greatest id.
 pub(crate) fn is_id(id: Id) -> bool
     ensures { result ≡ form.is_id id }
 {
     1 <= id.get() && id.get() <= Id::GREATEST
 }
 
-/// Returns true if the number of a cash row is within its limits.
+/// Returns true if the number of a cash row is from 1 to the greatest number of a cash row.
 pub(crate) fn is_move_id(id: MoveId) -> bool
     ensures { result ≡ form.is_cash_row_number id }
 {
     1 <= id.get() && id.get() <= MoveId::GREATEST
 }
 
-/// Returns true if the quantity is within the limits of the schema.
+/// Returns true if the quantity is from 1 to the greatest quantity of the schema.
 pub(crate) fn is_quantity_within_limits(schema: Schema, qty: Qty) -> bool
     ensures { result ≡ form.is_quantity_in_schema (abstract_schema schema) qty }
 {
     1 <= qty.get() && qty.get() <= schema.greatest_qty()
 }
 
-/// Returns true if the price is within its limits.
+/// Returns true if the price is from 1 cent to the greatest price.
 pub(crate) fn is_price(price: Price) -> bool
     ensures { result ≡ form.is_price price }
 {
     1 <= price.get() && price.get() <= Price::GREATEST
 }
 
-/// Returns true if the customer tier is within its limits.
+/// Returns true if the customer tier is from 1 to 3.
 pub(crate) fn is_tier(tier: Tier) -> bool
     ensures { result ≡ form.is_tier tier }
 {
     1 <= tier.get() && tier.get() <= 3
 }
 
-/// Returns true if the signed amount is within its limits, in cents.
+/// Returns true if the absolute value of the signed amount, in cents, is at most the greatest
+/// amount.
 pub(crate) fn is_balance_within_limit(cents: Cents) -> bool
     ensures { result ≡ form.is_amount cents }
 {

@@ -13,11 +13,12 @@ use Rattle.brk_book_theorems.specs.TradeReads.{position_lots}
 
 -- ---- lookups
 
--- The last price of the symbol, or `None` if the symbol has no row of LAST_TRADE.
+-- The last price of the symbol, in cents, or `None` if the symbol has no row of LAST_TRADE.
 abbrev pub last_price_of_symbol : Tables → Text → Option ℕ
 last_price_of_symbol t symbol = option_map (λ r. r.price) (find (λ r. bytes_eq r.symbol symbol) t.last_trades)
 
--- The charge for the trade type and the customer tier, or `None` if there is no such charge.
+-- The charge for the trade type and the customer tier, in cents, or `None` if there is no such
+-- charge.
 abbrev pub charge_of_type_and_tier : Tables → TradeType → ℕ → Option ℕ
 charge_of_type_and_tier t kind tier = option_map (λ r. r.amount) (find (λ r. is_same_trade_type r.kind kind && (r.tier == tier)) t.charges)
 

@@ -14,14 +14,14 @@ use Rattle.brk_model.specs.Tests.{stamp_of_next_command}
 use Rattle.brk_book_theorems.specs.Books.{BooksInvariant}
 use Rattle.brk_book_theorems.specs.Sums.{SumsMatch}
 
--- The trade with the number `id` exists in the base, is completed, and has the tax `tax`.
+-- The trade with the number `id` exists in the base, is completed, and has the tax `tax`, in cents.
 pub record CompletedTradeHasTax (id tax : ℕ) (base : Base) : Type 0 where
   pub trade : Trade
   pub found : trade_with_id base id ≡ Some trade
   pub completed : is_completed trade ≡ true
   pub taxed : trade.tax ≡ tax
 
--- The row of the trade with the number `id` exists in the tables and has the tax `tax`.
+-- The row of the trade with the number `id` exists in the tables and has the tax `tax`, in cents.
 pub record TradeRowHasTax (t : Tables) (id tax : ℕ) : Type 0 where
   pub row : TradeRow
   pub found : trade_row_with_id t id ≡ Some row

@@ -90,7 +90,7 @@ checks_after_reading_lots found price values stamp =
 abbrev pub result_checks : ResultFound → ℕ → Values → Option ℕ → List RefusalCheck
 result_checks found price values stamp = checks_before_reading_lots found ++ checks_after_reading_lots found price values stamp
 
--- The absolute values of the buy value and the sell value of `closing`.
+-- The buy value and the sell value of `closing`, in cents, without their signs.
 abbrev pub values_of_closing : Closing → Values
 values_of_closing closing = record { buy_value = nat_abs closing.buy_value; sell_value = nat_abs closing.sell_value }
 

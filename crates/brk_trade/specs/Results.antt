@@ -66,7 +66,7 @@ row_change_of_summary (Some held) t qty =
 abbrev pub first_cash_type_of_trade : Bool → CashType
 first_cash_type_of_trade is_cash = if is_cash then cash_type.CashAccount else cash_type.Margin
 
--- The quantity and the words after it in the cash text of a trade, after a space.
+-- A space, the quantity `qty` and the text " shares of ", as in the cash text of a trade.
 abbrev pub quantity_in_cash_text : ℕ → Text
 quantity_in_cash_text qty = 32 ∷ decimal qty ++ codes " shares of "
 
@@ -157,7 +157,7 @@ shares_held_in_summary found = unwrap_or found.summary (pos 0)
 abbrev pub AreLotsBeforeTrade : (List Lot → Type 0) → ResultFound → List Lot → Type 0
 AreLotsBeforeTrade given found ls = YieldsPosition given found.trade.is_lifo ls × AreOpenedByOtherTrades found.trade.id ls × (shares_held_in_summary found ≡ lot_quantity_sum ls)
 
--- The account holds no shares that the trade would close.
+-- The account holds no shares that the trade of `found` would close.
 abbrev pub ClosesNoHeldShares : ResultFound → Type 0
 ClosesNoHeldShares found = closes_lots (side_of_trade_type found.trade.kind) (shares_held_in_summary found) ≡ false
 
@@ -180,8 +180,9 @@ CompletesExistingTrade None price given last now plan = ⊥
 CompletesExistingTrade (Some found) price given last now plan = IsResultPlan found price given last now plan
 
 -- `refusal` is the first one that applies to the result of the existing trade of `found` at
--- `price`. The clause `late` is vacuous if no lots of the source match the summary
--- (`AreLotsBeforeTrade`). `last` is the last stamp, and `now` the clock reading.
+-- `price`. The clause `early` is vacuous if no check before the lots are read fails, and the clause
+-- `late` if no lots of the source match the summary (`AreLotsBeforeTrade`). `last` is the last
+-- stamp, and `now` the clock reading.
 pub record IsRefusalOfExistingTrade (found : ResultFound) (price : ℕ) (given : List Lot → Type 0) (last : Option ℕ) (now : ℕ) (refusal : Refusal) : Type 0 where
   -- If a check before the lots are read fails, its refusal is `refusal`, whatever the lots are.
   pub early : IfSome (first_refusal (checks_before_reading_lots found)) (λ cause. refusal ≡ cause)

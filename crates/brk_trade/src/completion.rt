@@ -209,8 +209,7 @@ fn append_summary_and_settlement_changes(
     Ok(())
 }
 
-// Appends the quantity, and the words after it, to the cash text of a trade. Fails if memory runs
-// out.
+// Appends a space, the quantity and the text " shares of " to `name`. Fails if memory runs out.
 fn append_quantity_text(name: &mut String, qty: Qty) -> Result<(), AllocError>
     ensures { OnOk result (string_bytes name.new ≡ string_bytes name.old ++ spec.quantity_in_cash_text qty) }
 {
