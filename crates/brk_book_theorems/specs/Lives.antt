@@ -1,4 +1,4 @@
--- The life of each lot: the chain of its changes.
+-- The history of each lot: the chain of its changes.
 use Rattle.std.specs.Prelude.{◌≡◌, ⊤, ℕ, ◌==◌, nat_lt, List, [], ◌∷◌, filter, find, map, ℤ, pos}
 use Rattle.std.specs.Option.{option_map_or}
 use Rattle.brk_lots.specs.Chains.{IsLotHistory}
