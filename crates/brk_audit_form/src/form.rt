@@ -42,8 +42,8 @@ fn is_valid_settlement_day(rule: Option<Day>) -> bool
     }
 }
 
-// Returns true if the parts that the schema does not have are empty: a schema without CASH_MOVE has
-// no rows of it, and a schema without a settlement day has none set.
+// Returns true if the rows have no part that the schema lacks: no rows of CASH_MOVE in a schema
+// without this table, and no settlement day in a schema without one.
 fn fits(schema: Schema, sheets: &Sheets) -> bool
     ensures { result ≡ lacks_rows_of_later_schemas (abstract_schema schema) (tables_in_sheets sheets.now) }
 {

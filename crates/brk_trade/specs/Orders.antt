@@ -142,8 +142,8 @@ pub record AreOrderChanges (order : Order) (terms : Terms) (broker trade stamp :
 -- `plan` adds the trade of `order` at the stamp of the command, with the next id. The order passes
 -- its checks against the facts `found`, an id and a later stamp are left, and the reply has the
 -- stamp, the id, the first status and the estimate from the lots of the source
--- (`MatchesModelEstimate`). The source may have the lots that `given` holds of. `last` is the last
--- stamp, and `now` the clock reading.
+-- (`MatchesModelEstimate`). `given` holds of the lists of lots that the source may have, `last` is
+-- the last stamp, and `now` the clock reading.
 pub record IsOrderPlan (order : Order) (found : OrderFound) (given : List Lot → Type 0) (last : Option ℕ) (now : ℕ) (plan : Plan) : Type 0 where
   pub stamp : ℕ
   pub estimate : Estimate

@@ -163,8 +163,9 @@ ClosesNoHeldShares found = closes_lots (side_of_trade_type found.trade.kind) (sh
 
 -- `plan` completes the trade of `found` at `price` and the stamp of the command. The result passes
 -- all its checks, and the row changes and the reply follow from `closing`, the lots that the trade
--- closes and opens. The clause on `closing` is vacuous if no lots of the source match the summary
--- (`AreLotsBeforeTrade`). `last` is the last stamp, and `now` the clock reading.
+-- closes and opens. The clause `closes` is vacuous if no lots of the source match the summary
+-- (`AreLotsBeforeTrade`). `given` holds of the lists of lots that the source may have, `last` is
+-- the last stamp, and `now` the clock reading.
 pub record IsResultPlan (found : ResultFound) (price : ℕ) (given : List Lot → Type 0) (last : Option ℕ) (now : ℕ) (plan : Plan) : Type 0 where
   pub stamp : ℕ
   pub closing : Closing
