@@ -14,8 +14,8 @@ use Rattle.brk_model.specs.Tables.{Tables, SummaryRow, TradeRow}
 use Rattle.brk_audit.specs.Completed.{is_completed_row}
 use Rattle.brk_audit.specs.declared.tally.Posting.{Posting}
 
--- The number of shares that the completed trades of the account in the symbol sum to, negative if
--- sold short.
+-- The number of shares that the completed trades of the account in the symbol add up to, negative
+-- if sold short.
 abbrev pub shares_left_by_trades : Tables → ℕ → Text → ℤ
 shares_left_by_trades t account symbol =
     total_by (λ r. signed_by_side (side_of_trade_type r.kind) r.qty) (filter (λ r. is_completed_row r && ((r.account == account) && bytes_eq r.symbol symbol)) t.trades)
@@ -28,8 +28,8 @@ shares_in_summaries rows account symbol = total_by (λ h. h.qty) (filter (λ h. 
 abbrev pub HasNonzeroQuantity : SummaryRow → Type 0
 HasNonzeroQuantity h = is_zero h.qty ≡ false
 
--- For each existing account and security, the summaries sum to the shares of the completed trades.
--- No summary has the quantity 0.
+-- For each existing account and security, the summaries add up to the shares of the completed
+-- trades. No summary has the quantity 0.
 pub record SummariesMatchTrades (t : Tables) : Type 0 where
   pub sums : (account : ℕ) (symbol : Text) → has_account t account ≡ true → has_security t symbol ≡ true
       → shares_left_by_trades t account symbol ≡ shares_in_summaries t.summaries account symbol

@@ -30,7 +30,7 @@ abbrev pub settlement_amount_at : TaxStatus → TradeRow → ℤ
 settlement_amount_at status r =
     signed_proceeds (side_of_trade_type r.kind) (r.qty * unwrap_or r.price 0) -ℤ pos (r.charge + r.commission + (if is_withholding_status status then r.tax else 0))
 
--- The trade, the due day and the amount of a settlement.
+-- The trade, the due day and the amount, in cents, of a settlement.
 pub record SettlementFigures : Type 0 where
   pub trade : ℕ
   pub due_day : ℕ
@@ -45,7 +45,7 @@ settlement_figures_of_row s = record { trade = s.trade; due_day = s.due_day; amo
 abbrev pub settlement_figures_of_trade : SettleRule → (ℕ → TaxStatus) → TradeRow → SettlementFigures
 settlement_figures_of_trade rule statuses r = record { trade = r.id; due_day = due_day_of_completion_stamp rule r.stamp; amount = settlement_amount_at (statuses r.account) r }
 
--- The trade, the stamp and the amount of a row of CASH_TRANSACTION.
+-- The trade, the stamp and the amount, in cents, of a row of CASH_TRANSACTION.
 pub record CashRowFigures : Type 0 where
   pub trade : ℕ
   pub stamp : ℕ
@@ -60,7 +60,8 @@ cash_figures_of_row c = record { trade = c.trade; stamp = c.stamp; amount = c.am
 abbrev pub cash_figures_of_trade : (ℕ → TaxStatus) → TradeRow → CashRowFigures
 cash_figures_of_trade statuses r = record { trade = r.id; stamp = r.stamp; amount = settlement_amount_at (statuses r.account) r }
 
--- The account, the trade, the stamp and the amount of a row of CASH_MOVE that belongs to a trade.
+-- The account, the trade, the stamp and the amount, in cents, of a row of CASH_MOVE that belongs to
+-- a trade.
 pub record MoveRowFigures : Type 0 where
   pub account : ℕ
   pub trade : ℕ
@@ -87,14 +88,15 @@ is_numbered_by_stamp n stamp (r ∷ rs) = (r.id == n) && (nat_le stamp r.stamp &
 abbrev pub is_completed_cash_trade : TradeRow → Bool
 is_completed_cash_trade r = is_completed_row r && r.is_cash
 
--- For any list of later trades, the rows `rows` match `trade` and the later trades if and only if
--- the rows `others` match the later trades. Rows match trades if `tells` of the rows equals `gives`
--- of the trades that pass `test`.
+-- For any list of later trades: the rows `rows` match `trade` and the later trades if and only if
+-- the rows `others` match the later trades. Rows match trades if the values of `tells` of the rows
+-- equal the values of `gives` of those trades that pass `test`, in order.
 abbrev pub MatchReducesToOthers : {Row Told : Type 0} → (Row → Told) → (TradeRow → Told) → (TradeRow → Bool) → List Row → TradeRow → List Row → Type 0
 MatchReducesToOthers tells gives test rows trade others =
     (trades : List TradeRow) → (map tells rows ≡ map gives (filter test (trade ∷ trades))) ↔ (map tells others ≡ map gives (filter test trades))
 
--- For any list of later trades, the rows `rows` do not match `trade` and the later trades. Rows
--- match trades if `tells` of the rows equals `gives` of the trades that pass `test`.
+-- For any list of later trades: the rows `rows` do not match `trade` and the later trades. Rows
+-- match trades if the values of `tells` of the rows equal the values of `gives` of those trades
+-- that pass `test`, in order.
 abbrev pub MatchIsImpossible : {Row Told : Type 0} → (Row → Told) → (TradeRow → Told) → (TradeRow → Bool) → List Row → TradeRow → Type 0
 MatchIsImpossible tells gives test rows trade = (trades : List TradeRow) → map tells rows ≡ map gives (filter test (trade ∷ trades)) → ⊥

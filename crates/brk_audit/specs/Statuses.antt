@@ -15,12 +15,13 @@ is_first_status Submitted = true
 is_first_status Pending = true
 is_first_status Canceled = false
 
--- True if the trade's row has the status and the stamp of the history row.
+-- True if the trade's row `r` has the status and the stamp of the history row `h`.
 abbrev pub has_status_and_stamp_of : TradeRow → HistoryRow → Bool
 has_status_and_stamp_of r h = is_same_trade_status r.status h.status && (r.stamp == h.stamp)
 
--- For two statuses of a history, sorted by code: `first` if they can be a valid sequence that ends
--- in the first of them, `second` if in the second, and false if they cannot be a valid sequence.
+-- The value `first` if the two statuses of a history, sorted by code, can be a valid sequence that
+-- ends in the first of them, `second` if one that ends in the second, and false if they cannot be a
+-- valid sequence.
 abbrev pub two_status_result : Status → Status → Bool → Bool → Bool
 two_status_result Completed Submitted first second = first
 two_status_result Canceled Pending first second = first
@@ -32,7 +33,7 @@ two_status_result _ _ first second = false
 abbrev pub is_valid_two_row_history : TradeRow → HistoryRow → HistoryRow → Bool
 is_valid_two_row_history r a b = two_status_result a.status b.status (nat_lt b.stamp a.stamp && has_status_and_stamp_of r a) (nat_lt a.stamp b.stamp && has_status_and_stamp_of r b)
 
--- For three statuses of a history, sorted by code: `told` if they can be a valid sequence,
+-- The value `told` if the three statuses of a history, sorted by code, can be a valid sequence,
 -- otherwise false.
 abbrev pub three_status_result : Status → Status → Status → Bool → Bool
 three_status_result Completed Pending Submitted told = told

@@ -15,24 +15,27 @@ sum_over_broker_trades t amount broker = total_by amount (filter (λ r. is_compl
 abbrev pub sum_over_account_cash_trades : Tables → (TradeRow → ℤ) → ℕ → ℤ
 sum_over_account_cash_trades t amount account = total_by amount (filter (λ r. is_completed_cash_trade r && (r.account == account)) t.trades)
 
--- The posting of 1 at the broker of the trade's account, or `None` if the trade is not completed.
+-- The posting of 1 at the broker of the trade's account, which `brokers` gives, or `None` if the
+-- trade is not completed.
 abbrev pub count_posting : (ℕ → ℕ) → TradeRow → Option (Posting ℕ)
 count_posting brokers r = if is_completed_row r then Some (record { key = brokers r.account; amount = pos 1 }) else None
 
--- The posting of the trade's commission at the broker of its account, or `None` if the trade is not
--- completed.
+-- The posting of the trade's commission, in cents, at the broker of its account, which `brokers`
+-- gives, or `None` if the trade is not completed.
 abbrev pub commission_posting : (ℕ → ℕ) → TradeRow → Option (Posting ℕ)
 commission_posting brokers r = if is_completed_row r then Some (record { key = brokers r.account; amount = pos r.commission }) else None
 
--- The posting of the trade's settlement amount at its account, or `None` if it is not a completed
--- cash trade.
+-- The posting of the trade's settlement amount, in cents, at its account, or `None` if it is not a
+-- completed cash trade. The tax status of its account is given by `statuses`.
 abbrev pub cash_posting : (ℕ → TaxStatus) → TradeRow → Option (Posting ℕ)
 cash_posting statuses r = if is_completed_cash_trade r then Some (record { key = r.account; amount = settlement_amount_at (statuses r.account) r }) else None
 
--- The sum of the amounts of the account's deposits and withdrawals; a withdrawal counts below 0.
+-- The sum of the amounts of the account's deposits and withdrawals, in cents; the amount of a
+-- withdrawal is below 0.
 abbrev pub movement_sum_of_account : Tables → ℕ → ℤ
 movement_sum_of_account t account = total_by (λ r. r.amount) (filter (λ r. is_none r.trade && (r.account == account)) t.moves)
 
--- The posting of the row's amount at its account, or `None` if the row belongs to a trade.
+-- The posting of the row's amount, in cents, at its account, or `None` if the row belongs to a
+-- trade.
 abbrev pub movement_posting : MoveRow → Option (Posting ℕ)
 movement_posting r = if is_none r.trade then Some (record { key = r.account; amount = r.amount }) else None

@@ -42,7 +42,7 @@ fn value_of_shares(qty: u32, cents: u64) -> u64
     u64::from(qty) * cents
 }
 
-// Returns the value of a sale, or the negated value of a purchase, minus `taken_off`, in cents.
+// Returns the value of a sale, or the negated value of a purchase, minus `taken_off`, all in cents.
 fn proceeds_less_deductions(side: Side, value: u64, taken_off: u64) -> i64
     requires value { value ≤ greatest_qty * greatest_price }
     requires taken_off { taken_off ≤ 3 * greatest_amount }

@@ -82,7 +82,7 @@ fn append_movement_postings(all: &mut Vec<Posting<u64>>, moves: &[MoveRow]) -> R
     Ok(())
 }
 
-// Returns the balance minus the opening balance.
+// Returns the balance minus the opening balance, both in cents.
 fn balance_change(balance: i64, opening: i64) -> i128
     ensures { opening +ℤ result ≡ balance }
 {
@@ -104,7 +104,8 @@ fn equals_opening_plus_moved(balance: i64, opening: i64, moved: i128) -> bool
     are_equal(left, moved)
 }
 
-// Returns true if the account's balance is its opening balance plus the sum at its id.
+// Returns true if the account's balance is its opening balance plus the sum at the account's id in
+// `sums`.
 fn is_balanced(sums: &BTreeMap<u64, i128>, row: &AccountRow) -> bool
     ensures { IsTrue result ↔ (row.now.balance ≡ row.now.account.opening +ℤ sum_at_key nat_cmp sums.now row.now.account.id) }
 {
@@ -112,7 +113,8 @@ fn is_balanced(sums: &BTreeMap<u64, i128>, row: &AccountRow) -> bool
     equals_opening_plus_moved(row.balance.get(), row.account.opening.get(), moved)
 }
 
-// Returns true if the balance of each account is its opening balance plus the sum at its id.
+// Returns true if the balance of each account is its opening balance plus the sum at its id in
+// `sums`.
 fn all_accounts_are_balanced(sums: &BTreeMap<u64, i128>, rows: &[AccountRow]) -> bool
     ensures { IsTrue result ↔ AllByRecursion (λ row. row.balance ≡ row.account.opening +ℤ sum_at_key nat_cmp sums.now row.account.id) rows.now }
 {
@@ -124,8 +126,9 @@ fn all_accounts_are_balanced(sums: &BTreeMap<u64, i128>, rows: &[AccountRow]) ->
     true
 }
 
-/// Returns true if the balance of each account is its opening balance plus its cash trades,
-/// deposits and withdrawals. Fails with `Memory` only.
+/// Returns true if the rows satisfy the condition `Balance`: the balance of each account is its
+/// opening balance plus the amounts of its cash trades, deposits and withdrawals. Fails with
+/// `Memory` only.
 pub(crate) fn balance_condition_holds(alloc: Global, sheets: &Sheets) -> Result<bool, Fault>
     requires form { HasWellFormedRows sheets.now }
     requires status { HasValidStatuses sheets.now }

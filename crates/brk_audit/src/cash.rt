@@ -20,8 +20,8 @@ use brk_money::{Cents, Fault, Id, Stamp, TaxStatus};
 use std::alloc::Global;
 use std::collections::BTreeMap;
 
-// Returns true if the row has the number, the stamp and the settlement amount of the completed
-// trade at the tax status of its account.
+// Returns true if the row has the trade, the stamp and the settlement amount of the completed
+// trade, at the tax status of its account.
 fn is_cash_row_of(cash: &CashRow, trade: &TradeRow, tax_status: TaxStatus) -> bool
     ensures { IsTrue result ↔ ((cash.now.trade ≡ trade.now.id) × (cash.now.stamp ≡ trade.now.stamp) × (cash.now.amount ≡ settlement_amount_at tax_status (abstract_trade_row trade.now))) }
 {
@@ -89,7 +89,8 @@ struct Posted {
     amount: Cents,
 }
 
-// Returns the figures of the row, or `None` if it belongs to no trade.
+// Returns the account, the trade, the stamp and the amount of the row, or `None` if it belongs to
+// no trade.
 fn figures_of_move_row(row: &MoveRow) -> Option<Posted>
     ensures { option_map abstract_posted_figures result ≡ posted_figures_of_row (abstract_move_row row.now) }
 {
@@ -102,7 +103,8 @@ fn figures_of_move_row(row: &MoveRow) -> Option<Posted>
     })
 }
 
-// Returns the figures of all rows that belong to trades, in order. Fails with `Memory` only.
+// Returns the account, the trade, the stamp and the amount of each row that belongs to a trade, in
+// order. Fails with `Memory` only.
 fn figures_of_move_rows(alloc: Global, moves: &[MoveRow]) -> Result<Vec<Posted>, Fault>
     ensures all { IfOk result (λ all. map abstract_posted_figures all.items ≡ filter_map (λ r. posted_figures_of_row (abstract_move_row r)) moves.now) }
     ensures fault { IfErr result (λ fault. fault ≡ Memory) }
@@ -116,7 +118,8 @@ fn figures_of_move_rows(alloc: Global, moves: &[MoveRow]) -> Result<Vec<Posted>,
     Ok(all)
 }
 
-// Returns true if the figures are those of the completed trade at the tax status of its account.
+// Returns true if the row has the account, the id, the stamp and the settlement amount of the
+// completed trade, at the tax status of its account.
 fn has_figures_of_trade(row: Posted, trade: &TradeRow, tax_status: TaxStatus) -> bool
     ensures { IsTrue result ↔ ((row.account ≡ trade.now.account) × (row.trade ≡ trade.now.id) × (row.stamp ≡ trade.now.stamp) × (row.amount ≡ settlement_amount_at tax_status (abstract_trade_row trade.now))) }
 {
@@ -169,14 +172,14 @@ fn posted_rows_match_trades(
     rest.is_empty()
 }
 
-// Returns true if the row has the number `number` and a stamp that is at least `stamp`.
+// Returns true if the row has the number `number` and a stamp of at least `stamp`.
 fn has_next_number_and_stamp(row: &MoveRow, number: u64, stamp: u64) -> bool
     ensures { result ≡ (row.now.id == number) && nat_le stamp row.now.stamp }
 {
     row.id.get() == number && stamp <= millis(row.stamp)
 }
 
-// Returns true if the rows are numbered from 1 without a gap, and their stamps do not decrease.
+// Returns true if the rows are numbered 1, 2, 3 and so on, and their stamps do not decrease.
 fn move_rows_are_numbered_by_stamp(moves: &[MoveRow]) -> bool
     ensures { result ≡ is_numbered_by_stamp 1 0 (map abstract_move_row moves.now) }
 {
@@ -190,10 +193,10 @@ fn move_rows_are_numbered_by_stamp(moves: &[MoveRow]) -> bool
     true
 }
 
-/// Returns true if the cash rows are exactly those of the completed cash trades. In schema 1 they
-/// are in CASH_TRANSACTION. In later schemas they are in CASH_MOVE, which also has the deposits and
-/// withdrawals and is numbered from 1 by stamp, and CASH_TRANSACTION is empty. Fails with `Memory`
-/// only.
+/// Returns true if the rows satisfy the condition `Cash` of `schema`: the cash rows are exactly
+/// those of the completed cash trades. In schema 1 they are in CASH_TRANSACTION. In later schemas
+/// they are in CASH_MOVE, which also has the deposits and withdrawals and is numbered from 1 by
+/// stamp, and CASH_TRANSACTION is empty. Fails with `Memory` only.
 pub(crate) fn cash_condition_holds(
     alloc: Global,
     schema: Schema,

@@ -54,7 +54,7 @@ fn commission_postings_of_trades(
     Ok(all)
 }
 
-// Returns true if the broker's commission total is the sum at the broker's id.
+// Returns true if the broker's commission total is the sum at the broker's id in `sums`.
 fn has_commission_sum(sums: &BTreeMap<u64, i128>, row: &BrokerRow) -> bool
     ensures { IsTrue result ↔ (pos row.now.commissions ≡ sum_at_key nat_cmp sums.now row.now.broker.id) }
 {
@@ -62,7 +62,7 @@ fn has_commission_sum(sums: &BTreeMap<u64, i128>, row: &BrokerRow) -> bool
     i128::from(row.commissions) == sum
 }
 
-// Returns true if the commission total of each broker is the sum at the broker's id.
+// Returns true if the commission total of each broker is the sum at the broker's id in `sums`.
 fn all_have_commission_sums(sums: &BTreeMap<u64, i128>, rows: &[BrokerRow]) -> bool
     ensures { IsTrue result ↔ AllByRecursion (λ row. pos row.commissions ≡ sum_at_key nat_cmp sums.now row.broker.id) rows.now }
 {
@@ -74,8 +74,9 @@ fn all_have_commission_sums(sums: &BTreeMap<u64, i128>, rows: &[BrokerRow]) -> b
     true
 }
 
-/// Returns true if each broker's commission total is the sum of the commissions of the completed
-/// trades of the broker's accounts. Fails with `Memory` only.
+/// Returns true if the rows satisfy the condition `Commission`: each broker's commission total is
+/// the sum of the commissions of the completed trades of the broker's accounts. Fails with `Memory`
+/// only.
 pub(crate) fn commission_condition_holds(alloc: Global, sheets: &Sheets) -> Result<bool, Fault>
     requires form { HasWellFormedRows sheets.now }
     requires status { HasValidStatuses sheets.now }

@@ -53,7 +53,7 @@ fn count_postings_of_trades(
     Ok(all)
 }
 
-// Returns true if the broker's trade count is the sum at the broker's id.
+// Returns true if the broker's trade count is the sum at the broker's id in `sums`.
 fn has_trade_count(sums: &BTreeMap<u64, i128>, row: &BrokerRow) -> bool
     ensures { IsTrue result ↔ (row.now.trades ≡ sum_at_key nat_cmp sums.now row.now.broker.id) }
 {
@@ -61,7 +61,7 @@ fn has_trade_count(sums: &BTreeMap<u64, i128>, row: &BrokerRow) -> bool
     i128::from(row.trades) == count
 }
 
-// Returns true if the trade count of each broker is the sum at the broker's id.
+// Returns true if the trade count of each broker is the sum at the broker's id in `sums`.
 fn all_have_trade_counts(sums: &BTreeMap<u64, i128>, rows: &[BrokerRow]) -> bool
     ensures { IsTrue result ↔ AllByRecursion (λ row. row.trades ≡ sum_at_key nat_cmp sums.now row.broker.id) rows.now }
 {
@@ -73,8 +73,8 @@ fn all_have_trade_counts(sums: &BTreeMap<u64, i128>, rows: &[BrokerRow]) -> bool
     true
 }
 
-/// Returns true if each broker's trade count is the number of the completed trades of the broker's
-/// accounts. Fails with `Memory` only.
+/// Returns true if the rows satisfy the condition `Count`: each broker's trade count is the number
+/// of the completed trades of the broker's accounts. Fails with `Memory` only.
 pub(crate) fn count_condition_holds(alloc: Global, sheets: &Sheets) -> Result<bool, Fault>
     requires form { HasWellFormedRows sheets.now }
     requires status { HasValidStatuses sheets.now }

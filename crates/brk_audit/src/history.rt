@@ -23,8 +23,8 @@ use brk_money::Fault;
 use std::alloc::Global;
 use std::cmp::Ordering;
 
-// Appends the lot changes of the completed trades of one position, executed in order. Fails with
-// `Memory` only.
+// Appends to `rows` the lot changes of the trades `run`, which are completed trades of one
+// position, executed in order. Fails with `Memory` only.
 fn append_lot_changes_of_trades(
     alloc: Global,
     rows: &mut Vec<DealTouch>,
@@ -101,8 +101,8 @@ fn are_same_rows(touches: &[DealTouch], rows: &[LotChange]) -> bool
     true
 }
 
-/// Returns true if the rows of HOLDING_HISTORY are exactly the lot changes of the completed trades.
-/// Fails with `Memory` only.
+/// Returns true if the rows satisfy the condition `History`: the rows of HOLDING_HISTORY are
+/// exactly the lot changes of the completed trades. Fails with `Memory` only.
 pub(crate) fn history_condition_holds(alloc: Global, sheets: &Sheets) -> Result<bool, Fault>
     requires form { HasWellFormedRows sheets.now }
     requires status { HasValidStatuses sheets.now }

@@ -17,7 +17,8 @@ use brk_lots::Lot;
 use brk_money::Fault;
 use std::alloc::Global;
 
-// Appends the lots, with the account and the symbol of the trade. Fails with `Memory` only.
+// Appends to `held` the HOLDING rows of the lots, with the account and the symbol of the trade.
+// Fails with `Memory` only.
 fn append_lot_rows(held: &mut Vec<HoldingRow>, trade: &TradeRow, lots: &[Lot]) -> Result<(), Fault>
     ensures added { OnOk result (map abstract_holding_row held.new.items ≡ map abstract_holding_row held.old.items ++ map (lot_row_of_position (abstract_trade_row trade.now)) (map abstract_lot lots.now)) }
     ensures fault { IfErr result (λ fault. fault ≡ Memory) }
@@ -35,7 +36,8 @@ fn append_lot_rows(held: &mut Vec<HoldingRow>, trade: &TradeRow, lots: &[Lot]) -
     Ok(())
 }
 
-// Returns the lots that the completed trades leave, position by position. Fails with `Memory` only.
+// Returns the HOLDING rows of the lots that the completed trades leave, position by position. Fails
+// with `Memory` only.
 fn lots_left_by_trades(alloc: Global, done: &[&TradeRow]) -> Result<Vec<HoldingRow>, Fault>
     requires order { IsSortedBy (λ one other. precedes_by_position (abstract_trade_row one.now) (abstract_trade_row other.now)) done.now }
     requires apart { IsDistinct has_same_id_or_stamp (map (λ row. abstract_trade_row row.now) done.now) }
@@ -82,8 +84,8 @@ fn are_same_rows(rows: &[HoldingRow], others: &[HoldingRow]) -> bool
     true
 }
 
-/// Returns true if the rows of HOLDING are exactly the lots that the completed trades leave. Fails
-/// with `Memory` only.
+/// Returns true if the rows satisfy the condition `Lots`: the rows of HOLDING are exactly the lots
+/// that the completed trades leave. Fails with `Memory` only.
 pub(crate) fn lot_condition_holds(alloc: Global, sheets: &Sheets) -> Result<bool, Fault>
     requires form { HasWellFormedRows sheets.now }
     requires status { HasValidStatuses sheets.now }

@@ -34,7 +34,8 @@ fn has_order_terms_of_trade(request: &RequestRow, trade: &TradeRow) -> bool
         && request.bid == trade.bid
 }
 
-// Returns true if the request is exactly that of the trade with the broker `broker`.
+// Returns true if the request is exactly the TRADE_REQUEST row of the pending trade, with the
+// broker `broker`.
 fn is_request_of(request: &RequestRow, trade: &TradeRow, broker: u64) -> bool
     ensures { IsTrue result ↔ (abstract_request_row request.now ≡ request_row_of_trade (λ account. broker) (abstract_trade_row trade.now)) }
 {
@@ -93,7 +94,8 @@ fn requests_match_trades(
     rest.is_empty()
 }
 
-/// Returns true if the requests are exactly those of the pending trades. Fails with `Memory` only.
+/// Returns true if the rows satisfy the condition `Requests`: the requests are exactly those of the
+/// pending trades. Fails with `Memory` only.
 pub(crate) fn request_condition_holds(alloc: Global, sheets: &Sheets) -> Result<bool, Fault>
     requires form { HasWellFormedRows sheets.now }
     requires status { HasValidStatuses sheets.now }

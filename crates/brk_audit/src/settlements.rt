@@ -19,8 +19,8 @@ use brk_money::{Day, Fault, Stamp, TaxStatus, day_of};
 use std::alloc::Global;
 use std::collections::BTreeMap;
 
-// Returns true if a trade that is completed at `stamp` settles on `day`, by the settlement day
-// `rule` if one is set.
+// Returns true if `day` is the due day of a trade that is completed at `stamp`, by the settlement
+// day `rule` if one is set.
 fn settles_on_day(day: Day, rule: Option<Day>, stamp: Stamp) -> bool
     ensures { IsTrue result ↔ (day ≡ due_day_of_completion_stamp rule stamp) }
 {
@@ -28,8 +28,8 @@ fn settles_on_day(day: Day, rule: Option<Day>, stamp: Stamp) -> bool
     day.get() == completed.get() + i32::from(settlement_days(rule, completed))
 }
 
-// Returns true if the settlement has the number, the due day and the settlement amount of the
-// completed trade, by the settlement day `rule` and the tax status of its account.
+// Returns true if the settlement has the id, the due day and the settlement amount of the completed
+// trade, by the settlement day `rule` and the tax status of its account.
 fn is_settlement_of(
     settlement: &SettlementRow,
     trade: &TradeRow,
@@ -94,8 +94,8 @@ fn settlements_match_trades(
     rest.is_empty()
 }
 
-/// Returns true if the settlements are exactly those of the completed trades. Fails with `Memory`
-/// only.
+/// Returns true if the rows satisfy the condition `Settlement`: the settlements are exactly those
+/// of the completed trades. Fails with `Memory` only.
 pub(crate) fn settlement_condition_holds(alloc: Global, sheets: &Sheets) -> Result<bool, Fault>
     requires form { HasWellFormedRows sheets.now }
     requires status { HasValidStatuses sheets.now }

@@ -178,8 +178,9 @@ fn has_distinct_stamps(
     Ok(true)
 }
 
-/// Returns true if each trade's history is a valid status sequence, and no two completions,
-/// deposits or withdrawals have the same stamp. Fails with `Memory` only.
+/// Returns true if the rows satisfy the condition `Status`: each trade's history is a valid status
+/// sequence, and no two completions, deposits or withdrawals have the same stamp. Fails with
+/// `Memory` only.
 pub(crate) fn status_condition_holds(alloc: Global, sheets: &Sheets) -> Result<bool, Fault>
     requires form { HasWellFormedRows sheets.now }
     ensures told { IfOk result (λ holds. (schema : Schema) → IsTrue holds ↔ ConditionHolds schema condition.Status (tables_in_sheets sheets.now)) }

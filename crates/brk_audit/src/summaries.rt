@@ -19,7 +19,7 @@ use brk_money::{Fault, Side};
 use std::alloc::Global;
 use std::collections::BTreeMap;
 
-// Returns the quantity as a signed number: below 0 for a sale.
+// Returns the quantity as a signed number: `qty` for a purchase, and `-qty` for a sale.
 fn signed_shares(side: Side, qty: u32) -> i64
     ensures { result ≡ signed_by_side side qty }
 {
@@ -125,8 +125,8 @@ pub(crate) fn all_three_true(one: bool, other: bool, last: bool) -> bool
     one && other && last
 }
 
-/// Returns true if the summaries of each position sum to the shares of its completed trades, and no
-/// summary has the quantity 0. Fails with `Memory` only.
+/// Returns true if the rows satisfy the condition `Summary`: the summaries of each position sum to
+/// the shares of its completed trades, and no summary has the quantity 0. Fails with `Memory` only.
 pub(crate) fn summary_condition_holds(alloc: Global, sheets: &Sheets) -> Result<bool, Fault>
     requires form { HasWellFormedRows sheets.now }
     requires status { HasValidStatuses sheets.now }

@@ -25,7 +25,8 @@ fn sum_plus_amount(sum: i128, amount: i64) -> i128
     sum + i128::from(amount)
 }
 
-// Adds the amount of the posting to the sum at its key. Fails with `Memory` only.
+// Adds the amount of the posting to the sum at its key; a key that the map does not contain has the
+// sum 0. Fails with `Memory` only.
 fn add_posting<K: Ord + Copy>(
     tally: &mut BTreeMap<K, i128>,
     posting: &Posting<K>,

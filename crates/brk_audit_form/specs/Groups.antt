@@ -12,7 +12,8 @@ use Rattle.brk_changes.specs.Rows.{abstract_trade_row, abstract_history_row, abs
 use Rattle.brk_changes.specs.Sheets.{tables_in_sheets}
 use Rattle.brk_changes.specs.declared.sheets.Sheets.{Sheets}
 
--- True if each table of reference data is sorted by key, and no key occurs twice.
+-- True if KEPT, LAST_TRADE and each table of reference data are sorted by key, and no key occurs
+-- twice.
 abbrev pub reference_tables_are_sorted : Sheets → Bool
 reference_tables_are_sorted s =
     is_sorted_by_unique_key (λ r. kept_key (abstract_kept_row r)) s.kept.items
@@ -27,7 +28,8 @@ reference_tables_are_sorted s =
     && is_sorted_by_unique_key (λ r. tax_rate_key (abstract_tax_rate r)) s.tax_rates.items
     && is_sorted_by_unique_key (λ r. customer_tax_key (abstract_customer_tax r)) s.customer_taxes.items
 
--- True if each table of trades is sorted by key, and no key occurs twice.
+-- True if each table of trades, lots, settlements and cash is sorted by key, and no key occurs
+-- twice.
 abbrev pub trading_tables_are_sorted : Sheets → Bool
 trading_tables_are_sorted s =
     is_sorted_by_unique_key (λ r. trade_key (abstract_trade_row r)) s.trades.items
@@ -40,7 +42,7 @@ trading_tables_are_sorted s =
     && is_sorted_by_unique_key (λ r. cash_key (abstract_cash_row r)) s.cash.items
     && is_sorted_by_unique_key (λ r. move_key (abstract_move_row r)) s.moves.items
 
--- True if the rows of reference data are well-formed.
+-- True if the rows of KEPT, of LAST_TRADE and of reference data are well-formed.
 abbrev pub reference_rows_are_well_formed : Schema → Sheets → Bool
 reference_rows_are_well_formed schema s =
     list_all (λ r. is_well_formed_kept_row (abstract_kept_row r)) s.kept.items
@@ -55,7 +57,7 @@ reference_rows_are_well_formed schema s =
     && list_all (λ r. is_well_formed_tax_rate_row (abstract_tax_rate r)) s.tax_rates.items
     && list_all (λ r. is_well_formed_customer_tax_row (tables_in_sheets s) (abstract_customer_tax r)) s.customer_taxes.items
 
--- True if the rows of trades are well-formed; cash rows are not checked.
+-- True if the rows of trades, lots and settlements are well-formed; cash rows are not checked.
 abbrev pub trading_rows_are_well_formed : Schema → Sheets → Bool
 trading_rows_are_well_formed schema s =
     list_all (λ r. is_well_formed_trade_row schema (tables_in_sheets s) (abstract_trade_row r)) s.trades.items

@@ -10,6 +10,7 @@ use Rattle.brk_model.specs.Joins.{security_row_with_symbol}
 abbrev pub security_name_in : Tables → Text → Text
 security_name_in t symbol = option_map_or (λ s. s.name) (security_row_with_symbol t symbol) []
 
--- The cash text of the trade: its type, its quantity, `words`, and the name of its security.
+-- The cash text of the trade: the name of its type, a space, its quantity, `words`, and the name of
+-- its security.
 abbrev pub cash_text_in : Tables → Text → TradeRow → Text
 cash_text_in t words row = trade_type_name row.kind ++ 32 ∷ decimal row.qty ++ words ++ security_name_in t row.symbol

@@ -28,15 +28,15 @@ fn security_name<'a>(sheets: &'a Sheets, symbol: &Symbol) -> &'a str
     }
 }
 
-// Appends a space, the quantity and `words`. Fails if an allocation is refused.
+// Appends a space, the quantity and `words` to `name`. Fails if an allocation is refused.
 fn append_quantity_words(name: &mut String, qty: Qty, words: &str) -> Result<(), AllocError>
     ensures { OnOk result (string_bytes name.new ≡ string_bytes name.old ++ (32 ∷ decimal qty ++ words.now)) }
 {
     write!(name, " {}{}", qty.get(), words)
 }
 
-// Returns the cash text of the trade: its type, its quantity, `words` and the name `security`.
-// Fails with `Memory` only.
+// Returns the cash text of the trade: the name of its type, a space, its quantity, `words`, and
+// `security`, the name of its security. Fails with `Memory` only.
 fn format_cash_name(
     alloc: Global,
     trade: &TradeRow,
@@ -52,7 +52,7 @@ fn format_cash_name(
     Ok(name)
 }
 
-// Returns true if the name is one of the two cash texts of the trade. Fails with `Memory` only.
+// Returns true if `name` is one of the two cash texts of the trade. Fails with `Memory` only.
 fn is_cash_text_of_trade(
     alloc: Global,
     sheets: &Sheets,
@@ -72,8 +72,8 @@ fn is_cash_text_of_trade(
     Ok(name == second.as_str())
 }
 
-// Returns true if the trade exists and the name is one of its two cash texts. Fails with `Memory`
-// only.
+// Returns true if the trade with the id exists and `name` is one of its two cash texts. Fails with
+// `Memory` only.
 fn is_cash_text_of_trade_id(
     alloc: Global,
     sheets: &Sheets,
@@ -90,7 +90,9 @@ fn is_cash_text_of_trade_id(
     is_cash_text_of_trade(alloc, sheets, trade, name)
 }
 
-// Returns true if the row of CASH_TRANSACTION is well-formed. Fails with `Memory` only.
+// Returns true if the row of CASH_TRANSACTION is well-formed: its trade exists, its text is one of
+// the two cash texts of the trade, its stamp is at most the last stamp, and its amount is within
+// the limit. Fails with `Memory` only.
 fn cash_row_is_well_formed(alloc: Global, sheets: &Sheets, row: &CashRow) -> Result<bool, Fault>
     requires { HasSortedKeys sheets.now }
     ensures told { IfOk result (λ holds. holds ≡ form.is_well_formed_cash_row (tables_in_sheets sheets.now) (abstract_cash_row row.now)) }
@@ -100,7 +102,7 @@ fn cash_row_is_well_formed(alloc: Global, sheets: &Sheets, row: &CashRow) -> Res
     Ok(is_named && is_stamp_up_to_last(sheets, row.stamp) && is_balance_within_limit(row.amount))
 }
 
-// Returns true if the name is "Deposit" and the amount is above 0, or the name is "Withdrawal" and
+// Returns true if the text is "Deposit" and the amount is above 0, or the text is "Withdrawal" and
 // the amount is below 0.
 fn is_movement_name_of_amount(name: &str, amount: Cents) -> bool
     ensures { result ≡ form.is_movement_name_and_amount name.now amount }
@@ -108,8 +110,9 @@ fn is_movement_name_of_amount(name: &str, amount: Cents) -> bool
     (name == "Deposit" && 0 < amount.get()) || (name == "Withdrawal" && amount.get() < 0)
 }
 
-// Returns true if the name of the row is one of the two cash texts of its trade or, if it has no
-// trade, fits the sign of its amount. Fails with `Memory` only.
+// Returns true if the text of the row is one of the two cash texts of its trade. Without a trade,
+// the text must be "Deposit" with an amount above 0, or "Withdrawal" with an amount below 0. Fails
+// with `Memory` only.
 fn has_valid_cash_text(alloc: Global, sheets: &Sheets, row: &MoveRow) -> Result<bool, Fault>
     requires { HasSortedKeys sheets.now }
     ensures told { IfOk result (λ holds. holds
@@ -122,7 +125,9 @@ fn has_valid_cash_text(alloc: Global, sheets: &Sheets, row: &MoveRow) -> Result<
     }
 }
 
-// Returns true if the row of CASH_MOVE is well-formed. Fails with `Memory` only.
+// Returns true if the row of CASH_MOVE is well-formed: its number and its amount are within their
+// limits, its account exists, its text is valid (`has_valid_cash_text`), and its stamp is at most
+// the last stamp. Fails with `Memory` only.
 fn move_row_is_well_formed(alloc: Global, sheets: &Sheets, row: &MoveRow) -> Result<bool, Fault>
     requires { HasSortedKeys sheets.now }
     ensures told { IfOk result (λ holds. holds ≡ form.is_well_formed_move_row (tables_in_sheets sheets.now) (abstract_move_row row.now)) }

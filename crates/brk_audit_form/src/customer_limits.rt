@@ -17,7 +17,8 @@ use std::collections::BTreeMap;
 // The greatest number of accounts of a customer.
 const MOST_ACCOUNTS: u128 = 10;
 
-// Adds `more` to the sum of the customer. Fails with `Memory` only.
+// Adds `more` to the sum of the customer; a customer that the map does not contain has the sum 0.
+// Fails with `Memory` only.
 fn add_to_customer_sum(sums: &mut BTreeMap<u64, u128>, customer: Id, more: u32) -> Result<(), Fault>
     requires room { sum_at sums.old customer + 2 ^ 32 < 2 ^ 128 }
     ensures more { OnOk result ((q : ℕ) → sum_at sums.new q ≡ sum_at sums.old q + cond (customer == q) more 0) }
@@ -53,7 +54,8 @@ fn rate_of_tax_or_zero(sheets: &Sheets, tax: Id) -> u32
     }
 }
 
-// Returns a map from each customer to the sum of the rates that it pays. Fails with `Memory` only.
+// Returns a map from each customer to the sum of the tax rates that the customer pays. A tax rate
+// that does not exist counts as 0. Fails with `Memory` only.
 fn sum_rates(alloc: Global, sheets: &Sheets) -> Result<BTreeMap<u64, u128>, Fault>
     requires { HasSortedKeys sheets.now }
     ensures sums { IfOk result (λ sums. (q : ℕ) → sum_at sums q ≡ rate_sum_paid_by (tables_in_sheets sheets.now) q) }
@@ -67,7 +69,8 @@ fn sum_rates(alloc: Global, sheets: &Sheets) -> Result<BTreeMap<u64, u128>, Faul
     Ok(sums)
 }
 
-// Returns true if the customer's number of accounts and sum of rates are within their limits.
+// Returns true if the customer has at most 10 accounts by `counts`, and at most the greatest tax
+// rate by `sums`.
 fn customer_is_within_limits(
     counts: &BTreeMap<u64, u128>,
     sums: &BTreeMap<u64, u128>,
@@ -81,7 +84,8 @@ fn customer_is_within_limits(
     count <= MOST_ACCOUNTS && sum <= u128::from(TaxRate::GREATEST)
 }
 
-// Returns true if each customer's number of accounts and sum of rates are within their limits.
+// Returns true if each customer has at most 10 accounts by `counts`, and at most the greatest tax
+// rate by `sums`.
 fn all_within_customer_limits(
     counts: &BTreeMap<u64, u128>,
     sums: &BTreeMap<u64, u128>,

@@ -42,8 +42,8 @@ fn is_valid_settlement_day(rule: Option<Day>) -> bool
     }
 }
 
-// Returns true if the tables that the schema does not have are empty: CASH_MOVE and the settlement
-// day.
+// Returns true if the rows have no part that the schema lacks: no rows of CASH_MOVE in a schema
+// without this table, and no settlement day in a schema without one.
 fn fits(schema: Schema, sheets: &Sheets) -> bool
     ensures { result ≡ lacks_rows_of_later_schemas (abstract_schema schema) (tables_in_sheets sheets.now) }
 {
@@ -72,8 +72,8 @@ fn passes_checks_without_allocation(schema: Schema, sheets: &Sheets) -> bool
 }
 
 /// Returns true if the rows satisfy the condition `Form` of `schema`: each row is well-formed and
-/// within the limits of the schema, each record that a row refers to exists, and no key occurs
-/// twice.
+/// within the limits of the schema, each record that a row refers to exists, each table is sorted
+/// by key, and no key occurs twice.
 ///
 /// Fails with `Memory` only.
 pub fn has_form(alloc: Global, schema: Schema, sheets: &Sheets) -> Result<bool, Fault>

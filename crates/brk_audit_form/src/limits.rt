@@ -8,56 +8,57 @@ use brk_changes::{Schema, Sheets};
 use brk_money::{Amount, Cents, Id, MoveId, Price, Qty, Stamp};
 use brk_ref::{ChargeAmount, Form, Text, Tier};
 
-/// Returns true if the id is within its limits.
+/// Returns true if the id is from 1 to the greatest id.
 pub(crate) fn is_id(id: Id) -> bool
     ensures { result ≡ form.is_id id }
 {
     1 <= id.get() && id.get() <= Id::GREATEST
 }
 
-/// Returns true if the number of a cash row is within its limits.
+/// Returns true if the number of a cash row is from 1 to the greatest number of a cash row.
 pub(crate) fn is_move_id(id: MoveId) -> bool
     ensures { result ≡ form.is_cash_row_number id }
 {
     1 <= id.get() && id.get() <= MoveId::GREATEST
 }
 
-/// Returns true if the quantity is within the limits of the schema.
+/// Returns true if the quantity is from 1 to the greatest quantity of the schema.
 pub(crate) fn is_quantity_within_limits(schema: Schema, qty: Qty) -> bool
     ensures { result ≡ form.is_quantity_in_schema (abstract_schema schema) qty }
 {
     1 <= qty.get() && qty.get() <= schema.greatest_qty()
 }
 
-/// Returns true if the price is within its limits.
+/// Returns true if the price is from 1 cent to the greatest price.
 pub(crate) fn is_price(price: Price) -> bool
     ensures { result ≡ form.is_price price }
 {
     1 <= price.get() && price.get() <= Price::GREATEST
 }
 
-/// Returns true if the customer tier is within its limits.
+/// Returns true if the customer tier is from 1 to 3.
 pub(crate) fn is_tier(tier: Tier) -> bool
     ensures { result ≡ form.is_tier tier }
 {
     1 <= tier.get() && tier.get() <= 3
 }
 
-/// Returns true if the signed amount is within its limits.
+/// Returns true if the absolute value of the signed amount, in cents, is at most the greatest
+/// amount.
 pub(crate) fn is_balance_within_limit(cents: Cents) -> bool
     ensures { result ≡ form.is_amount cents }
 {
     cents.get().unsigned_abs() <= Cents::GREATEST
 }
 
-/// Returns true if the unsigned amount is within its limit.
+/// Returns true if the amount, in cents, is at most the greatest amount.
 pub(crate) fn is_amount(amount: Amount) -> bool
     ensures { result ≡ nat_le amount limits.greatest_amount }
 {
     amount.get() <= Amount::GREATEST
 }
 
-/// Returns true if the charge is within its limit.
+/// Returns true if the charge, in cents, is at most the greatest charge.
 pub(crate) fn is_charge_within_limit(charge: ChargeAmount) -> bool
     ensures { result ≡ nat_le charge limits.greatest_charge }
 {
@@ -74,7 +75,7 @@ pub(crate) fn is_stamp_up_to_last(sheets: &Sheets, stamp: Stamp) -> bool
     stamp.get() <= last.get()
 }
 
-/// Returns true if the text is well-formed.
+/// Returns true if the text has the format `F`.
 pub(crate) fn is_well_formed_text<F: Form>(text: &Text<F>) -> bool
     ensures { result ≡ F.form text.now }
 {

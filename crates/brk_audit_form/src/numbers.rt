@@ -6,7 +6,7 @@ ghost use Rattle.brk_model.specs.Limits.{greatest_id};
 use brk_changes::{MoveRow, TradeRow};
 use brk_money::Id;
 
-/// Returns true if the trades are numbered from 1 without a gap.
+/// Returns true if the ids of the trades are 1, 2, 3 and so on, in the order of the rows.
 pub(crate) fn are_numbered_from_one(trades: &[TradeRow]) -> bool
     ensures { result ≡ form.are_equal_number_lists (map (λ row. row.id) trades.now) (range_with_len 1 (length trades.now)) }
 {
@@ -18,7 +18,8 @@ pub(crate) fn are_numbered_from_one(trades: &[TradeRow]) -> bool
     true
 }
 
-/// Returns true if there are at most `Id::GREATEST` deposits and withdrawals in total.
+/// Returns true if at most `Id::GREATEST` rows of CASH_MOVE have no trade. These are the deposits
+/// and the withdrawals.
 pub(crate) fn are_within_movement_limit(moves: &[MoveRow]) -> bool
     ensures { result ≡ nat_le (length (filter (λ r. is_none r.trade) moves.now)) greatest_id }
 {

@@ -97,8 +97,8 @@ impl Formed for Security {
 impl Formed for LastTrade {
     ghost form = { λ schema tables row. form.is_well_formed_last_trade_row tables (of.abstract_last_trade_row row) };
 
-    // Returns true if the security exists, and the stamp, the price and the volume are within their
-    // limits.
+    // Returns true if the security exists, the stamp is at most the last stamp, and the price and
+    // the volume are within their limits.
     fn is_formed(&self, _schema: Schema, sheets: &Sheets) -> bool {
         has_security(sheets, &self.symbol)
             && is_stamp_up_to_last(sheets, self.stamp)

@@ -15,7 +15,7 @@ use brk_changes::{Sheets, TradeRow};
 use brk_money::{Id, Status};
 use brk_ref::{Security, Symbol, Tax};
 
-/// Returns true if the broker exists.
+/// Returns true if a broker with the id exists.
 pub(crate) fn has_broker(sheets: &Sheets, id: Id) -> bool
     requires { HasSortedKeys sheets.now }
     ensures { result ≡ form.has_broker (tables_in_sheets sheets.now) id }
@@ -27,7 +27,7 @@ pub(crate) fn has_broker(sheets: &Sheets, id: Id) -> bool
         .is_ok()
 }
 
-/// Returns true if the customer exists.
+/// Returns true if a customer with the id exists.
 pub(crate) fn has_customer(sheets: &Sheets, id: Id) -> bool
     requires { HasSortedKeys sheets.now }
     ensures { result ≡ form.has_customer (tables_in_sheets sheets.now) id }
@@ -39,7 +39,7 @@ pub(crate) fn has_customer(sheets: &Sheets, id: Id) -> bool
         .is_ok()
 }
 
-/// Returns true if the account exists.
+/// Returns true if a account with the id exists.
 pub(crate) fn has_account(sheets: &Sheets, id: Id) -> bool
     requires { HasSortedKeys sheets.now }
     ensures { result ≡ form.has_account (tables_in_sheets sheets.now) id }
@@ -51,7 +51,7 @@ pub(crate) fn has_account(sheets: &Sheets, id: Id) -> bool
         .is_ok()
 }
 
-/// Returns true if the trade exists.
+/// Returns true if a trade with the id exists.
 pub(crate) fn has_trade(sheets: &Sheets, id: Id) -> bool
     requires { HasSortedKeys sheets.now }
     ensures { result ≡ form.has_trade (tables_in_sheets sheets.now) id }
@@ -63,7 +63,7 @@ pub(crate) fn has_trade(sheets: &Sheets, id: Id) -> bool
         .is_ok()
 }
 
-/// Returns true if the tax rate exists.
+/// Returns true if a tax rate with the id exists.
 pub(crate) fn has_tax(sheets: &Sheets, id: Id) -> bool
     requires { HasSortedKeys sheets.now }
     ensures { result ≡ list_any (λ r. r.id == id) (tables_in_sheets sheets.now).tax_rates }
@@ -75,7 +75,7 @@ pub(crate) fn has_tax(sheets: &Sheets, id: Id) -> bool
         .is_ok()
 }
 
-/// Returns true if the security exists.
+/// Returns true if a security with the symbol exists.
 pub(crate) fn has_security(sheets: &Sheets, symbol: &Symbol) -> bool
     requires { HasSortedKeys sheets.now }
     ensures { result ≡ form.has_security (tables_in_sheets sheets.now) symbol.now }
@@ -109,7 +109,7 @@ pub(crate) fn has_completion(sheets: &Sheets, id: Id) -> bool
         .is_ok()
 }
 
-/// Returns the row of the trade, or `None` if it does not exist.
+/// Returns the row of the trade with the id, or `None` if there is none.
 pub(crate) fn find_trade(sheets: &Sheets, id: Id) -> Option<&TradeRow>
     requires { HasSortedKeys sheets.now }
     ensures { option_map abstract_trade_row (option_copied result) ≡ joins.trade_row_with_id (tables_in_sheets sheets.now) id }
@@ -124,7 +124,7 @@ pub(crate) fn find_trade(sheets: &Sheets, id: Id) -> Option<&TradeRow>
     }
 }
 
-/// Returns the row of the security, or `None` if it does not exist.
+/// Returns the row of the security with the symbol, or `None` if there is none.
 pub(crate) fn find_security<'a>(sheets: &'a Sheets, symbol: &Symbol) -> Option<&'a Security>
     requires { HasSortedKeys sheets.now }
     ensures { option_map abstract_security_row (option_copied result) ≡ joins.security_row_with_symbol (tables_in_sheets sheets.now) symbol.now }
@@ -138,7 +138,7 @@ pub(crate) fn find_security<'a>(sheets: &'a Sheets, symbol: &Symbol) -> Option<&
     }
 }
 
-/// Returns the row of the tax rate, or `None` if it does not exist.
+/// Returns the row of the tax rate with the id, or `None` if there is none.
 pub(crate) fn find_tax(sheets: &Sheets, id: Id) -> Option<&Tax>
     requires { HasSortedKeys sheets.now }
     ensures { option_map abstract_tax_rate (option_copied result) ≡ find (λ r. r.id == id) (tables_in_sheets sheets.now).tax_rates }

@@ -9,7 +9,8 @@ use crate::keys::has_sorted_unique_keys;
 use crate::rows::all_rows_well_formed;
 use brk_changes::{Schema, Sheets};
 
-// Returns true if each table of reference data is sorted by key, and no key occurs twice.
+// Returns true if KEPT, LAST_TRADE and each table of reference data are sorted by key, and no key
+// occurs twice.
 fn has_sorted_reference_tables(sheets: &Sheets) -> bool
     ensures { result ≡ reference_tables_are_sorted sheets.now }
 {
@@ -26,7 +27,8 @@ fn has_sorted_reference_tables(sheets: &Sheets) -> bool
         && has_sorted_unique_keys(&sheets.customer_taxes)
 }
 
-// Returns true if each table of trades is sorted by key, and no key occurs twice.
+// Returns true if each table of trades, lots, settlements and cash is sorted by key, and no key
+// occurs twice.
 fn has_sorted_trading_tables(sheets: &Sheets) -> bool
     ensures { result ≡ trading_tables_are_sorted sheets.now }
 {
@@ -48,7 +50,7 @@ pub(crate) fn all_tables_have_sorted_keys(sheets: &Sheets) -> bool
     has_sorted_reference_tables(sheets) && has_sorted_trading_tables(sheets)
 }
 
-/// Returns true if the rows of reference data are well-formed.
+/// Returns true if the rows of KEPT, of LAST_TRADE and of reference data are well-formed.
 pub(crate) fn has_well_formed_reference_rows(schema: Schema, sheets: &Sheets) -> bool
     requires { HasSortedKeys sheets.now }
     ensures { result ≡ reference_rows_are_well_formed (abstract_schema schema) sheets.now }
@@ -66,8 +68,8 @@ pub(crate) fn has_well_formed_reference_rows(schema: Schema, sheets: &Sheets) ->
         && all_rows_well_formed(schema, sheets, &sheets.customer_taxes)
 }
 
-/// Returns true if the rows of trades are well-formed. Rows of CASH_TRANSACTION and CASH_MOVE are
-/// not checked.
+/// Returns true if the rows of trades, lots and settlements are well-formed. Rows of
+/// CASH_TRANSACTION and CASH_MOVE are not checked.
 pub(crate) fn has_well_formed_trading_rows(schema: Schema, sheets: &Sheets) -> bool
     requires { HasSortedKeys sheets.now }
     ensures { result ≡ trading_rows_are_well_formed (abstract_schema schema) sheets.now }

@@ -30,16 +30,16 @@ fn row_has_price_exactly_if_completed(sheets: &Sheets, row: &TradeRow) -> bool
     }
 }
 
-// Returns true if the due day of a completion at `stamp` is within the calendar, by the settlement
-// day `rule`. Returns true for other statuses.
+// Returns true if a completion at `stamp` has a due day within the calendar, by the settlement day
+// `rule`. Returns true for any other status.
 fn settles_within_calendar(rule: Option<Day>, status: Status, stamp: Stamp) -> bool
     ensures { result ≡ form.is_due_within_calendar rule status stamp }
 {
     status != Status::Completed || due_day_after_completion(rule, stamp).is_some()
 }
 
-// Returns true if the settlement text is one of the two texts of a cash trade, or of a margin trade
-// if `is_cash` is false.
+// Returns true if the settlement text is one of the two texts of a cash trade (`is_cash`), or one
+// of the two of a margin trade if `is_cash` is false.
 fn is_settlement_text_of(is_cash: bool, word: CashType) -> bool
     ensures { result ≡ form.is_cash_type_of_trade is_cash (of.cash_type_text word) }
 {
@@ -52,8 +52,8 @@ fn is_settlement_text_of(is_cash: bool, word: CashType) -> bool
 impl Formed for TradeRow {
     ghost form = { λ schema tables row. form.is_well_formed_trade_row schema tables (of.abstract_trade_row row) };
 
-    // Returns true if the numbers and the stamp are within their limits, the account and the
-    // security exist, and it has a price if and only if it has a completion.
+    // Returns true if the numbers are within their limits, the stamp is at most the last stamp, the
+    // account and the security exist, and the row has a price if and only if it has a completion.
     fn is_formed(&self, schema: Schema, sheets: &Sheets) -> bool {
         is_id(self.id)
             && is_stamp_up_to_last(sheets, self.stamp)
@@ -71,8 +71,8 @@ impl Formed for TradeRow {
 impl Formed for HistoryRow {
     ghost form = { λ schema tables row. form.is_well_formed_history_row tables (of.abstract_history_row row) };
 
-    // Returns true if the trade exists, and the stamp and the due day of a completion are within
-    // their limits.
+    // Returns true if the trade exists, the stamp is at most the last stamp, and the due day of a
+    // completion is within the calendar.
     fn is_formed(&self, _schema: Schema, sheets: &Sheets) -> bool {
         has_trade(sheets, self.trade)
             && is_stamp_up_to_last(sheets, self.stamp)
@@ -97,8 +97,8 @@ impl Formed for RequestRow {
 impl Formed for HoldingRow {
     ghost form = { λ schema tables row. form.is_well_formed_holding_row tables (of.abstract_holding_row row) };
 
-    // Returns true if the stamp and the price are within their limits, and the trade, the account
-    // and the security exist.
+    // Returns true if the price is within its limits, the stamp is at most the last stamp, and the
+    // trade, the account and the security exist. The quantity is not checked.
     fn is_formed(&self, _schema: Schema, sheets: &Sheets) -> bool {
         has_trade(sheets, self.trade)
             && has_account(sheets, self.account)
@@ -123,7 +123,7 @@ impl Formed for SummaryRow {
 impl Formed for LotChange {
     ghost form = { λ schema tables row. form.is_well_formed_holding_history_row tables (of.abstract_lot_change_row row) };
 
-    // Returns true if the trade of the lot and the trade that changed it exist.
+    // Returns true if the trade that opened the lot and the trade that changed it exist.
     fn is_formed(&self, _schema: Schema, sheets: &Sheets) -> bool {
         has_trade(sheets, self.lot) && has_trade(sheets, self.trade)
     }
@@ -132,8 +132,8 @@ impl Formed for LotChange {
 impl Formed for SettlementRow {
     ghost form = { λ schema tables row. form.is_well_formed_settlement_row tables (of.abstract_settlement_row row) };
 
-    // Returns true if the trade exists, the text fits the kind of trade, and the due day and the
-    // amount are within their limits.
+    // Returns true if the trade exists, the text is one of the two for a cash trade or for a margin
+    // trade, whichever it is, and the due day and the amount are within their limits.
     fn is_formed(&self, _schema: Schema, sheets: &Sheets) -> bool {
         let Some(trade) = find_trade(sheets, self.trade) else {
             return false;

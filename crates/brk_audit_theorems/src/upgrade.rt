@@ -12,7 +12,7 @@ ghost use Rattle.brk_audit_theorems.specs.Passing.{PassesAudit};
 
 /// Proves that rows that pass the audit of a schema, whose limits are no greater than those of the
 /// third, are upgraded to the tables of the base that they describe. The upgraded rows pass the
-/// audit of the third schema. The first and the second schema are such schemas.
+/// audit of the third schema. The first and the second schema have such limits.
 pub fn upgraded_rows_are_tables_of_their_base()
     ensures first { (rows : Tables) → PassesAudit first_schema rows → UpgradeMatchesBase rows }
     ensures second { (rows : Tables) → PassesAudit second_schema rows → UpgradeMatchesBase rows }

@@ -80,8 +80,9 @@ abbrev pub HasDistinctMovementStamps : List Trade → List Movement → Type 0
 HasDistinctMovementStamps done [] = ⊤
 HasDistinctMovementStamps done (m ∷ ms) = AllByRecursion (HasOtherStatusStamp m.stamp) done × AllByRecursion (λ n. (n.stamp == m.stamp) ≡ false) ms × HasDistinctMovementStamps done ms
 
--- The part of the books invariant that concerns movements: the accounts of `all_movements` exist,
--- and their stamps fit the last stamp `last` and the completed trades `done`.
+-- The part of the books invariant that concerns movements. The accounts of `all_movements` exist.
+-- Their stamps are at most the last stamp `last`, and differ from one another and from the stamps
+-- of the last status changes of the trades `done`.
 pub record MovementBooksInvariant (all_accounts : List Account) (last : Option ℕ) (done : List Trade) (all_movements : List Movement) : Type 0 where
   -- The account of each movement exists.
   pub holders : AllByRecursion (MovementAccountExists all_accounts) all_movements
@@ -138,9 +139,9 @@ pub record SecurityBooksInvariant (all_securities : List Security) (all_bands : 
   -- A quantity is in at most one band of a tier, a type and an exchange.
   pub apart : HasDisjointBands all_bands
 
--- The part of the books invariant that concerns trades: their accounts and securities exist, their
--- numbers are 1, 2, 3 and so on, and the histories of pending and submitted trades fit their
--- status.
+-- The part of the books invariant that concerns trades. Their accounts and securities exist, and
+-- their numbers are 1, 2, 3 and so on. A pending trade has one status change, and a submitted trade
+-- has no completion.
 pub record TradeBooksInvariant (all_accounts : List Account) (all_securities : List Security) (all_trades : List Trade) : Type 0 where
   -- The account and the security of each trade exist.
   pub accounts : AllByRecursion (TradeAccountExists all_accounts) all_trades

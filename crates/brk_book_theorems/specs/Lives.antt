@@ -1,4 +1,4 @@
--- The life of each lot: the chain of its changes.
+-- The history of each lot: the chain of its changes.
 use Rattle.std.specs.Prelude.{◌≡◌, ⊤, ℕ, ◌==◌, nat_lt, List, [], ◌∷◌, filter, find, map, ℤ, pos}
 use Rattle.std.specs.Option.{option_map_or}
 use Rattle.brk_lots.specs.Chains.{IsLotHistory}
@@ -15,8 +15,8 @@ lot_changes_by_stamp t lot = sort_by (λ a b. nat_lt (stamp_of_touching_trade t 
 abbrev pub remaining_lot_quantity : Tables → ℕ → ℤ
 remaining_lot_quantity t lot = option_map_or (λ h. h.qty) (find (λ h. h.trade == lot) t.holdings) (pos 0)
 
--- The first row is a change by the trade `lot`, which is the trade that opened the lot. Vacuous if
--- there is no row.
+-- The first of the rows is a change by the trade `lot`, which is the trade that opened the lot.
+-- Vacuous if there is no row.
 abbrev pub BeginsWithOwnTrade : ℕ → List HoldingHistoryRow → Type 0
 BeginsWithOwnTrade lot [] = ⊤
 BeginsWithOwnTrade lot (row ∷ rows) = row.trade ≡ lot

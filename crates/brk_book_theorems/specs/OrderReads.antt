@@ -13,11 +13,12 @@ use Rattle.brk_book_theorems.specs.TradeReads.{position_lots}
 
 -- ---- lookups
 
--- The last price of the symbol, or `None` if the symbol has no row of LAST_TRADE.
+-- The last price of the symbol, in cents, or `None` if the symbol has no row of LAST_TRADE.
 abbrev pub last_price_of_symbol : Tables → Text → Option ℕ
 last_price_of_symbol t symbol = option_map (λ r. r.price) (find (λ r. bytes_eq r.symbol symbol) t.last_trades)
 
--- The charge for the trade type and the customer tier, or `None` if there is no such charge.
+-- The charge for the trade type and the customer tier, in cents, or `None` if there is no such
+-- charge.
 abbrev pub charge_of_type_and_tier : Tables → TradeType → ℕ → Option ℕ
 charge_of_type_and_tier t kind tier = option_map (λ r. r.amount) (find (λ r. is_same_trade_type r.kind kind && (r.tier == tier)) t.charges)
 
@@ -25,7 +26,7 @@ charge_of_type_and_tier t kind tier = option_map (λ r. r.amount) (find (λ r. i
 abbrev pub last_trade_row_id : Tables → Option ℕ
 last_trade_row_id t = option_map (λ r. r.id) (slice_get (reverse t.trades) 0)
 
--- The customer of the account satisfies `holds`. Vacuous if the account or its customer does not
+-- `holds` is true of the customer of the account. Vacuous if the account or its customer does not
 -- exist.
 abbrev pub CustomerOfAccountSatisfies : Tables → ℕ → (Customer → Type 0) → Type 0
 CustomerOfAccountSatisfies t account holds = IfSome (account_row_with_id t account) (λ a. IfSome (find (λ r. r.id == a.customer) t.customers) holds)
@@ -36,7 +37,7 @@ CustomerOfAccountSatisfies t account holds = IfSome (account_row_with_id t accou
 abbrev pub lot_of_typed_row : HoldingRow → Lot
 lot_of_typed_row r = record { trade = r.trade; price = r.price; qty = r.qty; stamp = r.stamp }
 
--- The lots of the account in the symbol satisfy `given`. They are listed from the oldest on, or
--- from the newest on if `lifo` is true.
+-- `given` holds of the lots of the account in the symbol, listed from the oldest on, or from the
+-- newest on if `lifo` is true.
 abbrev pub PositionLotsSatisfy : Tables → ℕ → Text → Bool → (List Lot → Type 0) → Type 0
 PositionLotsSatisfy t account symbol lifo given = given (list_in_closing_order lifo (position_lots t account symbol))

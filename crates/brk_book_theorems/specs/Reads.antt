@@ -16,7 +16,7 @@ contains_tax_id t tax_id = is_some (find (λ r. bytes_eq r.tax_id tax_id) t.cust
 abbrev pub account_count_of_customer : Tables → ℕ → ℕ
 account_count_of_customer t customer = length (filter (λ r. r.customer == customer) t.accounts)
 
--- True if the account has a permission for the tax id.
+-- True if the account has a permission with the tax id `tax_id`.
 abbrev pub contains_permission : Tables → ℕ → Text → Bool
 contains_permission t account tax_id = is_some (find (λ r. (r.account == account) && bytes_eq r.tax_id tax_id) t.permissions)
 

@@ -96,8 +96,8 @@ tables_after_result c t =
     (with_summary_changed c.before c.after (record { account = c.trade.account; symbol = c.trade.symbol; qty = c.after })
     (with_lots_opened c.trade c.opened (with_lots_touched c.trade.id c.touched (with_trade_completed c.trade t))))))
 
--- The rows and figures of a result. They are computed from the base before the result, the
--- completed trades `after` the result, the deal `d` of the trade, and the completed trade `t`.
+-- The rows and figures of a result, computed from the base before the result, the completed trades
+-- `after` it, the deal `d` of the trade, and the completed trade `t`.
 abbrev pub result_rows_of_deal : Base → (after : List Trade) → Deal → Trade → ResultRows
 result_rows_of_deal base after d t = record {
   trade = trade_row t;

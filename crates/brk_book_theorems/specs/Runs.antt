@@ -14,14 +14,14 @@ use Rattle.brk_model.specs.Tests.{stamp_of_next_command}
 use Rattle.brk_book_theorems.specs.Books.{BooksInvariant}
 use Rattle.brk_book_theorems.specs.Sums.{SumsMatch}
 
--- The trade with the number `id` exists in the base, is completed, and has the tax `tax`.
+-- The trade with the number `id` exists in the base, is completed, and has the tax `tax`, in cents.
 pub record CompletedTradeHasTax (id tax : ℕ) (base : Base) : Type 0 where
   pub trade : Trade
   pub found : trade_with_id base id ≡ Some trade
   pub completed : is_completed trade ≡ true
   pub taxed : trade.tax ≡ tax
 
--- The row of the trade with the number `id` exists in the tables and has the tax `tax`.
+-- The row of the trade with the number `id` exists in the tables and has the tax `tax`, in cents.
 pub record TradeRowHasTax (t : Tables) (id tax : ℕ) : Type 0 where
   pub row : TradeRow
   pub found : trade_row_with_id t id ≡ Some row
@@ -40,8 +40,9 @@ RecordsTaxOfResult later base now (Do (CompleteTrade id price) key) (Did (Done r
     (t : Trade) × (trade_with_id base id ≡ Some t) × TradeRowHasTax later id (tax_at_completion base now price t)
 RecordsTaxOfResult later base now call outcome = ⊤
 
--- For each accepted result of a run from `base`, the row of its trade in the tables `later` has the
--- tax of its completion. Vacuous for other calls and for other outcomes.
+-- Each outcome is one that its call can have in the base that the calls before it lead to, from
+-- `base` on. For each accepted result, the row of its trade in the tables `later` has the tax of
+-- its completion. Vacuous for other calls and outcomes, and after the end of the shorter list.
 abbrev pub RecordsTaxesOfResults : Tables → Base → List (ℕ × Call) → List Outcome → Type 0
 RecordsTaxesOfResults later base (call ∷ calls) (outcome ∷ outcomes) =
     RecordsTaxOfResult later base call.0 call.1 outcome

@@ -44,8 +44,8 @@ pub record BrokerTotalsMatch (t : Tables) (b : BrokerRow) : Type 0 where
 abbrev pub BalanceMatchesCashRows : Tables → AccountRow → Type 0
 BalanceMatchesCashRows t a = a.balance ≡ a.opening +ℤ total_by (λ c. c.amount) (cash_rows_of_account t a.id)
 
--- The quantity of the summary equals the sum of the lots of its account in its symbol, and is not
--- 0.
+-- The quantity of the summary equals the sum of the quantities of the lots of its account in its
+-- symbol, and is not 0.
 pub record SummaryMatchesLots (t : Tables) (s : SummaryRow) : Type 0 where
   pub sum : s.qty ≡ lot_sum_of_position t s.account s.symbol
   pub some : s.qty ≢ pos 0

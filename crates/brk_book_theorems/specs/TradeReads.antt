@@ -25,8 +25,8 @@ last_cash_row_number t = unwrap_or (option_map (λ r. r.id) (slice_get (reverse 
 abbrev pub permissions_of_account : Tables → ℕ → List Permission
 permissions_of_account t account = filter (λ r. r.account == account) t.permissions
 
--- The permission of the account for the tax id as a list of one element, or the empty list if there
--- is none.
+-- The permission of the account with the tax id `tax_id`, as a list of one element, or the empty
+-- list if there is none.
 abbrev pub permission_for_tax_id : Tables → ℕ → Text → List Permission
 permission_for_tax_id t account tax_id = option_to_list (find (λ r. (r.account == account) && bytes_eq r.tax_id tax_id) t.permissions)
 
@@ -51,7 +51,7 @@ requests_of_symbol t symbol = filter (λ r. bytes_eq r.symbol symbol) t.requests
 abbrev pub holding_rows_of_position : Tables → ℕ → Text → List HoldingRow
 holding_rows_of_position t account symbol = rows_sorted_by_key (λ r. number r.stamp ∷ number r.trade ∷ []) (filter (λ r. (r.account == account) && bytes_eq r.symbol symbol) t.holdings)
 
--- The shares of the lot: as many equal shares as its quantity without its sign.
+-- The shares of the lot: as many equal shares as the absolute value of its quantity.
 abbrev pub shares_of_lot_row : HoldingRow → List Share
 shares_of_lot_row r = replicate (unsigned_abs r.qty) (record { side = side_of_qty r.qty; trade = r.trade; price = r.price; stamp = r.stamp })
 
@@ -71,6 +71,7 @@ summary_row_of_position t account symbol = find (λ r. (r.account == account) &&
 abbrev pub summary_quantity : Option SummaryRow → ℤ
 summary_quantity row = option_map_or (λ r. r.qty) row (pos 0)
 
--- The row of HOLDING_SUMMARY with the quantity `qty`, or `None` if `qty` is 0.
+-- The row of HOLDING_SUMMARY of the account and the symbol with the quantity `qty`, or `None` if
+-- `qty` is 0.
 abbrev pub summary_row_of_quantity : ℕ → Text → ℤ → Option SummaryRow
 summary_row_of_quantity account symbol qty = if is_zero qty then None else Some (record { account = account; symbol = symbol; qty = qty })

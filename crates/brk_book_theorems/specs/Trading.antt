@@ -52,7 +52,7 @@ abbrev pub with_tick_price : ℕ → Tick → Tables → Tables
 with_tick_price stamp tick t =
     option_map_or (λ l. tables_with_last_trade_replaced (last_trade_row_after_tick stamp tick l) t) (find (λ l. bytes_eq l.symbol tick.symbol) t.last_trades) t
 
--- True if the request has the symbol of the tick, and the tick's price triggers its bid.
+-- True if the request has the symbol of the tick, and the tick's price triggers it.
 abbrev pub triggers_request : Tick → RequestRow → Bool
 triggers_request tick r = bytes_eq r.symbol tick.symbol && is_triggering_price r.kind r.bid tick.price
 

@@ -29,7 +29,7 @@ pub record OrderMeetsAuditFormats (o : Order) : Type 0 where
 abbrev pub TickMeetsAuditFormats : Tick → Type 0
 TickMeetsAuditFormats tick = is_price tick.price ≡ true
 
--- True if the amount of a movement is at least 1 and at most the greatest amount, in cents.
+-- True if the amount of a movement, in cents, is at least 1 and at most the greatest amount.
 abbrev pub is_movement_amount : ℕ → Bool
 is_movement_amount n = nat_le 1 n && nat_le n greatest_amount
 

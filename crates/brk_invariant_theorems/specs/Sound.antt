@@ -108,7 +108,8 @@ BaseTradeAuditInvariant base t = TradeAuditInvariant base.last base.rule base.ac
 
 -- ---- movements, and the settlement day
 
--- True if the text of the movement fits the sign of its amount, and the amount is within the limit.
+-- True if the text of the movement is `Deposit` and its amount is above 0, or the text is
+-- `Withdrawal` and the amount is below 0, and the amount is within the limit.
 abbrev pub is_well_formed_movement : Movement → Bool
 is_well_formed_movement m = is_movement_name_and_amount m.name m.amount && is_amount m.amount
 

@@ -50,8 +50,8 @@ pub fn empty_base_satisfies_audit_invariant()
 {}
 
 /// Proves that every accepted command that satisfies `MeetsAuditFormats` preserves the audit
-/// invariant, if the base satisfies the books invariant. So does every call of such a command, with
-/// a well-formed key or without a key.
+/// invariant, if the base satisfies the books invariant. Every call of such a command, with a
+/// well-formed key or without a key, preserves it too.
 pub fn commands_preserve_audit_invariant()
     ensures step { (base : Base) (now : ℕ) (command : Command) (reply : Reply) (after : Base)
         → AuditInvariant base → BooksInvariant base → MeetsAuditFormats command → step base now command ≡ Ok (reply, after) → AuditInvariant after }
@@ -60,9 +60,9 @@ pub fn commands_preserve_audit_invariant()
 {}
 
 /// Proves that a run of calls that satisfy `CallMeetsAuditFormats` preserves the audit invariant,
-/// if the base satisfies the books invariant. The tables after such a run from the empty base, or
-/// from the base of rows that pass an audit, pass an audit. So do the tables after a run from the
-/// empty base whose calls satisfy `IsWellFormedCall`.
+/// if the base satisfies both invariants. The tables after such a run from the empty base, or from
+/// the base of rows that pass an audit, pass an audit. The tables after a run from the empty base
+/// whose calls satisfy `IsWellFormedCall` pass an audit too.
 pub fn tables_after_runs_pass_the_audit()
     ensures sound { (base : Base) (calls : List (ℕ × Call)) (outcomes : List Outcome) (after : Base)
         → BooksInvariant base → AuditInvariant base → AllByRecursion CallMeetsAuditFormats calls → Run base calls outcomes after → AuditInvariant after }
@@ -74,8 +74,8 @@ pub fn tables_after_runs_pass_the_audit()
         → AllByRecursion IsWellFormedCall calls → Run empty_base calls outcomes after → PassesAudit third_schema (sheets after) }
 {}
 
-/// Proves that a row that parses gives a command that satisfies `MeetsAuditFormats`, and that a
-/// command whose row text parses as this command satisfies it.
+/// Proves that the command of a row that parses satisfies `MeetsAuditFormats`, and that a command
+/// satisfies it if its row text parses as this command.
 pub fn parsed_rows_meet_audit_formats()
     ensures read { (fields : List Text) → IfOk (parse_row fields) MeetsAuditFormats }
     ensures formed { (command : Command) → IsWellFormedCommand command → MeetsAuditFormats command }

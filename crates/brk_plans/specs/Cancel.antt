@@ -13,8 +13,8 @@ use Rattle.brk_changes.specs.declared.change.Change.TheVariants.{SetLast}
 use Rattle.brk_plans.specs.declared.plan.Plan.{Plan}
 use Rattle.brk_plans.specs.declared.reply.Reply.TheVariants as reply
 
--- The checks of a cancel against the status of its trade, none if the trade does not exist: the
--- trade exists and is pending.
+-- The checks of a cancel against the status of its trade: the trade exists and is pending. The
+-- status is none if the trade does not exist.
 abbrev pub cancel_checks : Option Status → List RefusalCheck
 cancel_checks None = (true, NoTrade) ∷ []
 cancel_checks (Some status) = (not (is_same_trade_status status Pending), WrongStatus status) ∷ []

@@ -55,7 +55,7 @@ cash_row_of_movement m number stamp = record { id = number; account = m.account;
 abbrev pub row_changes_of_movement : ℕ → MoveRow → ℤ → ℕ → List Change
 row_changes_of_movement account row balance stamp = change.AddMove row ∷ change.SetBalance account balance ∷ change.SetLast stamp ∷ []
 
--- `plan` adds the cash row of the movement `m` with the id `number`, sets the balance of its
+-- `plan` adds the cash row of the movement `m` with the id `number`, and sets the balance of its
 -- account to `balance` and the last stamp to `stamp`. Its reply has the stamp, the id and the
 -- balance.
 pub record AppliesMovement (m : Movement) (number : ℕ) (balance : ℤ) (stamp : ℕ) (plan : Plan) : Type 0 where
@@ -66,7 +66,7 @@ pub record AppliesMovement (m : Movement) (number : ℕ) (balance : ℤ) (stamp 
 
 -- `plan` applies the movement `m` at the stamp of the command, with the next id of a cash row and
 -- the balance after it. The movement passes its checks against the facts `found`, and a later stamp
--- is left.
+-- is left. `last` is the last stamp, and `now` the clock reading.
 pub record IsMovementPlan (m : Movement) (found : MoveFound) (last : Option ℕ) (now : ℕ) (plan : Plan) : Type 0 where
   pub stamp : ℕ
   pub accepted : first_refusal (movement_checks m found ++ later_stamp_check last now ∷ []) ≡ None

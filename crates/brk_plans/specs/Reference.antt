@@ -31,8 +31,9 @@ permission_checks found = (not found.account, NoAccount) ∷ duplicate_check fou
 abbrev pub band_checks : Band → ReferenceFacts → List RefusalCheck
 band_checks band found = (nat_lt band.to_qty band.from_qty, BadQty) ∷ (found.overlaps, Overlap) ∷ []
 
--- True if the sum of a customer's tax rates plus another rate (0 if it is none) exceeds the
--- greatest rate. If the sum is none, it exceeds the greatest rate itself.
+-- True if the sum of a customer's tax rates plus another rate exceeds the greatest rate; the other
+-- rate counts as 0 if it is none. Also true if the sum is none, which is a sum beyond the greatest
+-- rate.
 abbrev pub exceeds_greatest_tax_rate : Option ℕ → Option ℕ → Bool
 exceeds_greatest_tax_rate None rate = true
 exceeds_greatest_tax_rate (Some rates) rate = nat_lt greatest_tax_rate (rates + unwrap_or rate 0)
@@ -59,7 +60,7 @@ reference_checks (reference.CustomerTax pays) found = customer_tax_checks found
 abbrev pub later_stamp_check : Option ℕ → ℕ → RefusalCheck
 later_stamp_check last now = (is_none (stamp_after last now), ClockEnd)
 
--- The row change that adds the record, of a listing its security.
+-- The row change that adds the record. For a listing, it adds the SECURITY row only.
 abbrev pub row_change_adding_record : Reference → Change
 row_change_adding_record (reference.Broker broker) = change.AddBroker broker
 row_change_adding_record (reference.Customer customer) = change.AddCustomer customer
@@ -76,15 +77,16 @@ row_change_adding_record (reference.CustomerTax pays) = change.AddCustomerTax pa
 abbrev pub first_last_trade_of_listing : ℕ → Listing → LastTrade
 first_last_trade_of_listing stamp listing = record { symbol = listing.security.symbol; stamp = stamp; price = listing.price; volume = 0 }
 
--- The row changes that add the record at `stamp`: its own row, and of a listing its first
--- LAST_TRADE row too.
+-- The row changes that add the record at `stamp`. For a listing, they add its SECURITY row and its
+-- first LAST_TRADE row; for any other record, its one row.
 abbrev pub row_changes_adding_record : ℕ → Reference → List Change
 row_changes_adding_record stamp (reference.Security listing) = change.AddSecurity listing.security ∷ change.AddLastTrade (first_last_trade_of_listing stamp listing) ∷ []
 row_changes_adding_record stamp other = row_change_adding_record other ∷ []
 
 -- `plan` adds the record `reference` at the stamp of the command. The record passes its checks
 -- against the facts `found`, and a later stamp is left. Its row changes are those that add the
--- record and the last stamp, and its reply has the stamp.
+-- record and the last stamp, and its reply has the stamp. `last` is the last stamp, and `now` the
+-- clock reading.
 pub record IsReferencePlan (reference : Reference) (found : ReferenceFacts) (last : Option ℕ) (now : ℕ) (plan : Plan) : Type 0 where
   pub stamp : ℕ
   pub accepted : first_refusal (reference_checks reference found ++ later_stamp_check last now ∷ []) ≡ None

@@ -34,26 +34,26 @@ other_cash_type_text is_cash word =
 abbrev pub cash_text_with_words : Text → TradeType → ℕ → Text → Text
 cash_text_with_words words kind qty security = trade_type_name kind ++ 32 ∷ decimal qty ++ words ++ security
 
--- The new cash text of a trade whose present one is `name`: with " Shares of " if `name` contains "
--- shares of ", and otherwise with " shares of ".
+-- The new cash text of a trade whose present one is `name`. Its words are " Shares of " if `name`
+-- contains " shares of ", and otherwise " shares of ".
 abbrev pub toggled_cash_text : TradeType → ℕ → Text → Text → Text
 toggled_cash_text kind qty security name =
     if contains_text (codes " shares of ") name then cash_text_with_words (codes " Shares of ") kind qty security else cash_text_with_words (codes " shares of ") kind qty security
 
--- The new cash text of the trade of `p`, with `security`, the name of its security: " shares of "
--- and " Shares of " alternate.
+-- The new cash text of the trade of `p`, where `security` is the name of its security. Its words
+-- are " Shares of " if the present text contains " shares of ", and otherwise " shares of ".
 abbrev pub toggled_cash_text_of_trade : Text → CashText → Text
 toggled_cash_text_of_trade security p = toggled_cash_text p.kind p.qty security (string_bytes p.name)
 
--- The refusal of a text update if the trades, the account or the security that it names does not
--- exist.
+-- The refusal of a text update whose target does not exist: `NoTrade`, `NoAccount` or `NoSecurity`,
+-- by the kind of the update.
 abbrev pub missing_record_refusal : told.Update → Refusal
 missing_record_refusal (update.Executors trades) = NoTrade
 missing_record_refusal (update.CashTypes account span) = NoAccount
 missing_record_refusal (update.CashNames symbol span) = NoSecurity
 
--- The check of the text update `u`: the trades, the account or the security that it names exist, so
--- that `found` is not none.
+-- The check of the text update `u`: the trades, the account or the security that it names exist.
+-- `found` is none if one of them is missing.
 abbrev pub update_checks : told.Update → Option TextUpdate → List RefusalCheck
 update_checks u found = (is_none found, missing_record_refusal u) ∷ []
 
@@ -83,7 +83,8 @@ count_of_updated_trades (corrected.CashTypes settled) = length settled.items
 count_of_updated_trades (corrected.CashNames security paid) = length paid.items
 
 -- `plan` updates one text of each trade of `found` at the stamp of the command and sets the last
--- stamp. A later stamp is left, and the reply has the stamp and the number of the trades.
+-- stamp. A later stamp is left, and the reply has the stamp and the number of the trades. `last` is
+-- the last stamp, and `now` the clock reading.
 pub record IsUpdatePlan (found : TextUpdate) (last : Option ℕ) (now : ℕ) (plan : Plan) : Type 0 where
   pub stamp : ℕ
   pub stamped : stamp_after last now ≡ Some stamp

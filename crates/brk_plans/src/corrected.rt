@@ -2,8 +2,8 @@ use brk_changes::{CashType, TradeRow};
 use brk_money::{Id, Qty, TradeType};
 use brk_ref::Name;
 
-/// The settlement text of a completed trade (SE_CASH_TYPE), and the type of its account: cash or
-/// margin.
+/// The settlement text of a completed trade (SE_CASH_TYPE), and whether it is a cash trade or a
+/// margin trade.
 #[derive(Clone, Copy)]
 pub struct SettlementText {
     pub trade: Id,
@@ -11,8 +11,8 @@ pub struct SettlementText {
     pub cash_type: CashType,
 }
 
-/// The text of the cash row of a completed cash trade (CM_NAME), and the facts that make its new
-/// text.
+/// The text of the cash row of a completed cash trade (CM_NAME), and the facts from which its new
+/// text is formed.
 #[derive(Drop)]
 pub struct CashText {
     pub trade: Id,
@@ -21,7 +21,8 @@ pub struct CashText {
     pub name: String,
 }
 
-/// The trades that a text update selects, in sequence, with the facts that make their new texts.
+/// The trades that a text update selects, in sequence, with the facts from which their new texts
+/// are formed.
 #[derive(Drop)]
 pub enum TextUpdate {
     /// Trades whose executors' names are updated.

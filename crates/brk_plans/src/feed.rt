@@ -20,8 +20,9 @@ use brk_orders::{Feed, Tick};
 use brk_ref::{LastTrade, Symbol, Volume};
 use std::alloc::Global;
 
-/// Returns true if the market price triggers a pending trade of this type and bid (Market-Feed). A
-/// stop loss and a limit buy are triggered at the bid or below, a limit sell at the bid or above.
+/// Returns true if a market price of `price` triggers a pending trade of the type `kind` with the
+/// requested price `bid` (Market-Feed). A stop loss and a limit buy are triggered at the bid or
+/// below, a limit sell at the bid or above, and market types never.
 pub fn price_triggers_trade(kind: TradeType, bid: Price, price: Price) -> bool
     ensures { result ≡ definition.is_triggering_price kind bid price }
 {
@@ -47,15 +48,16 @@ pub fn has_no_quote(quotes: &[Quote], tick: &Tick) -> bool
     !quotes.iter().any(|quote| is_quote_of(quote, &tick.symbol))
 }
 
-// Returns true if there is no quote of the symbol of one of the ticks.
+// Returns true if the symbol of at least one tick has no quote.
 fn has_unknown_symbol(quotes: &[Quote], ticks: &[Tick]) -> bool
     ensures { result ≡ list_any (lacks_state_of_symbol (states_of_quotes quotes.now)) ticks.now }
 {
     ticks.iter().any(|tick| has_no_quote(quotes, tick))
 }
 
-// Returns the last trade after the tick: its price and stamp are those of the tick, and its volume
-// is greater by its quantity. Refuses with `Range(Volume)` if the volume would exceed its limit.
+// Returns the last trade of the symbol after the tick: its price is that of the tick, its stamp is
+// `stamp`, and its volume is greater by the quantity of the tick. Refuses with `Range(Volume)` if
+// the volume would exceed its limit.
 fn last_trade_with_tick(stamp: Stamp, tick: &Tick, last: LastTrade) -> Result<LastTrade, Refusal>
     ensures after { IfOk result (λ after. after ≡ spec.last_trade_after_tick stamp tick.now last) }
     ensures refusal { IfErr result (λ refusal. (refusal ≡ Range limit.Volume) × (exceeds_volume_limit (record { last = spec.last_trade_after_tick stamp tick.now last; requests = [] }) ≡ true)) }
@@ -85,8 +87,8 @@ fn change_setting_last_trade(last: &LastTrade) -> Result<Change, Fault>
     }))
 }
 
-// Appends the row changes by which the trades that the price triggers are submitted, and the ids of
-// these trades. Fails with `Memory` only.
+// Appends to `changes` the row changes that submit the trades whose requests the price triggers,
+// and to `ids` the ids of these trades. Fails with `Memory` only.
 fn append_submission_changes(
     stamp: Stamp,
     price: Price,
@@ -107,7 +109,7 @@ fn append_submission_changes(
     Ok(())
 }
 
-// Returns those of `requests` that the price does not trigger. Fails with `Memory` only.
+// Returns the elements of `requests` that the price does not trigger. Fails with `Memory` only.
 fn requests_not_triggered(
     alloc: Global,
     price: Price,
@@ -125,9 +127,9 @@ fn requests_not_triggered(
     Ok(waiting)
 }
 
-// Returns the quote after the tick, and appends the row changes and the triggered trades. A quote
-// of another symbol is unchanged. Refuses with `Range(Volume)` if the volume would exceed its
-// limit. Fails with `Memory` only.
+// Returns the quote after the tick. Appends the row changes of the tick to `changes` and the trades
+// that it triggers to `ids`. A tick of another symbol changes nothing. Refuses with `Range(Volume)`
+// if the volume would exceed its limit. Fails with `Memory` only.
 fn apply_tick_to_quote(
     alloc: Global,
     stamp: Stamp,
@@ -157,8 +159,9 @@ fn apply_tick_to_quote(
     Ok(Ok(Quote { last, requests }))
 }
 
-// Returns the quotes after the tick, and appends the row changes and the triggered trades. Refuses
-// with `Range(Volume)` if a volume would exceed its limit. Fails with `Memory` only.
+// Returns the quotes after the tick. Appends the row changes of the tick to `changes` and the
+// trades that it triggers to `ids`. Refuses with `Range(Volume)` if a volume would exceed its
+// limit. Fails with `Memory` only.
 fn apply_tick_to_quotes(
     alloc: Global,
     stamp: Stamp,
@@ -184,7 +187,8 @@ fn apply_tick_to_quotes(
     Ok(Ok(after))
 }
 
-// Proof-only: its contract states that no volume exceeds its limit. It only reads the volumes.
+// Proof-only: proves that the volume of no quote exceeds its limit. Reads the volumes and changes
+// nothing.
 fn state_volume_limits(quotes: &[Quote])
     ensures { list_any exceeds_volume_limit (states_of_quotes quotes.now) ≡ false }
 {
@@ -193,8 +197,9 @@ fn state_volume_limits(quotes: &[Quote])
     }
 }
 
-// Appends the row changes and the triggered trades of the ticks, applied in sequence. Refuses with
-// `Range(Volume)` if a volume would exceed its limit. Fails with `Memory` only.
+// Applies the ticks in sequence. Appends their row changes to `changes` and the trades that they
+// trigger to `ids`. Refuses with `Range(Volume)` if a volume would exceed its limit. Fails with
+// `Memory` only.
 fn apply_ticks_to_quotes(
     alloc: Global,
     stamp: Stamp,

@@ -75,7 +75,8 @@ fn checked_balance_after_movement(movement: &Movement, found: &MoveFound) -> Res
     Ok(balance)
 }
 
-// Returns the cash row of the movement with this id and stamp. Fails if memory runs out.
+// Returns the CASH_MOVE row of the movement with the id `number` and the stamp `stamp`. It has no
+// trade. Fails if memory runs out.
 fn create_movement_cash_row(
     alloc: Global,
     movement: &Movement,
@@ -113,8 +114,8 @@ fn create_movement_changes(
     Ok(changes)
 }
 
-// Returns the plan of an accepted movement with this id of its cash row, and this balance after it.
-// Fails with `Memory` only.
+// Returns the plan of an accepted movement: it adds a cash row with the id `number`, and sets the
+// balance of the account to `balance` and the last stamp to `stamp`. Fails with `Memory` only.
 fn create_movement_plan(
     alloc: Global,
     movement: &Movement,

@@ -30,7 +30,8 @@ pub enum Reference {
     CustomerTax(CustomerTax),
 }
 
-/// The facts in the tables that decide on a record. A fact that its kind does not need is not read.
+/// The facts in the tables that decide on a record. A field that records of its kind do not need
+/// may have any value.
 #[derive(Clone, Copy, PartialEq, Eq)]
 pub struct ReferenceFacts {
     /// True if a record with its key exists: of a permission the account and the tax id, of a
@@ -58,7 +59,7 @@ pub struct ReferenceFacts {
 /// The greatest number of accounts of a customer.
 pub const MOST_ACCOUNTS: usize = 10;
 
-// Returns the refusal `Exists` if `found`, otherwise `None`.
+// Returns the refusal `Exists` if `found` is true, otherwise `None`.
 fn exists_refusal_if(found: bool) -> Option<Refusal>
     ensures { result ≡ (if found then Some Exists else None) }
 {

@@ -22,7 +22,7 @@ pub struct Completed {
     pub tax: Amount,
     /// The settlement amount, negative if the account pays.
     pub amount: Cents,
-    /// The settlement day.
+    /// The day on which the trade settles.
     pub due_day: Day,
     /// Buy value of the closed shares.
     pub buy_value: Amount,
@@ -39,8 +39,8 @@ pub enum Reply {
     Booked(Stamp),
     /// An order was placed.
     Ordered(Ordered),
-    /// A feed was taken. Lists the trades that its ticks triggered, tick by tick, and in ascending
-    /// order of id within one.
+    /// A feed was executed. Lists the trades that its ticks triggered, tick by tick, and in
+    /// ascending order of id within one tick.
     Ticked(Stamp, Vec<Id>),
     /// A pending trade was canceled.
     Canceled(Stamp),

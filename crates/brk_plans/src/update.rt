@@ -16,8 +16,8 @@ use brk_orders::Update;
 use brk_ref::Name;
 use std::alloc::Global;
 
-// Returns the refusal of a text update if the trades, the account or the security that it names
-// does not exist.
+// Returns the refusal of a text update whose target does not exist: `NoTrade`, `NoAccount` or
+// `NoSecurity`, by the kind of the update.
 fn refusal_of_missing_record(update: &Update) -> Refusal
     ensures { result ≡ spec.missing_record_refusal update.now }
 {

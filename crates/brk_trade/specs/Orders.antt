@@ -77,8 +77,8 @@ MatchesModelEstimate terms given estimate =
     (base : Base) (o : model.Order) (ls : List Lot) → AreOrderTermsInBase base o terms → shares_of_position (completed_trades base) o.account o.symbol ≡ shares_of_lots ls
     → YieldsPosition given o.is_lifo ls → terms.held ≡ lot_quantity_sum ls → estimate ≡ estimate_from_model (model_orders.estimate base o)
 
--- `order` passes its checks against the facts `found`, and `estimate` is one from its terms and the
--- lots of the source (`MatchesModelEstimate`).
+-- `order` passes its checks against the facts `found`, and `estimate` follows from its terms and
+-- the lots that the source may have (`MatchesModelEstimate`).
 pub record EstimatesCheckedOrder (order : Order) (found : OrderFound) (given : List Lot → Type 0) (estimate : Estimate) : Type 0 where
   pub accepted : first_refusal (order_checks found) ≡ None
   pub estimated : MatchesModelEstimate (terms_of_order order found) given estimate
@@ -118,7 +118,8 @@ trade_row_with_texts order terms trade stamp symbol executor = record {
 abbrev pub trade_row_of_order : Order → Terms → (trade stamp : ℕ) → tables.TradeRow
 trade_row_of_order order terms trade stamp = trade_row_with_texts order terms trade stamp order.symbol (model_orders.executor_name (abstract_executor order.executor))
 
--- The TRADE_REQUEST row of `trade`, which `order` placed, or none if it is a market order.
+-- The TRADE_REQUEST row of `trade`, which `order` placed with the terms `terms`, or none if it is a
+-- market order. `broker` is the broker of its account.
 abbrev pub request_of_order : Order → Terms → (broker trade : ℕ) → Option RequestRow
 request_of_order order terms broker trade =
     if is_market_type (trade_type_of_order order.order_type) then None
@@ -141,7 +142,8 @@ pub record AreOrderChanges (order : Order) (terms : Terms) (broker trade stamp :
 -- `plan` adds the trade of `order` at the stamp of the command, with the next id. The order passes
 -- its checks against the facts `found`, an id and a later stamp are left, and the reply has the
 -- stamp, the id, the first status and the estimate from the lots of the source
--- (`MatchesModelEstimate`).
+-- (`MatchesModelEstimate`). `given` holds of the lists of lots that the source may have, `last` is
+-- the last stamp, and `now` the clock reading.
 pub record IsOrderPlan (order : Order) (found : OrderFound) (given : List Lot → Type 0) (last : Option ℕ) (now : ℕ) (plan : Plan) : Type 0 where
   pub stamp : ℕ
   pub estimate : Estimate

@@ -72,13 +72,14 @@ checks_before_reading_lots found =
     (not (is_same_trade_status found.trade.status Submitted), WrongStatus found.trade.status) ∷ (is_none found.rate, NoRate)
     ∷ (nat_lt greatest_summary (nat_abs (shares_held_after_trade found)), Range limit.Summary) ∷ []
 
--- The check that a stamp is left and that the due day after it is within the calendar.
+-- The check that `stamp` is not none and that the due day of a completion at it is within the
+-- calendar. `rule` is the settlement day, if any.
 abbrev pub due_day_check : Option ℕ → Option ℕ → RefusalCheck
 due_day_check rule stamp = (option_map_or (λ s. nat_lt greatest_day (due_day_of_completion_stamp rule s)) stamp true, ClockEnd)
 
--- The checks of a result that need the values of the closed shares or the stamp: the balance after
--- a cash trade and the broker's commissions do not exceed their limits, and a stamp and a due day
--- are left.
+-- The checks of a result that need the values of the closed shares or the stamp. The balance after
+-- a cash trade and the broker's commissions do not exceed their limits, a stamp is left, and the
+-- due day is within the calendar.
 abbrev pub checks_after_reading_lots : ResultFound → ℕ → Values → Option ℕ → List RefusalCheck
 checks_after_reading_lots found price values stamp =
     (found.trade.is_cash && nat_lt greatest_amount (nat_abs (balance_after_result found price values)), Range limit.Balance)
@@ -89,7 +90,7 @@ checks_after_reading_lots found price values stamp =
 abbrev pub result_checks : ResultFound → ℕ → Values → Option ℕ → List RefusalCheck
 result_checks found price values stamp = checks_before_reading_lots found ++ checks_after_reading_lots found price values stamp
 
--- The absolute values of the buy value and the sell value of `closing`.
+-- The buy value and the sell value of `closing`, in cents, without their signs.
 abbrev pub values_of_closing : Closing → Values
 values_of_closing closing = record { buy_value = nat_abs closing.buy_value; sell_value = nat_abs closing.sell_value }
 

@@ -34,16 +34,17 @@ use Rattle.brk_plans.specs.declared.reply.Completed.{Completed}
 use Rattle.brk_plans.specs.declared.reply.Reply.TheVariants as reply
 use Rattle.brk_changes.specs.declared.trade_row.TradeRow.{TradeRow}
 
--- The row change of the lot that `touch` reduces: it is deleted if no share is left of it, and
+-- The row change of the lot of `touch`: the lot is deleted if none of its shares is left, and
 -- otherwise its quantity is set.
 abbrev pub row_change_of_touched_lot : Touch → Change
 row_change_of_touched_lot touch = if is_zero touch.after then change.RemoveLot touch.lot else change.SetLot touch.lot touch.after
 
--- The row change that adds the HOLDING_HISTORY row of `touch` by `trade`.
+-- The row change that adds the HOLDING_HISTORY row of `touch`, made by `trade`.
 abbrev pub row_change_adding_lot_history : ℕ → Touch → Change
 row_change_adding_lot_history trade touch = change.AddLotChange (record { lot = touch.lot; trade = trade; before = touch.before; after = touch.after })
 
--- The row changes of the lot that `touch` reduces: of its HOLDING row, and of its history.
+-- The row changes of the lot of `touch`, which `trade` closes or reduces: of its HOLDING row, and
+-- of its history.
 abbrev pub row_changes_of_touched_lot : ℕ → Touch → List Change
 row_changes_of_touched_lot trade touch = row_change_of_touched_lot touch ∷ row_change_adding_lot_history trade touch ∷ []
 
@@ -65,7 +66,7 @@ row_change_of_summary (Some held) t qty =
 abbrev pub first_cash_type_of_trade : Bool → CashType
 first_cash_type_of_trade is_cash = if is_cash then cash_type.CashAccount else cash_type.Margin
 
--- The quantity and the words after it in the cash text of a trade, after a space.
+-- A space, the quantity `qty` and the text " shares of ", as in the cash text of a trade.
 abbrev pub quantity_in_cash_text : ℕ → Text
 quantity_in_cash_text qty = 32 ∷ decimal qty ++ codes " shares of "
 
@@ -133,7 +134,7 @@ pub record AreResultChanges (found : ResultFound) (price : ℕ) (closing : Closi
   pub moved : option_map abstract_move_row cash ≡ cash_row_of_result found outcome
   pub changed : changes ≡ row_changes_of_result found price closing outcome cash
 
--- The figures of a completed trade that its reply has.
+-- Those figures of a completed trade that its reply has.
 abbrev pub reply_of_completed_result : ResultNumbers → Completed
 reply_of_completed_result outcome = record {
   stamp = outcome.stamp;
@@ -156,14 +157,15 @@ shares_held_in_summary found = unwrap_or found.summary (pos 0)
 abbrev pub AreLotsBeforeTrade : (List Lot → Type 0) → ResultFound → List Lot → Type 0
 AreLotsBeforeTrade given found ls = YieldsPosition given found.trade.is_lifo ls × AreOpenedByOtherTrades found.trade.id ls × (shares_held_in_summary found ≡ lot_quantity_sum ls)
 
--- The account holds no shares that the trade would close.
+-- The account holds no shares that the trade of `found` would close.
 abbrev pub ClosesNoHeldShares : ResultFound → Type 0
 ClosesNoHeldShares found = closes_lots (side_of_trade_type found.trade.kind) (shares_held_in_summary found) ≡ false
 
 -- `plan` completes the trade of `found` at `price` and the stamp of the command. The result passes
 -- all its checks, and the row changes and the reply follow from `closing`, the lots that the trade
--- closes and opens. The clause on `closing` is vacuous if no lots of the source match the summary
--- (`AreLotsBeforeTrade`).
+-- closes and opens. The clause `closes` is vacuous if no lots of the source match the summary
+-- (`AreLotsBeforeTrade`). `given` holds of the lists of lots that the source may have, `last` is
+-- the last stamp, and `now` the clock reading.
 pub record IsResultPlan (found : ResultFound) (price : ℕ) (given : List Lot → Type 0) (last : Option ℕ) (now : ℕ) (plan : Plan) : Type 0 where
   pub stamp : ℕ
   pub closing : Closing
@@ -179,13 +181,14 @@ CompletesExistingTrade None price given last now plan = ⊥
 CompletesExistingTrade (Some found) price given last now plan = IsResultPlan found price given last now plan
 
 -- `refusal` is the first one that applies to the result of the existing trade of `found` at
--- `price`. The clause on checks that need lots is vacuous if no lots of the source match the
--- summary (`AreLotsBeforeTrade`).
+-- `price`. The clause `early` is vacuous if no check before the lots are read fails, and the clause
+-- `late` if no lots of the source match the summary (`AreLotsBeforeTrade`). `last` is the last
+-- stamp, and `now` the clock reading.
 pub record IsRefusalOfExistingTrade (found : ResultFound) (price : ℕ) (given : List Lot → Type 0) (last : Option ℕ) (now : ℕ) (refusal : Refusal) : Type 0 where
-  -- If a check before the lots are read fails, it is the refusal, for any lots.
+  -- If a check before the lots are read fails, its refusal is `refusal`, whatever the lots are.
   pub early : IfSome (first_refusal (checks_before_reading_lots found)) (λ cause. refusal ≡ cause)
-  -- It is the refusal of the first check that fails, with the values of the shares of the given
-  -- lots that the trade would close.
+  -- `refusal` is that of the first check that fails, with the values of those shares of the lots
+  -- that the trade would close.
   pub late : (ls : List Lot) (stamp : ℕ) → AreLotsBeforeTrade given found ls
       → first_refusal (result_checks found price (closing_values_of_deal (deal_of_trade_row found.trade price stamp) (shares_of_lots ls)) (stamp_after last now)) ≡ Some refusal
 
@@ -195,7 +198,7 @@ abbrev pub IsResultRefusal : Option ResultFound → ℕ → (List Lot → Type 0
 IsResultRefusal None price given last now refusal = refusal ≡ NoTrade
 IsResultRefusal (Some found) price given last now refusal = IsRefusalOfExistingTrade found price given last now refusal
 
--- The stamp of the command, or the clock reading `now` if no stamp is left.
+-- The stamp `stamp`, or the clock reading `now` if it is none.
 abbrev pub stamp_or_clock_reading : Option ℕ → ℕ → ℕ
 stamp_or_clock_reading stamp now = unwrap_or stamp now
 

@@ -43,8 +43,8 @@ fn append_completed_trade_changes(
     Ok(())
 }
 
-// Returns the row change of a touched lot: it is deleted if no share is left of it, and otherwise
-// its quantity is set.
+// Returns the row change of a touched lot: the lot is deleted if none of its shares is left, and
+// otherwise its quantity is set.
 fn create_touched_lot_change(touch: &Touch) -> Change
     ensures { result ≡ spec.row_change_of_touched_lot touch.now }
 {
@@ -209,8 +209,7 @@ fn append_summary_and_settlement_changes(
     Ok(())
 }
 
-// Appends the quantity, and the words after it, to the cash text of a trade. Fails if memory runs
-// out.
+// Appends a space, the quantity and the text " shares of " to `name`. Fails if memory runs out.
 fn append_quantity_text(name: &mut String, qty: Qty) -> Result<(), AllocError>
     ensures { OnOk result (string_bytes name.new ≡ string_bytes name.old ++ spec.quantity_in_cash_text qty) }
 {

@@ -103,11 +103,11 @@ pub fn estimate_order<L: LotSource>(source: &mut L, terms: &Terms) -> Result<Est
         AreOrderTermsInBase base o terms.now → shares_of_position (completed_trades base) o.account o.symbol ≡ shares_of_lots ls → YieldsPosition (IsFaithfulRemainder (L.reads_faithfully source.new) (L.remaining source.old)) o.is_lifo ls →
         terms.now.held ≡ lot_quantity_sum ls → estimate ≡ estimate_from_model (spec_orders.estimate base o)) }
     ensures commission { IfOk result (λ estimate. estimate.commission ≡ commission_from_terms terms.now) }
-    // It asks for at most one lot more than the order would touch, also if it fails, and for none
+    // It reads at most one lot more than the order would touch, also if it fails, and none
     // if it would close none.
     ensures asked { OrderReadsFewLots terms.now (IsFaithfulRemainder (L.reads_faithfully source.new) (L.remaining source.old)) (L.asked source.old) (L.asked source.new) }
     ensures unmet { closes_lots terms.now.side terms.now.held ≡ false → source.new ≡ source.old }
-    // No fault of the source is ignored, and each is returned as it came.
+    // A fault of the source is never ignored, and is returned unchanged.
     ensures faulted { IfOk result (λ estimate. L.faulted source.new ≡ L.faulted source.old) }
     ensures fault { IfErr result (λ fault. (before : L) × L.fails before fault source.new) }
     ensures rest { (ls : List Lot) → IsFaithfulRemainder (L.reads_faithfully source.new) (L.remaining source.old) ls → (n : ℕ) × L.remaining source.new (drop n ls) }

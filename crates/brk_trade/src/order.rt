@@ -128,11 +128,11 @@ pub fn plan_estimate<L: LotSource>(
         (EstimatesCheckedOrder order.now found.now (IsFaithfulRemainder (L.reads_faithfully source.new) (L.remaining source.old)))
         (λ refusal. first_refusal (order_checks found.now) ≡ Some refusal)) }
     ensures refused { IfOk result (λ planned. OnErr planned (source.new ≡ source.old)) }
-    // It asks for at most one lot more than the order would touch, also if it fails.
+    // It reads at most one lot more than the order would touch, also if it fails.
     ensures asked { OrderReadsFewLots (terms_of_order order.now found.now) (IsFaithfulRemainder (L.reads_faithfully source.new) (L.remaining source.old)) (L.asked source.old) (L.asked source.new) }
-    // It asks for no lot if the account holds no shares that the order would close.
+    // It reads no lot if the account holds no shares that the order would close.
     ensures unmet { closes_lots (terms_of_order order.now found.now).side (terms_of_order order.now found.now).held ≡ false → source.new ≡ source.old }
-    // No fault of the source is ignored, and each is returned as it came.
+    // A fault of the source is never ignored, and is returned unchanged.
     ensures faulted { IfOk result (λ planned. L.faulted source.new ≡ L.faulted source.old) }
     ensures fault { IfErr result (λ fault. (before : L) × L.fails before fault source.new) }
     ensures rest { (ls : List Lot) → IsFaithfulRemainder (L.reads_faithfully source.new) (L.remaining source.old) ls → (n : ℕ) × L.remaining source.new (drop n ls) }
@@ -322,11 +322,11 @@ pub fn plan_order<L: LotSource>(
         (IsOrderPlan order.now found.now (IsFaithfulRemainder (L.reads_faithfully source.new) (L.remaining source.old)) last now)
         (λ refusal. first_refusal (order_checks found.now ++ trade_id_is_left_check found.now.last_trade ∷ later_stamp_check last now ∷ []) ≡ Some refusal)) }
     ensures refused { IfOk result (λ planned. OnErr planned (source.new ≡ source.old)) }
-    // It asks for at most one lot more than the order would touch, also if it fails.
+    // It reads at most one lot more than the order would touch, also if it fails.
     ensures asked { OrderReadsFewLots (terms_of_order order.now found.now) (IsFaithfulRemainder (L.reads_faithfully source.new) (L.remaining source.old)) (L.asked source.old) (L.asked source.new) }
-    // It asks for no lot if the account holds no shares that the order would close.
+    // It reads no lot if the account holds no shares that the order would close.
     ensures unmet { closes_lots (terms_of_order order.now found.now).side (terms_of_order order.now found.now).held ≡ false → source.new ≡ source.old }
-    // No fault of the source is ignored, and each is returned as it came.
+    // A fault of the source is never ignored, and is returned unchanged.
     ensures faulted { IfOk result (λ planned. L.faulted source.new ≡ L.faulted source.old) }
     ensures fault { IfErr result (λ fault. (fault ≡ Fault.Memory) ⊎ ((before : L) × L.fails before fault source.new)) }
     ensures rest { (ls : List Lot) → IsFaithfulRemainder (L.reads_faithfully source.new) (L.remaining source.old) ls → (n : ℕ) × L.remaining source.new (drop n ls) }

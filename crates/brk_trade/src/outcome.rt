@@ -21,7 +21,7 @@ use brk_money::{Cents, Day, Limit, Price, Rate, Refusal, Side, Stamp};
 #[derive(Clone, Copy, PartialEq, Eq)]
 pub struct ResultNumbers {
     pub stamp: Stamp,
-    /// The settlement day.
+    /// The day on which the trade settles.
     pub due_day: Day,
     pub commission: Amount,
     /// The tax on the realised gain of the closed shares.

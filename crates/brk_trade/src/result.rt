@@ -18,7 +18,7 @@ use brk_money::{Fault, Planned, Price, Refusal, Stamp, stamp_after};
 use brk_plans::{Completed, Plan, Reply};
 use std::alloc::Global;
 
-// Returns the figures of a completed trade that its reply has.
+// Returns those figures of a completed trade that its reply has.
 fn create_completed_reply(outcome: &ResultNumbers) -> Completed
     ensures { result ≡ reply_of_completed_result outcome.now }
 {
@@ -34,8 +34,9 @@ fn create_completed_reply(outcome: &ResultNumbers) -> Completed
     }
 }
 
-// Returns the lots that the trade closes, and the one that it opens, if any. Fails with `Memory` or
-// a fault of the source. Reads no lot if the account holds no shares that the trade would close.
+// Returns the lots that the trade closes, and the lot that it opens, if it opens one. Fails with
+// `Memory` or a fault of the source. Reads no lot if the account holds no shares that the trade
+// would close.
 fn close_or_open_lots<L: LotSource>(
     alloc: Global,
     source: &mut L,
@@ -92,11 +93,11 @@ pub fn plan_result<L: LotSource>(
     ensures planned { IfOk result (λ planned. MatchResult planned
         (CompletesExistingTrade (option_map (λ f. f.now) found.entry) price (IsFaithfulRemainder (L.reads_faithfully source.new) (L.remaining source.old)) last now)
         (IsResultRefusal (option_map (λ f. f.now) found.entry) price (IsFaithfulRemainder (L.reads_faithfully source.new) (L.remaining source.old)) last now)) }
-    // It asks for at most one lot more than the trade touches, also if it fails.
+    // It reads at most one lot more than the trade touches, also if it fails.
     ensures asked { ResultReadsFewLots (option_map (λ f. f.now) found.entry) price (stamp_or_clock_reading (moments.stamp_after last now) now) (IsFaithfulRemainder (L.reads_faithfully source.new) (L.remaining source.old)) (L.asked source.old) (L.asked source.new) }
-    // It asks for no lot if the account holds no shares that the trade would close.
+    // It reads no lot if the account holds no shares that the trade would close.
     ensures unmet { IfSome (option_map (λ f. f.now) found.entry) (λ f. ClosesNoHeldShares f → source.new ≡ source.old) }
-    // No fault of the source is ignored, and each is returned as it came.
+    // A fault of the source is never ignored, and is returned unchanged.
     ensures faulted { IfOk result (λ planned. L.faulted source.new ≡ L.faulted source.old) }
     ensures fault { IfErr result (λ fault. (fault ≡ Fault.Memory) ⊎ ((before : L) × L.fails before fault source.new)) }
     ensures rest { (ls : List Lot) → IsFaithfulRemainder (L.reads_faithfully source.new) (L.remaining source.old) ls → (n : ℕ) × L.remaining source.new (drop n ls) }

@@ -50,7 +50,7 @@ pub record IsQuoteOfTick (t : Tables) (tick : Tick) (ticks : List Tick) (quote :
   pub requests : IsPermutation (filter (λ r. price_span_may_trigger (price_span_of_first_symbol tick ticks) r.kind r.bid) (requests_of_symbol t tick.symbol)) (map abstract_request_row quote.requests)
   pub order : IsNonDecreasingBy (λ (r : request.RequestRow). r.trade) quote.requests
 
--- The quote satisfies `IsQuoteOfTick` for one of the ticks.
+-- The quote satisfies `IsQuoteOfTick` for at least one of the ticks.
 pub record IsQuoteOfSomeTick (t : Tables) (ticks : List Tick) (quote : SymbolState) : Type 0 where
   pub tick : Tick
   pub among : Contains ticks tick
@@ -61,8 +61,8 @@ abbrev pub HasDistinctQuoteSymbols : List SymbolState → Type 0
 HasDistinctQuoteSymbols [] = ⊤
 HasDistinctQuoteSymbols (quote ∷ quotes) = AllByRecursion (λ other. is_state_of_symbol quote.last.symbol other ≡ false) quotes × HasDistinctQuoteSymbols quotes
 
--- If the symbol of the tick has a row of LAST_TRADE, one of the quotes has this symbol. Vacuous
--- otherwise.
+-- If the symbol of the tick has a row of LAST_TRADE, one of the quotes has this symbol. Vacuous if
+-- it has no such row.
 abbrev pub HasQuoteIfTraded : Tables → List SymbolState → Tick → Type 0
 HasQuoteIfTraded t quotes tick = is_some (last_trade_row_of_symbol t tick.symbol) ≡ true → list_any (is_state_of_symbol tick.symbol) quotes ≡ true
 

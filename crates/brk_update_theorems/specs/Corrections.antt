@@ -78,7 +78,8 @@ abbrev pub SecurityHasName : Tables → Text → Text → Type 0
 SecurityHasName t symbol name = option_map (λ s. s.name) (security_row_with_symbol t symbol) ≡ Some name
 
 -- The selected trades are those that the update `u` selects in the tables, with the columns from
--- which their new texts are formed. The account or the security of the update exists.
+-- which their new texts are formed. The account or the security of the update exists. False if the
+-- selection is one of another kind of update.
 abbrev pub SelectedTradesMatchTables : Tables → told.Update → TextUpdate → Type 0
 SelectedTradesMatchTables t (update.Executors ids) (corrected.Executors trades) = AreTradesWithIds t ids trades.items
 SelectedTradesMatchTables t (update.CashTypes account span) (corrected.CashTypes settled) =
@@ -109,7 +110,7 @@ pub record PlanUpdatePrecondition (base : Base) (u : told.Update) (found : Optio
 
 -- ---- unchanged rows and columns
 
--- The tables after the command if it is accepted at the clock reading `now`.
+-- The tables after the command, as if it is accepted at the clock reading `now`.
 abbrev pub tables_after_command : Base → ℕ → Command → Tables
 tables_after_command base now command = sheets (base_after_command base now command)
 
@@ -137,20 +138,20 @@ without_cash_text r = record r { name = [] }
 abbrev pub without_cash_texts : List MoveRow → List MoveRow
 without_cash_texts rows = map without_cash_text rows
 
--- The command changes only executor names in TRADE and the last stamp. All other rows and columns
--- are unchanged.
+-- The command, if it is accepted, changes only executor names in TRADE and the last stamp. All
+-- other rows and columns are unchanged.
 pub record ChangesOnlyExecutorNames (base : Base) (now : ℕ) (command : Command) : Type 0 where
   pub others : tables_after_command base now command ≡ tables_with_last_stamp (stamp_of_next_command base now) (record (sheets base) { trades = (tables_after_command base now command).trades })
   pub rows : without_executor_names (tables_after_command base now command).trades ≡ without_executor_names (sheets base).trades
 
--- The command changes only texts in SETTLEMENT and the last stamp. All other rows and columns are
--- unchanged.
+-- The command, if it is accepted, changes only texts in SETTLEMENT and the last stamp. All other
+-- rows and columns are unchanged.
 pub record ChangesOnlySettlementTexts (base : Base) (now : ℕ) (command : Command) : Type 0 where
   pub others : tables_after_command base now command ≡ tables_with_last_stamp (stamp_of_next_command base now) (record (sheets base) { settlements = (tables_after_command base now command).settlements })
   pub rows : without_settlement_texts (tables_after_command base now command).settlements ≡ without_settlement_texts (sheets base).settlements
 
--- The command changes only texts in CASH_MOVE and the last stamp. All other rows and columns are
--- unchanged.
+-- The command, if it is accepted, changes only texts in CASH_MOVE and the last stamp. All other
+-- rows and columns are unchanged.
 pub record ChangesOnlyCashTexts (base : Base) (now : ℕ) (command : Command) : Type 0 where
   pub others : tables_after_command base now command ≡ tables_with_last_stamp (stamp_of_next_command base now) (record (sheets base) { moves = (tables_after_command base now command).moves })
   pub rows : without_cash_texts (tables_after_command base now command).moves ≡ without_cash_texts (sheets base).moves

@@ -17,9 +17,9 @@ pub fn sorting_tables_preserves_lookup_view()
     ensures { (base : Base) (test : TradeRow → Bool) → BooksInvariant base → AuditInvariant base → trade_lookup_view (sheets base) test ≡ trade_lookup_view (tables_of_base base) test }
 {}
 
-/// Proves that the view of the lots that the oldest trade of an account from a stamp on touched,
-/// over the sorted tables, equals the specified view, if the base satisfies the books invariant and
-/// the audit invariant.
+/// Proves that the view of the lots that the oldest trade of an account with a stamp of at least
+/// `first` touched, over the sorted tables, equals the specified view, if the base satisfies the
+/// books invariant and the audit invariant.
 #[tactic(auto, using(crate::proofs::TouchRows::same_lots))]
 pub fn sorting_tables_preserves_lots_view()
     ensures { (base : Base) (account first : ℕ) → BooksInvariant base → AuditInvariant base → touched_lots_of_oldest_trade (sheets base) account first ≡ touched_lots_of_oldest_trade (tables_of_base base) account first }
@@ -50,9 +50,9 @@ pub fn trades_read_by_ids_are_complete()
         ≡ trade_rows_oldest_first (filter (λ t. contains_number t.id ids) (sheets base).trades) }
 {}
 
-/// Proves that the rows of HOLDING_HISTORY of the lots that a trade touched, read lot by lot, are
-/// all rows of these lots in the order of the table, if the base satisfies the books invariant and
-/// the audit invariant.
+/// Proves that the rows of HOLDING_HISTORY of the lots that a trade touched, read lot by lot in the
+/// order of the lots, are all rows of these lots in the order of the table, if the base satisfies
+/// the books invariant and the audit invariant.
 #[tactic(auto, using(crate::proofs::TouchRows::touched_by_lot))]
 pub fn changes_read_by_lot_are_complete()
     ensures { (base : Base) (trade : ℕ) → BooksInvariant base → AuditInvariant base
