@@ -86,7 +86,7 @@ fn has_lines_audit_and_tables(seen: &Seen, lines: &str, tables: &str) -> bool {
 }
 
 // Creates a desk until a crash, and then runs the batch `SET` on the desk that is opened or
-// created. Returns whether its tables are these, and whether there was a crash.
+// created. Returns two flags: its tables are these, and there was a crash.
 fn crash_creation_and_set_up(
     alloc: Global,
     stop: Stop,
