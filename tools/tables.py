@@ -499,7 +499,7 @@ use Rattle.brk_tables_schema.specs.Shapes.{{{', '.join(d[0] for d in DATA)}}}
 use Rattle.brk_tables_schema.specs.Cells.{{DeskRow, RuleRow, {', '.join(d[0] + '_cells' for d in DATA)}}}
 use Rattle.brk_tables_schema.specs.Order.{{ordering_by_key}}
 
--- A table, by its name.
+-- The tables of a desk, by name. `table_name` is the SQL name of each.
 pub data Which : Type 0 where
 {both(lambda d: f'  {d[2]} : Which')}
 
@@ -549,8 +549,8 @@ abbrev pub key : (w : Which) → Item w → List KeyPart
 abbrev pub order : (w : Which) → Item w → Item w → Ordering
 order w = ordering_by_key (key w)
 
--- The records of the table `w` of a desk with the tables `t`. Only the one of DESK depends on the
--- schema.
+-- The records of the table `w` of a desk with the tables `t`. Only the record of DESK depends on
+-- the schema.
 abbrev pub rows_in_schema : Schema → (w : Which) → Tables → List (Item w)
 {both(lambda d: f'rows_in_schema schema {d[2]} t = {d[5]}')}
 
@@ -566,7 +566,7 @@ desk_of_schema schema = record {{ shape = shape; placed = placed; Item = Item; e
 abbrev pub desk : Desk Which Tables
 desk = desk_of_schema third_schema
 
--- The list of all tables, which are those of schema 3.
+-- The list of all tables of a desk: the tables of schema 3.
 abbrev pub all_tables : List Which
 all_tables = {lst(d[2] for d in DATA)}
 
@@ -690,7 +690,8 @@ abbrev pub specified_table : Table → Which
 abbrev pub create_text : Which → List ℕ
 {chr(10).join(f'create_text {d[2]} = codes "{create_text(d)}"' for d in DATA)}
 
--- The text of a DELETE on a table. It is prepared, to see if the table exists, and never run.
+-- The text of a DELETE statement on a table. It is prepared, to check if the table exists, and
+-- never executed.
 abbrev pub probe_text : Which → List ℕ
 probe_text w = codes "DELETE FROM " ++ table_name w
 """
@@ -717,7 +718,7 @@ pub enum Table {{
 {chr(10).join(f'    /// {d[1]}{chr(10)}    {d[2]},' for d in DATA)}
 }}
 
-impl Table {{{function('create_text', 'Returns the text of the CREATE TABLE statement of the table.', 'create_text', create_text)}{function('probe_text', 'Returns the text of a DELETE on the table, which is prepared and never run.', 'probe_text', lambda d: f'DELETE FROM {d[1]}')}}}
+impl Table {{{function('create_text', 'Returns the text of the CREATE TABLE statement of the table.', 'create_text', create_text)}{function('probe_text', 'Returns the text of a DELETE statement on the table, which is prepared and never executed.', 'probe_text', lambda d: f'DELETE FROM {d[1]}')}}}
 """
     for name, what, tables in by_schema():
         out += f"""
@@ -1257,7 +1258,7 @@ abbrev pub IsUnchangedAndOpen : State → State → Type 0
 IsUnchangedAndOpen old new = IsTrue old.is_open × (new.now ≡ old.now)
 
 -- The lists are all rows of these four tables, sorted by key, and the reads changed nothing.
--- Vacuous for a table that is not defined as a desk defines it.
+-- Vacuous for a table that the database does not define as a desk does.
 pub record ShowsFourTables (first second third fourth : Which) (a b c d : List Row) (old new : State) : Type 0 where
   pub stays : IsUnchangedAndOpen old new
   pub one : ShowsAllRows first a old.now
@@ -1267,23 +1268,25 @@ pub record ShowsFourTables (first second third fourth : Which) (a b c d : List R
 """
     for word, _, _, tables in groups()[:-1]:
         out += f"""
-{remark(f'The raw rows are all rows of {named(tables)}, sorted by key, and the reads changed nothing.')}
+{remark(f'The raw rows are all rows of {named(tables)}, sorted by key, and the reads changed nothing. Vacuous for a table that the database does not define as a desk does.')}
 abbrev pub Shows{word}Tables : {word}Rows → State → State → Type 0
 Shows{word}Tables raw = ShowsFourTables {' '.join(d[2] for d in tables)} {' '.join(f'raw.{raw_field(d)}.items' for d in tables)}
 """
     out += f"""
 -- The raw rows are all rows of CASH_MOVE and of SETTLE_RULE, sorted by key, or none of a table that
--- the schema `desk` does not have. The reads changed nothing.
+-- the schema `desk` does not have. The reads changed nothing. Vacuous for a table that the database
+-- does not define as a desk does.
 pub record ShowsLaterTables (desk : Schema) (raw : LaterRows) (old new : State) : Type 0 where
   pub same : new.now ≡ old.now
 {chr(10).join(f'  pub {raw_field(d)} : ShowsRowsIfPresent desk {d[2]} raw.{raw_field(d)}.items old.now' for d in groups()[-1][3])}
 
--- Those of the raw rows that are of one table.
+-- The raw rows of one table.
 abbrev pub raw_rows_of_table : RawSheets → Which → List Row
 {chr(10).join(f'raw_rows_of_table raw {d[2]} = raw.{field}.{raw_field(d)}.items' for _, field, _, tables in groups() for d in tables)}
 
 -- The raw rows are all rows of each table of the schema `desk`, sorted by key, and none of other
--- tables. The database was open, and the reads changed nothing.
+-- tables. The database was open, and the reads changed nothing. Vacuous for a table that the
+-- database does not define as a desk does.
 abbrev pub ShowsDeskTables : Schema → RawSheets → State → State → Type 0
 ShowsDeskTables desk raw old new = IsUnchangedAndOpen old new × ((w : Which) → ShowsRowsIfPresent desk w (raw_rows_of_table raw w) old.now)
 """

@@ -16,7 +16,7 @@ pub enum Place {
 }
 
 impl Place {
-    /// Returns a new database without tables, or nothing if memory ran out.
+    /// Returns a new database without tables, or `Nothing` if it is out of memory.
     pub fn with_empty_database(alloc: Global) -> Place {
         match Connection::open_in_memory(alloc) {
             Ok(conn) => Place::Database(conn),
@@ -24,7 +24,7 @@ impl Place {
         }
     }
 
-    /// Returns a new desk, or nothing if memory ran out.
+    /// Returns a new desk, or `Nothing` if it cannot be created.
     pub fn with_new_desk(alloc: Global) -> Place {
         let Ok(conn) = Connection::open_in_memory(alloc) else {
             return Place::Nothing;

@@ -96,10 +96,10 @@ impl<'a> Replay<'a> {
     }
 }
 
-/// Returns the transcript with the output lines that its commands have now in place of the old
+/// Returns the transcript with new output lines, which its commands write now, in place of the old
 /// ones.
 ///
-/// Fails if memory ran out.
+/// Fails if it is out of memory.
 pub fn replay_transcript(alloc: Global, text: &str) -> Result<String, Failed> {
     let mut out = String::new(alloc);
     let mut replay = Replay {

@@ -50,7 +50,8 @@ fn bytes_of_input_lines(alloc: Global, pieces: &[Piece]) -> Result<Vec<&[u8]>, A
     Ok(texts)
 }
 
-// Parses a query from a view's name and its arguments, and executes it on a desk.
+// Parses a query from a view's name and its arguments, and executes it on a desk. Returns the view
+// or the refusal.
 fn append_query_answer(
     alloc: Global,
     desk: &mut Desk<MemStore>,

@@ -41,8 +41,8 @@ integer_column = not_null_column Integer
 abbrev pub nullable_integer_column : List ℕ → Column
 nullable_integer_column name = record (integer_column name) { not_null = false }
 
--- The foreign key of the column at `place` to the column `column` of the table `parent`, with no
--- action on delete or update.
+-- The foreign key of the column at `place` to the column `column` of the table `parent`, with NO
+-- ACTION on delete and on update, and not deferred.
 abbrev pub foreign_key : ℕ → List ℕ → List ℕ → Reference
 foreign_key place parent column = record { columns = place ∷ []; parent = parent; parent_columns = column ∷ []; on_delete = NoAction; on_update = NoAction; is_deferred = false }
 
@@ -85,13 +85,13 @@ writes_rows SetDefault = true
 abbrev pub foreign_key_writes_rows : Reference → Bool
 foreign_key_writes_rows ref = writes_rows ref.on_delete || writes_rows ref.on_update
 
--- True if the rows of the table are not at `tree`, or if none of its foreign keys changes or
--- deletes rows.
+-- True if none of the foreign keys of the table `t` changes or deletes rows. True as well if the
+-- rows of `t` are not at `tree`.
 abbrev pub has_no_actions_at : ℕ → Table → Bool
 has_no_actions_at tree t = not (t.tree == tree) || list_all (λ ref. not (foreign_key_writes_rows ref)) t.references
 
 -- For each table of the schema whose rows are at `tree`: none of its foreign keys changes or
--- deletes rows. So no foreign-key action changes the rows at `tree`.
+-- deletes rows. Vacuous if no table has its rows there.
 abbrev pub HasNoActionsAt : Schema → ℕ → Type 0
 HasNoActionsAt schema tree = list_all (has_no_actions_at tree) schema.tables ≡ true
 
@@ -99,8 +99,8 @@ HasNoActionsAt schema tree = list_all (has_no_actions_at tree) schema.tables ≡
 abbrev pub has_no_actions : Table → Bool
 has_no_actions t = list_all (λ ref. not (foreign_key_writes_rows ref)) t.references
 
--- The database `new` has a table of this shape that `old` did not have, without rows, and all
--- tables of `old` at their positions with their rows.
+-- The database `new` has a table, without rows, that `old` did not have, and all tables of `old` at
+-- their positions with their rows. The new table is defined as `shape` of its tree.
 pub record CreatesTableOfShape (old new : Database) (shape : ℕ → Table) : Type 0 where
   pub tree : ℕ
   pub at : ℕ
@@ -124,7 +124,9 @@ CreatesEachTable (shape ∷ shapes) old new = (mid : Database) × CreatesTableOf
 
 -- ---- All tables of the program
 
--- The tables of a program: `W` names them, and `T` contains a list of records for each of them.
+-- The tables of a program: `W` names them, and `T` contains a list of records for each of them. For
+-- each table: its definition with the rows at a tree (`shape`), the type of its records (`Item`),
+-- the row that encodes a record, the order of the records, and the list of them in `T`.
 pub record Desk (W T : Type 0) : Type 1 where
   pub shape : W → ℕ → Table
   pub placed : (w : W) (tree : ℕ) → (shape w tree).tree ≡ tree
@@ -133,8 +135,8 @@ pub record Desk (W T : Type 0) : Type 1 where
   pub order : (w : W) → Item w → Item w → Ordering
   pub list : (w : W) → T → List (Item w)
 
--- The database contains all tables of the program, at the trees `tree`, with the records of `t`. It
--- may contain other tables.
+-- The database contains all tables of the program, at the trees `tree`, with the records of `t`. No
+-- foreign key changes or deletes rows at these trees. The database may contain other tables.
 pub record HasTables {W T : Type 0} (desk : Desk W T) (t : T) (tree : W → ℕ) (db : Database) : Type 0 where
   pub place : W → ℕ
   pub stands : (w : W) → IsTableAt db.schema (desk.shape w (tree w)) (place w)
@@ -144,8 +146,9 @@ pub record HasTables {W T : Type 0} (desk : Desk W T) (t : T) (tree : W → ℕ)
   pub sound : IsDatabase db
   pub rows : (w : W) → TreeHoldsRecords (desk.shape w (tree w)) (desk.encode w) (desk.order w) (desk.list w t) (db.trees (tree w))
 
--- The database contains those tables of the program that are `In`, at the trees `tree`, with their
--- records of `t`. It may contain other tables.
+-- The database contains those tables `w` of the program for which `In w` holds, at the trees
+-- `tree`, with their records of `t`. No foreign key changes or deletes rows at these trees. The
+-- database may contain other tables.
 pub record HasSelectedTables {W T : Type 0} (desk : Desk W T) (In : W → Type 0) (t : T) (tree : W → ℕ) (db : Database) : Type 0 where
   pub place : W → ℕ
   pub stands : (w : W) → In w → IsTableAt db.schema (desk.shape w (tree w)) (place w)
@@ -154,8 +157,8 @@ pub record HasSelectedTables {W T : Type 0} (desk : Desk W T) (In : W → Type 0
   pub sound : IsDatabase db
   pub rows : (w : W) → In w → TreeHoldsRecords (desk.shape w (tree w)) (desk.encode w) (desk.order w) (desk.list w t) (db.trees (tree w))
 
--- The schema of `new` equals that of `old`. So do the rows of each table that is at none of the
--- trees `tree`, unless a foreign key of that table changes or deletes its rows.
+-- The schemas of `old` and `new` are equal. The rows of each table that is at none of the trees
+-- `tree` are unchanged, unless a foreign key of that table changes or deletes rows.
 pub record PreservesUnrelatedTables {W : Type 0} (tree : W → ℕ) (old new : Database) : Type 0 where
   pub schema : new.schema ≡ old.schema
   pub rows : AllByRecursion (λ k. ((w : W) → k.tree ≢ tree w) → HasNoActionsAt old.schema k.tree → new.trees k.tree ≡ old.trees k.tree) old.schema.tables

@@ -8,8 +8,8 @@ use Rattle.sqlite.specs.State.{State, HasCleanDisk, KeepsCommit, Survives, Execu
 use Rattle.brk_sql.specs.Desk.{Desk, ChangesTablesBy, TablesSatisfy}
 
 -- Under the disk assumption the call commits nothing, and a crash after it exposes only states that
--- a crash before it could expose. If it returns `Ok v` within a transaction, the transaction is
--- still open, and `Made v` relates the two states.
+-- a crash before it could expose. Under the same assumption, if it returns `Ok v` within a
+-- transaction, the transaction is still open, and `Made v` relates the two states.
 pub record IsTransactionStep {V E : Type 0} (old new : State) (result : Result V E) (Made : V → State → State → Type 0) : Type 0 where
   pub kept : HasCleanDisk new → KeepsCommit old new
   pub made : HasCleanDisk new → IsTrue old.in_transaction → IfOk result (λ v. IsTrue new.in_transaction × Made v old new)
@@ -35,13 +35,15 @@ IsUnchangedAndSatisfies desk P old new = IsTrue old.is_open × (new.now ≡ old.
 abbrev pub IsConnectionStep : {S V E : Type 0} → Ghosts S → Transaction S → Transaction S → Result V E → (V → State → State → Type 0) → Type 0
 IsConnectionStep g old new result Made = IsTransactionStep (state g old.conn.now) (state g new.conn.now) result Made
 
--- If the call succeeds, it changes the records of the program's tables from `t` to `f t`, whatever
--- `t` is, and leaves other tables unchanged (`ChangesTablesBy`). It commits nothing. Vacuous if the
--- disk assumption fails, or outside a transaction.
+-- If the call succeeds, it changes the records of the program's tables from `t` to `f t`, for all
+-- `t`, and leaves other tables unchanged (`ChangesTablesBy`). It commits nothing. Nothing is said
+-- of the tables if the disk assumption fails, outside a transaction, or if the database does not
+-- contain all these tables.
 abbrev pub WritesTables : {W T S V E : Type 0} → Desk W T → Ghosts S → Transaction S → Transaction S → Result V E → (T → T) → Type 0
 WritesTables desk g old new result f = IsConnectionStep g old new result (λ _ a b. ChangesTablesBy desk f a.now b.now)
 
 -- If the call succeeds, it changes nothing, and `Told` relates its value to the records of the
--- program's tables. Vacuous if the disk assumption fails, or outside a transaction.
+-- program's tables. Nothing is said of them if the disk assumption fails, outside a transaction, or
+-- if the database does not contain all these tables.
 abbrev pub ReadsTables : {W T S V E : Type 0} → Desk W T → Ghosts S → Transaction S → Transaction S → Result V E → (V → T → Type 0) → Type 0
 ReadsTables desk g old new result Told = IsConnectionStep g old new result (λ v. IsUnchangedAndSatisfies desk (Told v))

@@ -1,6 +1,6 @@
-//! The SQL statements on cash rows and on the settlement day, and those of the upgrade of an older
-//! file. Each function is called within an open transaction. An error of the `sqlite` crate is
-//! returned as `Store`.
+//! The SQL statements on cash rows and on the settlement day, and the statements that upgrade an
+//! older file. Each function is called within an open transaction. An error of the `sqlite` crate
+//! is returned as `Store`.
 #![tactic(auto)]
 
 pub mod moves;

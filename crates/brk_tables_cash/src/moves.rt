@@ -53,8 +53,8 @@ pub fn last_move<S: Alter>(tx: &mut Transaction<'_, S>) -> Result<Option<MoveRow
     decode_first_row(&rows)
 }
 
-/// Returns true if there are at least 10^12 deposits and withdrawals. The database steps over all
-/// of them but the last. Changes nothing. Fails with `Store` only.
+/// Returns true if there are at least 10^12 deposits and withdrawals. The query steps over all rows
+/// of them, so its cost grows with their number. Changes nothing. Fails with `Store` only.
 pub fn has_maximum_movements<S: Alter>(tx: &mut Transaction<'_, S>) -> Result<bool, Fault>
     ensures same_reference { tx.new.conn.ghost_name ≡ tx.old.conn.ghost_name }
     ensures step { ReadsDeskTables S.Store tx.old tx.new result (λ all t. all ≡ nat_le greatest_id (length (filter (λ r. is_none r.trade) t.moves))) }

@@ -11,8 +11,8 @@ use Rattle.brk_tables_schema.specs.Made.{HasRows}
 abbrev pub tables_added_after : Schema → List Which
 tables_added_after schema = filter (λ w. not (has_table schema w)) all_tables
 
--- The database `new` contains the tables of a desk in schema 3, without rows but the one of DESK,
--- and all tables of `old` with their rows.
+-- The database `new` contains the tables of a desk in schema 3, without rows, except for the one
+-- row of DESK, and all tables of `old` with their rows.
 pub record CreatesDeskTables (old new : Database) : Type 0 where
   pub rows : HasRows tables_without_rows new
   pub others : PreservesAllTables old new

@@ -7,7 +7,7 @@ use Rattle.brk_model.specs.Schemas.{Schema}
 use Rattle.brk_tables_schema.specs.Desk.{Which, all_tables, table_name, tables_in_schema}
 use Rattle.brk_tables_create.specs.Made.{tables_added_after}
 
--- True if the schema of the database has a table with the name of `w`, whatever its columns are.
+-- True if the schema of the database has a table with the name of `w`, with any columns.
 abbrev pub has_table_named : database.Schema → Which → Bool
 has_table_named schema w = is_some (table_named schema (table_name w))
 

@@ -54,6 +54,7 @@ create_text CashRows = codes "CREATE TABLE CASH_TRANSACTION (CT_T_ID INTEGER PRI
 create_text CashMoves = codes "CREATE TABLE CASH_MOVE (CM_ID INTEGER PRIMARY KEY NOT NULL, CM_CA_ID INTEGER NOT NULL REFERENCES CUSTOMER_ACCOUNT (CA_ID), CM_T_ID INTEGER UNIQUE REFERENCES TRADE (T_ID), CM_DTS INTEGER NOT NULL, CM_AMT INTEGER NOT NULL, CM_NAME TEXT NOT NULL) STRICT"
 create_text SettleRules = codes "CREATE TABLE SETTLE_RULE (SR_ID INTEGER PRIMARY KEY NOT NULL, SR_DAY INTEGER NOT NULL) STRICT"
 
--- The text of a DELETE on a table. It is prepared, to see if the table exists, and never run.
+-- The text of a DELETE statement on a table. It is prepared, to check if the table exists, and
+-- never executed.
 abbrev pub probe_text : Which → List ℕ
 probe_text w = codes "DELETE FROM " ++ table_name w

@@ -49,8 +49,8 @@ fn add_desk_row<S: Alter>(tx: &mut Transaction<'_, S>) -> Result<(), Fault>
     )
 }
 
-/// Creates the tables of schema 3, without rows but the one of DESK. Tables that exist keep their
-/// rows. Fails with `Store` only.
+/// Creates the tables of schema 3, without rows, except for the one row of DESK. The rows of
+/// existing tables are unchanged. Fails with `Store` only.
 pub fn create_tables<S: Alter>(tx: &mut Transaction<'_, S>) -> Result<(), Fault>
     ensures same_reference { tx.new.conn.ghost_name ≡ tx.old.conn.ghost_name }
     ensures step { IsConnectionStep S.Store tx.old tx.new result (λ _ a b. CreatesDeskTables a.now b.now) }

@@ -24,7 +24,8 @@ fn table_exists<S: Alter>(tx: &mut Transaction<'_, S>, table: Table) -> Result<b
     statement_compiles(tx, table.probe_text())
 }
 
-// Returns true if one of the tables exists, by name. Fails with `Store` only.
+// Returns true if at least one of the tables exists, by name. Changes nothing. Fails with `Store`
+// only.
 fn has_any_of_tables<S: Alter>(tx: &mut Transaction<'_, S>, tables: &[Table]) -> Result<bool, Fault>
     ensures same_reference { tx.new.conn.ghost_name ≡ tx.old.conn.ghost_name }
     ensures step { IsConnectionStep S.Store tx.old tx.new result (λ has a b. (b.now ≡ a.now) × (has ≡ list_any (λ table. has_table_named a.now.schema (specified_table table)) tables.now)) }
@@ -38,7 +39,7 @@ fn has_any_of_tables<S: Alter>(tx: &mut Transaction<'_, S>, tables: &[Table]) ->
     Ok(false)
 }
 
-// Returns true if each of the tables exists, by name. Fails with `Store` only.
+// Returns true if each of the tables exists, by name. Changes nothing. Fails with `Store` only.
 fn has_each_of_tables<S: Alter>(
     tx: &mut Transaction<'_, S>,
     tables: &[Table],
@@ -55,8 +56,8 @@ fn has_each_of_tables<S: Alter>(
     Ok(true)
 }
 
-/// Returns true if the database has a table with the name of some table of a desk. Fails with
-/// `Store` only.
+/// Returns true if the database has a table with the name of some table of a desk. Changes nothing.
+/// Fails with `Store` only.
 pub fn has_some_desk_table<S: Alter>(tx: &mut Transaction<'_, S>) -> Result<bool, Fault>
     ensures same_reference { tx.new.conn.ghost_name ≡ tx.old.conn.ghost_name }
     ensures step { IsConnectionStep S.Store tx.old tx.new result (λ has a b. (b.now ≡ a.now) × (has ≡ has_table_of_desk a.now.schema)) }
@@ -65,8 +66,8 @@ pub fn has_some_desk_table<S: Alter>(tx: &mut Transaction<'_, S>) -> Result<bool
     has_any_of_tables(tx, &IN_THIRD)
 }
 
-// Returns true if each table of `there` exists and none of `absent`, by name. Fails with `Store`
-// only.
+// Returns true if each table of `there` exists and none of `absent`, by name. Changes nothing.
+// Fails with `Store` only.
 fn has_exactly_tables<S: Alter>(
     tx: &mut Transaction<'_, S>,
     there: &[Table],
@@ -83,7 +84,7 @@ fn has_exactly_tables<S: Alter>(
 }
 
 // Returns true if the tables that a schema has exist, by name, and none that a later schema adds.
-// Fails with `Store` only.
+// Changes nothing. Fails with `Store` only.
 fn has_exactly_tables_of<S: Alter>(
     tx: &mut Transaction<'_, S>,
     schema: Schema,
@@ -106,7 +107,7 @@ pub fn has_tables_of<S: Alter>(tx: &mut Transaction<'_, S>, schema: Schema) -> R
     ensures step { IsConnectionStep S.Store tx.old tx.new result (λ has a b. IsTrue a.is_open × (b.now ≡ a.now) × (has ≡ has_exact_table_names (abstract_schema schema) a.now.schema)) }
     ensures fault { OnErr result (result ≡ Err Store) }
 {
-    // Any answer shows that the database is open. DESK is looked up again below.
+    // Any result shows that the database is open. DESK is looked up a second time below.
     let _there = table_exists(tx, Table::TheDesk)?;
     has_exactly_tables_of(tx, schema)
 }

@@ -105,7 +105,7 @@ impl Table {
         }
     }
 
-    /// Returns the text of a DELETE on the table, which is prepared and never run.
+    /// Returns the text of a DELETE statement on the table, which is prepared and never executed.
     pub fn probe_text(self) -> &'static str
         ensures { result.now ≡ probe_text (specified_table self) }
     {

@@ -10,7 +10,7 @@ use Rattle.brk_tables_scan.specs.Schemas.{table_names_of}
 abbrev pub Heading : Type 0
 Heading = List ℕ × List (List ℕ)
 
--- The heading of a text and of names that are borrowed.
+-- The heading of a borrowed statement and of borrowed column names.
 abbrev pub borrowed_heading : Bor (List ℕ) × Bor (List (Bor (List ℕ))) → Heading
 borrowed_heading told = (told.0.now, map (λ (name : Bor (List ℕ)). name.now) told.1.now)
 
@@ -23,7 +23,7 @@ abbrev pub heading_of_table : Which → Heading
 heading_of_table w = (select_all_text w, (table_names_of (shape w 0)).columns)
 
 -- If `has` is true, the result of each statement has exactly the column names of its heading, in
--- order. If it is false, the result of one statement has not.
+-- order. If it is false, the result of some statement does not have them.
 abbrev pub MatchesEachHeading : List Heading → Bool → Schema → Type 0
 MatchesEachHeading [] has schema = has ≡ true
 MatchesEachHeading (h ∷ headings) has schema = (MatchesResultColumns h.0 h.1 false schema × (has ≡ false)) ⊎ (MatchesResultColumns h.0 h.1 true schema × MatchesEachHeading headings has schema)

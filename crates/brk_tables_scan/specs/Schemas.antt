@@ -50,12 +50,13 @@ HasTablesOfSchema desk schema = AllByRecursion (λ w. HasTableWithNames schema (
 abbrev pub LacksLaterTables : Schema → database.Schema → Type 0
 LacksLaterTables desk schema = AllByRecursion (λ w. table_named schema (table_name w) ≡ None) (tables_added_after desk)
 
--- The row has the form of the one of DESK, with the number of the schema: its id is 1, and its
--- stamp is any value.
+-- The row has exactly the three values of a row of DESK: the id 1, the number of the schema, and
+-- any value as the stamp.
 abbrev pub IsDeskRowOf : Schema → Row → Type 0
 IsDeskRowOf desk row = (last : Value) × (row ≡ natural_as_value 1 ∷ natural_as_value desk.number ∷ last ∷ [])
 
--- DESK has exactly one row: with the id 1, the number of the schema, and any stamp.
+-- The rows are exactly one, with the three values of a row of DESK: the id 1, the number of the
+-- schema, and any value as the stamp.
 abbrev pub HasOneDeskRow : Schema → List Row → Type 0
 HasOneDeskRow desk rows = (last : Value) × (rows ≡ (natural_as_value 1 ∷ natural_as_value desk.number ∷ last ∷ []) ∷ [])
 

@@ -18,11 +18,12 @@ use Rattle.brk_tables_schema.specs.Desk.{Which, Item, shape, encode, order, has_
 use Rattle.brk_tables_schema.specs.Made.{HasRowsInSchema, IsTableOfSchema}
 use Rattle.brk_tables_scan.specs.Schemas.{HasDistinctRowids}
 
--- The rows are those of the table `w` at the tree `tree`, each as often as the tree has it. If the
--- table contains records, the rows are their encodings, in the order of the key. Conversely, if the
--- rows are the encodings of records and the rowids are distinct, the table contains these records.
+-- The rows are all rows at the tree `tree` of the table `w`, each as often as it occurs there. If
+-- the table contains records, the rows are their encodings, in the order of the key. Conversely, if
+-- the rows are the encodings of records and the rowids are distinct, the table contains these
+-- records.
 pub record AreTableRows (w : Which) (rows : List Row) (db : Database) (tree : ℕ) : Type 0 where
-  -- They are all rows of the tree, each as often as the tree has it.
+  -- The rows are all rows of the tree, each as often as it occurs there.
   pub all : IsPermutation (map (cells_in_column_order (shape w tree)) (db.trees tree)) rows
   -- If the table contains records, the rows are their encodings, in order.
   pub told : (xs : List (Item w)) → TreeHoldsRecords (shape w tree) (encode w) (order w) xs (db.trees tree) → rows ≡ map (encode w) xs
@@ -35,22 +36,25 @@ abbrev pub ShowsAllRows : Which → List Row → Database → Type 0
 ShowsAllRows w rows db = (at tree : ℕ) → IsTableAt db.schema (shape w tree) at → AreTableRows w rows db tree
 
 -- If the call succeeds, it changes nothing and returns all rows of the table `w`, sorted by key
--- (`ShowsAllRows`). Vacuous if the disk assumption fails, or outside a transaction.
+-- (`ShowsAllRows`). Nothing is said of the rows if the disk assumption fails, outside a
+-- transaction, or if no table of the database is defined as a desk defines `w`.
 abbrev pub ReadsAllRows : {S E : Type 0} → Ghosts S → Transaction S → Transaction S → Result (Vec Row) E → Which → Type 0
 ReadsAllRows g old new result w = IsConnectionStep g old new result (λ rows a b. IsTrue a.is_open × (b.now ≡ a.now) × ShowsAllRows w rows.items a.now)
 
--- The rows are all rows of the table `w`, sorted by key, if the schema has this table, and none
--- otherwise.
+-- The rows are all rows of the table `w`, sorted by key, if the schema has this table
+-- (`ShowsAllRows`, vacuous if the database does not define it so), and there are none otherwise.
 abbrev pub ShowsRowsIfPresent : Schema → Which → List Row → Database → Type 0
 ShowsRowsIfPresent desk w rows db = (IsTableOfSchema desk w → ShowsAllRows w rows db) × (has_table desk w ≡ false → rows ≡ [])
 
 -- If the call succeeds, it changes nothing and returns all rows of the table `w`, or none if the
--- schema does not have this table. Vacuous if the disk assumption fails, or outside a transaction.
+-- schema does not have this table (`ShowsRowsIfPresent`). Nothing is said of the rows if the disk
+-- assumption fails, or outside a transaction.
 abbrev pub ReadsRowsIfPresent : {S E : Type 0} → Ghosts S → Transaction S → Transaction S → Result (Vec Row) E → Schema → Which → Type 0
 ReadsRowsIfPresent g old new result desk w = IsConnectionStep g old new result (λ rows a b. (b.now ≡ a.now) × ShowsRowsIfPresent desk w rows.items a.now)
 
--- The typed rows are those of the schema's tables in the database. For `None`: whatever tables of
--- the schema the database contains, their rows are malformed or not UTF-8.
+-- The database contains the tables of the schema with the typed rows `sheets`. For `None`: if the
+-- database contains the tables of the schema with some rows, a row of them is malformed or a text
+-- is not UTF-8. The case `None` is vacuous if it does not contain them.
 abbrev pub AreSheetsOfDatabase : Schema → Database → Option Sheets → Type 0
 AreSheetsOfDatabase desk db (Some sheets) = HasRowsInSchema desk (tables_in_sheets sheets) db
 AreSheetsOfDatabase desk db None = (t : Tables) → HasRowsInSchema desk t db → satisfies_form_condition desk t && has_utf8_texts t ≡ false

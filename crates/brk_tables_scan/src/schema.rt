@@ -60,13 +60,12 @@ fn has_one_schema_row(schema: Schema, rows: &[Row]) -> bool
     }
 }
 
-/// Returns whether the database has a desk of `schema`: each table of the schema with exactly its
-/// columns, none that a later schema adds, and in DESK one row with the schema's number.
+/// Returns true if the database has a desk of `schema`: each table of the schema with exactly its
+/// columns, none that a later schema adds, and in DESK one row with the schema's number. Changes
+/// nothing.
 ///
-/// Fails with `Store` only.
-///
-/// This is proved only if the tables of these names and columns are defined as the desk defines
-/// them.
+/// Fails with `Store` only. The result is specified only if tables of these names and columns are
+/// defined as a desk defines them.
 pub fn has_desk<S: Alter>(tx: &mut Transaction<'_, S>, schema: Schema) -> Result<bool, Fault>
     ensures same_reference { tx.new.conn.ghost_name ≡ tx.old.conn.ghost_name }
     ensures step { IsConnectionStep S.Store tx.old tx.new result (λ has a b. IsTrue a.is_open × (b.now ≡ a.now) × (SchemaNamesImplyDefinitions (abstract_schema schema) a.now → IsTrue has ↔ HasDesk (abstract_schema schema) a.now)) }

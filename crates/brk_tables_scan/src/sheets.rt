@@ -14,10 +14,11 @@ use sqlite::{Alter, Transaction};
 use std::alloc::Global;
 
 /// Reads the tables of `schema` as typed rows, each list sorted by key, ascending. Returns `None`
-/// if the rows are malformed. All tables are read before the first row is decoded.
+/// only if a row is malformed or a text is not UTF-8. All tables are read before the first row is
+/// decoded. Changes nothing.
 ///
 /// Fails with `Memory` or `Store`. The result is specified only if the database has a desk of
-/// `schema` (`has_desk`) whose tables are defined as the desk defines them.
+/// `schema` (`has_desk`) whose tables are defined as a desk defines them.
 pub fn read_sheets<S: Alter>(
     tx: &mut Transaction<'_, S>,
     alloc: Global,

@@ -12,7 +12,7 @@ use Rattle.brk_tables_schema.specs.Shapes.{desk_row, kept, broker, customer, acc
 use Rattle.brk_tables_schema.specs.Cells.{DeskRow, RuleRow, desk_row_cells, kept_cells, broker_cells, customer_cells, account_cells, permission_cells, security_cells, last_trade_cells, charge_cells, band_cells, tax_rate_cells, customer_tax_cells, trade_cells, history_cells, request_cells, holding_cells, summary_cells, holding_history_cells, settlement_cells, cash_cells, move_cells, rule_cells}
 use Rattle.brk_tables_schema.specs.Order.{ordering_by_key}
 
--- A table, by its name.
+-- The tables of a desk, by name. `table_name` is the SQL name of each.
 pub data Which : Type 0 where
   TheDesk : Which
   KeptRows : Which
@@ -189,8 +189,8 @@ key SettleRules = rule_key
 abbrev pub order : (w : Which) → Item w → Item w → Ordering
 order w = ordering_by_key (key w)
 
--- The records of the table `w` of a desk with the tables `t`. Only the one of DESK depends on the
--- schema.
+-- The records of the table `w` of a desk with the tables `t`. Only the record of DESK depends on
+-- the schema.
 abbrev pub rows_in_schema : Schema → (w : Which) → Tables → List (Item w)
 rows_in_schema schema TheDesk t = desk_rows schema t.last
 rows_in_schema schema KeptRows t = t.kept
@@ -227,7 +227,7 @@ desk_of_schema schema = record { shape = shape; placed = placed; Item = Item; en
 abbrev pub desk : Desk Which Tables
 desk = desk_of_schema third_schema
 
--- The list of all tables, which are those of schema 3.
+-- The list of all tables of a desk: the tables of schema 3.
 abbrev pub all_tables : List Which
 all_tables = TheDesk ∷ KeptRows ∷ Brokers ∷ Customers ∷ Accounts ∷ Permissions ∷ Securities ∷ LastTrades ∷ Charges ∷ Bands ∷ TaxRates ∷ CustomerTaxes ∷ Trades ∷ TradeHistory ∷ Requests ∷ Holdings ∷ Summaries ∷ HoldingHistory ∷ Settlements ∷ CashRows ∷ CashMoves ∷ SettleRules ∷ []
 

@@ -53,7 +53,7 @@ is_flag_cell = is_natural_cell (λ n. (n == 0) || (n == 1))
 abbrev pub is_utf8_cell : Value → Bool
 is_utf8_cell = is_text_cell is_utf8
 
--- True if the text is the code of a trade type.
+-- True if the text is the code of some trade type.
 abbrev pub is_type_code : List ℕ → Bool
 is_type_code s = is_some (trade_type_with_code s)
 
@@ -61,7 +61,7 @@ is_type_code s = is_some (trade_type_with_code s)
 abbrev pub all_statuses : List Status
 all_statuses = Completed ∷ Active ∷ Submitted ∷ Pending ∷ Canceled ∷ []
 
--- True if the text is the code of a status.
+-- True if the text is the code of some status.
 abbrev pub is_status_code : List ℕ → Bool
 is_status_code s = list_any (λ status. bytes_eq (trade_status_code status) s) all_statuses
 
@@ -69,11 +69,11 @@ is_status_code s = list_any (λ status. bytes_eq (trade_status_code status) s) a
 abbrev pub all_cash_types : List CashType
 all_cash_types = CashAccount ∷ Cash ∷ Margin ∷ MarginAccount ∷ []
 
--- True if the text is that of a cash type.
+-- True if the text is the text of some cash type.
 abbrev pub is_cash_type_text : List ℕ → Bool
 is_cash_type_text s = list_any (λ kind. bytes_eq (cash_type_text kind) s) all_cash_types
 
--- True if the number is that of a tax status.
+-- True if the number is the number of some tax status.
 abbrev pub is_tax_status_number : ℕ → Bool
 is_tax_status_number n = is_some (tax_status_with_number n)
 
@@ -121,7 +121,7 @@ is_quantity_cell = is_natural_cell (is_quantity_in_schema third_schema)
 abbrev pub is_price_cell : Value → Bool
 is_price_cell = is_natural_cell is_price
 
--- True if the value is an INTEGER of at least 0 and at most the last stamp.
+-- True if the value is an INTEGER of at least 0 and at most the greatest stamp.
 abbrev pub is_stamp_cell : Value → Bool
 is_stamp_cell = is_natural_cell (λ n. nat_le n greatest_stamp)
 
@@ -138,7 +138,7 @@ is_rate_cell = is_natural_cell (λ n. nat_le n greatest_commission_rate)
 abbrev pub is_tax_rate_cell : Value → Bool
 is_tax_rate_cell = is_natural_cell (λ n. nat_le n greatest_tax_rate)
 
--- True if the value is an INTEGER of at least 0 and at most the last day.
+-- True if the value is an INTEGER of at least 0 and at most the greatest day.
 abbrev pub is_day_cell : Value → Bool
 is_day_cell = is_natural_cell (λ n. nat_le n greatest_day)
 
@@ -150,7 +150,7 @@ is_tax_status_cell = is_natural_cell is_tax_status_number
 abbrev pub is_charge_cell : Value → Bool
 is_charge_cell = is_natural_cell (λ n. nat_le n greatest_charge)
 
--- True if the value is NULL or a stamp.
+-- True if the value is NULL, or an INTEGER of at least 0 and at most the greatest stamp.
 abbrev pub is_null_or_stamp_cell : Value → Bool
 is_null_or_stamp_cell = is_null_or_natural_cell (λ n. nat_le n greatest_stamp)
 

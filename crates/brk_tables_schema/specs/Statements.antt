@@ -7,14 +7,16 @@ use Rattle.brk_model.specs.Tables.{Tables}
 use Rattle.brk_sql.specs.Model.{WritesTables, ReadsTables}
 use Rattle.brk_tables_schema.specs.Desk.{Which, Item, desk, list}
 
--- If the call succeeds, it changes the rows of a desk's tables from `t` to `f t`, whatever `t` is,
--- and leaves other tables unchanged. It commits nothing. Vacuous if the disk assumption fails, or
--- outside a transaction.
+-- If the call succeeds, it changes the rows of a desk's tables from `t` to `f t`, for all `t`, and
+-- leaves other tables unchanged. It commits nothing. Nothing is said of the tables if the disk
+-- assumption fails, outside a transaction, or if the database does not contain all tables of a
+-- desk.
 abbrev pub WritesDeskTables : {S V E : Type 0} → Ghosts S → Transaction S → Transaction S → Result V E → (Tables → Tables) → Type 0
 WritesDeskTables g old new result f = WritesTables desk g old new result f
 
 -- If the call succeeds, it changes nothing, and `Told` relates its value to the rows of a desk's
--- tables. Vacuous if the disk assumption fails, or outside a transaction.
+-- tables. Nothing is said of them if the disk assumption fails, outside a transaction, or if the
+-- database does not contain all tables of a desk.
 abbrev pub ReadsDeskTables : {S V E : Type 0} → Ghosts S → Transaction S → Transaction S → Result V E → (V → Tables → Type 0) → Type 0
 ReadsDeskTables g old new result Told = ReadsTables desk g old new result Told
 
@@ -23,18 +25,18 @@ ReadsDeskTables g old new result Told = ReadsTables desk g old new result Told
 abbrev pub IsFirstMatch : {X : Type 0} (w : Which) → (X → Item w) → (Item w → Bool) → Option X → Tables → Type 0
 IsFirstMatch w of is o t = option_map of o ≡ find is (list w t)
 
--- `all` are, through `of`, all records of the table `w` that pass `is`, sorted by the key of the
--- table.
+-- `all` are, through `of`, all records of the table `w` that pass `is`, in the order of the table.
 abbrev pub AreMatchingRows : {X : Type 0} (w : Which) → (X → Item w) → (Item w → Bool) → Vec X → Tables → Type 0
 AreMatchingRows w of is all t = map of all.items ≡ filter is (list w t)
 
 -- If the call succeeds, it changes nothing and returns the first record of the table `w` that
--- passes `is`, or `None` if no record passes. Vacuous if the disk assumption fails, or outside a
--- transaction.
+-- passes `is`, or `None` if no record passes. Nothing is said of the result if the disk assumption
+-- fails, outside a transaction, or if the database does not contain all tables of a desk.
 abbrev pub ReadsFirstMatch : {S X E : Type 0} → Ghosts S → Transaction S → Transaction S → Result (Option X) E → (w : Which) → (X → Item w) → (Item w → Bool) → Type 0
 ReadsFirstMatch g old new result w of is = ReadsDeskTables g old new result (IsFirstMatch w of is)
 
 -- If the call succeeds, it changes nothing and returns all records of the table `w` that pass `is`,
--- sorted by the key of the table. Vacuous if the disk assumption fails, or outside a transaction.
+-- sorted by the key of the table. Nothing is said of the result if the disk assumption fails,
+-- outside a transaction, or if the database does not contain all tables of a desk.
 abbrev pub ReadsMatchingRows : {S X E : Type 0} → Ghosts S → Transaction S → Transaction S → Result (Vec X) E → (w : Which) → (X → Item w) → (Item w → Bool) → Type 0
 ReadsMatchingRows g old new result w of is = ReadsDeskTables g old new result (AreMatchingRows w of is)

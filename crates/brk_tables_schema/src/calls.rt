@@ -30,8 +30,7 @@ pub fn execute_statement<S: Alter>(
     }
 }
 
-/// Returns the rows that a statement selects, which has no RETURNING clause. Fails with `Store`
-/// only.
+/// Returns the rows that a statement without a RETURNING clause selects. Fails with `Store` only.
 pub fn select_rows<S: Alter>(
     tx: &mut Transaction<'_, S>,
     text: &str,

@@ -47,7 +47,8 @@ impl From<DecodeError> for Fault {
     }
 }
 
-/// Converts an error of a read: `Memory` if the database was out of memory, otherwise `Form`.
+/// Returns the reason why a row cannot be decoded after an error of a read: `Form` only if the
+/// error was not out of memory.
 pub(crate) fn decode_error_by(error: Error) -> DecodeError
     ensures { result ≡ DecodeError.Form → error ≢ Error.SqliteFailure ErrorCode.OutOfMemory }
 {

@@ -14,12 +14,12 @@ use brk_money::Fault;
 use sqlite::Row;
 use std::alloc::Global;
 
-/// A typed record of a row of a table.
+/// A typed record that a table row encodes.
 pub trait Record: Drop {
-    /// The row that represents the record.
+    /// The row that encodes the record.
     ghost cells: { Self → Cells };
 
-    /// The checks of its columns.
+    /// The check of each column of such a row, in order.
     ghost forms: { List (Value → Bool) };
 
     /// Decodes a row. Fails with `Form` only if a column is malformed or the number of columns is

@@ -14,8 +14,8 @@ use Rattle.brk_tables_schema.specs.Desk.{Which, desk, desk_of_schema}
 use Rattle.brk_tables_schema.specs.Made.{IsTableOfSchema, LacksOtherTables}
 use Rattle.brk_tables_cash.specs.Upgrade.{without_cash_transactions}
 
--- The rows of CASH_TRANSACTION, sorted by stamp, ascending. Rows of one stamp are in the order of
--- the table, which is that of their trades.
+-- The rows of CASH_TRANSACTION, sorted by stamp, ascending. Rows with equal stamps stay in the
+-- order of the table.
 abbrev pub cash_by_stamp : Tables → List CashRow
 cash_by_stamp t = sort_by_key (λ r. r.stamp) t.cash
 

@@ -17,8 +17,9 @@ use brk_tables_create::create_later_tables;
 use sqlite::{Alter, Transaction};
 use std::alloc::Global;
 
-// Creates the tables that a schema does not have, and sets the number of the schema to 3. Fails
-// with `Memory` or `Store` only.
+// Creates the tables that a schema does not have, and sets the number of the schema to 3. The
+// effect is specified only if the tables of the schema exist, and none that a later schema adds.
+// Fails with `Memory` or `Store` only.
 fn add_later_tables<S: Alter>(tx: &mut Transaction<'_, S>, schema: Schema) -> Result<(), Fault>
     ensures same_reference { tx.new.conn.ghost_name ≡ tx.old.conn.ghost_name }
     ensures step { IsConnectionStep S.Store tx.old tx.new result (λ _ a b. AddsLaterTables (abstract_schema schema) a.now b.now) }
@@ -41,8 +42,8 @@ fn number_cash_rows<S: Alter>(tx: &mut Transaction<'_, S>, alloc: Global) -> Res
     remove_cash_rows(tx)
 }
 
-/// Upgrades the tables of `schema` to schema 3, whatever rows they have. Fails with `Memory` or
-/// `Store`.
+/// Upgrades the tables of `schema` to schema 3, with any rows. The effect is specified only if
+/// these tables exist, and none that a later schema adds. Fails with `Memory` or `Store`.
 pub fn upgrade_tables<S: Alter>(
     tx: &mut Transaction<'_, S>,
     alloc: Global,

@@ -54,7 +54,8 @@ pub fn requests_of_broker<S: Alter>(
     decode_rows(alloc, &rows)
 }
 
-/// Returns the ids of the accounts of a broker, ascending. Fails with `Memory` or `Store`.
+/// Returns the ids of the accounts of a broker, ascending. Changes nothing. Fails with `Memory` or
+/// `Store`.
 pub fn accounts_of_broker<S: Alter>(
     tx: &mut Transaction<'_, S>,
     alloc: Global,

@@ -1,4 +1,4 @@
-//! The completed trades of a holding: those of an account in a security.
+//! The completed trades of a holding: of an account in a security.
 
 ghost use Rattle.std.specs.Prelude.{◌≡◌, ◌==◌, ◌&&◌, IfErr, bytes_eq, filter, map};
 ghost use Rattle.brk_model.specs.Joins.{trade_rows_oldest_first};
@@ -16,7 +16,7 @@ use sqlite::{Alter, Transaction};
 use std::alloc::Global;
 
 /// Returns the ids of the completed trades of an account in a security, the oldest first: sorted by
-/// the stamp of completion, then by id. Fails with `Memory` or `Store`.
+/// the stamp of completion, then by id. Changes nothing. Fails with `Memory` or `Store`.
 pub fn completed_trades_of_holding<S: Alter>(
     tx: &mut Transaction<'_, S>,
     alloc: Global,

@@ -1,4 +1,4 @@
-//! Trades of any status, by the stamp at which they reached it.
+//! Trades of any status, sorted by the stamp at which they reached it.
 
 ghost use Rattle.std.specs.Prelude.{◌≡◌, ◌==◌, ◌&&◌, Err, IfErr, OnErr, bytes_eq, filter, map, nat_le, option_map, option_to_list, take};
 ghost use Rattle.brk_money.specs.declared.fault.Fault.TheVariants.{Store};

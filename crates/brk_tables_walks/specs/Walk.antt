@@ -10,7 +10,8 @@ use Rattle.brk_model.specs.Run.{IsCallFault}
 use Rattle.brk_tables_walks.specs.declared.walking.WalkError.{WalkError}
 use Rattle.brk_tables_walks.specs.declared.walking.WalkError.TheVariants.{Failed, Cause}
 
--- In whatever schema the statement `sql` compiles, it has no RETURNING clause.
+-- In each schema in which the statement `sql` compiles, it has no RETURNING clause. Vacuous if it
+-- compiles in none.
 abbrev pub IsQuery : List ℕ → Type 0
 IsQuery sql = (schema : Schema) (c : Compiled) → understood schema sql ≡ Ok c → c.returning ≡ None
 
@@ -46,7 +47,7 @@ module _ {V X : Type 0} (cells : X → Row) (takes : V → X → V → Type 0) w
     pub stopped : stops at next e new
 
   -- The walk failed. At a fault, which is `Memory` or `Store`, the visitor had taken a prefix of
-  -- the records; at the visitor's error it had stopped at a record (`StopsAt`).
+  -- the records (`TakesFirst`). At the visitor's error it had stopped at a record (`StopsAt`).
   abbrev pub EndsEarly : {E : Type 0} → (V → X → E → V → Type 0) → List ℕ → Row → State → V → V → WalkError E → Type 0
   EndsEarly stops sql params db old new (Failed fault) = IsCallFault fault × TakesFirst sql params db old new
   EndsEarly stops sql params db old new (Cause e) = StopsAt stops sql params db old e new

@@ -5,8 +5,8 @@ pub trait Visitor<R, E> {
     /// The visitor is ready for a record.
     ghost ready: { Self → Type 0 };
 
-    /// Relates the visitor to each state of it, and of the values that it holds, to which calls can
-    /// lead.
+    /// Relates the visitor to each state of the visitor, and of the values that it holds, that
+    /// calls can lead to.
     ghost leads: { Self → Self → Type 0 };
 
     /// Relates the visitor to its state after a record that it takes.
@@ -24,9 +24,9 @@ pub trait Visitor<R, E> {
         ensures takes { OnOk result (takes self.old item.now self.new) }
         ensures stops { IfErr result (λ e. stops self.old item.now e self.new) };
 
-    /// A visitor is related to itself.
+    /// `leads` is reflexive.
     ghost reflexive: { (p : Self) → leads p p };
 
-    /// The relation is transitive.
+    /// `leads` is transitive.
     ghost transitive: { (p q r : Self) → leads p q → leads q r → leads p r };
 }

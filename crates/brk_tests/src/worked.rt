@@ -52,7 +52,7 @@ pub const ROWS: [&str; 12] = [
     "result,6,11.00",
 ];
 
-/// The replies to `ROWS`, without number and word.
+/// The replies to `ROWS`, without the row's number and the word `ok`.
 pub const LINES: [&str; 12] = [
     "1709251200016,1,SBMT,10.00,0.00,0.00,0.00,10.00,5.00,10000.00",
     "1709251200017,10.10,0.00,-1025.10,2024-03-03,0.00,0.00,8974.90",
@@ -78,7 +78,7 @@ pub const LAST_FIRST_ROWS: [&str; 6] = [
     "result,3,13.00",
 ];
 
-/// The replies to `LAST_FIRST_ROWS`, without number and word.
+/// The replies to `LAST_FIRST_ROWS`, without the row's number and the word `ok`.
 pub const LAST_FIRST_LINES: [&str; 6] = [
     "1709251200016,1,SBMT,10.00,0.00,0.00,0.00,10.00,5.00,10000.00",
     "1709251200017,10.10,0.00,-1025.10,2024-03-03,0.00,0.00,8974.90",

@@ -69,8 +69,8 @@ fn process_transcript_line<'a>(
     }
 }
 
-/// Returns the transcript with the output lines that its commands have now in place of the old
-/// ones.
+/// Executes the commands of a transcript, and returns it with their output lines in place of the
+/// old ones.
 pub fn replay_file_transcript(rt: &HostRuntime, text: &str) -> Result<String, Failed> {
     let mut out = String::new(rt.alloc());
     let mut due = None;

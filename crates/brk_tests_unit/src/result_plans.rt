@@ -160,7 +160,7 @@ fn case_without_later_stamp() -> Case {
     }
 }
 
-// Returns the last case, with the broker's commissions at their limit as well.
+// Returns `case_without_later_stamp`, with the broker's commissions at their limit as well.
 fn case_beyond_broker_limit() -> Case {
     Case {
         commissions: 100_000_000_000_000_000,
@@ -168,7 +168,7 @@ fn case_beyond_broker_limit() -> Case {
     }
 }
 
-// Returns the last case, with the balance at its lower limit as well.
+// Returns `case_beyond_broker_limit`, with the balance at its lower limit as well.
 fn case_beyond_balance_limit() -> Case {
     Case {
         held: Some(9_999_999_899),
@@ -177,7 +177,7 @@ fn case_beyond_balance_limit() -> Case {
     }
 }
 
-// Returns the last case, with a holding of 99 shares below its limit as well.
+// Returns `case_beyond_balance_limit`, with a holding of 99 shares below its limit as well.
 fn case_beyond_summary_limit() -> Case {
     Case {
         held: Some(9_999_999_900),
@@ -185,7 +185,7 @@ fn case_beyond_summary_limit() -> Case {
     }
 }
 
-// Returns the last case, with no commission band as well.
+// Returns `case_beyond_summary_limit`, with no commission band as well.
 fn case_without_commission_band() -> Case {
     Case {
         rate: None,
@@ -193,7 +193,7 @@ fn case_without_commission_band() -> Case {
     }
 }
 
-// Returns the last case, with a trade of another status as well.
+// Returns `case_without_commission_band`, with a trade of this status as well.
 fn case_of_wrong_status(status: Status) -> Case {
     Case {
         status,

@@ -20,7 +20,7 @@ pub const ROWS: [&str; 6] = [
     "upname,1",
 ];
 
-// The replies to `ROWS`, without number and word.
+// The replies to `ROWS`, without the row's number and the word `ok`.
 const LINES: [&str; 6] = [
     "1709251200016,1,SBMT,10.00,0.00,0.00,0.00,10.00,5.00,10000.00",
     "1709251200017,10.10,0.00,-1025.10,2024-03-03,0.00,0.00,8974.90",

@@ -20,8 +20,8 @@ pub enum File {
     Database,
 }
 
-/// A crash: one file accepts the given number of calls and fails at each one after. Bytes that were
-/// not synced are lost if `loses` is true, and otherwise stored.
+/// A crash: one file accepts the given number of calls and fails at each later call. Bytes that
+/// were not synced are lost if `loses` is true, and otherwise stored.
 #[derive(Clone, Copy)]
 pub struct Stop {
     pub name: &'static str,
@@ -68,7 +68,7 @@ pub struct Seen {
 }
 
 impl Seen {
-    /// Returns the observation before a batch.
+    /// Returns the empty observation, before a batch is executed.
     pub fn nothing(alloc: Global) -> Seen {
         Seen {
             before: String::new(alloc),
@@ -79,8 +79,8 @@ impl Seen {
     }
 }
 
-// Creates a desk in the database of a connection, or opens the desk that it has if it passes its
-// audit. Returns the connection if both fail.
+// Creates a desk in the database of a connection, or opens the desk that the database has, if it
+// passes its audit. Returns the connection if both fail.
 fn create_or_adopt<S: Alter + Drop>(
     alloc: Global,
     conn: Connection<S>,
@@ -162,8 +162,8 @@ fn run_batch_in_files(
     }
 }
 
-// Returns a file with these bytes, which accepts the given number of calls and fails at each one
-// after.
+// Returns a file with these bytes, which accepts the given number of calls and fails at each later
+// call.
 fn failing_file_with_bytes(alloc: Global, bytes: &[u8], calls: u64) -> Result<Fuse<Memory>, Fail> {
     let mut file = Memory::new(alloc);
     if file.write_at(0, bytes).is_err() || file.sync().is_err() {
@@ -172,8 +172,8 @@ fn failing_file_with_bytes(alloc: Global, bytes: &[u8], calls: u64) -> Result<Fu
     Ok(Fuse::new(file, calls))
 }
 
-/// Returns the two files with these bytes. Each accepts its number of calls and fails at each one
-/// after.
+/// Returns the two files with these bytes. Each accepts its number of calls and fails at each later
+/// call.
 pub fn failing_files_with_bytes(
     alloc: Global,
     held: &Held,

@@ -86,7 +86,7 @@ fn has_lines_audit_and_tables(seen: &Seen, lines: &str, tables: &str) -> bool {
 }
 
 // Creates a desk until a crash, and then runs the batch `SET` on the desk that is opened or
-// created. Returns whether its tables are these, and whether there was a crash.
+// created. Returns two flags: its tables are these, and there was a crash.
 fn crash_creation_and_set_up(
     alloc: Global,
     stop: Stop,
@@ -174,8 +174,8 @@ fn crash_and_retry_batch(
     })
 }
 
-// Checks that the lines until the crash begin those of the whole batch, and that the retry has the
-// lines `rest` and the last tables.
+// Checks that the lines until the crash are a prefix of the lines `whole` of the batch, and that
+// the retry has the lines `rest` and the tables `last`.
 fn expect_lines_and_tables(
     stop: Stop,
     twice: &Twice,
@@ -198,8 +198,8 @@ fn expect_lines_and_tables(
     )
 }
 
-// Checks that the tables after the crash are those of the rows with a written line, or of one more,
-// and that the retry completes the batch.
+// Checks that the tables after the crash contain the rows with a written line, or one row more, and
+// that the retry completes the batch.
 fn expect_retry_completes(
     alloc: Global,
     stop: Stop,

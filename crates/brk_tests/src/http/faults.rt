@@ -9,7 +9,7 @@ use std::alloc::Global;
 use std::test::Fail;
 
 // Returns a new desk over files in memory, or `None` if it cannot be created. The log accepts the
-// given number of calls and fails at each one after.
+// given number of calls and fails at each later call.
 fn open_desk_with_failing_log(alloc: Global, calls: u64) -> Option<Desk<FileStore<Fuse<Memory>>>> {
     let files = Files {
         log: Fuse::new(Memory::new(alloc), calls),
