@@ -1,4 +1,4 @@
-//! Theorem: the adoption of a state that a crash exposes never reports damage.
+//! Theorem: the adoption of a crash state never fails with `Damaged`.
 
 ghost use Rattle.std.specs.Prelude.{◌≡◌, ◌⊎◌, ℕ, List, None, Ok, Option, Result, map};
 ghost use Rattle.sqlite.specs.Held.{Held, state};
@@ -27,29 +27,28 @@ ghost use Rattle.brk_store.specs.Holds.{CreatePost};
 use sqlite::Alter;
 
 /// Proves that recovery never reports damage: if a state that a crash exposes is opened and
-/// adopted, the adoption does not fail with `Damaged`. It may fail with `Memory` or `Store`. All of
-/// it is under the disk assumption, that every read so far returned what was written.
+/// adopted, the adoption does not fail with `Damaged`. It may fail with `Memory` or `Store`. All
+/// clauses are under the disk assumption: every read so far returned what was written.
 ///
-/// `made`: once the tables were created, the store represents the empty base, and a crash exposes
-/// only its tables.
+/// `made`: after the creation of the tables, the store represents the empty base, and a crash
+/// exposes only its tables.
 ///
-/// `adopted`: once a database was adopted that had just been opened and satisfies
+/// `adopted`: after the adoption of a newly opened database that satisfies
 /// `StoreNamesImplyDefinitions`, the store represents the base that its rows determine, and a crash
 /// exposes only the tables of this base.
 ///
-/// `call`, `run`: let the store represent a base, and let a crash expose only the tables of this
-/// base (`RepresentsDurableBase`), as after `made` or `adopted`. After a crash that follows a call
-/// or a run of this store, the adopted store represents the base with every acknowledged command,
-/// or with one command more (`MayBeRecovered`). A crash then exposes only the tables of the base
-/// that it represents, so these two clauses apply again after each further crash.
+/// `call`, `run`: suppose that a store represents a base and that a crash exposes only the tables
+/// of this base (`RepresentsDurableBase`), as after `made` or `adopted`. After a crash that follows
+/// a call or a run of this store, the adopted store represents the base with every acknowledged
+/// command, or with one command more (`MayBeRecovered`). A crash then exposes only the tables of
+/// the base that it represents, so these two clauses apply again after each further crash.
 ///
 /// `making`: after a crash in the creation of the tables, the adopted store represents the empty
-/// base, unless a crash before the creation could expose the state; of such a state nothing is
-/// said.
+/// base. This clause says nothing of a state that a crash before the creation could expose.
 ///
-/// `upgrading`: after a crash in an adoption of a database that was just opened, and whose rows
-/// pass the audit of their schema, an older one included, a later adoption does not fail with
-/// `Damaged`. If it succeeds, the store represents the base that the same rows determine.
+/// `upgrading`: after a crash in the adoption of a newly opened database whose rows pass the audit
+/// of their schema, perhaps an older one, a later adoption does not fail with `Damaged`. If it
+/// succeeds, the store represents the base that the same rows determine.
 pub fn every_crash_state_is_adopted<S: Alter>()
     ensures made { (conn store : Held S) → CreatePost S.Store conn store (Ok tt) → HasCleanDisk (state S.Store store) → RepresentsDurableBase S.Store store empty_base }
     ensures adopted { (trees : Trees) (conn store : Held S) → IsJustOpened S.Store trees conn → StoreNamesImplyDefinitions S.Store conn → AdoptPost S.Store conn store (Ok tt)

@@ -20,7 +20,7 @@ use sqlite::Alter;
 use std::alloc::{AllocError, Global};
 use std::marker::PhantomData;
 
-// Converts the desk's answer to a row into an answer of the HTTP engine.
+// Returns the answer of the HTTP engine that corresponds to an answer of the desk.
 fn http_answer_of_desk(answer: Answer) -> RowAnswer<Reply>
     ensures { row_outcome_in_model abstract_reply (Ok result) ≡ Did (model_answer answer) }
 {
@@ -31,7 +31,7 @@ fn http_answer_of_desk(answer: Answer) -> RowAnswer<Reply>
     }
 }
 
-/// A desk as the HTTP engine uses it.
+/// The operations of a desk over a store, for the HTTP engine.
 pub struct DeskService<S> {
     _store: PhantomData<S>,
 }

@@ -22,7 +22,7 @@ use sqlite::Alter;
 use std::alloc::{AllocError, Global};
 use std::marker::PhantomData;
 
-// Converts the desk's answer to a row into an answer of the batch engine.
+// Returns the answer of the batch engine that corresponds to an answer of the desk.
 fn batch_answer_of_desk(answer: Answer) -> RowAnswer<Reply>
     ensures { engine.answer_in_model abstract_reply result ≡ model_answer answer }
 {
@@ -33,7 +33,7 @@ fn batch_answer_of_desk(answer: Answer) -> RowAnswer<Reply>
     }
 }
 
-/// A desk as the batch engine uses it.
+/// The operations of a desk over a store, for the batch engine.
 pub struct DeskRows<S> {
     _store: PhantomData<S>,
 }
