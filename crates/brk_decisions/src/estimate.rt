@@ -21,9 +21,9 @@ use brk_trade::{Estimate, OrderFound, plan_estimate};
 use sqlite::Alter;
 use std::alloc::Global;
 
-// Plans an estimate from the facts that were read and from `lots`, the lots of the position. Reads
-// at most 16 rows more than the order would touch lots, also if it fails. Fails with `Memory` or
-// `Store` only.
+// Plans an estimate from the facts that were read and from `lots`, the lots of the position. The
+// number of lots that it reads exceeds the number that the order would touch by at most 16, also if
+// it fails. Fails with `Memory` or `Store` only.
 fn plan_estimate_over_lots<S: Alter>(
     order: &Order,
     found: &OrderFound,

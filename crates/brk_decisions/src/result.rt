@@ -25,8 +25,8 @@ use sqlite::Alter;
 use std::alloc::Global;
 
 // Plans the result of a trade from the facts that were read and from `lots`, the lots of its
-// position. Reads at most 16 rows more than the trade touches lots, also if it fails. Fails with
-// `Memory` or `Store` only.
+// position. The number of lots that it reads exceeds the number that the trade touches by at most
+// 16, also if it fails. Fails with `Memory` or `Store` only.
 fn plan_result_over_lots<S: Alter>(
     alloc: Global,
     found: &ResultFound,

@@ -98,9 +98,9 @@ AreRecoverableTrees base calls outcomes trees =
 abbrev pub MayBeExposedAfterRun : {S : Type 0} → Ghosts S → Held S → List (ℕ × Call) → List Outcome → Trees → Type 0
 MayBeExposedAfterRun g old calls outcomes trees = IsTrue (state g old).is_open × ((base : Base) → Represents g old base → AreRecoverableTrees base calls outcomes trees)
 
--- The postcondition of a sequence of calls that were executed in order. For every base that the
--- store represented, the calls with their outcomes are a run of the model (`Run`), and the store
--- represents the base after this run.
+-- The postcondition of a sequence of calls that were executed in order, from the state `old` to the
+-- state `new`. For every base that the store represented, the calls with their outcomes are a run
+-- of the model (`Run`), and the store represents the base after this run.
 pub record RunPost {S : Type 0} (g : Ghosts S) (old new : Held S) (calls : List (ℕ × Call)) (outcomes : List Outcome) : Type 0 where
   -- There is one outcome for each call.
   pub count : length outcomes ≡ length calls
@@ -130,10 +130,11 @@ pub record RunPost {S : Type 0} (g : Ghosts S) (old new : Held S) (calls : List 
   -- The commands and their keys are well-formed.
   pub in_form : AllByRecursion CallMeetsAuditFormats (map model_call calls)
 
--- After the calls from `base` the store represents some base whose tables pass the audit of schema
--- 3, and whose broker totals, balances and summaries equal the sums of their rows. The row of each
--- trade that an accepted `CompleteTrade` completed has the tax of its completion, on exactly the
--- shares that it closed (`IsRunWithSumsAndTaxes`).
+-- After the calls from `base` the store represents some base `after` whose tables pass the audit of
+-- schema 3. The calls with their outcomes are a run of the model from `base` to `after`; the broker
+-- totals, balances and summaries of `after` equal the sums of their rows; and the row of each trade
+-- that an accepted `CompleteTrade` completed has the tax of its completion, on exactly the shares
+-- that it closed (`IsRunWithSumsAndTaxes`).
 abbrev pub ReachesAuditedState : {S : Type 0} → Ghosts S → Held S → Base → List (ℕ × Call) → List Outcome → Type 0
 ReachesAuditedState g new base calls outcomes = (after : Base) × Represents g new after × PassesAudit third_schema (sheets after) × IsRunWithSumsAndTaxes base (map model_call calls) (map model_outcome outcomes) after
 

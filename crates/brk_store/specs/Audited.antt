@@ -148,20 +148,20 @@ pub record AdoptPost {S : Type 0} (g : Ghosts S) (old new : Held S) (result : Re
   -- At `Ok`, if the store is open, it has committed the tables of the base that the old rows
   -- determine.
   pub upgraded : HasCleanDisk (state g new) → IsTrue (state g new).is_open → StoreNamesImplyDefinitions g old → OnOk result (UpgradesPassingRows (state g old).now (state g new).now × ((state g new).committed ≡ (state g new).now))
-  -- At `Ok` the database had a desk of schema 3, or the store is open.
+  -- At `Ok` the store is open, unless the database had a desk of schema 3.
   pub stays : HasCleanDisk (state g new) → StoreNamesImplyDefinitions g old → OnOk result (StoreHasThirdDesk g old ⊎ IsTrue (state g new).is_open)
   -- At an error: if the database is open after the call, it was open before and is unchanged.
   pub same : HasCleanDisk (state g new) → IsTrue (state g new).is_open → OnErr result (WasOpenAndIsUnchanged (state g old) (state g new))
   -- A crash exposes a state that a crash before the call could expose or, if rows of an older
   -- schema passed their audit, the tables of their base in schema 3.
   pub survives : StoreNamesImplyDefinitions g old → Survives (state g old) (state g new) (AreUpgradedTrees (state g old).now)
-  -- If the database had a desk of schema 3, the call satisfies the postcondition of an audit, which
-  -- writes nothing.
+  -- If the database had a desk of schema 3, the adoption satisfies the postcondition of an audit by
+  -- schema 3, which writes nothing.
   pub audited : StoreNamesImplyDefinitions g old → StoreHasThirdDesk g old → AuditPost g old new result
 
--- The abstraction relation: the store holds the tables of `base`, and `base` satisfies the books
+-- The store represents `base`: it holds the tables of `base`, and `base` satisfies the books
 -- invariant and the audit invariant and has texts in UTF-8. The clause on the rows is vacuous if
--- the disk assumption fails, or once the store is closed; then the store represents every base that
+-- the disk assumption fails, or once the store is closed: the store then represents every base that
 -- satisfies the other clauses.
 pub record Represents {S : Type 0} (g : Ghosts S) (store : Held S) (base : Base) : Type 0 where
   pub rows : HoldsRows g store (sheets base)
