@@ -32,6 +32,7 @@ impl<S: Alter> Model for Desk<S> {
 }
 
 impl<S: Alter + Drop> Drop for Desk<S> {
+    /// Drops the store of the desk.
     fn drop(self) {
         let Desk { store: _ } = self;
     }

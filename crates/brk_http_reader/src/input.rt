@@ -25,6 +25,7 @@ impl From<AllocError> for InputFault {
 
     ghost from_gives = { λ _ e. e ≡ Memory };
 
+    /// Returns `Memory`: an allocation was refused.
     fn from(_error: AllocError) -> InputFault {
         InputFault::Memory
     }

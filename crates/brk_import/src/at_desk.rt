@@ -65,10 +65,13 @@ impl<S: Alter> Rows for DeskRows<S> {
 
     ghost step = { step_of_row };
 
+    /// Parses the fields of a row: returns a command, or the refusal of a malformed row. Fails with
+    /// `Memory` only.
     fn parse(alloc: Global, row: &[&[u8]]) -> Planned<Command> {
         parse_row(alloc, row)
     }
 
+    /// Executes a command under its key by `Desk::call`, and returns its answer.
     fn call(
         desk: &mut Desk<S>,
         alloc: Global,
@@ -82,6 +85,7 @@ impl<S: Alter> Rows for DeskRows<S> {
         }
     }
 
+    /// Returns the fields of a reply, joined by commas.
     fn reply_line(alloc: Global, reply: &Reply) -> Result<String, AllocError> {
         match line_text(alloc, reply) {
             Ok(line) => Ok(line),

@@ -86,7 +86,8 @@ impl<S: Alter> Store<S> {
         ensures fault { OnErr result (result ≡ Err fault.Store) }
     {
         let next = self.next_cash_row_number()?;
-        // With fewer cash rows than this there are fewer movements too, so they are not counted.
+        // If the next number is below `ALL_MOVEMENTS`, there are fewer movements than that, so they
+        // are not counted.
         if next.get() < ALL_MOVEMENTS {
             return Ok(false);
         }

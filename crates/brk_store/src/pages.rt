@@ -51,6 +51,7 @@ pub struct Pages<'a, S: Alter, P> {
 impl<S: Alter, P: Drop> Drop for Pages<'_, S, P> {
     ghost use Rattle.std.specs.Prelude.{◌≡◌};
 
+    /// Ends the borrow of the store. The store is unchanged.
     fn drop(self)
         ensures { self.exit.0.now ≡ self.entry.store.now }
     {
@@ -282,6 +283,9 @@ impl<S: Alter> LotSource for Pages<'_, S, Page> {
 
     ghost fails = { λ _ fault _. IsCallFault fault };
 
+    /// Returns the next lot, or `None` if no lot remains. Reads the next page if all lots of this
+    /// one were returned. Fails with `Memory` or `Store` only; the remaining lots are then
+    /// unchanged.
     fn next(&mut self) -> Result<Option<Lot>, Fault> {
         match self.page.rows.get(self.page.given) {
             Some(row) => {

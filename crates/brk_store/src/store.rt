@@ -25,6 +25,7 @@ impl<S: Alter> Model for Store<S> {
 }
 
 impl<S: Alter + Drop> Drop for Store<S> {
+    /// Drops the connection of the store.
     fn drop(self) {
         let Store { conn: _ } = self;
     }
