@@ -139,9 +139,8 @@ abbrev pub ReachesAuditedState : {S : Type 0} → Ghosts S → Held S → Base �
 ReachesAuditedState g new base calls outcomes = (after : Base) × Represents g new after × PassesAudit third_schema (sheets after) × IsRunWithSumsAndTaxes base (map model_call calls) (map model_outcome outcomes) after
 
 -- The guarantee of a run: under the disk assumption the calls reach an audited state
--- (`ReachesAuditedState`) from any base that the store represented (`kept`), from tables without
--- rows (`made`), and from rows of any schema that pass their audit and were upgraded to schema 3
--- (`adopted`).
+-- (`ReachesAuditedState`), from any base that the store represented, from tables without rows, and
+-- from rows of any schema that pass their audit and were upgraded to schema 3.
 pub record RunGuarantee {S : Type 0} (g : Ghosts S) (old new : Held S) (calls : List (ℕ × Call)) (outcomes : List Outcome) : Type 0 where
   -- From any base that the store represented before the calls.
   pub kept : HasCleanDisk (state g new) → (base : Base) → Represents g old base → ReachesAuditedState g new base calls outcomes
@@ -153,9 +152,9 @@ pub record RunGuarantee {S : Type 0} (g : Ghosts S) (old new : Held S) (calls : 
   pub adopted : HasCleanDisk (state g new) → (schema : known.Schema) (rows : Tables) → HoldsRows g old (tables_upgraded_from_schema (abstract_schema schema) rows) → IsTrue (has_utf8_texts rows) → PassesAudit (abstract_schema schema) rows
       → ReachesAuditedState g new (base_of_tables rows) calls outcomes
 
--- The postcondition of an audit of the desk's store, which writes nothing: it satisfies `AuditPost`
--- (`audited`), under the disk assumption it does not return `Damaged` if the store represents a
--- base (`passes`), and the store represents every base that it represented (`kept`).
+-- The postcondition of an audit of the desk's store, which writes nothing: it satisfies
+-- `AuditPost`; under the disk assumption it does not return `Damaged` if the store represents a
+-- base; and the store represents every base that it represented before.
 pub record DeskAuditPost {S : Type 0} (g : Ghosts S) (old new : Held S) (result : Result (Unit {0}) Fault) : Type 0 where
   pub audited : AuditPost g old new result
   pub passes : HasCleanDisk (state g new) → (base : Base) → Represents g old base → OnAuditAnswer result (λ failing. failing ≡ None)

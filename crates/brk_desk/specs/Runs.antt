@@ -8,9 +8,8 @@ use Rattle.brk_desk.specs.declared.call.Call.{Call}
 use Rattle.brk_desk.specs.declared.call.Outcome.{Outcome}
 
 -- Exactly these calls of the desk were executed between the state `old` and the state `new`, in
--- order, with these outcomes. Only the field `made` states this; the fields `ran`, the
--- postcondition of a run, and `promised`, its guarantee, follow from it
--- (`calls_in_order_are_a_run`).
+-- order, with these outcomes. The first field states this; the other two, the postcondition and the
+-- guarantee of a run, follow from it (`calls_in_order_are_a_run`).
 pub record IsRunWithOutcomes {S : Type 0} (g : Ghosts S) (old new : Held S) (calls : List (ℕ × Call)) (outcomes : List Outcome) : Type 0 where
   -- Each call satisfies its postcondition (`OutcomePost`). The first call begins in the state
   -- `old`, each later one in the state after the call before it, and the last one ends in `new`.
