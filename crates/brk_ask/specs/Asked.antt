@@ -1,4 +1,5 @@
--- The postcondition of asking a desk for a view, which changes no table.
+-- The postcondition of executing a query on a desk and writing its view. The desk's tables are
+-- unchanged.
 use Rattle.std.specs.Prelude.{◌≡◌, ◌⊎◌, ℕ, List, Option, Result, Ok, Err, take}
 use Rattle.std.specs.Io.KnownBytes.{Appends}
 use Rattle.sqlite_trees.specs.declared.store.Store.{Ghosts}
@@ -29,24 +30,25 @@ WritesTextOrFails text before after (Err (Refused refusal)) = ⊥
 WritesTextOrFails text before after (Err (Desk fault)) = (after ≡ before) × (fault ≡ Memory)
 WritesTextOrFails text before after (Err Write) = (k : ℕ) × Appends before after (take k text)
 
--- The view that a query returned was written, or writing it failed. If the desk returned a refusal
--- or a fault instead, the result is this refusal or this fault, and nothing was written.
+-- `result` is the result of writing the view of a query to which the desk gave this answer: a view
+-- is written as `WritesTextOrFails` specifies; for a refusal or a fault, `result` is this refusal
+-- or this fault, and nothing is written.
 abbrev pub WritesViewOrFails : Form → Query → Result (Result View Refusal) Fault → Option Text → Option Text → Result (Unit {0}) ReportFault → Type 0
 WritesViewOrFails form query (Ok (Ok view)) before after result = WritesTextOrFails (printed_view_text form query (records_of_view view)) before after result
 WritesViewOrFails form query (Ok (Err refusal)) before after result = FailsWritingNothing before after result (Refused refusal)
 WritesViewOrFails form query (Err fault) before after result = FailsWritingNothing before after result (Desk fault)
 
--- The desk executed this query and nothing else, and its view was written, or the reason why not
--- was returned. If the texts are no query, the desk is unchanged, their refusal is the result, and
+-- The desk executed this query and nothing else, and its view was written as `WritesViewOrFails`
+-- specifies. If the texts are no query, the desk is unchanged, `result` is their refusal, and
 -- nothing was written.
 abbrev pub AsksQueryAndWritesView : {S : Type 0} → Ghosts S → Held S → Held S → Form → ReadResult Query → Option Text → Option Text → Result (Unit {0}) ReportFault → Type 0
 AsksQueryAndWritesView g old new form (Ok query) before after result =
     (seen : Result (Result View Refusal) Fault) × AskPost g old new query seen × WritesViewOrFails form query seen before after result
 AsksQueryAndWritesView g old new form (Err refusal) before after result = (new ≡ old) × FailsWritingNothing before after result (Refused refusal)
 
--- The postcondition of printing a view: the query was executed and its view written, or the reason
--- why not was returned; or memory ran out before, and the desk and the writer's content are
--- unchanged.
+-- The postcondition of printing a view: the desk executed the query and its view was written, with
+-- the result of `AsksQueryAndWritesView`; or memory ran out before that, and the desk and the
+-- writer's content are unchanged.
 abbrev pub PrintViewPost : {S : Type 0} → Ghosts S → Held S → Held S → Form → ReadResult Query → Option Text → Option Text → Result (Unit {0}) ReportFault → Type 0
 PrintViewPost g old new form query before after result =
     AsksQueryAndWritesView g old new form query before after result ⊎ ((new ≡ old) × FailsWritingNothing before after result (Desk Memory))

@@ -6,7 +6,8 @@ use Rattle.brk_model.specs.Queries.{Query, View, PositionOf, PositionOfTaxId, Su
 use Rattle.brk_money.specs.Spelling.{Text}
 use Rattle.csv.specs.Writing.{default_writer, row_text}
 
--- The names of the fields of a query's view, or no name if its records have different fields.
+-- The names of the fields of a query's view, or an empty list if the records of this view have
+-- different fields.
 abbrev pub field_names_of_view : Query → List Text
 field_names_of_view (PositionOf customer) = codes "account" ∷ codes "balance" ∷ codes "holdings" ∷ []
 field_names_of_view (PositionOfTaxId tax_id) = codes "account" ∷ codes "balance" ∷ codes "holdings" ∷ []
@@ -16,13 +17,13 @@ field_names_of_view (EstimateOf order) =
 field_names_of_view (VolumeOf sector names) = codes "broker" ∷ codes "id" ∷ codes "volume" ∷ []
 field_names_of_view query = []
 
--- The list with one record of these names, or an empty list if there is no name.
+-- A list with one record, these names, or an empty list if there is no name.
 abbrev pub record_of_names : List Text → View
 record_of_names [] = []
 record_of_names (name ∷ names) = (name ∷ names) ∷ []
 
--- The list with one record of the names of a view's fields, or an empty list if its records have
--- different fields.
+-- A list with one record, the names of the fields of a query's view, or an empty list if the
+-- records of this view have different fields.
 abbrev pub field_name_records : Query → View
 field_name_records query = record_of_names (field_names_of_view query)
 

@@ -77,15 +77,15 @@ fn ask_query_and_write<W: Write, S: Alter>(
     }
 }
 
-/// Parses a query from a view's name and its arguments, executes it on the desk, and writes its
-/// view in this form. The desk executes nothing else.
+/// Parses a query from the name of a view and its arguments, executes it on the desk, and writes
+/// its view in this form.
 ///
 /// Fails with `Refused` 18 if the texts are no query, otherwise with the refusal of the query;
 /// nothing is then written. Fails with `Desk` and `Memory` or `Store`, and nothing is written; with
-/// `Write` after a first part of the text, perhaps all of it. The open database is unchanged,
-/// whatever the result.
+/// `Write` after a prefix of the text, perhaps all of it. The open database is unchanged, whatever
+/// the result.
 ///
-/// A crash exposes only states that were possible before the call.
+/// A crash exposes only states that a crash before the call could expose.
 pub fn ask<W: Write, S: Alter>(
     alloc: Global,
     desk: &mut Desk<S>,

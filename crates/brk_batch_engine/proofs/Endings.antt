@@ -30,6 +30,8 @@ use Rattle.brk_batch_engine.proofs.Progress.{At, Progress, Start, StandsAt, coun
 use Rattle.brk_batch_engine.proofs.Pushes.{lines_push}
 use Rattle.brk_batch_engine.proofs.Reading.{begins_front, begins_more, begins_of}
 
+-- The change from the start of a batch to a position, with the clock and the writer's content after
+-- it.
 abbrev pub span_of : {S C R : Type 0} → Start S C R → At S C R → C → Option Text → EnvironmentChange S C
 span_of start now later new = record { base = start.base; after = now.after; clock = start.clock; later = later; old = start.old; new = new }
 

@@ -21,7 +21,8 @@ use Rattle.brk_batch_engine.specs.Reading.{ReaderIsAfterRecords}
 use Rattle.brk_batch_engine.specs.declared.counts.Counts.{Counts}
 use Rattle.brk_batch_engine.proofs.Pushes.{lines_push}
 
--- where a batch starts, after its header
+-- The start of a batch after its header: its name, the base, the clock, the writer's content and
+-- the reader.
 pub record Start (S C R : Type 0) : Type 0 where
   pub name : Text
   pub base : S
@@ -29,7 +30,8 @@ pub record Start (S C R : Type 0) : Type 0 where
   pub old : Option Text
   pub reader : Reader R
 
--- the place of a batch: the number of rows that were answered, and the record after them
+-- A position in a batch: the number of decided rows, their counts, the record after them, the base,
+-- the clock and the reader.
 pub record At (S C R : Type 0) : Type 0 where
   pub settled : ℕ
   pub counts : Counts
@@ -38,11 +40,11 @@ pub record At (S C R : Type 0) : Type 0 where
   pub later : C
   pub reader : Reader R
 
--- a reader stands after these records
+-- The reader is after these records of the text.
 abbrev pub StandsAt : {R : Type 0} → (R → Option Text) → Option Text → List Fields → Reader R → Type 0
 StandsAt rem text records reader = ReaderIsAfterRecords text records reader.state (source_of rem reader)
 
--- the rows up to here were answered, as a batch says
+-- The rows before the position `now` are decided from the start of the batch.
 pub record Progress {S X C R : Type 0} (form : Fields → ReadResult X) (step : RowStep S X) (gives : C → ℕ → C → Type 0) (rem : R → Option Text)
     (start : Start S C R) (now : At S C R) : Type 0 where
   pub rows : List Fields

@@ -74,16 +74,19 @@ lines_push n (x ∷ xs) answer =
     ap (λ (l : Text). answer_line n x ++ l) (lines_push (n + 1) xs answer ∙ ap (λ (k : ℕ). answer_lines_from (n + 1) xs ++ answer_line k answer) place)
     ∙ sym (append_assoc (answer_line n x) (answer_lines_from (n + 1) xs) (answer_line (n + length (x ∷ xs)) answer))
 
--- what is known of a run of calls, from the desk that was first to this one
+-- The calls refine steps of the model: for every base that the desk `first` represented, the calls
+-- have the answers `replies` from this base, and the desk represents the base after them. Vacuous
+-- if the disk assumption fails.
 abbrev pub Follows : {D S X : Type 0} → (D → Type 0) → (D → S → Type 0) → RowStep S X → D → D → List (RowCall X) → List Answer → Type 0
 Follows {S = S} honest stands step first desk calls replies =
     honest desk → (base : S) → stands first base → (after : S) × stands desk after × CallsHaveAnswers step base calls replies after
 
--- a call of a row, as one of a desk
+-- The call of a row as a clock reading, a command and a key.
 abbrev pub called_of : {X : Type 0} → RowCall X → ℕ × (X × Key)
 called_of call = (call.now, (call.command, call.key))
 
--- the calls of rows, with one answer each
+-- The desk changed from `first` to `last` only by these calls of rows, in order, with the answers
+-- `replies`.
 abbrev pub AreCalled : {D X : Type 0} → RowCallRelation D X → D → List (RowCall X) → List Answer → D → Type 0
 AreCalled acts first calls replies last = IsCallSequence acts first (map called_of calls) (map Did replies) last
 
@@ -94,7 +97,8 @@ called_push acts first mid last calls replies call answer made acted =
     rw (map-append called_of calls (call ∷ []), map-append Did replies (answer ∷ []))
     (made_then acts first mid last (map called_of calls) (called_of call ∷ []) (map Did replies) (Did answer ∷ []) made (last, acted, refl))
 
--- these rows took these clock readings and have these answers
+-- The rows have these answers, with one clock reading for each well-formed row, and the desk
+-- changed from `first` to `desk` only by their calls.
 pub record Answered {D S X C : Type 0} (honest : D → Type 0) (stands : Bool → D → S → Type 0) (acts : RowCallRelation D X) (form : Fields → ReadResult X) (step : RowStep S X) (gives : C → ℕ → C → Type 0)
     (batch : Text) (first : D) (clock : C) (rows : List Fields) (answers : List Answer) (desk : D) (later : C) : Type 0 where
   pub moments : List ℕ

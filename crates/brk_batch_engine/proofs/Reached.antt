@@ -28,14 +28,15 @@ use Rattle.brk_batch_engine.proofs.Progress.{At, Progress, Start, StandsAt, all_
 use Rattle.brk_batch_engine.proofs.Endings.{failed_row}
 use Rattle.brk_batch_engine.proofs.Pushes.{Answered, answered_push, called_of, calls_length, calls_taken, moments_push, recorded_turns}
 
--- where a batch starts, after its header
+-- The start of a batch after its header: its name, the clock, the writer's content and the reader.
 pub record Head (C R : Type 0) : Type 0 where
   pub name : Text
   pub clock : C
   pub old : Option Text
   pub reader : Reader R
 
--- the place of a batch: the number of rows that were answered, and the record after them
+-- A position in a batch: the number of decided rows, their counts, the record after them, the clock
+-- and the reader.
 pub record Place (C R : Type 0) : Type 0 where
   pub settled : ℕ
   pub counts : Counts
@@ -43,7 +44,8 @@ pub record Place (C R : Type 0) : Type 0 where
   pub later : C
   pub reader : Reader R
 
--- the rows up to here were answered, from the desk that was first to this one
+-- The rows before the position `place` are decided, and the desk changed from `first` to `desk`
+-- only by their calls.
 pub record Reached {D S X C R : Type 0} (honest : D → Type 0) (stands : Bool → D → S → Type 0) (acts : RowCallRelation D X) (form : Fields → ReadResult X) (step : RowStep S X) (gives : C → ℕ → C → Type 0)
     (rem : R → Option Text) (first : D) (head : Head C R) (desk : D) (place : Place C R) : Type 0 where
   pub rows : List Fields
@@ -87,6 +89,7 @@ reached_start honest stands acts form step gives rem first head row reader named
   refl,
 )
 
+-- The position after one more row.
 abbrev pub next_place : {C R : Type 0} → Place C R → Counts → Fields → C → Reader R → Place C R
 next_place place counts row later reader = record { settled = place.settled + 1; counts = counts; row = row; later = later; reader = reader }
 
@@ -114,9 +117,11 @@ reached_more honest stands acts form step gives rem first head mid place answer 
       refl,
     )
 
+-- The start of a batch with the base that the desk represents there.
 abbrev pub start_of : {S C R : Type 0} → Head C R → S → Start S C R
 start_of head base = record { name = head.name; base = base; clock = head.clock; old = head.old; reader = head.reader }
 
+-- The position in a batch with the base that the desk represents there.
 abbrev pub at_of : {S C R : Type 0} → Place C R → S → At S C R
 at_of place after = record { settled = place.settled; counts = place.counts; row = place.row; after = after; later = place.later; reader = place.reader }
 

@@ -13,11 +13,11 @@ use Rattle.csv.specs.declared.parser.Action.{Action}
 use Rattle.csv.specs.declared.parser.Action.TheVariants as act
 use Rattle.brk_model.specs.Answers.{Fields}
 
--- a state between two records
+-- The state of the CSV reader is one between two records.
 abbrev IsBetween : State → Type 0
 IsBetween s = (s ≡ st.StartRecord) ⊎ (s ≡ st.AfterCr)
 
--- a step that ends a record leaves the machine between two
+-- If the step ends a record, the state after it is one between two records.
 abbrev Ends : State × Action → Type 0
 Ends r = is_end r.1 ≡ true → IsBetween r.0
 
@@ -56,7 +56,7 @@ step_ends cfg st.AfterQuote c = choose _ _ _ (quiet st.InQuoted act.Copy refl) (
 step_ends cfg st.InComment c = choose _ _ _ (quiet st.StartRecord act.Skip refl) (quiet st.InComment act.Skip refl)
 step_ends cfg st.AfterCr c = choose _ _ _ (quiet st.StartRecord act.Skip refl) (start_record_ends cfg c)
 
--- a record leaves the machine between two, and takes no byte twice
+-- After a record the reader is between two records, and no more bytes are left than before.
 record Leaves (xs : List ℕ) (q : Read) : Type 0 where
   between : IsBetween q.1
   shorter : length q.2 ≤ length xs

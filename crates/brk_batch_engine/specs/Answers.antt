@@ -31,12 +31,12 @@ abbrev pub CallRefinesStep : {D S X : Type 0} → (D → Type 0) → (D → S �
 CallRefinesStep {S = S} honest stands step old new now command key answer =
     honest new → (base : S) → stands old base → (after : S) × stands new after × (step base now command key ≡ (answer, after))
 
--- The desk still represents every base that it represented before. Vacuous if the disk assumption
--- (`honest`) fails.
+-- The desk represents every base that it represented before the call. Vacuous if the disk
+-- assumption (`honest`) fails.
 abbrev pub PreservesRepresentedBases : {D S : Type 0} → (D → Type 0) → (D → S → Type 0) → D → D → Type 0
 PreservesRepresentedBases {S = S} honest stands old new = honest new → (base : S) → stands old base → stands new base
 
--- The desk represents `base`, and, if the flag is true, a crash exposes only this base.
+-- The desk represents `base`. If the flag is true, also a crash exposes only this base.
 abbrev pub RepresentsDurably : {D S : Type 0} → (D → S → Type 0) → (D → S → S → Type 0) → Bool → D → S → Type 0
 RepresentsDurably stands leaves false desk base = stands desk base
 RepresentsDurably stands leaves true desk base = stands desk base × leaves desk base base

@@ -1,4 +1,4 @@
--- The effect of a run of a batch, by how it ends.
+-- The effects of a run of a batch, for each way in which it ends.
 use Rattle.std.specs.Prelude.{◌≡◌, ◌+◌, ◌<◌, ◌⊎◌, ◌∷◌, ◌++◌, [], IfErr, List, ℕ, Option, Result, Ok, Err, take, length, map}
 use Rattle.std.specs.Io.KnownBytes.{Appends}
 use Rattle.brk_money.specs.Spelling.{Text}
@@ -21,9 +21,9 @@ use Rattle.brk_io.specs.declared.batch_fault.FaultKind.{FaultKind}
 use Rattle.brk_io.specs.declared.batch_fault.FaultKind.TheVariants as kinds
 use Rattle.brk_batch_engine.specs.declared.counts.Counts.{Counts}
 
--- The batch ended with `ending` after `count` decided rows. The clock was read once for each of its
--- timestamps, and the writer got exactly the batch text of the model for these timestamps, from the
--- base before to the base after.
+-- The batch ended with `ending` after `count` decided rows. The clock was read once for each of the
+-- timestamps `moments`, and exactly the lines of the model's batch for these timestamps were
+-- written, from the base before the batch to the base after it.
 pub record BatchEndsWith {S X C : Type 0} (form : Fields → ReadResult X) (step : RowStep S X) (gives : C → ℕ → C → Type 0)
     (text : Option Text) (span : EnvironmentChange S C) (ending : model.Ending) (count : ℕ) : Type 0 where
   pub moments : List ℕ
@@ -42,9 +42,9 @@ BeginsWithWholeBatch text name rows = BeginsWithRecords text (batch_header name 
 abbrev pub HasRecordAfterRows : Option Text → Text → List Fields → Type 0
 HasRecordAfterRows text name rows = 0 < length rows → (next : Fields) × BeginsWithRecords text (batch_header name ∷ (rows ++ (next ∷ [])))
 
--- The progress of a batch that a fault ended: the rows `rows` at the front of the text, after the
--- header, and their answers `answers`, which are decided. The list `told` holds the `count` answers
--- that the batch decided. If there are rows, one more record follows them.
+-- The progress of a batch that a fault ended: after the header `name`, the text begins with the
+-- rows `rows`, which are decided and have the answers `answers`. The list `told` has the `count`
+-- answers that the batch decided. If there are rows, one more record follows them.
 pub record BatchProgress {S X C : Type 0} (form : Fields → ReadResult X) (step : RowStep S X) (gives : C → ℕ → C → Type 0)
     (text : Option Text) (span : EnvironmentChange S C) (count : ℕ) : Type 0 where
   pub name : Text
@@ -59,27 +59,28 @@ pub record BatchProgress {S X C : Type 0} (form : Fields → ReadResult X) (step
   pub next : HasRecordAfterRows text name rows
   pub counted : count ≡ length told
 
--- The writer got the lines of all answers in `told`, or of all but the last. Vacuous if the
+-- The lines of all answers in `told` were written, or the lines of all but the last. Vacuous if the
 -- writer's content before is unknown.
 abbrev pub WritesAllLinesOrAllButLast : Option Text → Option Text → List Answer → Type 0
 WritesAllLinesOrAllButLast old new told =
     Appends old new (answer_lines_from 1 told)
     ⊎ ((front : List Answer) × (last : Answer) × (told ≡ front ++ (last ∷ [])) × Appends old new (answer_lines_from 1 front))
 
--- The writer got the lines of all answers in `told` but the last, and then a prefix of the line of
--- the last, perhaps empty and perhaps all of it. If the writer's content before is unknown, it says
--- only that `told` is not empty.
+-- The lines of all answers in `told` but the last were written, and then a prefix of the line of
+-- the last, perhaps empty or all of it. If the writer's content before is unknown, it states only
+-- that `told` is not empty.
 abbrev pub WritesPartOfLastLine : Option Text → Option Text → List Answer → Type 0
 WritesPartOfLastLine old new told =
     (front : List Answer) × (last : Answer) × (k : ℕ) × (told ≡ front ++ (last ∷ [])) × Appends old new (answer_lines_from 1 front ++ take k (answer_line (length told) last))
 
--- The writer got the lines of all answers in `told`, and then a prefix of the end line, perhaps
--- empty and perhaps all of it. Vacuous if the writer's content before is unknown.
+-- The lines of all answers in `told` were written, and then a prefix of the end line, perhaps empty
+-- or all of it. Vacuous if the writer's content before is unknown.
 abbrev pub WritesPartOfEndLine : Option Text → Option Text → List Answer → Type 0
 WritesPartOfEndLine old new told = (k : ℕ) × Appends old new (answer_lines_from 1 told ++ take k (batch_end_line told))
 
--- The decided answers `told` are `answers`; or they are those that `EndsWithoutEndRecord`
--- specifies, for a text that ends after its last row, with the refusal of that row.
+-- The decided answers `told` equal `answers`, or they are those of a text that ends without an end
+-- record (`EndsWithoutEndRecord`): `answers` and the refusal of the last row, or no answer if the
+-- text has only its header.
 abbrev pub MayAddCutRowRefusal : Option Text → Text → List Fields → List Answer → List Answer → Type 0
 MayAddCutRowRefusal text name rows answers told = (told ≡ answers) ⊎ model.EndsWithoutEndRecord text name rows answers told
 
@@ -87,7 +88,7 @@ MayAddCutRowRefusal text name rows answers told = (told ≡ answers) ⊎ model.E
 -- answers were decided, how often the clock was read and which lines were written. `BadHeader`:
 -- nothing changed. `NoEnd` and `BadEnd`: the model ends so too. `Read`: the lines of all decided
 -- rows. `Write`: a part of the last line or of the end line. `Desk`: the lines of the decided rows,
--- or all of them but the last.
+-- or of all of them but the last.
 abbrev pub BatchFailsWith : {S X C : Type 0} → (Fields → ReadResult X) → RowStep S X → (C → ℕ → C → Type 0) → Option Text → EnvironmentChange S C → ℕ → FaultKind → Type 0
 BatchFailsWith form step gives text span count kinds.BadHeader =
     IsUnchangedEnvironment span × model.IsUnanswered span.base [] text (record { text = []; base = span.after; ending = model.BadHeader; rows = count })
@@ -106,8 +107,8 @@ BatchFailsWith form step gives text span count (kinds.Desk fault) =
     ⊎ ((s : BatchProgress form step gives text span count) × (span.later ≡ s.mid) × (fault ≡ Memory)
     × MayAddCutRowRefusal text s.name s.rows s.answers s.told × WritesAllLinesOrAllButLast span.old span.new s.told))
 
--- The result of the batch is as specified: of a complete batch the counts of all its answers, and
--- otherwise a fault as `BatchFailsWith` specifies.
+-- The result of the batch: at `Ok` the counts of the answers to all its rows, and at an error a
+-- fault with the effect that `BatchFailsWith` specifies.
 abbrev pub IsBatchResult : {S X C : Type 0} → (Fields → ReadResult X) → RowStep S X → (C → ℕ → C → Type 0) → Option Text → EnvironmentChange S C → Result Counts BatchFault → Type 0
 IsBatchResult form step gives text span (Ok counts) =
     (c : BatchEndsWith form step gives text span model.EndedWell (counts.ok + counts.again + counts.no)) × (counts ≡ counts_of_answers c.answered.answers)
@@ -148,9 +149,9 @@ BatchMatchesAnsweredScript form gives text script outside result =
     (answers : List Answer) × (script.1 ≡ map Did answers) × IsBatchResult form recording_step gives text (change_with_bases (answers, []) ([], script.0) outside) result
     × IfErr result (λ fault. DeskFaultIsMemory fault.kind)
 
--- The last call of the script failed with a fault, which ended the batch: it is the call of the row
--- after the decided rows, under the key of that row. All calls before it were answered, and the
--- lines are those of these answers. False if the batch completed.
+-- The last call of the script failed with a fault, which ended the batch. It is the call of the row
+-- after the decided rows, under the key of that row. All calls before it have answers, and the
+-- lines and the result follow from these answers. False if the batch completed.
 abbrev pub BatchMatchesFailedScript : {X C : Type 0} → (Fields → ReadResult X) → (C → ℕ → C → Type 0) → Option Text → RowCallScript X → ClockAndWriterChange C → Result Counts BatchFault → Type 0
 BatchMatchesFailedScript form gives text script outside (Ok counts) = ⊥
 BatchMatchesFailedScript {X = X} form gives text script outside (Err fault) =
@@ -168,7 +169,8 @@ BatchMatchesScript form gives text script outside result =
     × (BatchMatchesAnsweredScript form gives text script outside result ⊎ BatchMatchesFailedScript form gives text script outside result)
 
 -- The desk changed from `first` to `last` only by the calls of a script, with their outcomes, and
--- the script is that of the batch (`BatchMatchesScript`). It needs no disk assumption.
+-- the script is that of the batch (`BatchMatchesScript`). It does not depend on the disk
+-- assumption.
 abbrev pub ChangesOnlyByRowCalls : {D X C : Type 0} → RowCallRelation D X → (Fields → ReadResult X) → (C → ℕ → C → Type 0) → Option Text → D → D → ClockAndWriterChange C → Result Counts BatchFault → Type 0
 ChangesOnlyByRowCalls {X = X} acts form gives text first last outside result =
     (script : RowCallScript X) × IsCallSequence acts first script.0 script.1 last × BatchMatchesScript form gives text script outside result
@@ -180,8 +182,8 @@ abbrev pub BatchRefinesModel : {D S X C : Type 0} → (D → Type 0) → (D → 
 BatchRefinesModel {S = S} honest stands form step gives text first last outside result =
     honest last → (base : S) → stands first base → (after : S) × stands last after × IsBatchResult form step gives text (change_with_bases base after outside) result
 
--- The call of the row after the decided rows failed (`NextRowFails`). A crash exposes the base
--- after the decided rows, or the one after the command of this row.
+-- The call of the row after the decided rows failed (`NextRowFails`), and a crash exposes only the
+-- base after the decided rows, or the base after the command of this row.
 pub record CrashMayCommitFailedRow {D S X C : Type 0} (form : Fields → ReadResult X) (step : RowStep S X) (gives : C → ℕ → C → Type 0) (leaves : D → S → S → Type 0)
     (text : Option Text) (span : EnvironmentChange S C) (last : D) (fault : BatchFault) : Type 0 where
   pub failed : NextRowFails form step gives text span fault

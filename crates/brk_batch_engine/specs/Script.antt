@@ -19,9 +19,9 @@ RowCalls X = List (ℕ × (X × Key))
 abbrev pub RowCallScript : Type 0 → Type 0
 RowCallScript X = RowCalls X × List Outcome
 
--- The step of a desk that records its calls and has its answers in a list: each call returns the
--- next answer and is added to the recorded calls. After the last answer every command is refused
--- with `BadText`.
+-- The step of a model desk whose state is a list of answers and a list of recorded calls. Each call
+-- returns and removes the first answer, or is refused with `BadText` if no answer is left, and is
+-- appended to the recorded calls.
 abbrev pub recording_step : {X : Type 0} → RowStep (List Answer × RowCalls X) X
 recording_step ([], calls) now command key = (Refused BadText, ([], calls ++ ((now, (command, key)) ∷ [])))
 recording_step (answer ∷ answers, calls) now command key = (answer, (answers, calls ++ ((now, (command, key)) ∷ [])))

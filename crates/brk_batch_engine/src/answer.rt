@@ -39,8 +39,9 @@ fn row_key(batch: &BatchName, n: u64) -> Result<Key, Fault>
 /// Returns the answer to row `n` of `batch`. A well-formed row reads the clock once and is one call
 /// of the desk; a malformed one does neither.
 ///
-/// Fails with `Memory` or `Store`; the clock was then read at most once, for a call that failed.
-/// The desk then represents the state before, but after a crash the row may be committed.
+/// Fails with `Memory` or `Store`; the clock was then read at most once, for the call that failed.
+/// The desk then represents what it represented before, but a crash may expose the row as
+/// committed.
 pub fn answer_row<C: Clock, D: Rows>(
     alloc: Global,
     desk: &mut D::Desk,

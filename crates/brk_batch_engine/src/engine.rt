@@ -48,8 +48,8 @@ fn write_answer_line<W: Write, D: Rows>(
     }
 }
 
-// Writes the refusal of row `n`, which has no record after it. Returns `NoEnd`, or the fault of
-// writing the line.
+// Writes the line that refuses row `n`, after which the input has no record. Returns the fault that
+// ends the batch: `NoEnd`, or `Write` or `Desk(Memory)` if the line could not be written.
 fn refuse_cut_row<W: Write, D: Rows>(alloc: Global, writer: &mut W, n: u64) -> FaultKind
     ensures { CutRowEndsBatchWith (W.contents writer.old) (W.contents writer.new) (answer_line n (Refused BadText)) result }
 {
@@ -59,7 +59,8 @@ fn refuse_cut_row<W: Write, D: Rows>(alloc: Global, writer: &mut W, n: u64) -> F
     }
 }
 
-// Checks the end record of a batch of `n` rows and writes the end line.
+// Checks that `row` is the correct end record of a batch of `n` rows, and writes the end line with
+// `counts`.
 //
 // Fails with `BadEnd` or `Desk(Memory)` and nothing written, or with `Write` after a prefix of the
 // line.
@@ -110,8 +111,8 @@ fn read_header<R: Read>(alloc: Global, records: &mut Reader<R>) -> Result<BatchN
 }
 
 // Executes the rows after the header of the batch `name`, writes their lines and the end line, and
-// returns the counts of the answers. A record takes at least one byte, so there are not more rows
-// than bytes.
+// returns the counts of the answers. Each record has at least one byte, so the number of rows is at
+// most the number of bytes.
 fn run_rows<R: Read, W: Write, C: Clock, D: Rows>(
     alloc: Global,
     records: &mut Reader<R>,
@@ -187,8 +188,8 @@ fn run_rows<R: Read, W: Write, C: Clock, D: Rows>(
 /// Reads a batch, executes its rows in order, and writes their lines and the end line. Returns the
 /// counts of the answers.
 ///
-/// A fault reports the number of decided rows, whose changes remain. After a fault of the desk, a
-/// crash may still find the next row committed.
+/// At an error returns the fault with the number of decided rows, whose changes remain. After a
+/// fault of the desk, a crash may also expose the next row as committed.
 pub fn run<R: Read + Drop, W: Write, C: Clock, D: Rows>(
     alloc: Global,
     reader: R,

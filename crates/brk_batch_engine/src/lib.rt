@@ -1,4 +1,4 @@
-//! Executes a batch of CSV rows on any desk, and answers each row with a line.
+//! Executes a batch of CSV rows on any desk, and writes a line with the answer to each row.
 //!
 //! The rows are executed in order, and their lines are written in order. A row is executed only if
 //! a record follows it.

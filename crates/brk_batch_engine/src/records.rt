@@ -16,7 +16,7 @@ use itoa::Buffer;
 use std::alloc::{AllocError, Global};
 use std::io::{Read, Take};
 
-/// The largest number of bytes that is read of an input. A longer input is cut there.
+/// The greatest number of bytes of an input that are read. The rest of a longer input is ignored.
 pub const MOST_BYTES: u64 = 67_108_864;
 
 /// Returns a reader of the records in the first `MOST_BYTES` bytes of an input. Records are
@@ -31,7 +31,7 @@ pub fn open_records<R: Read + Drop>(alloc: Global, reader: R) -> Reader<Take<R>>
         .from_reader(alloc, reader.take(MOST_BYTES))
 }
 
-/// Reads the next record into `row`, and returns `true`, or `false` if there is none.
+/// Reads the next record into `row` and returns true, or returns false if no record is left.
 ///
 /// Fails with `Read` or `Desk(Memory)`.
 pub fn read_record<R: Read>(
@@ -94,7 +94,7 @@ fn has_exactly_two_fields(row: &ByteRecord, first: &[u8], second: &[u8]) -> bool
     field_equals(row, 1, second)
 }
 
-/// Returns true if the first field of a record is `end`, whether or not the rest is correct.
+/// Returns true if the first field of a record is `end`, whatever its other fields.
 pub fn has_end_marker(row: &ByteRecord) -> bool
     ensures { IsTrue result ↔ IsEndRecord (fields_of row.now) }
 {

@@ -32,13 +32,13 @@ pub trait Rows {
     /// The abstract command of a well-formed row.
     ghost Asked: { Type 0 };
 
-    /// The disk assumption, under which the contracts speak of the desk's state.
+    /// The desk satisfies the disk assumption: every read so far returned what was written.
     ghost honest: { Self.Desk → Type 0 };
 
     /// The desk represents this base.
     ghost stands: { Self.Desk → Base → Type 0 };
 
-    /// After a crash the state is one of these two bases.
+    /// A crash exposes only one of these two bases.
     ghost leaves: { Self.Desk → Base → Base → Type 0 };
 
     /// A call at a timestamp, with a command under its key, may turn the first desk into the
@@ -65,8 +65,8 @@ pub trait Rows {
 
     /// Executes a command under its key at the clock reading `now`, and returns its answer.
     ///
-    /// Fails with `Memory` or `Store`. The desk then represents the state before, but after a crash
-    /// the command may be committed.
+    /// Fails with `Memory` or `Store`. The desk then represents what it represented before, but a
+    /// crash may expose the command as committed.
     fn call(
         desk: &mut Self::Desk,
         alloc: Global,

@@ -46,7 +46,7 @@ use Rattle.brk_commit.proofs.Kept.{rows_with_key, steps_again, steps_anew}
 use Rattle.brk_commit.proofs.RowTexts.{changes_keep_texts}
 use Rattle.brk_commit.proofs.Seen.{still_kept, IsSeen, seen, seen_both, sought_none}
 
--- what is known of the tables where a command is decided on, whose key is not kept
+-- No reply is stored under the key, and `planned` is the decision of the model on the command.
 abbrev pub Known : ℕ → Command → Option Key → Result Plan Refusal → Tables → Type 0
 Known now command key planned t = (None ≡ kept_row_under_key t key) × Decides now command planned t
 

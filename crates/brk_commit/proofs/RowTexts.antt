@@ -21,21 +21,28 @@ use Rattle.brk_audit_theorems.proofs.AgainStatus.{all_list}
 use Rattle.brk_audit_theorems.proofs.Climbs.{list_all_true}
 use Rattle.brk_store.proofs.Texts.{text_is_utf8}
 
+-- True if the stored request and the stored reply are UTF-8.
 abbrev kept_in_text : Kept → Bool
 kept_in_text k = is_utf8 k.row_text && is_utf8 k.line
 
+-- The stored request and the stored reply are UTF-8.
 abbrev IsKeptInText : Kept → Type 0
 IsKeptInText k = kept_in_text k ≡ true
 
+-- The executor's name in the row of a trade is UTF-8.
 abbrev IsNamedInText : TradeRow → Type 0
 IsNamedInText r = is_utf8 r.executor ≡ true
 
+-- The name in the row of a cash transaction is UTF-8.
 abbrev IsToldInText : CashRow → Type 0
 IsToldInText r = is_utf8 r.name ≡ true
 
+-- The name in a row of CASH_MOVE is UTF-8.
 abbrev IsMovedInText : MoveRow → Type 0
 IsMovedInText r = is_utf8 r.name ≡ true
 
+-- All texts of the tables that can be other than UTF-8 are UTF-8: stored requests and replies,
+-- executors' names, and names of cash rows.
 record InText (t : Tables) : Type 0 where
   kept : AllByRecursion IsKeptInText t.kept
   names : AllByRecursion IsNamedInText t.trades

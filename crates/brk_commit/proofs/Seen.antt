@@ -25,7 +25,8 @@ module _ {S : Type 0} (g : Ghosts S) where
   pub still_kept : (old new : Held S) (base : Base) → (HoldsRows g old (sheets base) → HoldsRows g new (sheets base)) → Represents g old base → Represents g new base
   still_kept old new base rows keeps = record { books = keeps.books; sound = keeps.sound; texts = keeps.texts; rows = rows keeps.rows }
 
-  -- nothing was changed, and this is so of whatever rows the store holds
+  -- The store is unchanged between the states `old` and `new`, and the rows that it held satisfy
+  -- `P`. The latter is vacuous if the disk assumption fails.
   pub record IsSeen (old new : Held S) (P : Tables → Type 0) : Type 0 where
     pub told : HasCleanDisk (state g new) → (t : Tables) → HoldsRows g old t → P t
     pub kept : (t : Tables) → HoldsRows g old t → HoldsRows g new t

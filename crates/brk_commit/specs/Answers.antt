@@ -1,4 +1,5 @@
--- The answer of the model that an answer represents, and the results that book nothing.
+-- The answer of the model that an answer represents, and the results of a call that commits nothing
+-- or a command.
 use Rattle.std.specs.Prelude.{Result, Ok, Err, string_bytes}
 use Rattle.brk_money.specs.declared.fault.Fault.{Fault}
 use Rattle.brk_model.specs.Commands.{Answer, Done, Again, Refused}
@@ -12,14 +13,14 @@ model_answer (given.Done reply) = Done (abstract_reply reply)
 model_answer (given.Again line) = Again (string_bytes line)
 model_answer (given.Refused refusal) = Refused refusal
 
--- The result is a refusal, a stored reply or a fault, so the call booked nothing in the open store.
+-- The result is a refusal, a stored reply or a fault: any result but `Done`.
 abbrev pub BooksNothing : Result booked.Answer Fault → Type 0
 BooksNothing (Ok (given.Done reply)) = ⊥
 BooksNothing (Ok (given.Again line)) = Unit {0}
 BooksNothing (Ok (given.Refused refusal)) = Unit {0}
 BooksNothing (Err fault) = Unit {0}
 
--- The result is `Done`: this call booked the command.
+-- The result is `Done`: the call accepted the command and committed it.
 abbrev pub BooksCommand : Result booked.Answer Fault → Type 0
 BooksCommand (Ok (given.Done reply)) = Unit {0}
 BooksCommand (Ok (given.Again line)) = ⊥

@@ -19,8 +19,8 @@ use Rattle.brk_commit.specs.Answers.{BooksNothing, BooksCommand, model_answer}
 use Rattle.brk_commit.specs.declared.answer.Answer as booked
 
 -- For every base that the store represented before the call, `answer` is the answer of the model's
--- step with this key (`keyed_step`) at the clock reading `now`, and the store represents the base
--- after this step.
+-- step for the command (`keyed_step`) at the clock reading `now` and under the key, and the store
+-- represents the base after this step.
 abbrev pub RefinesStep : {S : Type 0} → Ghosts S → Held S → Held S → ℕ → Command → Option Key → booked.Answer → Type 0
 RefinesStep g old new now command key answer =
     (base : Base) → Represents g old base → (after : Base) × Represents g new after × (keyed_step base now command key ≡ (model_answer answer, after))
@@ -34,18 +34,19 @@ PreservesRepresentation g old new = (base : Base) → Represents g old base → 
 abbrev pub base_after_call : Base → ℕ → Command → Option Key → Base
 base_after_call base now command key = (keyed_step base now command key).1
 
--- The store was open, and for every base that it represented the trees contain the tables of the
--- base after the command, and these have texts in UTF-8.
+-- The store was open, and for every base that it represented, `trees` are the disk contents of a
+-- database that contains the tables of the base after the command, and the texts of these tables
+-- are UTF-8.
 abbrev pub MayBeCommitted : {S : Type 0} → Ghosts S → Held S → ℕ → Command → Option Key → Trees → Type 0
 MayBeCommitted g old now command key trees =
     IsTrue (state g old).is_open × ((base : Base) → Represents g old base → AreTreesOfRows (sheets (base_after_call base now command key)) trees)
     × ((base : Base) → Represents g old base → IsTrue (has_utf8_texts (sheets (base_after_call base now command key))))
 
--- The postcondition of a call that executes a command: at `Ok` it refines the model's step with the
--- key of the command; at an error it leaves the open store unchanged, although a crash may expose
--- the command as committed.
+-- The postcondition of a call that executes a command. At `Ok` the call refines the model's step
+-- for the command. At an error the open store is unchanged, although a crash may expose the command
+-- as committed. `brk_store/specs/Holds.antt` explains the terms of the clauses.
 pub record CallPost {S : Type 0} (g : Ghosts S) (old new : Held S) (now : ℕ) (command : Command) (key : Option Key) (result : Result booked.Answer Fault) : Type 0 where
-  -- At `Ok` the call refines the step. Says nothing if the disk assumption fails.
+  -- At `Ok` the call refines the model's step. Vacuous if the disk assumption fails.
   pub answered : HasCleanDisk (state g new) → IfOk result (RefinesStep g old new now command key)
   -- At an error the store represents every base that it represented.
   pub kept : OnErr result (PreservesRepresentation g old new)

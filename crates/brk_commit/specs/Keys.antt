@@ -22,14 +22,15 @@ abbrev pub kept_row_under_key : Tables → Option Key → Option Kept
 kept_row_under_key t None = None
 kept_row_under_key t (Some key) = find (λ k. bytes_eq k.key.batch key.batch && (k.key.row == key.row)) t.kept
 
--- The tables `t` with one more row of KEPT: the command and its reply under the key. Without a key,
--- `t` itself.
+-- The tables `t` with one more row of KEPT, which stores the command and its reply under the key.
+-- Without a key, `t` unchanged.
 abbrev pub with_stored_command : Option Key → Command → Reply → Tables → Tables
 with_stored_command None command reply t = t
 with_stored_command (Some key) command reply t = tables_with_stored_reply (stored_reply_row key command reply) t
 
--- The postcondition of the look-up of a key: with a key, a read of the row of KEPT under it, or
--- `None` if there is none; without a key, the result is `None` and the store is unchanged.
+-- The postcondition of reading the row of KEPT under a key. With a key it is a read, and the result
+-- is the row under the key, or `None` if there is none. Without a key the result is `None` and the
+-- store is unchanged.
 abbrev pub ReadKeptRowPost : {S : Type 0} → Ghosts S → Held S → Held S → Option Key → Result (Option row.Kept) Fault → Type 0
 ReadKeptRowPost g old new None result = (new ≡ old) × (result ≡ Ok None)
 ReadKeptRowPost g old new (Some key) result = ReadPost g old new result (λ kept t. option_map abstract_kept_row kept ≡ kept_row_under_key t (Some key))

@@ -1,4 +1,5 @@
-//! Execution of a command: it is decided on and committed with its key.
+//! Execution of a command: the decision on it and, if it is accepted, the commit of its row changes
+//! with its key.
 
 ghost use Rattle.std.specs.Prelude.{IfSome};
 ghost use Rattle.std.specs.Option.{option_copied};
@@ -18,7 +19,7 @@ use brk_store::Store;
 use sqlite::Alter;
 use std::alloc::Global;
 
-// States that a command and its key are well-formed. Proof-only: does nothing at run time.
+// Proves that a command and its key, if it has one, are well-formed. Does nothing at run time.
 fn command_and_key_are_well_formed(command: &Command, key: Option<&Key>)
     ensures command { MeetsAuditFormats (abstract_command command.now) }
     ensures key { IfSome (optional_model_key (option_copied key.entry)) IsWellFormedKey }

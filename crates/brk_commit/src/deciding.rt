@@ -1,4 +1,4 @@
-//! Decisions on commands, each kind by its own function.
+//! The decision on a command, by one function for each kind of command.
 
 ghost use Rattle.std.specs.Prelude.{IfErr};
 ghost use Rattle.brk_commands.specs.Commands.{abstract_command};

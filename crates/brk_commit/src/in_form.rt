@@ -1,4 +1,5 @@
-//! Commands and keys are well-formed: their fields are of types that hold no other values.
+//! Proofs that commands and keys are well-formed: the types of their fields have no malformed
+//! values.
 
 ghost use Rattle.std.specs.Prelude.{◌≡◌};
 ghost use Rattle.std.specs.List.{AllByRecursion};
@@ -14,7 +15,7 @@ use brk_orders::{Direction, Movement, Order, Tick, Update};
 use brk_plans::Reference;
 use brk_ref::{Account, Band, Broker, Charge, Customer, Key, Listing, Permission, Tax};
 
-// States that the command that adds a broker is well-formed. Proof-only: does nothing at run time.
+// Proves that the command that adds a broker is well-formed. Does nothing at run time.
 fn broker_is_well_formed(broker: &Broker)
     ensures { MeetsAuditFormats (AddBroker (abstract_broker broker.now)) }
 {
@@ -22,8 +23,7 @@ fn broker_is_well_formed(broker: &Broker)
     broker.name.state_text_format();
 }
 
-// States that the command that adds a customer is well-formed. Proof-only: does nothing at run
-// time.
+// Proves that the command that adds a customer is well-formed. Does nothing at run time.
 fn customer_is_well_formed(customer: &Customer)
     ensures { MeetsAuditFormats (AddCustomer (abstract_customer customer.now)) }
 {
@@ -34,8 +34,7 @@ fn customer_is_well_formed(customer: &Customer)
     customer.first_name.state_text_format();
 }
 
-// States that the command that adds an account is well-formed. Proof-only: does nothing at run
-// time.
+// Proves that the command that adds an account is well-formed. Does nothing at run time.
 fn account_is_well_formed(account: &Account)
     ensures { MeetsAuditFormats (AddAccount (abstract_account account.now)) }
 {
@@ -44,8 +43,7 @@ fn account_is_well_formed(account: &Account)
     let _ = account.opening.get();
 }
 
-// States that the command that adds a permission is well-formed. Proof-only: does nothing at run
-// time.
+// Proves that the command that adds a permission is well-formed. Does nothing at run time.
 fn permission_is_well_formed(permission: &Permission)
     ensures { MeetsAuditFormats (AddPermission (abstract_permission permission.now)) }
 {
@@ -55,7 +53,7 @@ fn permission_is_well_formed(permission: &Permission)
     permission.first_name.state_text_format();
 }
 
-// States that the command that adds a listing is well-formed. Proof-only: does nothing at run time.
+// Proves that the command that adds a listing is well-formed. Does nothing at run time.
 fn listing_is_well_formed(listing: &Listing)
     ensures { MeetsAuditFormats (AddSecurity (abstract_listing listing.now)) }
 {
@@ -66,7 +64,7 @@ fn listing_is_well_formed(listing: &Listing)
     let _ = listing.price.get();
 }
 
-// States that the command that adds a charge is well-formed. Proof-only: does nothing at run time.
+// Proves that the command that adds a charge is well-formed. Does nothing at run time.
 fn charge_is_well_formed(charge: &Charge)
     ensures { MeetsAuditFormats (AddCharge (abstract_charge charge.now)) }
 {
@@ -74,7 +72,7 @@ fn charge_is_well_formed(charge: &Charge)
     let _ = charge.amount.get();
 }
 
-// States that the command that adds a band is well-formed. Proof-only: does nothing at run time.
+// Proves that the command that adds a band is well-formed. Does nothing at run time.
 fn band_is_well_formed(band: &Band)
     ensures { MeetsAuditFormats (AddBand (abstract_band band.now)) }
 {
@@ -85,7 +83,7 @@ fn band_is_well_formed(band: &Band)
     let _ = band.rate.get();
 }
 
-// States that the command that adds a tax is well-formed. Proof-only: does nothing at run time.
+// Proves that the command that adds a tax is well-formed. Does nothing at run time.
 fn tax_is_well_formed(tax: &Tax)
     ensures { MeetsAuditFormats (AddTaxRate (abstract_tax_rate tax.now)) }
 {
@@ -94,8 +92,7 @@ fn tax_is_well_formed(tax: &Tax)
     let _ = tax.rate.get();
 }
 
-// States that the command that adds a reference record is well-formed. Proof-only: does nothing at
-// run time.
+// Proves that the command that adds a reference record is well-formed. Does nothing at run time.
 fn reference_is_well_formed(reference: &Reference)
     ensures { MeetsAuditFormats (books.command_adding_record reference.now) }
 {
@@ -112,7 +109,7 @@ fn reference_is_well_formed(reference: &Reference)
     }
 }
 
-// States that an order is well-formed. Proof-only: does nothing at run time.
+// Proves that an order is well-formed. Does nothing at run time.
 fn order_is_well_formed(order: &Order)
     ensures { OrderMeetsAuditFormats (abstract_order order.now) }
 {
@@ -122,7 +119,7 @@ fn order_is_well_formed(order: &Order)
     }
 }
 
-// States that each of the ticks is well-formed. Proof-only: does nothing at run time.
+// Proves that each of the ticks is well-formed. Does nothing at run time.
 fn ticks_are_well_formed(ticks: &[Tick])
     ensures { AllByRecursion TickMeetsAuditFormats (abstract_ticks ticks.now) }
 {
@@ -131,7 +128,7 @@ fn ticks_are_well_formed(ticks: &[Tick])
     }
 }
 
-// States that a text update is well-formed. Proof-only: does nothing at run time.
+// Proves that a text update is well-formed. Does nothing at run time.
 fn update_is_well_formed(update: &Update)
     ensures { MeetsAuditFormats (text_update_command update.now) }
 {
@@ -140,7 +137,7 @@ fn update_is_well_formed(update: &Update)
     }
 }
 
-// States that a deposit or a withdrawal is well-formed. Proof-only: does nothing at run time.
+// Proves that a deposit or a withdrawal is well-formed. Does nothing at run time.
 fn movement_is_well_formed(movement: &Movement)
     ensures { MeetsAuditFormats (movement_command movement.now) }
 {
@@ -150,7 +147,7 @@ fn movement_is_well_formed(movement: &Movement)
     }
 }
 
-/// States that a command is well-formed. Proof-only: does nothing at run time.
+/// Proves that a command is well-formed. Does nothing at run time.
 pub fn command_is_well_formed(command: &Command)
     ensures { MeetsAuditFormats (abstract_command command.now) }
 {
@@ -170,7 +167,7 @@ pub fn command_is_well_formed(command: &Command)
     }
 }
 
-/// States that a key is well-formed. Proof-only: does nothing at run time.
+/// Proves that a key is well-formed. Does nothing at run time.
 pub fn key_is_well_formed(key: &Key)
     ensures { IsWellFormedKey (abstract_key key.now) }
 {

@@ -1,4 +1,5 @@
-//! Accepted commands and their replies, stored under keys and returned to retries.
+//! Stored requests and replies: the rows of KEPT, which accepted commands add under their keys and
+//! which answer retries.
 
 ghost use Rattle.std.specs.Prelude.{◌≡◌, IfOk, IfErr, OnErr, Err};
 ghost use Rattle.std.specs.Option.{option_copied};
@@ -24,8 +25,8 @@ use brk_trade::{Change, Plan};
 use sqlite::Alter;
 use std::alloc::Global;
 
-// Reads the row of KEPT under a key. Returns `None` if there is no key or no such row. Fails with
-// `Memory` or `Store` only.
+// Returns the row of KEPT under a key, with the stored request and the stored reply, or `None` if
+// there is no key or no such row. Changes nothing. Fails with `Memory` or `Store` only.
 pub(crate) fn read_kept_row<S: Alter>(
     store: &mut Store<S>,
     key: Option<&Key>,
@@ -53,8 +54,8 @@ pub(crate) fn answer_retry(alloc: Global, command: &Command, kept: Kept) -> Resu
     }
 }
 
-// Returns the plan with one more change, which stores the command and its reply under the key;
-// without a key, the plan itself. Fails with `Memory` only.
+// Returns the plan with one more change, which adds the row of KEPT with the command and its reply
+// under the key. Without a key, returns the plan unchanged. Fails with `Memory` only.
 pub(crate) fn store_under_key(
     alloc: Global,
     plan: Plan,

@@ -1,5 +1,5 @@
-//! Execution of one command in one transaction: it is decided on, committed if it is accepted, and
-//! accepted at most once under each key.
+//! Execution of one command in one transaction: the decision on it and, if it is accepted, its
+//! commit. Under each key a command is accepted at most once.
 #![tactic(auto)]
 
 pub mod answer;

@@ -23,7 +23,8 @@ use Rattle.brk_store.specs.Holds.{ReadPost}
 use Rattle.brk_decisions.specs.Decisions.{Decides}
 use Rattle.brk_decisions.proofs.Looking.{read_both}
 
--- the last stamp, and the status of a trade, where there is such a trade
+-- `last` is the last stamp of the tables, and `found` is the status of the trade with the id `id`,
+-- or `None` if the trade does not exist.
 abbrev pub Known : ℕ → Option Status → Option ℕ → Tables → Type 0
 Known id found last t = (last ≡ t.last) × (found ≡ option_map (λ r. r.status) (trade_row_with_id t id))
 

@@ -33,11 +33,13 @@ use Rattle.brk_trade_theorems.proofs.Waiting.{limit_buys, limit_sells, may, sele
 use Rattle.brk_book_theorems.proofs.Tested.{not_not}
 use Rattle.brk_decisions.specs.Decisions.{Decides}
 
--- by all ticks of a feed the quote of one, where its symbol has a last trade
+-- `quote` has the last trade of the tick's symbol and the requests that a price of the ticks `all`
+-- may trigger. It is `None` if the symbol has no last trade.
 abbrev pub IsQuoteOf : List Tick → Tick → Option Quote → Tables → Type 0
 IsQuoteOf all tick quote t = (option_map (λ q. abstract_last_trade_row q.last) quote ≡ last_trade_row_of_symbol t tick.symbol) × IfSome quote (λ q. IsQuoteOfTick t tick all (state_of_quote q))
 
--- the last stamp, and by all ticks of a feed the quotes of the symbols of some
+-- `last` is the last stamp of the tables, and `quotes` are the quotes of the symbols of `ticks`,
+-- for the prices of the ticks `all`.
 abbrev pub Known : (all ticks : List Tick) → List SymbolState → Option ℕ → Tables → Type 0
 Known all ticks quotes last t = (last ≡ t.last) × AreQuotesOfTicks t all ticks quotes
 

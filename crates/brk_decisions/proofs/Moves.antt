@@ -25,15 +25,16 @@ use Rattle.brk_store.specs.Holds.{ReadPost}
 use Rattle.brk_decisions.specs.Decisions.{Decides}
 use Rattle.brk_decisions.proofs.Looking.{read_both}
 
--- the balance of an account, where it is there
+-- `balance` is the balance of the account with the id `account`, or `None` if the account does not
+-- exist.
 abbrev pub BalanceKnown : ℕ → Option ℤ → Tables → Type 0
 BalanceKnown account balance t = balance ≡ option_map (λ r. r.balance) (account_row_with_id t account)
 
--- whether there are as many movements as there may be
+-- `all` is true if and only if there are at least `greatest_id` deposits and withdrawals.
 abbrev pub CountKnown : Bool → Tables → Type 0
 CountKnown all t = all ≡ nat_le greatest_id (length (filter (λ r. is_none r.trade) t.moves))
 
--- the last stamp, and what is found for a movement
+-- `last` is the last stamp of the tables, and the facts for the movement equal those of the tables.
 abbrev pub Known : Movement → MoveFound → Option ℕ → Tables → Type 0
 Known m found last t = (last ≡ t.last) × MovementFactsMatchTables t m found
 

@@ -20,7 +20,8 @@ use Rattle.brk_store.specs.Holds.{ReadPost}
 use Rattle.brk_decisions.specs.Decisions.{Decides}
 use Rattle.brk_decisions.proofs.Looking.{read_both}
 
--- the last stamp, and the settlement day that is set, where there is one
+-- `last` is the last stamp of the tables, and `rule` is the settlement day, or `None` if none is
+-- set.
 abbrev pub Known : Option ℕ → Option ℕ → Tables → Type 0
 Known rule last t = (last ≡ t.last) × (rule ≡ t.rule)
 

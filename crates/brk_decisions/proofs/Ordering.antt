@@ -28,7 +28,7 @@ use Rattle.brk_decisions.proofs.Looking.{read_both}
 
 -- ---- what is known after the reads
 
--- the last stamp, and what is found for an order
+-- `last` is the last stamp of the tables, and the facts for the order equal those of the tables.
 abbrev pub KnownForOrder : Order → Option ℕ → OrderFound → Tables → Type 0
 KnownForOrder order last found t = (last ≡ t.last) × OrderFactsMatchTables t order found
 

@@ -23,7 +23,8 @@ use Rattle.brk_store.specs.Holds.{ReadPost}
 use Rattle.brk_decisions.specs.Decisions.{Decides}
 use Rattle.brk_decisions.proofs.Looking.{read_both}
 
--- the last stamp, and what is found for a record
+-- `last` is the last stamp of the tables, and the facts for the reference record equal those of the
+-- tables.
 abbrev pub Known : Reference → ReferenceFacts → Option ℕ → Tables → Type 0
 Known r found last t = (last ≡ t.last) × ReferenceFactsMatchTables t r found
 

@@ -26,7 +26,8 @@ if_there : {X : Type 0} (o : Option X) (P Q : X → Type 0) → ((x : X) → P x
 if_there None P Q f p = tt
 if_there (Some x) P Q f p = f x p
 
--- an account, by its row, its customer and its broker
+-- The facts of an account's row, its customer, the sum of the customer's tax rates, and the totals
+-- of its broker.
 abbrev pub parties_with : ref.AccountRow → customer.Customer → ℕ → BrokerNumbers → Parties
 parties_with row customer rates broker = record {
   account = record { broker = row.account.broker; tax_status = row.account.tax_status; balance = row.balance };
@@ -44,7 +45,8 @@ parties_known t row customer rates broker k e n = record {
   broker = n;
 }
 
--- what was found of a trade, of its account, of its security, of how many shares the account holds of it, and of the day and the cash row of its result
+-- The facts for the decision on a result: the trade, its parties, its security, the shares that the
+-- account holds of it, and the facts of its posting.
 abbrev pub found_with : TradeRow → Parties → SecurityFacts → Option ℤ → Posting → ResultFound
 found_with trade parties listed summary posting = record {
   trade = trade;
@@ -59,11 +61,12 @@ found_with trade parties listed summary posting = record {
 }
 
 module _ (t : Tables) (trade : TradeRow) (parties : Parties) (listed : SecurityFacts) (held : Option ℤ) where
-  -- the account of the trade, where it is there
+  -- If the account of the trade exists, the facts of its parties equal those of the tables. Vacuous
+  -- otherwise.
   abbrev pub OwnerKnown : Type 0
   OwnerKnown = IfSome (account_row_with_id t trade.account) (λ a. ArePartiesOfAccount t a parties)
 
-  -- its security
+  -- If the security of the trade exists, its facts equal those of the tables. Vacuous otherwise.
   abbrev pub SecurityKnown : Type 0
   SecurityKnown = IfSome (security_row_with_symbol t trade.symbol) (λ s. AreSecurityFacts t trade parties.tier s listed)
 
@@ -73,7 +76,8 @@ module _ (t : Tables) (trade : TradeRow) (parties : Parties) (listed : SecurityF
   of_security : SecurityKnown → (Q : SecurityRow → Type 0) → ((s : SecurityRow) → AreSecurityFacts t trade parties.tier s listed → Q s) → IfSome (security_row_with_symbol t trade.symbol) Q
   of_security k Q f = if_there (security_row_with_symbol t trade.symbol) (λ s. AreSecurityFacts t trade parties.tier s listed) Q f k
 
-  -- the rate by a customer's tier
+  -- If the security of the trade exists, its rate is that of the band for the customer's tier.
+  -- Vacuous otherwise.
   abbrev RateOf : Customer → Type 0
   RateOf c = IfSome (security_row_with_symbol t trade.symbol) (λ s. listed.rate ≡ option_map (λ b. b.rate) (band_of_quantity t c.tier trade.kind s.exchange trade.qty))
 
@@ -82,7 +86,8 @@ module _ (t : Tables) (trade : TradeRow) (parties : Parties) (listed : SecurityF
       of_security k (λ s. listed.rate ≡ option_map (λ b. b.rate) (band_of_quantity t c.tier trade.kind s.exchange trade.qty))
       (λ s l. l.rate ∙ ap (λ tier. option_map (λ b. b.rate) (band_of_quantity t tier trade.kind s.exchange trade.qty)) e)
 
-  -- how many shares the account holds
+  -- `held` is the number of shares of the summary of the trade's account and security, or `None` if
+  -- there is no summary.
   abbrev pub SummaryKnown : Type 0
   SummaryKnown = held ≡ option_map (λ r. r.qty) (summary_row_of_position t trade.account trade.symbol)
 

@@ -60,7 +60,8 @@ none_over Held (Ok (Ok plan)) p = λ t held. p
 none_over Held (Ok (Err refusal)) p = λ t held. p
 none_over Held (Err fault) p = tt
 
--- the last stamp, and what was found for a result
+-- `last` is the last stamp of the tables, and the facts for the result of the trade with the id
+-- `id` equal those of the tables.
 abbrev pub Known : ℕ → Option ℕ → Option ResultFound → Tables → Type 0
 Known id last found t = (last ≡ t.last) × AreResultFactsForId t id found
 
@@ -70,7 +71,7 @@ pub last_and_found : {S E F : Type 0} (g : Ghosts S) (old mid end : Held S) (id 
 last_and_found g old mid end id last found at_last at_found =
     read_both g old mid end {H = Fault} last found found (λ last t. last ≡ t.last) (λ found t. AreResultFactsForId t id found) (Known id last) (λ t e f. (e, f)) at_last at_found
 
--- a trade that was found is of some shares
+-- If a trade was found, its quantity is above 0. Vacuous if none was found.
 abbrev pub HasShares : Option ResultFound → Type 0
 HasShares found = IfSome found (λ f. 0 < f.trade.qty)
 

@@ -17,17 +17,18 @@ use Rattle.brk_plans.specs.declared.plan.Plan.{Plan}
 use Rattle.brk_book_theorems.specs.Books.{BooksInvariant}
 use Rattle.brk_trade_theorems.specs.Plans.{PlanImplementsCommand}
 
--- For every base that satisfies the books invariant and whose tables are the rows `t`: a plan does
--- the model's step for `command` at the clock reading `now` (`PlanImplementsCommand`), and a
--- refusal is the one with which this step refuses the command. Vacuous if `t` are the tables of no
--- such base.
+-- `planned` is the decision of the model on `command` at the clock reading `now`, for every base
+-- that satisfies the books invariant and has the tables `t`: a plan has the effect of the model's
+-- step (`PlanImplementsCommand`), and a refusal is the refusal of this step. Vacuous if `t` are the
+-- tables of no such base.
 abbrev pub Decides : ℕ → Command → Result Plan Refusal → Tables → Type 0
 Decides now command planned t =
     (base : Base) → BooksInvariant base → t ≡ sheets base → MatchResult planned (PlanImplementsCommand base now command) (λ refusal. step base now command ≡ Err refusal)
 
--- For every base that satisfies the books invariant and whose tables are the rows `t`: the estimate
--- equals that of the model for the order and is the view of the order's query, or the refusal is
--- that of this query. Vacuous if `t` are the tables of no such base.
+-- `planned` is the result of the model for the estimate of `order`, for every base that satisfies
+-- the books invariant and has the tables `t`: an estimate equals the model's estimate, and its
+-- fields are the view of the query `EstimateOf`; a refusal is the refusal of this query. Vacuous if
+-- `t` are the tables of no such base.
 abbrev pub IsEstimateOfModel : Order → Result Estimate Refusal → Tables → Type 0
 IsEstimateOfModel order planned t =
     (base : Base) → BooksInvariant base → t ≡ sheets base

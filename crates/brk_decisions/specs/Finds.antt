@@ -21,27 +21,27 @@ use Rattle.brk_decisions.specs.declared.amounts.Amounts.{Amounts}
 abbrev pub IsCustomerWithId : Tables → ℕ → Customer → Type 0
 IsCustomerWithId t id customer = find (λ r. r.id == id) t.customers ≡ Some (abstract_customer customer)
 
--- The facts on which an order of the customer is tested, last price, permission, charge and
--- commission rate, agree with the tables. The rate is specified only if the order's security
--- exists.
+-- The facts `tested` that decide on an order of the customer equal those of the tables `t`: the
+-- last price, whether the executor is permitted, the charge and the commission rate. The rate is
+-- specified only if the order's security exists.
 pub record AreOrderFacts (t : Tables) (order : Order) (customer : Customer) (tested : OrderFacts) : Type 0 where
   pub last_price : tested.last_price ≡ last_price_of_symbol t order.symbol
   pub is_permitted : tested.is_permitted ≡ permitted (abstract_customer customer) (permission_for_tax_id t order.account order.executor.tax_id) (abstract_executor order.executor)
   pub charge : tested.charge ≡ charge_of_type_and_tier t (trade_type_of_order order.order_type) customer.tier
   pub rate : IfSome (security_row_with_symbol t order.symbol) (λ s. tested.rate ≡ option_map (λ b. b.rate) (band_of_quantity t customer.tier (trade_type_of_order order.order_type) s.exchange order.qty))
 
--- The market value of a holding summary: its shares times the last price of its symbol. Shares sold
--- short count below 0.
+-- The market value of a holding summary in cents: its shares times the last price of its symbol.
+-- Shares sold short count below 0.
 abbrev pub market_value_of_summary : Tables → SummaryRow → ℤ
 market_value_of_summary t row = row.qty *ℤ pos (last_price_in_tables t row.symbol)
 
--- The market value of all holding summaries of an account, at last prices.
+-- The market value of all holding summaries of an account, at last prices, in cents.
 abbrev pub market_value_of_account : Tables → ℕ → ℤ
 market_value_of_account t account = total_by (market_value_of_summary t) (filter (λ row. row.account == account) t.summaries)
 
--- The amounts for the estimate of an order of the account agree with the tables: the sum of the
--- customer's tax rates, the account's balance plus the market value of its holdings, and its shares
--- in the order's security.
+-- The amounts for the estimate of an order of the account equal those of the tables `t`: the sum of
+-- the customer's tax rates, the account's balance plus the market value of its holdings, and its
+-- shares of the order's security.
 pub record AreEstimateAmounts (t : Tables) (account : AccountRow) (order : Order) (amounts : Amounts) : Type 0 where
   pub rates : amounts.rates ≡ rate_sum_of_customer t account.account.customer
   pub assets : amounts.assets ≡ account.balance +ℤ market_value_of_account t account.account.id
@@ -51,8 +51,8 @@ pub record AreEstimateAmounts (t : Tables) (account : AccountRow) (order : Order
 abbrev pub no_account_facts : OrderFound
 no_account_facts = record { account = None; last_price = None; is_permitted = false; charge = None; rate = None; rates = 0; assets = pos 0; summary = None; last_trade = None }
 
--- The facts for the decision on an order of the account: its broker and tax status, the facts
--- `tested` and the amounts `amounts`, and no last trade.
+-- The facts for the decision on an order of the account: its broker and its tax status, the facts
+-- `tested`, the amounts `amounts`, and no last trade.
 abbrev pub order_facts_of : AccountRow → OrderFacts → Amounts → OrderFound
 order_facts_of account tested amounts = record {
   account = Some (record { broker = account.account.broker; tax_status = account.account.tax_status });
@@ -66,7 +66,7 @@ order_facts_of account tested amounts = record {
   last_trade = None;
 }
 
--- The facts that the estimate of the order needs agree with the tables
--- (`EstimateFactsMatchTables`). Vacuous if `account` is not the row of the order's account.
+-- If `account` is the row of the order's account, the facts `found` for the estimate of the order
+-- equal those of the tables `t` (`EstimateFactsMatchTables`). Vacuous otherwise.
 abbrev pub AreEstimateFactsOf : Tables → Order → AccountRow → OrderFound → Type 0
 AreEstimateFactsOf t order account found = Some (abstract_account_row account) ≡ account_row_with_id t order.account → EstimateFactsMatchTables t order found

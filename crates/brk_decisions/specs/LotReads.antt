@@ -9,7 +9,7 @@ use Rattle.brk_store.specs.Resting.{AreRemainingLots, borrowed_store}
 use Rattle.brk_store.specs.declared.pages.Page.{Page}
 use Rattle.brk_store.specs.declared.pages.Pages.{Pages}
 
--- The lots `ls` are those that the source of pages `old` had yet to return, and the disk assumption
--- holds in the store of the source `new`, which is the same source after its reads.
+-- `ls` are the lots that the source of pages still had to return before its reads (`old`), and the
+-- disk assumption holds for its store after them (`new`).
 abbrev pub AreLotsBeforeReads : {S : Type 0} → Ghosts S → (old new : Pages S Page) → List Lot → Type 0
 AreLotsBeforeReads g old new ls = IsFaithfulRemainder (HasCleanDisk (state g (borrowed_store new).now)) (AreRemainingLots g old) ls

@@ -33,41 +33,41 @@ IsSecurityWithSymbol t symbol security = security_row_with_symbol t symbol ≡ S
 abbrev pub AreTotalsOfBroker : Tables → ℕ → BrokerNumbers → Type 0
 AreTotalsOfBroker t id numbers = IfSome (find (λ r. r.id == id) t.brokers) (λ b. (pos numbers.trades ≡ b.trades) × (numbers.commissions ≡ b.commissions))
 
--- The facts of the parties agree with the tables: the fields of the account's row, the tier and the
--- tax rates of its customer, and the totals of its broker. The tier is specified only if the
--- customer exists, and the totals only if the broker exists.
+-- The facts `parties` of an account equal those of the tables `t`: the fields of the account's row,
+-- the tier and the tax rates of its customer, and the totals of its broker. The tier is specified
+-- only if the customer exists, and the totals only if the broker exists.
 pub record ArePartiesOfAccount (t : Tables) (row : AccountRow) (parties : Parties) : Type 0 where
   pub account : parties.account ≡ result_account_of_row row
   pub tier : IfSome (find (λ r. r.id == row.customer) t.customers) (λ c. parties.tier ≡ c.tier)
   pub rates : parties.rates ≡ rate_sum_of_customer t row.customer
   pub broker : AreTotalsOfBroker t row.broker parties.broker
 
--- The facts of the trade's security agree with the tables: the name in its row, and the commission
--- rate of the band for the trade's quantity at this tier.
+-- The facts `listed` of the trade's security equal those of the tables `t`: the name in its row,
+-- and the commission rate of the band for the trade's quantity at this tier.
 pub record AreSecurityFacts (t : Tables) (trade : TradeRow) (tier : ℕ) (row : SecurityRow) (listed : SecurityFacts) : Type 0 where
   pub name : listed.name ≡ row.name
   pub rate : listed.rate ≡ option_map (λ b. b.rate) (band_of_quantity t tier trade.kind row.exchange trade.qty)
 
--- The facts for the posting of a result agree with the tables: the settlement day, if one is set,
--- and the number of the next cash row.
+-- The facts for the posting of a result equal those of the tables `t`: the settlement day, if one
+-- is set, and the number of the next cash row.
 pub record ArePostingFacts (t : Tables) (posting : Posting) : Type 0 where
   pub rule : posting.rule ≡ t.rule
   pub next : posting.next ≡ last_cash_row_number t + 1
 
--- The facts for the decision on a result have this trade, and agree with the tables
--- (`ResultFactsMatchTables`).
+-- The facts `found` for the decision on a result have the trade `trade`, and equal those of the
+-- tables `t` (`ResultFactsMatchTables`).
 pub record AreResultFactsOf (t : Tables) (trade : TradeRow) (found : ResultFound) : Type 0 where
   pub own : found.trade ≡ trade
   pub read : ResultFactsMatchTables t found
 
--- The facts for the decision on a result agree with the tables and have the trade with the id `id`.
--- They are `None` if this trade does not exist.
+-- The facts `found` for the decision on a result have the trade with the id `id` and equal those of
+-- the tables `t`, or are `None` if this trade does not exist.
 pub record AreResultFactsForId (t : Tables) (id : ℕ) (found : Option ResultFound) : Type 0 where
   pub trade : trade_row_with_id t id ≡ option_map (λ f. abstract_trade_row f.trade) found
   pub read : IfSome found (λ f. AreResultFactsOf t f.trade f)
 
--- The list of lots is exactly that of the position of the trade's account and security, from the
--- end that the trade closes first. It is empty if the trade does not exist.
+-- The list of lots equals the lots of the position of the trade's account and security, in the
+-- order in which the trade closes them. It is empty if the trade does not exist.
 abbrev pub ArePositionLots : Tables → Option ResultFound → List Lot → Type 0
 ArePositionLots t None = EqualsLots []
 ArePositionLots t (Some f) = EqualsLots (list_in_closing_order f.trade.is_lifo (position_lots t f.trade.account f.trade.symbol))

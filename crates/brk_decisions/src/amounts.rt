@@ -21,12 +21,12 @@ use std::alloc::Global;
 /// The amounts that the estimate of an order of an account needs.
 #[derive(Clone, Copy)]
 pub struct Amounts {
-    /// The sum of the tax rates that its customer pays.
+    /// The sum of the tax rates that the account's customer pays.
     pub rates: TaxRate,
-    /// Its balance plus the market value of its holdings, in cents.
+    /// The account's balance plus the market value of its holdings, in cents.
     pub assets: Wide,
-    /// The number of shares of the order's symbol that it holds in all (HS_QTY), or `None` if there
-    /// is no row.
+    /// The number of shares of the order's symbol that the account holds in total (HS_QTY), or
+    /// `None` if it has no summary of the symbol.
     pub summary: Option<i64>,
 }
 
@@ -46,7 +46,7 @@ pub(crate) fn read_tax_rate_sum<S: Alter>(
     }
 }
 
-// Returns an amount plus the market value of a summary at a price, or `None` if it overflows.
+// Returns an amount plus the market value of a summary at a price, or `None` if the sum overflows.
 fn add_market_value(amount: Wide, row: &SummaryRow, price: Price) -> Option<Wide>
     ensures { IfSome result (λ sum. sum ≡ amount +ℤ row.now.qty *ℤ pos price) }
 {
@@ -60,7 +60,7 @@ fn add_market_value(amount: Wide, row: &SummaryRow, price: Price) -> Option<Wide
 }
 
 // Returns an amount plus the market value of a summary at the last price of its symbol. Changes
-// nothing. Fails with `Memory` or `Store` only.
+// nothing. Fails with `Memory` or `Store` only; with `Store` also if the sum overflows.
 fn add_value_at_last_price<S: Alter>(
     store: &mut Store<S>,
     amount: Wide,
@@ -95,7 +95,7 @@ pub fn read_holdings_value<S: Alter>(
     Ok(total)
 }
 
-// Returns a balance plus a market value, or `None` if it overflows.
+// Returns a balance plus a market value, or `None` if the sum overflows.
 fn add_balance_to_value(balance: Cents, worth: Wide) -> Option<Wide>
     ensures { IfSome result (λ assets. assets ≡ balance +ℤ worth) }
 {

@@ -21,9 +21,9 @@ use brk_trade::{Estimate, OrderFound, plan_estimate};
 use sqlite::Alter;
 use std::alloc::Global;
 
-// Plans an estimate from the facts that were read and from `lots`, the lots of the position. Of
-// these it reads at most 16 rows more than the lots that the order would touch, also if it fails.
-// Fails with `Memory` or `Store` only.
+// Plans an estimate from the facts that were read and from `lots`, the lots of the position. The
+// number of lots that it reads exceeds the number that the order would touch by at most 16, also if
+// it fails. Fails with `Memory` or `Store` only.
 fn plan_estimate_over_lots<S: Alter>(
     order: &Order,
     found: &OrderFound,
@@ -44,8 +44,8 @@ fn plan_estimate_over_lots<S: Alter>(
 
 /// Returns the estimate of an order (Trade-Order), or the refusal. Changes nothing.
 ///
-/// Fails with `Memory` or `Store` only; with `Store` also if a row that another row names does not
-/// exist.
+/// Fails with `Memory` or `Store` only; with `Store` also if a row whose key another row contains
+/// does not exist.
 pub fn decide_estimate<S: Alter>(
     alloc: Global,
     store: &mut Store<S>,

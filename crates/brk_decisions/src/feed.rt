@@ -19,8 +19,8 @@ use sqlite::Alter;
 use std::alloc::Global;
 
 // Returns the quote of a tick's symbol, or `None` if the symbol has no last trade. The quote has
-// the pending requests that some price of the feed's ticks may trigger, read by one selection for
-// each type. Changes nothing. Fails with `Memory` or `Store` only.
+// the pending requests that some price of the feed's ticks may trigger, read by one statement for
+// each trade type. Changes nothing. Fails with `Memory` or `Store` only.
 fn read_quote<S: Alter>(
     alloc: Global,
     store: &mut Store<S>,

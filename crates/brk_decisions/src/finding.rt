@@ -18,7 +18,7 @@ use brk_trade::{Reference, ReferenceFacts};
 use sqlite::Alter;
 use std::alloc::Global;
 
-// The facts if nothing is found.
+// The facts with every flag false, a count of 0 and no rate.
 pub(crate) const NOTHING: ReferenceFacts = ReferenceFacts {
     same_id: false,
     same_tax_id: false,

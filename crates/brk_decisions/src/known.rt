@@ -1,4 +1,4 @@
-//! Reads of rows that another row names. If the row does not exist, the fault is `Store`.
+//! Reads of rows whose keys other rows contain. They fail with `Store` if the row does not exist.
 
 ghost use Rattle.std.specs.Prelude.{◌≡◌, IfErr};
 ghost use Rattle.brk_decisions.specs.Finds.{IsCustomerWithId};

@@ -1,4 +1,4 @@
-//! The reads that decide a deposit or a withdrawal.
+//! Reads of the facts that decide on a deposit or a withdrawal.
 
 ghost use Rattle.std.specs.Prelude.{IfErr};
 ghost use Rattle.brk_trade_theorems.specs.MovePlans.{MovementFactsMatchTables};
@@ -11,8 +11,8 @@ use brk_store::Store;
 use brk_trade::MoveFound;
 use sqlite::Alter;
 
-/// Reads the facts that decide a deposit or a withdrawal. Fails with `Memory` or `Store` only; with
-/// `Store` also if no number is left for a cash row.
+/// Reads the facts that decide on a deposit or a withdrawal. Fails with `Memory` or `Store` only;
+/// with `Store` also if no number is left for a cash row.
 pub(crate) fn read_movement_facts<S: Alter>(
     store: &mut Store<S>,
     movement: &Movement,

@@ -12,8 +12,9 @@ use brk_trade::{Plan, plan_oneday};
 use sqlite::Alter;
 use std::alloc::Global;
 
-/// Decides at the clock reading `now` whether `day` becomes the settlement day, the first day whose
-/// completions settle after one day: returns its plan, or the refusal. Changes nothing.
+/// Decides on a command that sets the settlement day, the first day whose completions settle after
+/// one day, to `day`, at the clock reading `now`: returns its plan, or the refusal. Changes
+/// nothing.
 ///
 /// Fails with `Memory` or `Store` only.
 pub fn decide_oneday<S: Alter>(

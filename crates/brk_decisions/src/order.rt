@@ -23,9 +23,9 @@ use brk_trade::{OrderFound, Plan, plan_order};
 use sqlite::Alter;
 use std::alloc::Global;
 
-// Plans an order from the facts that were read and from `lots`, the lots of the position. Of these
-// it reads at most 16 rows more than the lots that the order would touch, also if it fails. Fails
-// with `Memory` or `Store` only.
+// Plans an order from the facts that were read and from `lots`, the lots of the position. The
+// number of lots that it reads exceeds the number that the order would touch by at most 16, also if
+// it fails. Fails with `Memory` or `Store` only.
 fn plan_order_over_lots<S: Alter>(
     alloc: Global,
     order: &Order,
@@ -50,8 +50,8 @@ fn plan_order_over_lots<S: Alter>(
 /// Decides on an order at the clock reading `now` (Trade-Order): returns its plan, or the refusal.
 /// Changes nothing.
 ///
-/// Fails with `Memory` or `Store` only; with `Store` also if a row that another row names does not
-/// exist.
+/// Fails with `Memory` or `Store` only; with `Store` also if a row whose key another row contains
+/// does not exist.
 pub fn decide_order<S: Alter>(
     alloc: Global,
     store: &mut Store<S>,

@@ -34,7 +34,7 @@ fn facts_without_account() -> OrderFound
     }
 }
 
-// Returns the facts for an order of the account, except the last trade.
+// Returns the facts for an order of the account. They have no last trade.
 fn order_facts_of(account: &AccountRow, tested: OrderFacts, amounts: Amounts) -> OrderFound
     ensures { result ≡ order_facts_of account.now tested amounts }
 {

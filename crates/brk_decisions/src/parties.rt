@@ -53,8 +53,8 @@ fn read_parties_of_account<S: Alter>(
     })
 }
 
-/// Reads the facts of the account with an id, its customer and its broker. Fails with `Memory` or
-/// `Store` only; with `Store` also if one of them does not exist.
+/// Reads the facts of the account with the id `account`, its customer and its broker. Fails with
+/// `Memory` or `Store` only; with `Store` also if one of them does not exist.
 pub(crate) fn read_parties<S: Alter>(
     alloc: Global,
     store: &mut Store<S>,

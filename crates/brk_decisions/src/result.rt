@@ -25,8 +25,8 @@ use sqlite::Alter;
 use std::alloc::Global;
 
 // Plans the result of a trade from the facts that were read and from `lots`, the lots of its
-// position. Of these it reads at most 16 rows more than the lots that the trade touches, also if it
-// fails. Fails with `Memory` or `Store` only.
+// position. The number of lots that it reads exceeds the number that the trade touches by at most
+// 16, also if it fails. Fails with `Memory` or `Store` only.
 fn plan_result_over_lots<S: Alter>(
     alloc: Global,
     found: &ResultFound,
@@ -77,11 +77,11 @@ fn plan_result_from_facts<S: Alter>(
     }
 }
 
-/// Decides on a result at the clock reading `now` (Trade-Result): returns its plan, or the refusal.
-/// Changes nothing.
+/// Decides on the result of a trade at the clock reading `now` (Trade-Result): returns its plan, or
+/// the refusal. Changes nothing.
 ///
-/// Fails with `Memory` or `Store` only; with `Store` also if a row that another row names does not
-/// exist.
+/// Fails with `Memory` or `Store` only; with `Store` also if a row whose key another row contains
+/// does not exist.
 pub fn decide_result<S: Alter>(
     alloc: Global,
     store: &mut Store<S>,

@@ -1,4 +1,4 @@
-//! The number of shares of a security that an account holds in all.
+//! The number of shares of a security that an account holds in total.
 
 ghost use Rattle.std.specs.Prelude.{◌≡◌, IfErr, option_map};
 ghost use Rattle.brk_book_theorems.specs.TradeReads.{summary_row_of_position};
@@ -18,7 +18,7 @@ fn shares_of_summary(summary: &SummaryRow) -> i64
     summary.qty
 }
 
-// Returns the number of shares of a summary, or `None` if there is none.
+// Returns the number of shares of a summary, or `None` if there is no summary.
 fn shares_of_optional_summary(summary: Option<SummaryRow>) -> Option<i64>
     ensures { result ≡ option_map (λ r. r.qty) summary }
 {
@@ -31,8 +31,9 @@ fn shares_of_optional_summary(summary: Option<SummaryRow>) -> Option<i64>
     }
 }
 
-// Returns the number of shares of a security that an account holds in all, or `None` if there is no
-// row. Changes nothing. Fails with `Memory` or `Store` only.
+// Returns the number of shares of a security that an account holds in total, below 0 if it sold
+// them short, or `None` if it has no summary of the security. Changes nothing. Fails with `Memory`
+// or `Store` only.
 pub(crate) fn read_summary_shares<S: Alter>(
     store: &mut Store<S>,
     account: Id,

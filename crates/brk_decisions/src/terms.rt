@@ -53,8 +53,9 @@ pub(crate) fn charge_exists<S: Alter>(
     Ok(store.charge(kind, tier)?.is_some())
 }
 
-// Returns true if a band shares a quantity with the given band. Changes nothing. Fails with
-// `Memory` or `Store` only.
+// Returns true if the tables have a band that overlaps the given band: both apply to the same
+// quantity of a tier, a trade type and an exchange. Changes nothing. Fails with `Memory` or `Store`
+// only.
 pub(crate) fn overlapping_band_exists<S: Alter>(
     alloc: Global,
     store: &mut Store<S>,
@@ -117,8 +118,8 @@ fn read_taxes_of_customer<S: Alter>(
     Ok(taxes)
 }
 
-// Returns the sum of the tax rates that a customer pays, or `None` if it exceeds the greatest rate.
-// Changes nothing. Fails with `Memory` or `Store` only.
+// Returns the sum of the tax rates that a customer pays, or `None` if the sum exceeds the greatest
+// rate. Changes nothing. Fails with `Memory` or `Store` only.
 pub(crate) fn sum_tax_rates<S: Alter>(
     alloc: Global,
     store: &mut Store<S>,

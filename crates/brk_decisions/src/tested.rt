@@ -22,13 +22,13 @@ use std::alloc::Global;
 /// The facts that test an order of an account that exists.
 #[derive(Clone, Copy)]
 pub struct OrderFacts {
-    /// The last price of its security, or `None` if the security does not exist.
+    /// The last price of the order's security, or `None` if the security does not exist.
     pub last_price: Option<Price>,
-    /// True if its executor may order for the account.
+    /// True if the order's executor may order for the account.
     pub is_permitted: bool,
-    /// The charge of its type and the customer's tier, or `None` if there is none.
+    /// The charge of the order's trade type and the customer's tier, or `None` if there is none.
     pub charge: Option<ChargeAmount>,
-    /// The rate of the band of its quantity, or `None` if there is none.
+    /// The commission rate of the band of the order's quantity, or `None` if there is none.
     pub rate: Option<Rate>,
 }
 
@@ -63,8 +63,8 @@ fn is_executor_permitted<S: Alter>(
     Ok(permitted(customer, permission.as_slice(), executor))
 }
 
-// Returns the charge of a type and a tier, or `None` if there is none. Changes nothing. Fails with
-// `Memory` or `Store` only.
+// Returns the charge of a trade type and a tier, or `None` if there is none. Changes nothing. Fails
+// with `Memory` or `Store` only.
 fn read_charge_of_tier<S: Alter>(
     store: &mut Store<S>,
     kind: TradeType,
@@ -79,8 +79,8 @@ fn read_charge_of_tier<S: Alter>(
     }
 }
 
-// Returns the rate of a quantity for a tier, a type and an exchange, or `None` if there is none.
-// Changes nothing. Fails with `Memory` or `Store` only.
+// Returns the commission rate of the band of a quantity for a tier, a trade type and an exchange,
+// or `None` if there is no band. Changes nothing. Fails with `Memory` or `Store` only.
 pub(crate) fn read_band_rate<S: Alter>(
     alloc: Global,
     store: &mut Store<S>,
@@ -96,8 +96,8 @@ pub(crate) fn read_band_rate<S: Alter>(
     Ok(band_for(&bands, qty))
 }
 
-// Returns the rate of an order for a tier, or `None` if there is none or its security does not
-// exist. Changes nothing. Fails with `Memory` or `Store` only.
+// Returns the commission rate of an order for a tier, or `None` if no band contains its quantity or
+// its security does not exist. Changes nothing. Fails with `Memory` or `Store` only.
 fn read_order_rate<S: Alter>(
     alloc: Global,
     store: &mut Store<S>,

@@ -13,6 +13,7 @@ use Rattle.brk_desk.specs.declared.call.Call.{Call}
 use Rattle.brk_desk.specs.declared.call.Outcome.{Outcome}
 
 module _ {S : Type 0} (g : Ghosts S) where
+  -- A call of the desk at the clock reading `now` satisfies its postcondition, with this outcome.
   abbrev Made : Held S → ℕ → Call → Outcome → Held S → Type 0
   Made old now call outcome new = OutcomePost g old new now call outcome
 

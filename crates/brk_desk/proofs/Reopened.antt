@@ -52,7 +52,7 @@ booked_can_be g old new base now command key answer trees called keeps come =
 
 -- ---- what was left is adopted
 
--- while a store is open a crash leaves its last commit
+-- A crash of an open store exposes only the disk contents of its last commit.
 abbrev pub Settles : {S : Type 0} → Ghosts S → Type 0
 Settles {S} g = (s : S) (db : Trees) → IsTrue (g.view s).is_open → g.recovers s db → db ≡ (g.view s).committed
 

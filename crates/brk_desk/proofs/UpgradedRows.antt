@@ -26,6 +26,7 @@ use Rattle.brk_book_theorems.specs.Books.{BooksInvariant}
 use Rattle.brk_invariant_theorems.specs.Sound.{AuditInvariant}
 use Rattle.brk_invariant_theorems.proofs.Adopted.{passing_sound}
 
+-- The name of the posting is UTF-8.
 abbrev IsRead : Posting → Type 0
 IsRead p = is_utf8 p.name ≡ true
 
@@ -60,7 +61,8 @@ narrower First = first_narrower
 narrower Second = second_narrower
 narrower Third = record { qty = omega arith; summary = omega arith }
 
--- what is so of the base of rows that pass
+-- The rows, upgraded from `schema`, are the tables of the base that the rows determine, and this
+-- base is consistent.
 pub record AreUpgraded (schema : known.Schema) (rows : Tables) : Type 0 where
   pub tables : tables_upgraded_from_schema (abstract_schema schema) rows ≡ sheets (base_of_tables rows)
   pub books : BooksInvariant (base_of_tables rows)

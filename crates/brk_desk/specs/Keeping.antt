@@ -1,6 +1,8 @@
--- The postconditions of a desk's calls: a query, a run and an audit. That of a command is
--- `CallPost` of brk_commit. A clause with the premise `HasCleanDisk` for the new state, and the
--- promise on crashes in `survives`, are vacuous if the disk assumption fails after the call.
+-- The postconditions of a desk's calls: a query, a run and an audit. The postcondition of a command
+-- is `CallPost` of brk_commit. `brk_store/specs/Holds.antt` explains the terms of their clauses:
+-- `state`, `HasCleanDisk`, `is_open`, `Survives` and disk contents (`Trees`). A clause with the
+-- premise `HasCleanDisk` for the new state, and the promise on crashes in `survives`, are vacuous
+-- if the disk assumption fails after the call.
 use Rattle.brk_model.specs.Form.{has_utf8_texts}
 use Rattle.std.specs.Prelude.{◌≡◌, ℕ, List, None, map, length, Result, IfOk, IfErr, IsTrue}
 use Rattle.std.specs.List.{AllByRecursion}
@@ -58,21 +60,23 @@ pub record AskPost {S : Type 0} (g : Ghosts S) (old new : Held S) (query : Query
   pub fault : IfErr result IsCallFault
   -- A crash exposes only states that a crash before the call could expose.
   pub survives : Survives (state g old) (state g new) (λ _. ⊥)
-  -- If the database is open after the call, it was open before and is unchanged.
+  -- If the database is open after the call, it was open before the call, and the call did not
+  -- change it.
   pub same : HasCleanDisk (state g new) → IsTrue (state g new).is_open → WasOpenAndIsUnchanged (state g old) (state g new)
   -- If the disk assumption holds after the call, it held before.
   pub clean : HasCleanDisk (state g new) → HasCleanDisk (state g old)
 
--- The call, executed at the clock reading `now` from the state `old` to the state `new`, satisfies
--- its own postcondition, `CallPost` or `AskPost`, with the result that `outcome` carries.
+-- The call was executed at the clock reading `now` and changed the state `old` to the state `new`.
+-- It satisfies the postcondition of its kind, `CallPost` for a command and `AskPost` for a query,
+-- with a result whose outcome is `outcome`.
 abbrev pub OutcomePost : {S : Type 0} → Ghosts S → Held S → Held S → ℕ → Call → Outcome → Type 0
 OutcomePost g old new now (call.Do command key) outcome =
     (result : Result desk.Answer Fault) × (outcome ≡ outcome_of_command result) × CallPost g old new now (abstract_command command) (optional_model_key key) result
 OutcomePost g old new now (call.Ask query) outcome =
     (result : Result (Result View Refusal) Fault) × (outcome ≡ outcome_of_query result) × AskPost g old new (abstract_query query) result
 
--- No outcome is `Done`, that is, `Did` with the answer `Done`: each is of a query, a refusal, a
--- stored reply or a fault.
+-- No outcome is `Did` with the answer `Done`: each outcome is a view, a refusal, a stored reply or
+-- a fault.
 abbrev pub OutcomesAcknowledgeNothing : List Outcome → Type 0
 OutcomesAcknowledgeNothing outcomes = AllByRecursion AcknowledgesNothing (map model_outcome outcomes)
 
@@ -81,7 +85,7 @@ abbrev pub FailsWithMemoryOrStore : Outcome → Type 0
 FailsWithMemoryOrStore (came.Failed fault) = IsCallFault fault
 FailsWithMemoryOrStore _ = Unit {0}
 
--- The trees (the contents of a database on disk) contain the tables of some base that a crash may
+-- A database with the disk contents `trees` contains the tables of some base that a crash may
 -- expose after the calls from `base` (`MayBeRecovered`), and the texts of these tables are UTF-8.
 -- That base has the change of every acknowledged command, and of at most one command more, which
 -- returned a fault and after which no change was acknowledged.
@@ -89,14 +93,14 @@ abbrev pub AreRecoverableTrees : Base → List (ℕ × Call) → List Outcome �
 AreRecoverableTrees base calls outcomes trees =
     (after : Base) × MayBeRecovered base (map model_call calls) (map model_outcome outcomes) after × AreTreesOfRows (sheets after) trees × IsTrue (has_utf8_texts (sheets after))
 
--- The store was open before the calls, and the trees are recoverable (`AreRecoverableTrees`) after
--- the calls from each base that the store represented.
+-- The store was open before the calls, and for each base that it represented, `trees` are disk
+-- contents that a crash may expose after the calls from this base (`AreRecoverableTrees`).
 abbrev pub MayBeExposedAfterRun : {S : Type 0} → Ghosts S → Held S → List (ℕ × Call) → List Outcome → Trees → Type 0
 MayBeExposedAfterRun g old calls outcomes trees = IsTrue (state g old).is_open × ((base : Base) → Represents g old base → AreRecoverableTrees base calls outcomes trees)
 
--- The postcondition of a sequence of calls that were executed in order. For every base that the
--- store represented, the calls with their outcomes are a run of the model (`Run`), and the store
--- represents the base after this run.
+-- The postcondition of a sequence of calls that were executed in order, from the state `old` to the
+-- state `new`. For every base that the store represented, the calls with their outcomes are a run
+-- of the model (`Run`), and the store represents the base after this run.
 pub record RunPost {S : Type 0} (g : Ghosts S) (old new : Held S) (calls : List (ℕ × Call)) (outcomes : List Outcome) : Type 0 where
   -- There is one outcome for each call.
   pub count : length outcomes ≡ length calls
@@ -111,13 +115,14 @@ pub record RunPost {S : Type 0} (g : Ghosts S) (old new : Held S) (calls : List 
   -- The store is open after the calls only if it was open before.
   pub opened : HasCleanDisk (state g new) → IsTrue (state g new).is_open → IsTrue (state g old).is_open
   -- Crash safety: a crash exposes a state that a crash before the calls could expose or, only if
-  -- the store was open, recoverable trees (`AreRecoverableTrees`).
+  -- the store was open, the tables of a recoverable base (`AreRecoverableTrees`).
   pub survives : Survives (state g old) (state g new) (MayBeExposedAfterRun g old calls outcomes)
-  -- If some outcome is `Done`, a crash exposes only recoverable trees.
+  -- If some outcome is `Done`, a crash exposes only the tables of recoverable bases
+  -- (`AreRecoverableTrees`).
   pub durable : HasCleanDisk (state g new) → (base : Base) → Represents g old base → ¬ OutcomesAcknowledgeNothing outcomes
       → CrashStatesSatisfy g new (AreRecoverableTrees base calls outcomes)
   -- If a crash before the calls exposes only the tables of `base`, a crash after them exposes only
-  -- recoverable trees.
+  -- the tables of recoverable bases (`AreRecoverableTrees`).
   pub leaves : HasCleanDisk (state g new) → (base : Base) → Represents g old base → CrashStatesSatisfy g old (AreTreesOfRows (sheets base))
       → CrashStatesSatisfy g new (AreRecoverableTrees base calls outcomes)
   -- If the disk assumption holds after the calls, it held before.
@@ -125,21 +130,21 @@ pub record RunPost {S : Type 0} (g : Ghosts S) (old new : Held S) (calls : List 
   -- The commands and their keys are well-formed.
   pub in_form : AllByRecursion CallMeetsAuditFormats (map model_call calls)
 
--- After the calls from `base` the store represents some base whose tables pass the audit of schema
--- 3, and whose broker totals, balances and summaries equal the sums of their rows. The row of each
--- trade that an accepted `CompleteTrade` completed has the tax of its completion, on exactly the
--- shares that it closed (`IsRunWithSumsAndTaxes`).
+-- After the calls from `base` the store represents some base `after` whose tables pass the audit of
+-- schema 3. The calls with their outcomes are a run of the model from `base` to `after`; the broker
+-- totals, balances and summaries of `after` equal the sums of their rows; and the row of each trade
+-- that an accepted `CompleteTrade` completed has the tax of its completion, on exactly the shares
+-- that it closed (`IsRunWithSumsAndTaxes`).
 abbrev pub ReachesAuditedState : {S : Type 0} → Ghosts S → Held S → Base → List (ℕ × Call) → List Outcome → Type 0
 ReachesAuditedState g new base calls outcomes = (after : Base) × Represents g new after × PassesAudit third_schema (sheets after) × IsRunWithSumsAndTaxes base (map model_call calls) (map model_outcome outcomes) after
 
 -- The guarantee of a run: under the disk assumption the calls reach an audited state
--- (`ReachesAuditedState`) from any base that the store represented (`kept`), from tables without
--- rows (`made`), and from rows of any schema that pass their audit and were upgraded to schema 3
--- (`adopted`).
+-- (`ReachesAuditedState`), from any base that the store represented, from tables without rows, and
+-- from rows of any schema that pass their audit and were upgraded to schema 3.
 pub record RunGuarantee {S : Type 0} (g : Ghosts S) (old new : Held S) (calls : List (ℕ × Call)) (outcomes : List Outcome) : Type 0 where
-  -- From any base that the store represented.
+  -- From any base that the store represented before the calls.
   pub kept : HasCleanDisk (state g new) → (base : Base) → Represents g old base → ReachesAuditedState g new base calls outcomes
-  -- From the empty base, if the tables had no rows.
+  -- From the empty base, if the tables had no rows before the calls.
   pub made : HasCleanDisk (state g new) → HoldsRows g old tables_without_rows → ReachesAuditedState g new empty_base calls outcomes
   -- From the base that the rows `rows` of any schema determine, if the store held these rows
   -- upgraded to schema 3, and the rows before the upgrade pass the audit of their schema and have
@@ -147,8 +152,9 @@ pub record RunGuarantee {S : Type 0} (g : Ghosts S) (old new : Held S) (calls : 
   pub adopted : HasCleanDisk (state g new) → (schema : known.Schema) (rows : Tables) → HoldsRows g old (tables_upgraded_from_schema (abstract_schema schema) rows) → IsTrue (has_utf8_texts rows) → PassesAudit (abstract_schema schema) rows
       → ReachesAuditedState g new (base_of_tables rows) calls outcomes
 
--- The postcondition of an audit of the desk's store, which writes nothing. Under the disk
--- assumption the audit never returns `Damaged` if the store represents a base (`passes`).
+-- The postcondition of an audit of the desk's store, which writes nothing: it satisfies
+-- `AuditPost`; under the disk assumption it does not return `Damaged` if the store represents a
+-- base; and the store represents every base that it represented before.
 pub record DeskAuditPost {S : Type 0} (g : Ghosts S) (old new : Held S) (result : Result (Unit {0}) Fault) : Type 0 where
   pub audited : AuditPost g old new result
   pub passes : HasCleanDisk (state g new) → (base : Base) → Represents g old base → OnAuditAnswer result (λ failing. failing ≡ None)

@@ -28,15 +28,15 @@ pub record RepresentsDurableBase {S : Type 0} (g : Ghosts S) (store : Held S) (b
   pub keeps : Represents g store base
   pub alone : CrashStatesSatisfy g store (AreTreesOfRows (sheets base))
 
--- The connection is as one that was opened over `trees` and not used since: under the disk
--- assumption it is open, no transaction is open on it, its current state is its committed state,
--- and the trees of this state are `trees`.
+-- `conn` is in the state of a new connection to a database with the disk contents `trees`. Under
+-- the disk assumption it is open, with no transaction, no savepoint and no counted change, its
+-- current state equals its committed state, and `trees` are the disk contents of this state.
 pub record IsJustOpened {S : Type 0} (g : Ghosts S) (trees : Trees) (conn : Held S) : Type 0 where
   pub over : IsOpenedOverTrees g trees conn
   pub opens : HasCleanDisk (state g conn) → Opens (state g conn)
 
--- The connection is as one that was just opened (`IsJustOpened`) over a state of the disk that a
--- crash in the state `left` of a store may expose.
+-- `conn` is in the state of a new connection (`IsJustOpened`) to disk contents that a crash in the
+-- state `left` of a store may expose.
 abbrev pub IsReopenedAfterCrash : {S : Type 0} → Ghosts S → Held S → Held S → Type 0
 IsReopenedAfterCrash g left conn = (trees : Trees) × (state g left).may_leave trees × IsJustOpened g trees conn
 
@@ -47,15 +47,15 @@ abbrev pub AdoptsPassingRows : {S : Type 0} → Ghosts S → Held S → Held S �
 AdoptsPassingRows g conn store = (schema : known.Schema) × (rows : Tables) × IsAuditOfStoredRows (abstract_schema schema) rows (state g conn).now None × RepresentsDurableBase g store (base_of_tables rows)
 
 -- The adoption with this result did not fail with `Damaged`; at `Ok` the store represents `base`,
--- and a crash exposes only its tables. If it failed with `Memory` or `Store`, this says nothing of
--- the store.
+-- and a crash exposes only its tables. If the adoption failed with `Memory` or `Store`, the store
+-- is not specified.
 pub record AdoptsBaseUndamaged {S : Type 0} (g : Ghosts S) (store : Held S) (result : Result (Unit {0}) Fault) (base : Base) : Type 0 where
   pub undamaged : OnAuditAnswer result (λ failing. failing ≡ None)
   pub stands : OnOk result (RepresentsDurableBase g store base)
 
--- The adoption with this result did not fail with `Damaged`, and the store, or the connection that
--- was returned with `Memory` or `Store`, represents a base that satisfies `May`; a crash exposes
--- only the tables of this base.
+-- The adoption with this result did not fail with `Damaged`. The store after it, at `Ok`, or the
+-- connection that it returned with `Memory` or `Store`, represents a base that satisfies `May`, and
+-- a crash exposes only the tables of this base.
 pub record IsRecovered {S : Type 0} (g : Ghosts S) (store : Held S) (result : Result (Unit {0}) Fault) (May : Base → Type 0) : Type 0 where
   pub base : Base
   pub may : May base

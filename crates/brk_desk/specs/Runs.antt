@@ -7,17 +7,18 @@ use Rattle.brk_desk.specs.Keeping.{OutcomePost, RunPost, RunGuarantee}
 use Rattle.brk_desk.specs.declared.call.Call.{Call}
 use Rattle.brk_desk.specs.declared.call.Outcome.{Outcome}
 
--- From the state `old` to the state `new` exactly these calls of the desk were executed, in order,
--- with these outcomes. Only the field `made` states this; the fields `ran` and `promised` follow
--- from it (`calls_in_order_are_a_run`).
+-- Exactly these calls of the desk were executed between the state `old` and the state `new`, in
+-- order, with these outcomes. The first field states this; the other two, the postcondition and the
+-- guarantee of a run, follow from it (`calls_in_order_are_a_run`).
 pub record IsRunWithOutcomes {S : Type 0} (g : Ghosts S) (old new : Held S) (calls : List (ℕ × Call)) (outcomes : List Outcome) : Type 0 where
-  -- Each call satisfies its postcondition from the state after the call before it: the first from
-  -- `old`, and the last reaches `new`. Without calls `new` equals `old`.
+  -- Each call satisfies its postcondition (`OutcomePost`). The first call begins in the state
+  -- `old`, each later one in the state after the call before it, and the last one ends in `new`.
+  -- Without calls `new` equals `old`.
   pub made : IsCallSequence (λ old now call outcome new. OutcomePost g old new now call outcome) old calls outcomes new
   pub ran : RunPost g old new calls outcomes
   pub promised : RunGuarantee g old new calls outcomes
 
--- From the state `old` to the state `new` some calls of the desk were executed, in order, and
+-- Some sequence of calls of the desk was executed between the state `old` and the state `new`, and
 -- nothing else (`IsRunWithOutcomes`).
 pub record IsSomeDeskRun {S : Type 0} (g : Ghosts S) (old new : Held S) : Type 0 where
   pub calls : List (ℕ × Call)

@@ -1,4 +1,5 @@
-//! Theorems: the base that a store represents when a desk begins, and when it is reopened.
+//! Theorems: the base that a store represents after its creation, after its adoption, and after a
+//! crash.
 
 ghost use Rattle.brk_model.specs.Form.{has_utf8_texts};
 ghost use Rattle.std.specs.Prelude.{ℕ, IsTrue, List};
@@ -24,7 +25,8 @@ ghost use Rattle.brk_changes.specs.declared.schema.Schema.{Schema};
 
 use sqlite::Alter;
 
-/// Proves that a store whose tables have no rows, as newly created ones, represents the empty base.
+/// Proves that a store whose tables have no rows, as newly created tables, represents the empty
+/// base.
 pub fn new_stores_represent_the_empty_base<S: Alter>()
     ensures { (store : Held S) → HoldsRows S.Store store tables_without_rows → Represents S.Store store empty_base }
 {}
@@ -41,9 +43,10 @@ pub fn adopted_rows_represent_their_base<S: Alter>()
         → PassesAudit (abstract_schema schema) rows → Represents S.Store store (base_of_tables rows) }
 {}
 
-/// Proves that a store represents the base over whose tables it was opened, if a crash after a run
-/// may expose this base (`MayBeRecovered`), its texts are UTF-8, the calls of the run are
-/// well-formed, and the base before the run satisfies the books invariant and the audit invariant.
+/// Proves that a store that is opened on the tables of a base represents this base, if a crash
+/// after a run may expose the base (`MayBeRecovered`), its texts are UTF-8, the calls of the run
+/// are well-formed, and the base before the run satisfies the books invariant and the audit
+/// invariant.
 pub fn reopening_restores_a_recoverable_base<S: Alter>()
     ensures { (base : Base) (calls : List (ℕ × Call)) (outcomes : List Outcome) (after : Base) (trees : Trees) (conn : Held S) → BooksInvariant base → AuditInvariant base
         → AllByRecursion CallMeetsAuditFormats calls → MayBeRecovered base calls outcomes after → IsTrue (has_utf8_texts (sheets after))

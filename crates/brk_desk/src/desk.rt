@@ -15,8 +15,8 @@ use sqlite::Alter;
 use std::alloc::Global;
 use std::marker::Model;
 
-/// A desk over a store: it executes commands and answers queries. Contracts see a desk as the state
-/// of its store.
+/// A desk, which executes commands and answers queries over one store. In contracts the value of a
+/// desk is the state of its store's connection.
 pub struct Desk<S: Alter> {
     store: Store<S>,
 }
@@ -32,6 +32,7 @@ impl<S: Alter> Model for Desk<S> {
 }
 
 impl<S: Alter + Drop> Drop for Desk<S> {
+    /// Drops the store of the desk.
     fn drop(self) {
         let Desk { store: _ } = self;
     }
@@ -78,7 +79,7 @@ impl<S: Alter> Desk<S> {
     /// the open store and records no key.
     ///
     /// A crash exposes a state that a crash before the call could expose, or the tables after the
-    /// command; after `Done` only the latter.
+    /// command; after `Done` it exposes only the tables after the command.
     ///
     /// After a fault, too, a crash may expose the command as committed. With a key, retry under the
     /// same key: the command is then executed at most once. Without a key a retry may execute it
@@ -159,8 +160,8 @@ impl<S: Alter> Desk<S> {
     ///
     /// A crash exposes only states that a crash before the call could expose.
     ///
-    /// The result is specified only under the premise `ThirdNamesImplyDefinitions` on the database
-    /// (see `Store::audit`). Every desk that represents a base satisfies this premise.
+    /// The result is specified only if the database satisfies `ThirdNamesImplyDefinitions` (see
+    /// `Store::audit`). The store of every desk that represents a base satisfies it.
     #[tactic(auto, using(crate::proofs::Audits::audits))]
     pub fn audit(&mut self, alloc: Global) -> Result<(), Fault>
         ensures audited { DeskAuditPost S.Store self.old self.new result }
@@ -169,8 +170,9 @@ impl<S: Alter> Desk<S> {
         self.store.audit(alloc)
     }
 
-    /// Returns what a statement of an account needs besides rows of tables: the name, the opening
-    /// balance and the market value of the holdings. Returns `None` if the account does not exist.
+    /// Returns the figures of an account's statement that are not rows: the account's name, its
+    /// opening balance, and the market value of its holdings at last prices. Returns `None` if the
+    /// account does not exist.
     ///
     /// Fails with `Memory` or `Store` only. The open database is unchanged, whatever the result.
     ///

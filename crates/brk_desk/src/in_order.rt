@@ -12,10 +12,11 @@ use sqlite::Alter;
 
 /// Proves that calls of a desk, executed in order with nothing between them, satisfy
 /// `IsRunWithOutcomes`: the postcondition and the guarantee of a run follow from the postconditions
-/// of the single calls. So they hold whoever makes the calls: `Desk::run`, or a caller of
-/// `Desk::call` and `Desk::ask`.
+/// of the single calls. So they hold for the calls of `Desk::run`, and for calls of `Desk::call`
+/// and `Desk::ask` in order.
 ///
-/// `joined`: a run and a run after it are one run of all their calls.
+/// `joined`: two runs, the second of which begins in the state in which the first ends, are one run
+/// of all their calls.
 pub fn calls_in_order_are_a_run<S: Alter>()
     ensures made { (old new : Held S) (calls : List (ℕ × made.Call)) (outcomes : List came.Outcome)
         → IsCallSequence (λ before now call outcome after. OutcomePost S.Store before after now call outcome) old calls outcomes new → IsRunWithOutcomes S.Store old new calls outcomes }

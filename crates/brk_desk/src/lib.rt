@@ -1,5 +1,5 @@
-//! The desk: executes commands, with or without keys, and answers queries; one call, or a list of
-//! them.
+//! The desk executes commands, with or without keys, and answers queries: one call, or a list of
+//! calls in order.
 #![tactic(auto)]
 
 mod asking;

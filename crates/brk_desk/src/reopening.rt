@@ -1,4 +1,4 @@
-//! Theorem: the adoption of a state that a crash exposes never reports damage.
+//! Theorem: the adoption of a crash state never fails with `Damaged`.
 
 ghost use Rattle.std.specs.Prelude.{◌≡◌, ◌⊎◌, ℕ, List, None, Ok, Option, Result, map};
 ghost use Rattle.sqlite.specs.Held.{Held, state};
@@ -27,43 +27,39 @@ ghost use Rattle.brk_store.specs.Holds.{CreatePost};
 use sqlite::Alter;
 
 /// Proves that recovery never reports damage: if a state that a crash exposes is opened and
-/// adopted, the adoption does not fail with `Damaged`. It may fail with `Memory` or `Store`. All of
-/// it is under the disk assumption, that every read so far returned what was written.
-///
-/// `made`: once the tables were created, the store represents the empty base, and a crash exposes
-/// only its tables.
-///
-/// `adopted`: once a database was adopted that had just been opened and satisfies
-/// `StoreNamesImplyDefinitions`, the store represents the base that its rows determine, and a crash
-/// exposes only the tables of this base.
-///
-/// `call`, `run`: let the store represent a base, and let a crash expose only the tables of this
-/// base (`RepresentsDurableBase`), as after `made` or `adopted`. After a crash that follows a call
-/// or a run of this store, the adopted store represents the base with every acknowledged command,
-/// or with one command more (`MayBeRecovered`). A crash then exposes only the tables of the base
-/// that it represents, so these two clauses apply again after each further crash.
-///
-/// `making`: after a crash in the creation of the tables, the adopted store represents the empty
-/// base, unless a crash before the creation could expose the state; of such a state nothing is
-/// said.
-///
-/// `upgrading`: after a crash in an adoption of a database that was just opened, and whose rows
-/// pass the audit of their schema, an older one included, a later adoption does not fail with
-/// `Damaged`. If it succeeds, the store represents the base that the same rows determine.
+/// adopted, the adoption does not fail with `Damaged`. It may fail with `Memory` or `Store`. All
+/// clauses are under the disk assumption: every read so far returned what was written.
 pub fn every_crash_state_is_adopted<S: Alter>()
+    // After the creation of the tables, the store represents the empty base, and a crash exposes
+    // only its tables.
     ensures made { (conn store : Held S) → CreatePost S.Store conn store (Ok tt) → HasCleanDisk (state S.Store store) → RepresentsDurableBase S.Store store empty_base }
+    // After the adoption of a newly opened database that satisfies `StoreNamesImplyDefinitions`,
+    // the store represents the base that its rows determine, and a crash exposes only the tables of
+    // this base.
     ensures adopted { (trees : Trees) (conn store : Held S) → IsJustOpened S.Store trees conn → StoreNamesImplyDefinitions S.Store conn → AdoptPost S.Store conn store (Ok tt)
         → HasCleanDisk (state S.Store store) → AdoptsPassingRows S.Store conn store }
+    // After a crash in the adoption of a newly opened database whose rows pass the audit of their
+    // schema, perhaps an older one, a later adoption does not fail with `Damaged`. If it succeeds,
+    // the store represents the base that the same rows determine.
     ensures upgrading { (trees : Trees) (first left conn store : Held S) (stopped result : Result (Unit {0}) faults.Fault) (schema : Schema) (rows : Tables)
         → IsJustOpened S.Store trees first → IsAuditOfStoredRows (abstract_schema schema) rows (state S.Store first).now None → AdoptPost S.Store first left stopped → HasCleanDisk (state S.Store left)
         → IsReopenedAfterCrash S.Store left conn → AdoptPost S.Store conn store result → HasCleanDisk (state S.Store store) → AdoptsBaseUndamaged S.Store store result (base_of_tables rows) }
+    // After a crash in the creation of the tables, the adopted store represents the empty base.
+    // This says nothing of a state that a crash before the creation could expose.
     ensures making { (first left conn store : Held S) (created result : Result (Unit {0}) faults.Fault) (trees : Trees) → CreatePost S.Store first left created
         → HasCleanDisk (state S.Store left) → (state S.Store left).may_leave trees → IsJustOpened S.Store trees conn → AdoptPost S.Store conn store result
         → HasCleanDisk (state S.Store store) → (state S.Store first).may_leave trees ⊎ IsRecovered S.Store store result (λ base. base ≡ empty_base) }
+    // Suppose that a store represents a base and that a crash exposes only the tables of this base
+    // (`RepresentsDurableBase`), as after a creation or an adoption. After a crash that follows a
+    // call of this store, the adopted store represents the base before the command or the base
+    // after it. A crash then exposes only the tables of the base that it represents, so this clause
+    // and the next one apply again after each further crash.
     ensures call { (first left conn store : Held S) (base : Base) (result : Result (Unit {0}) faults.Fault) (now : ℕ) (command : Command) (key : Option Key)
         (answer : Result given.Answer faults.Fault) → RepresentsDurableBase S.Store first base → CallPost S.Store first left now command key answer → HasCleanDisk (state S.Store left)
         → IsReopenedAfterCrash S.Store left conn → AdoptPost S.Store conn store result → HasCleanDisk (state S.Store store)
         → IsRecovered S.Store store result (λ stood. (stood ≡ base) ⊎ (stood ≡ base_after_call base now command key)) }
+    // For such a store, after a crash that follows a run, the adopted store represents the base
+    // with every acknowledged command, or with one command more (`MayBeRecovered`).
     ensures run { (first left conn store : Held S) (base : Base) (result : Result (Unit {0}) faults.Fault) (calls : List (ℕ × made.Call)) (outcomes : List came.Outcome)
         → RepresentsDurableBase S.Store first base → RunPost S.Store first left calls outcomes → HasCleanDisk (state S.Store left) → IsReopenedAfterCrash S.Store left conn
         → AdoptPost S.Store conn store result → HasCleanDisk (state S.Store store)

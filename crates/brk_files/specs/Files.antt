@@ -1,4 +1,4 @@
--- Connections to files, just opened or before they were closed.
+-- Connections to database files that were newly opened, or that were closed.
 use Rattle.sqlite_disk.specs.declared.Disk.{Ghosts}
 use Rattle.sqlite_disk.specs.declared.Files.{Files}
 use Rattle.sqlite_wal.specs.Reads.{AreClean}
@@ -8,7 +8,7 @@ use Rattle.sqlite.specs.State.{HasCleanDisk}
 use Rattle.sqlite.specs.Files.{file_state, IsOpened}
 use Rattle.sqlite.specs.Closing.{IsCopied}
 
--- The connection to a file is new. It is also open, unless the disk assumption fails.
+-- The connection to a file is new. Under the disk assumption it is also open.
 pub record IsNewConnectionToFile {D : Type 0} {g : Ghosts D} (conn : Held (FileStore D g)) : Type 0 where
   pub opened : HasCleanDisk (file_state conn) → IsOpened conn
   pub fresh : IsNew conn

@@ -11,10 +11,10 @@ use Rattle.brk_changes.specs.Schemas.{abstract_schema}
 use Rattle.brk_store.specs.Audited.{IsAuditOfStoredRows, Represents, AdoptPost, StoreNamesImplyDefinitions}
 use Rattle.brk_store.specs.Holds.{AreTreesOfRows, CrashStatesSatisfy}
 
--- The store is a desk that was adopted from a connection in the state `found`. If the database of
--- `found` is defined, its rows pass the audit of their schema, and the store represents their base,
--- in schema 3; a crash then exposes only the tables of this base. The latter is vacuous if the disk
--- assumption fails, or once the store is closed.
+-- The store was adopted from a connection in the state `found`. If the tables of `found` satisfy
+-- `StoreNamesImplyDefinitions`, its rows pass the audit of their schema, the store represents the
+-- base that these rows determine, and a crash exposes only the tables of this base. This is vacuous
+-- if the disk assumption fails, or once the store is closed.
 pub record RepresentsRowsOfFile {S : Type 0} (g : Ghosts S) (store : Held S) : Type 0 where
   -- The state of the connection when the file was opened.
   pub found : Held S

@@ -41,8 +41,7 @@ OpenPost {D} {g} (Err (fault.Damaged c)) = (c ≡ condition.Schema) ⊎ ((conn :
 OpenPost (Err fault.Memory) = Unit {0}
 OpenPost (Err fault.Store) = Unit {0}
 
--- The connection is to a desk that was just created, or to a database that has one of the tables of
--- a desk.
+-- The connection is to a newly created desk, or to a database that has one of the tables of a desk.
 abbrev pub HasNewDeskOrDeskTable : {D : Type 0} {g : Ghosts D} → Held (FileStore D g) → Type 0
 HasNewDeskOrDeskTable conn = FollowsCreationOfDesk conn ⊎ FollowsRefusedCreation conn
 

@@ -18,8 +18,8 @@ use std::io::ErrorKind;
 /// A desk's database in a file, which its connection locks for this program alone.
 pub type FileDesk = Store<FileStore<File>>;
 
-// Closes the files of a connection. `Ok`: the last commit is in the database file, also without its
-// log. Fails with `Store` only.
+// Closes the files of a connection. At `Ok` the database file contains the last commit even without
+// its log. Fails with `Store` only.
 fn close_connection(conn: Connection<FileStore<File>>) -> Result<(), Fault>
     ensures closed { OnOk result (HasLastCommitInFile conn) }
     ensures fault { OnErr result (result ≡ Err fault.Store) }
@@ -33,8 +33,9 @@ fn close_connection(conn: Connection<FileStore<File>>) -> Result<(), Fault>
     }
 }
 
-/// Closes a desk's file. `Ok`: the last commit is in the database file, also without its log;
-/// before that a part of what was committed may be in the log beside it. Fails with `Store` only.
+/// Closes the file of a desk. At `Ok` the database file contains the last commit even without its
+/// log; before that, a part of the committed data may be only in the log beside it. Fails with
+/// `Store` only.
 pub fn close(store: FileDesk) -> Result<(), Fault>
     ensures closed { OnOk result (HasLastCommitInFile store) }
     ensures fault { OnErr result (result ≡ Err fault.Store) }
@@ -53,7 +54,7 @@ fn open_connection(rt: &HostRuntime, path: &str) -> Result<Connection<FileStore<
     }
 }
 
-// Adopts the database of a connection as a desk's store. A fault returns the connection.
+// Adopts the database of a connection as a store. At a fault returns the connection with it.
 fn adopt_connection<S: Alter>(
     alloc: Global,
     conn: Connection<S>,
@@ -64,8 +65,8 @@ fn adopt_connection<S: Alter>(
     Store::adopt(alloc, conn)
 }
 
-// Adopts the database of a connection as a desk's store. If that fails, closes the file and returns
-// the fault.
+// Adopts the database of a connection as a store. If the adoption fails, closes the file and
+// returns the fault.
 fn adopt(rt: &HostRuntime, conn: Connection<FileStore<File>>) -> Result<FileDesk, Fault>
     ensures adopted { IsAdoptionResult conn result }
     ensures stands { IfOk result (λ store. RepresentsRowsOfFile over_files store) }
@@ -103,8 +104,8 @@ pub fn open_or_create(rt: &HostRuntime, path: &str) -> Result<FileDesk, Fault>
     }
 }
 
-// Returns true if there is no file at the path, or an empty one: opening it would create a
-// database.
+// Returns true if no file exists at the path, or if the file is empty, so that opening it would
+// create a database.
 fn is_missing_or_empty(rt: &HostRuntime, path: &str) -> bool {
     match fs::metadata(rt, path) {
         Ok(found) => found.is_file() && found.len() == 0,

@@ -28,6 +28,7 @@ still_few : (made : List (ℕ × Call)) (calls : List (ℕ × run.Call)) (n : �
 still_few made calls n is few = omega (arith, ap length is, length-map made model_call)
 
 module _ {S : Type 0} (g : Ghosts S) where
+  -- A call of the desk has this outcome (`DeskCallHasOutcome`).
   abbrev Acts : Held S → ℕ → run.Call → run.Outcome → Held S → Type 0
   Acts old now call outcome new = DeskCallHasOutcome g old now call outcome new
 

@@ -1,4 +1,4 @@
--- The effect of one stream on a desk, for a reader without specified content, as a socket.
+-- The effect of one stream on a desk, for a reader whose content is not specified, as a socket.
 use Rattle.std.specs.Prelude.{◌<◌, ◌≤◌, ℕ, IfErr, IfOk, List, Result, length}
 use Rattle.sqlite_trees.specs.declared.store.Store.{Ghosts}
 use Rattle.sqlite.specs.Held.{Held}
@@ -21,6 +21,6 @@ pub record ServesStreamByCalls {S : Type 0} (g : Ghosts S) (old new : Held S) (e
   pub early : IfErr ended (λ fault. fault.done < most_requests)
 
 -- The stream that ended with this result changed the desk only by a sequence of its calls
--- (`ServesStreamByCalls`). Of the clock and of the bytes of the stream it says nothing.
+-- (`ServesStreamByCalls`). The clock and the bytes of the stream are not specified.
 abbrev pub DeskServesStream : {S C X : Type 0} → Ghosts S → ServeRelation C (Held S) X
 DeskServesStream g clock old stream ended later new = ServesStreamByCalls g old new ended

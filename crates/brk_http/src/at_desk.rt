@@ -20,7 +20,7 @@ use sqlite::Alter;
 use std::alloc::{AllocError, Global};
 use std::marker::PhantomData;
 
-// Converts the desk's answer to a row into an answer of the HTTP engine.
+// Returns the answer of the HTTP engine that corresponds to an answer of the desk.
 fn http_answer_of_desk(answer: Answer) -> RowAnswer<Reply>
     ensures { row_outcome_in_model abstract_reply (Ok result) ≡ Did (model_answer answer) }
 {
@@ -31,7 +31,7 @@ fn http_answer_of_desk(answer: Answer) -> RowAnswer<Reply>
     }
 }
 
-/// A desk as the HTTP engine uses it.
+/// The operations of a desk over a store, for the HTTP engine.
 pub struct DeskService<S> {
     _store: PhantomData<S>,
 }
@@ -59,10 +59,12 @@ impl<S: Alter> Service for DeskService<S> {
 
     ghost shown = { records_of_view };
 
+    /// Parses the fields of a row: returns a command, or the refusal of a malformed row.
     fn parse_row(alloc: Global, row: &[&[u8]]) -> Planned<Command> {
         parse_row(alloc, row)
     }
 
+    /// Returns `name` as the name of a view if a view with this name exists, otherwise `None`.
     fn view_named(name: &str) -> Option<&'static str> {
         match name {
             "submitted" => Some("submitted"),
@@ -80,10 +82,12 @@ impl<S: Alter> Service for DeskService<S> {
         }
     }
 
+    /// Parses the arguments of a view: returns a query, or the refusal of a malformed query.
     fn parse_query(alloc: Global, view: &str, arguments: &[&[u8]]) -> Planned<Query> {
         parse_query(alloc, view, arguments)
     }
 
+    /// Executes a command by `Desk::call`, with or without a key, and returns its answer.
     fn call(
         desk: &mut Desk<S>,
         alloc: Global,
@@ -97,10 +101,12 @@ impl<S: Alter> Service for DeskService<S> {
         }
     }
 
+    /// Executes a query by `Desk::ask`, and returns its view or its refusal.
     fn ask(desk: &mut Desk<S>, alloc: Global, query: &Query) -> Planned<View> {
         desk.ask(alloc, query)
     }
 
+    /// Returns the fields of a reply.
     fn reply_fields(alloc: Global, reply: &Reply) -> Result<Vec<String>, AllocError> {
         match line_text(alloc, reply) {
             Ok(line) => fields_of_stored_line(alloc, line.as_str()),
@@ -108,6 +114,7 @@ impl<S: Alter> Service for DeskService<S> {
         }
     }
 
+    /// Returns the records of a view, each a list of texts.
     fn records(alloc: Global, view: &View) -> Result<Vec<Vec<String>>, AllocError> {
         match view_fields(alloc, view) {
             Ok(records) => Ok(records),

@@ -13,11 +13,12 @@ use std::marker::PhantomData;
 use std::net::{Shutdown, TcpStream};
 use std::time::Duration;
 
-/// The seconds after which a stream is ended if its peer neither sends nor accepts a byte.
+/// The time limit in seconds: a stream whose peer neither sends nor accepts a byte for this time is
+/// ended.
 pub const PATIENCE: u64 = 30;
 
-// The milliseconds that a peer has, after the last reply, for each piece that is read and dropped.
-// At most `MOST_PIECES` pieces are read.
+// The time limit in milliseconds for each read after the last reply, whose bytes are dropped. There
+// are at most `MOST_PIECES` such reads.
 const LAST_PATIENCE: u64 = 250;
 
 const MOST_PIECES: u32 = 128;
@@ -28,8 +29,8 @@ fn set_socket_time_limits(stream: &TcpStream) -> io::Result<()> {
     stream.set_write_timeout(Some(Duration::from_secs(PATIENCE)))
 }
 
-// Ends the writing side of a socket, and then reads and drops the bytes that still arrive, for at
-// most 128 pieces, so that the kernel does not drop the last reply.
+// Shuts down the writing side of a socket, and then reads and drops the bytes that still arrive, by
+// at most 128 reads, so that the kernel does not drop the last reply.
 fn drain_before_close(stream: &TcpStream) -> io::Result<()> {
     stream.shutdown(Shutdown::Write)?;
     stream.set_read_timeout(Some(Duration::from_millis(LAST_PATIENCE)))?;
@@ -43,7 +44,7 @@ fn drain_before_close(stream: &TcpStream) -> io::Result<()> {
     Ok(())
 }
 
-/// A desk as a server of sockets.
+/// A server of TCP streams, which executes the requests on a desk.
 pub struct SocketServer<C, S> {
     _clock: PhantomData<C>,
     _store: PhantomData<S>,

@@ -23,11 +23,12 @@ pub fn serve_on<L: Listener<Stream = TcpStream>, C: Clock, S: Alter>(
     clock: &mut C,
     desk: &mut Desk<S>,
 ) -> Result<(), ListenFault>
-    // For any result and any bytes of the peers, the desk changed only by a sequence of its calls.
+    // For any result and any bytes that the peers send, the desk changed only by a sequence of its
+    // calls.
     ensures served { IsSomeDeskRun S.Store desk.old desk.new }
-    // At `Ok` exactly `streams` streams were taken, and none of them ended because memory ran out.
-    // `Stream` has the fault of the last stream that was taken, and its kind is `Memory`. `Net`
-    // follows a failed accept alone.
+    // At `Ok` exactly `streams` streams were handled, and none of them ended because memory ran
+    // out. `Stream` has the fault of the last stream, whose kind is `Memory`. `Net` is returned
+    // only after a failed accept.
     ensures taken { ServeEachStreamPost L.accepts (DeskServesStream S.Store) streams (record { listener = listener.old; clock = clock.old; desk = desk.old })
         result (record { listener = listener.new; clock = clock.new; desk = desk.new }) }
 {

@@ -33,8 +33,9 @@ use std::io::{Read, Write};
 /// `Write` a part of its reply may have been written. After `Write` or `Memory` the request may
 /// have been executed: retry it under its key.
 ///
-/// For any reader the number of requests and of calls is limited, as the contract says. It
-/// specifies requests and replies only for a reader with specified content; a socket has none.
+/// For any reader the contract limits the number of requests and of calls. It specifies the
+/// requests and the replies only for a reader whose content is specified; the content of a socket
+/// is not.
 pub fn serve_stream<R: Read + Drop, W: Write, C: Clock, S: Alter>(
     alloc: Global,
     reader: R,
@@ -45,15 +46,16 @@ pub fn serve_stream<R: Read + Drop, W: Write, C: Clock, S: Alter>(
     // For any stream, at most 1,000 requests are answered, and fewer before a fault.
     ensures few { IfOk result (λ count. count ≤ most_requests) }
     ensures early { IfErr result (λ fault. fault.done < most_requests) }
-    // For any stream, the desk changed only by a sequence of its calls. So every guarantee of a run
-    // holds. The calls are at most as many as the answered requests, and one more after a fault of
-    // the writer or of memory. If the reader has specified content, its requests make exactly these
+    // For any stream, the desk changed only by a sequence of its calls, so every guarantee of a run
+    // holds. There is at most one call for each answered request, and one more after a fault of the
+    // writer or of memory. If the reader has specified content, its requests make exactly these
     // calls, and the replies follow from their outcomes.
     ensures told { (calls : List (ℕ × made.Call)) × (outcomes : List came.Outcome) × IsRunWithOutcomes S.Store desk.old desk.new calls outcomes × (length calls ≤ call_limit_of_stream result)
         × IfSome (R.remaining reader) (λ input. StreamMatchesScript model_parsers C.gives input (map model_call calls, map model_outcome outcomes)
         (record { clock = clock.old; later = clock.new; old = W.contents writer.old; new = W.contents writer.new }) result) }
-    // Under the disk assumption, for every base that the desk represented, the outcomes are those
-    // of the model, and the desk represents the base after them.
+    // Under the disk assumption, for every base that the desk represented before the stream, the
+    // outcomes equal those of the model from this base, and the desk represents the base after
+    // them. Vacuous for a reader whose content is not specified.
     ensures kept { IfSome (R.remaining reader) (λ input. StreamRefinesModel (λ desk. HasCleanDisk (state S.Store desk)) (λ desk. Represents S.Store desk)
         model_parsers IsOutcomeOfCall C.gives input desk.old desk.new
         (record { clock = clock.old; later = clock.new; old = W.contents writer.old; new = W.contents writer.new }) result) }

@@ -14,7 +14,7 @@ use Rattle.brk_http_engine.specs.declared.stream.ServeFault.{ServeFault}
 use Rattle.brk_http_engine.specs.declared.turning.FaultKind.{FaultKind}
 use Rattle.brk_http_engine.specs.declared.turning.FaultKind.TheVariants as kinds
 
--- the number of calls of a script
+-- The number of calls of a script.
 abbrev calls_of : CallScript → ℕ
 calls_of script = length script.0
 

@@ -16,7 +16,7 @@ use Rattle.brk_http_engine.specs.declared.turning.FaultKind.{FaultKind}
 use Rattle.brk_http_engine.specs.declared.turning.FaultKind.TheVariants as kinds
 use Rattle.brk_http_engine.proofs.Simulated as sim
 
--- a desk's states and what goes with them
+-- The change between two states of the desk, the clock and the writer.
 abbrev around : {B C : Type 0} → B → B → C → C → Option Text → Option Text → EnvironmentChange B C
 around base after clock later was now = record { base = base; after = after; clock = clock; later = later; old = was; new = now }
 
@@ -26,6 +26,8 @@ module _ {D B C : Type 0} (forms : Forms) (acts : CallRelation D) (does : CallRe
     (earlier : (old : D) (now : ℕ) (call : Call) (outcome : Outcome) (new : D) → acts old now call outcome new → honest new → honest old)
     (steps : (old : D) (now : ℕ) (call : Call) (outcome : Outcome) (new : D) → acts old now call outcome new → honest new → (base : B) → stands old base
     → (after : B) × stands new after × does base now call outcome after) (gives : C → ℕ → C → Type 0) where
+  -- If the disk assumption holds for `new`, it holds for `old`, and for every base that `old`
+  -- represents, `new` represents a base that `P` relates to it.
   abbrev Carries : D → D → (B → B → Type 0) → Type 0
   Carries old new P = honest new → honest old × ((base : B) → stands old base → (after : B) × stands new after × P base after)
 
@@ -81,7 +83,8 @@ module _ {D B C : Type 0} (forms : Forms) (acts : CallRelation D) (does : CallRe
 -- ---- whatever the desk answers
 
 module _ {D C : Type 0} (forms : Forms) (acts : CallRelation D) (gives : C → ℕ → C → Type 0) (last : D) where
-  -- what follows are calls that lead to the last desk, and so is the whole
+  -- For each script that leads from `new` to the last desk, there is one that leads from `old` to
+  -- it, and `P` relates the two.
   abbrev Told : D → D → (CallScript → CallScript → Type 0) → Type 0
   Told old new P = (after : CallScript) → IsCallSequence acts new after.0 after.1 last → (before : CallScript) × IsCallSequence acts old before.0 before.1 last × P before after
 

@@ -20,12 +20,12 @@ use Rattle.brk_http_engine.proofs.Seeking.{seek_last, seek_two, seek_word}
 abbrev is_slash : ℕ → Bool
 is_slash b = eqb b 47
 
--- each item is a byte
+-- No element of the text is the number 256.
 abbrev AreBytes : Text → Type 0
 AreBytes [] = ⊤
 AreBytes (b ∷ text) = ((256 == b) ≡ false) × AreBytes text
 
--- each part is of bytes, none of which is a slash
+-- No segment contains the number 256 or a slash.
 abbrev AreParts : List Text → Type 0
 AreParts [] = ⊤
 AreParts (part ∷ parts) = (AreBytes part × (has_slash part ≡ false)) × AreParts parts

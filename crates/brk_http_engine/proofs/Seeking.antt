@@ -6,7 +6,7 @@ use Rattle.std.proofs.lemmas.Bool.Decides.{nat_tests}
 use Rattle.matchit.specs.Rows.{RowsOf, param_token, catch_all_token}
 use Rattle.matchit.specs.Seek.{seek, step, own, or_else, param_step, has_slash, segment, cuts, longest_suffix, with_suffix}
 
--- what a parameter may take where no row has one
+-- No rows of the router, with the length 0 if `c` is true, otherwise `n`.
 abbrev taken : {K : Type 0} → Bool → ℕ → ℕ × RowsOf K
 taken c n = cond c (0, []) (n, [])
 
@@ -32,11 +32,12 @@ seek_byte {K} rs b path p q = rw (p, q) (none_taken {K = K} (has_slash (b ∷ pa
 
 -- ---- a word, and then what the rows lead to
 
+-- The rows of the router that begin with the bytes of `w`, without these bytes.
 abbrev pub rows_after : {K : Type 0} → List ℕ → RowsOf K → RowsOf K
 rows_after [] rs = rs
 rows_after (b ∷ w) rs = rows_after w (step b rs)
 
--- no row has a parameter before the word's end
+-- No row of the router has a parameter before the end of the word.
 abbrev pub IsPlain : {K : Type 0} → List ℕ → RowsOf K → Type 0
 IsPlain [] rs = Unit {0}
 IsPlain (b ∷ w) rs = (step param_token rs ≡ []) × (step catch_all_token rs ≡ []) × IsPlain w (step b rs)

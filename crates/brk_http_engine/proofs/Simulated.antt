@@ -11,7 +11,8 @@ module _ {D B : Type 0} (forms : Forms) (acts : CallRelation D) (does : CallRela
     (earlier : (old : D) (now : ℕ) (call : Call) (outcome : Outcome) (new : D) → acts old now call outcome new → honest new → honest old)
     (steps : (old : D) (now : ℕ) (call : Call) (outcome : Outcome) (new : D) → acts old now call outcome new → honest new → (base : B) → stands old base
     → (after : B) × stands new after × does base now call outcome after) where
-  -- the state before was honest, and over each base that it stood for the same is true
+  -- If the disk assumption holds for `new`, it holds for `old`, and for every base that `old`
+  -- represents, `new` represents a base that `P` relates to it.
   abbrev Carries : D → D → (B → B → Type 0) → Type 0
   Carries old new P = honest new → honest old × ((base : B) → stands old base → (after : B) × stands new after × P base after)
 

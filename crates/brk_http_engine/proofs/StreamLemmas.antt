@@ -60,7 +60,7 @@ module _ {B C : Type 0} (forms : Forms) (does : CallRelation B) (gives : C → �
   begins_end [] n i j b m ms (ei, em, eb) none = (subst (λ t. ReadsFirstRequest t NoMore) ei none, em, eb)
   begins_end (x ∷ rs) n i j b m ms (t, more, left, mid, e, first, others) none = (t, more, Continues left, mid, e, first, begins_end rs (n + 1) left j mid m more others none)
 
-  -- where a stream stands: its first replies are written, and this is left
+  -- After the first `n` replies were written, `rest` is the remaining input.
   pub record Place (input : Text) (span : EnvironmentChange B C) (n : ℕ) (rest : Text) : Type 0 where
     pub moments : List ℕ
     pub replies : List Text
@@ -69,7 +69,8 @@ module _ {B C : Type 0} (forms : Forms) (does : CallRelation B) (gives : C → �
     pub written : Appends span.old span.new (concat replies)
     pub counted : n ≡ length replies
 
-  -- so far, as far as the bytes are known
+  -- If the input is known, the first `n` replies were written, and the buffer and the reader have
+  -- the remaining input. Vacuous if the input is unknown.
   abbrev pub SoFar : Option Text → EnvironmentChange B C → ℕ → Text → Option Text → Type 0
   SoFar a span n buffer left = IfSome a (λ input. (rest : Text) × (prepend_known buffer left ≡ Some rest) × Place input span n rest)
 
@@ -82,11 +83,11 @@ module _ {B C : Type 0} (forms : Forms) (does : CallRelation B) (gives : C → �
     record { moments = []; replies = []; taken = refl; begun = (refl, refl, refl); written = Appends-nil old; counted = refl },
   )
 
-  -- from here on
+  -- The change from the end of `span` to the given state.
   abbrev pub onward : EnvironmentChange B C → B → C → Option Text → EnvironmentChange B C
   onward span after later new = record { base = span.after; after = after; clock = span.later; later = later; old = span.new; new = new }
 
-  -- from the start on
+  -- The change from the start of `span` to the given state.
   abbrev pub over_all : EnvironmentChange B C → B → C → Option Text → EnvironmentChange B C
   over_all span after later new = record { base = span.base; after = after; clock = span.clock; later = later; old = span.old; new = new }
 

@@ -17,8 +17,8 @@ ChangesOnlyByCalls acts most old new = (calls : List (ℕ × Call)) × (outcomes
 abbrev pub CallScript : Type 0
 CallScript = List (ℕ × Call) × List Outcome
 
--- The call of a scripted desk: `call` at `now` is the first call of `script`, `outcome` is its
--- first outcome, and `rest` is the script without the two.
+-- The relation of a call of a scripted desk: `call` at the clock reading `now` is the first call of
+-- `script`, `outcome` is its first outcome, and `rest` is the script without both.
 abbrev pub IsNextScriptedCall : CallRelation CallScript
 IsNextScriptedCall script now call outcome rest = (script.0 ≡ (now, call) ∷ rest.0) × (script.1 ≡ outcome ∷ rest.1)
 
@@ -27,9 +27,9 @@ IsNextScriptedCall script now call outcome rest = (script.0 ≡ (now, call) ∷ 
 abbrev pub StreamMatchesScript : {C : Type 0} → Forms → (C → ℕ → C → Type 0) → Text → CallScript → ClockAndWriterChange C → Result ℕ ServeFault → Type 0
 StreamMatchesScript forms gives input script outside result = IsStreamResult forms IsNextScriptedCall gives input (change_with_bases script ([], []) outside) result
 
--- The stream refines the model: for every base that the desk represented before, the stream is
--- answered as `does` allows from this base, and the desk represents the base after it. Vacuous if
--- the disk assumption (`honest`) fails.
+-- The stream refines the model: for every base that the desk represented before the stream, the
+-- replies are those that `does` allows from this base, and the desk represents the base after the
+-- stream. Vacuous if the disk assumption (`honest`) fails.
 abbrev pub StreamRefinesModel : {D B C : Type 0} → (D → Type 0) → (D → B → Type 0) → Forms → CallRelation B → (C → ℕ → C → Type 0) → Text → D → D → ClockAndWriterChange C → Result ℕ ServeFault → Type 0
 StreamRefinesModel {B = B} honest stands forms does gives input first last outside result =
     honest last → (base : B) → stands first base → (after : B) × stands last after × IsStreamResult forms does gives input (change_with_bases base after outside) result

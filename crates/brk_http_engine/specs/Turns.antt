@@ -1,4 +1,5 @@
--- The effect of a turn of a stream and of a whole stream, by how they end, for any desk.
+-- The effects of a turn of a stream, in which one request is read, executed and answered, and of a
+-- whole stream, for each way in which they end.
 use Rattle.std.specs.Prelude.{◌≡◌, ◌⊎◌, ◌==◌, ◌||◌, Bool, ℕ, ◌+◌, List, [], Option, Some, Result, Ok, Err, length, take}
 use Rattle.std.specs.Io.KnownBytes.{Appends}
 use Rattle.std.specs.List.{concat}
@@ -15,16 +16,17 @@ use Rattle.brk_http_engine.specs.declared.turning.FaultKind.{FaultKind}
 use Rattle.brk_http_engine.specs.declared.turning.FaultKind.TheVariants as kinds
 use Rattle.brk_http_engine.specs.declared.stream.ServeFault.{ServeFault}
 
--- The input at the front of the stream, after `n` replies, was answered with `reply`; the stream
--- then has ended or continues, as `next` says. The clock was read once for each of the timestamps.
+-- After `n` replies the request at the front of `input` was executed and `reply` is its reply. The
+-- stream then ends or continues, as `next` says. The clock was read once for each of the timestamps
+-- `taken`.
 pub record TurnHasReply {B C : Type 0} (forms : Forms) (does : CallRelation B) (gives : C → ℕ → C → Type 0) (n : ℕ) (input : Text) (span : EnvironmentChange B C) (reply : Text) (next : Next) : Type 0 where
   pub taken : List ℕ
   pub moments : ClockReturnsInOrder gives span.clock taken span.later
   pub one : One forms does n input span.base taken reply next span.after
 
--- The request was executed and `reply` is its reply. The reply closes the stream if it is the last
--- that the limit allows, if the request asks to close, or if the desk failed. The clock was read
--- once for each of the timestamps.
+-- The request was executed and `reply` is its reply. The reply is the last of its stream (`closes`)
+-- if it reaches the limit of replies, if the request asks to close the stream, or if the desk
+-- failed. The clock was read once for each of the timestamps `taken`.
 pub record ExecutesRequest {B C : Type 0} (forms : Forms) (does : CallRelation B) (gives : C → ℕ → C → Type 0) (n : ℕ) (request : Request) (span : EnvironmentChange B C) (closes : Bool) (reply : Text) : Type 0 where
   pub taken : List ℕ
   pub response : Response
@@ -52,8 +54,8 @@ TurnFailsWith forms does gives n input span kinds.Memory =
 TurnFailsWith forms does gives n input span kinds.Write =
     (reply : Text) × (next : Next) × (k : ℕ) × TurnHasReply forms does gives n input span reply next × Appends span.old span.new (take k reply)
 
--- The stream completed: the writer got exactly its `count` replies, and the clock was read once for
--- each of the timestamps.
+-- The stream completed: exactly its `count` replies were written, and the clock was read once for
+-- each of the timestamps `moments`.
 pub record StreamCompletesWith {B C : Type 0} (forms : Forms) (does : CallRelation B) (gives : C → ℕ → C → Type 0) (input : Text) (span : EnvironmentChange B C) (count : ℕ) : Type 0 where
   pub moments : List ℕ
   pub replies : List Text
@@ -77,8 +79,8 @@ pub record StreamFailsWith {B C : Type 0} (forms : Forms) (does : CallRelation B
   pub failed : TurnFailsWith forms does gives (length replies) rest (record { base = mid; after = span.after; clock = later; later = span.later; old = between; new = span.new }) kind
   pub counted : count ≡ length replies
 
--- The result of a stream is as specified: of a complete stream the number of its replies, and
--- otherwise a fault with its effect.
+-- The result of a stream: at `Ok` the number of its replies, and at an error a fault with the
+-- effect that `StreamFailsWith` specifies.
 abbrev pub IsStreamResult : {B C : Type 0} → Forms → CallRelation B → (C → ℕ → C → Type 0) → Text → EnvironmentChange B C → Result ℕ ServeFault → Type 0
 IsStreamResult forms does gives input span (Ok count) = StreamCompletesWith forms does gives input span count
 IsStreamResult forms does gives input span (Err fault) = StreamFailsWith forms does gives input span fault.kind fault.done

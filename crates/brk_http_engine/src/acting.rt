@@ -32,8 +32,8 @@ pub enum ServiceAnswer<R, V> {
     Failed(Fault),
 }
 
-// Executes a command at the clock reading `now`, with or without a key. Returns the response; a
-// refusal or a fault of the desk is a response too.
+// Executes a command at the clock reading `now`, with or without a key, and returns the response:
+// the reply, the stored reply, the refusal, or the fault of the desk.
 fn execute_row_command<D: Service>(
     alloc: Global,
     desk: &mut D::Desk,
@@ -52,7 +52,7 @@ fn execute_row_command<D: Service>(
     }
 }
 
-// Executes a query. Returns the response; a refusal or a fault of the desk is a response too.
+// Executes a query and returns the response: the view, the refusal, or the fault of the desk.
 fn execute_query<D: Service>(
     alloc: Global,
     desk: &mut D::Desk,
@@ -68,8 +68,8 @@ fn execute_query<D: Service>(
     }
 }
 
-/// Executes the call of a request, if it makes one, and returns the response. The clock is read
-/// once for a well-formed row, otherwise not.
+/// Executes the call of a request, if it makes one, and returns the response. Reads the clock once
+/// for a well-formed row, and not for any other request.
 pub fn execute_call_of_request<C: Clock, D: Service>(
     alloc: Global,
     clock: &mut C,

@@ -47,7 +47,7 @@ pub fn texts_of_body(alloc: Global, body: &[u8]) -> Result<Option<Vec<String>>, 
     }
 }
 
-/// The name of the one member of a reply's object.
+/// The name of the one member of the JSON object that is the body of a reply.
 #[derive(Clone, Copy, Debug, PartialEq, Eq)]
 pub enum Word {
     Ok,
@@ -117,7 +117,7 @@ fn json_string(alloc: Global, text: &str) -> Result<Value, AllocError>
     Ok(Value::String(String::from_str(alloc, text)?))
 }
 
-/// Returns the JSON text `{"error":"WORDS"}` of these words.
+/// Returns the JSON text `{"error":"WORDS"}` with the text `words`.
 pub fn json_text_of_error(alloc: Global, words: &str) -> Result<String, AllocError>
     ensures { IfOk result (λ s. string_bytes s ≡ spec.json_error_object words.now) }
 {

@@ -30,7 +30,7 @@ fn status_of_problem(problem: Problem) -> StatusCode
     }
 }
 
-// Returns the words of the error reply to a request with this problem.
+// Returns the text of the error reply to a request with this problem.
 fn text_of_problem(problem: Problem) -> &'static str
     ensures { result.now ≡ text_of_problem problem }
 {
@@ -68,7 +68,8 @@ fn status_of_response<R, V>(told: &ServiceAnswer<R, V>) -> StatusCode
     }
 }
 
-// Returns true if the request was refused because its method is not POST.
+// Returns true if the response is the problem that the method of the request is not POST, so that
+// the reply names the allowed method.
 fn names_allowed_method<R, V>(told: &ServiceAnswer<R, V>) -> bool
     ensures { (reply : R → model.Reply) (shown : V → queries.View) → result ≡ names_allowed_method (response_in_model reply shown told.now) }
 {
@@ -141,7 +142,7 @@ fn add_head_line(head: &mut String, line: &str) -> Result<(), AllocError>
     write!(head, "{line}\r\n")
 }
 
-// Appends a line and its line end to the head if `stands` is true.
+// Appends a line and its line end to the head if `stands` is true, and otherwise nothing.
 fn add_head_line_if(head: &mut String, stands: bool, line: &str) -> Result<(), AllocError>
     ensures { OnOk result (string_bytes head.new ≡ string_bytes head.old ++ head_line_if stands line.now) }
 {

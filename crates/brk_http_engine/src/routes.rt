@@ -39,7 +39,8 @@ fn key_of_batch_row(alloc: Global, batch: &[u8], n: &[u8]) -> Result<Option<Key>
     Ok(Some(Key { batch, row }))
 }
 
-// Returns true if `first` is empty and `word` equals `name`: the target begins with `/NAME`.
+// Returns true if `first` is empty and `word` equals `name`, as in a target whose first segment is
+// `name`.
 fn has_first_segment(first: &str, word: &str, name: &str) -> bool
     ensures { result ≡ has_first_segment first.now word.now name.now }
 {
@@ -49,8 +50,8 @@ fn has_first_segment(first: &str, word: &str, name: &str) -> bool
     word == name
 }
 
-// Returns the route of a view if the parts are those of `/ask/VIEW` and this view exists, otherwise
-// `None`.
+// Returns the route of a view if the segments are those of a target `/ask/VIEW` and this view
+// exists, otherwise `None`.
 fn parse_view_route<D: Service>(first: &str, word: &str, view: &str) -> Option<Route>
     ensures { option_map route_in_model result ≡ route_of_segments D.forms.views (first.now ∷ word.now ∷ view.now ∷ []) }
 {
@@ -63,8 +64,8 @@ fn parse_view_route<D: Service>(first: &str, word: &str, view: &str) -> Option<R
     }
 }
 
-// Returns the route of a row with its key if the parts are those of `/rows/BATCH/N` and the key is
-// well-formed, otherwise `None`.
+// Returns the route of a row with its key if the segments are those of a target `/rows/BATCH/N` and
+// the key is well-formed, otherwise `None`.
 fn parse_keyed_row_route<D: Service>(
     alloc: Global,
     first: &str,
@@ -83,7 +84,8 @@ fn parse_keyed_row_route<D: Service>(
     }
 }
 
-// Returns the route of a row without a key if the parts are those of `/rows`, otherwise `None`.
+// Returns the route of a row without a key if the segments are those of the target `/rows`,
+// otherwise `None`.
 fn parse_unkeyed_row_route<D: Service>(first: &str, word: &str) -> Option<Route>
     ensures { option_map route_in_model result ≡ route_of_segments D.forms.views (first.now ∷ word.now ∷ []) }
 {

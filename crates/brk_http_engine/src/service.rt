@@ -63,7 +63,7 @@ pub trait Service {
     fn parse_row(alloc: Global, row: &[&[u8]]) -> Planned<Self::Command>
         ensures { IfOk result (λ read. ParsesAs command_of read (forms.row (texts_of_fields row.now))) };
 
-    /// Returns the name of a view if a view with this name exists, otherwise `None`.
+    /// Returns `name` as the name of a view if a view with this name exists, otherwise `None`.
     fn view_named(name: &str) -> Option<&'static str>
         ensures { MatchOption result
             (list_any (λ v. bytes_eq v name.now) forms.views ≡ Bool.false)

@@ -20,10 +20,10 @@ use matchit::Router;
 use std::alloc::Global;
 use std::io::{Read, Write};
 
-/// The largest number of requests that are answered on one stream.
+/// The greatest number of requests that are answered on one stream.
 pub const MOST_REQUESTS: u64 = 1000;
 
-/// The result of one turn of a stream.
+/// The result of one turn of a stream: of reading, executing and answering its next request.
 #[derive(Clone, Copy, Debug, PartialEq, Eq)]
 pub enum Turn {
     /// The input ended before a request.
@@ -53,7 +53,7 @@ fn is_last_reply(done: u64, closes: bool, failed: bool) -> bool
     done + 1 == MOST_REQUESTS || closes || failed
 }
 
-// The bytes of a reply, and a flag that it is the last.
+// The bytes of a reply, and a flag that is true if the reply is the last of its stream.
 #[derive(Drop)]
 struct Draft {
     text: String,
@@ -111,8 +111,8 @@ fn execute_and_format_reply<C: Clock, D: Service>(
     }
 }
 
-/// Reads the next request, executes it and writes its reply. Returns whether the stream has ended
-/// or continues.
+/// Reads the next request, executes it and writes its reply. Returns `Ended` if no input is left,
+/// `Closed` if the reply is the last of the stream, otherwise `Open`.
 ///
 /// Fails with `Read` and nothing executed. After `Memory` or `Write` the request may have been
 /// executed.

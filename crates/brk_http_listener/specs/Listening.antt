@@ -29,7 +29,7 @@ ServeRelation C D X = C → D → X → Result ℕ ServeFault → C → D → Ty
 abbrev pub StreamEnd : Type 0
 StreamEnd = Option (Result ℕ ServeFault)
 
--- The accept had this result, and nothing else changed.
+-- The accept had this result, and changed neither the clock nor the desk.
 pub record AcceptHasResult {L C D X : Type 0} (accepts : AcceptRelation L X) (old : ListenerClockAndDesk L C D) (result : Result X AcceptFault) (new : ListenerClockAndDesk L C D) : Type 0 where
   pub accepted : accepts old.listener result new.listener
   pub clock : new.clock ≡ old.clock
@@ -43,7 +43,7 @@ HandlesStream accepts serves old None new = AcceptHasResult accepts old (Err Abo
 HandlesStream {X = X} accepts serves old (Some ended) new =
     (stream : X) × accepts old.listener (Ok stream) new.listener × serves old.clock old.desk stream ended new.clock new.desk
 
--- The stream did not end because memory ran out, so the next one may be taken.
+-- The next stream may be accepted: this stream did not end because memory ran out.
 abbrev pub MayAcceptNextStream : StreamEnd → Type 0
 MayAcceptNextStream None = Unit {0}
 MayAcceptNextStream (Some (Ok count)) = Unit {0}
@@ -56,10 +56,10 @@ HandlesStreamsInOrder accepts serves old [] new = new ≡ old
 HandlesStreamsInOrder {L} {C} {D} accepts serves old (end ∷ ends) new =
     (mid : ListenerClockAndDesk L C D) × HandlesStream accepts serves old end mid × MayAcceptNextStream end × HandlesStreamsInOrder accepts serves mid ends new
 
--- The result of accepting and serving `streams` streams in sequence. `Ok`: exactly so many came to
--- an end. `Stream`: after fewer, one more was accepted and served, and ended with this fault,
--- because memory ran out. `Net`: after fewer, the next accept failed, and clock and desk are
--- unchanged by it.
+-- The postcondition of accepting and serving `streams` streams in sequence. `Ok`: exactly `streams`
+-- streams were handled. `Stream`: fewer streams were handled, and then one more was accepted and
+-- served, and ended with this fault, because memory ran out. `Net`: fewer streams were handled, the
+-- next accept failed, and it did not change clock and desk.
 abbrev pub ServeEachStreamPost : {L C D X : Type 0} → AcceptRelation L X → ServeRelation C D X → ℕ → ListenerClockAndDesk L C D → Result (Unit {0}) ListenFault → ListenerClockAndDesk L C D → Type 0
 ServeEachStreamPost accepts serves streams old (Ok done) new = (ends : List StreamEnd) × HandlesStreamsInOrder accepts serves old ends new × (length ends ≡ streams)
 ServeEachStreamPost {L} {C} {D} accepts serves streams old (Err (Stream fault)) new =

@@ -24,6 +24,8 @@ pub trait Listener {
 impl Listener for TcpListener {
     type Stream = TcpStream;
 
+    /// Waits for the next TCP stream and accepts it. Fails with `Aborted` if the peer broke the
+    /// stream off, and otherwise with `Failed`.
     fn accept_next(&mut self) -> Result<TcpStream, AcceptFault> {
         match self.accept() {
             Ok((stream, _)) => Ok(stream),

@@ -4,7 +4,7 @@ ghost use Rattle.brk_http_engine.specs.declared.stream.ServeFault.{ServeFault};
 use brk_http_engine::ServeFault;
 use std::alloc::Global;
 
-/// Serves a stream that was accepted.
+/// A server of accepted streams.
 pub trait StreamServer {
     /// A stream that a peer opened.
     type Stream: Drop;
@@ -15,8 +15,7 @@ pub trait StreamServer {
     /// The desk that executes the calls.
     type Desk;
 
-    /// Holds if this stream was served between the first clock and desk and the second, and ended
-    /// with this result.
+    /// Serving this stream may turn the first clock and desk into the second, with this result.
     ghost serves: { Self.Clock → Self.Desk → Self.Stream → Result ℕ ServeFault → Self.Clock → Self.Desk → Type 0 };
 
     /// Serves a stream to its end, and returns the number of requests that were answered.

@@ -8,11 +8,12 @@ use Rattle.std.proofs.lemmas.Bool.Decides.{nat_tests}
 use Rattle.brk_http_reader.specs.Moves.{ReadsIntoBuffer}
 use Rattle.brk_http_model.specs.declared.head_end.HeadEnd.TheVariants.{Nothing, TooLong, Cut, At}
 
--- a place so many bytes further on
+-- The number in the option plus `n`, or `None`.
 abbrev pub raise : ℕ → Option ℕ → Option ℕ
 raise n None = None
 raise n (Some k) = Some (k + n)
 
+-- The length of the line end at the front of `bytes` if `t` is true, otherwise `None`.
 abbrev here : Bool → List ℕ → Option ℕ
 here t bytes = if t then leading_line_end_length bytes else None
 
@@ -189,6 +190,7 @@ end_nothing limit (b ∷ buffer) empty = absurd (omega arith)
 
 -- ---- the same of what a reader has left and a buffer holds
 
+-- The type of the remaining bytes of a reader, or `None` if they are unknown.
 abbrev Left : Type 0
 Left = Option (List ℕ)
 

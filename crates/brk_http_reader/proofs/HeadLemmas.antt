@@ -23,7 +23,7 @@ end_lf lf = ([], refl)
 field_lf : (f : Field) → EndsInLf (print_field f)
 field_lf f = after _ (print_end f.end) (end_lf f.end)
 
--- the list ends in an empty line
+-- The list ends with an empty line.
 pub record EndsEmpty (xs : List ℕ) : Type 0 where
   pub before : List ℕ
   pub end : LineEnd
@@ -48,6 +48,7 @@ begins_end crlf rest = refl
 begins_end lf [] = refl
 begins_end lf (b ∷ rest) = refl
 
+-- The option has a number, which is at most `n`.
 abbrev AtMost : Option ℕ → ℕ → Type 0
 AtMost None n = ⊥
 AtMost (Some k) n = k ≤ n

@@ -60,7 +60,7 @@ span_front p r s (ordered, within) =
     let some : s.end - s.start ≤ length (drop s.start p) = omega (arith, length-drop s.start p) in
     ap (take (s.end - s.start)) (drop-append-le s.start p r front) ∙ take-append-le (s.end - s.start) (drop s.start p) r some
 
--- a head and a body that is there
+-- The positions of a request whose head ends at `n` and whose body has `len` bytes.
 abbrev request_of : HeadFacts → ℕ → ℕ → Places
 request_of facts n len = record { method = facts.method; target = facts.target; closes = facts.closes; body = record { start = n; end = n + len } }
 

@@ -1,10 +1,11 @@
--- The facts of the fields read so far, for private contracts.
+-- The facts of the fields that were read so far.
 use Rattle.std.specs.Prelude.{List, codes, ◌&&◌, ◌||◌, if◌then◌else◌, Err}
 use Rattle.brk_http_model.specs.Fields.{HeadField, equals_ignoring_case, has_field_named, asks_to_close_stream, body_length_of_values, values_of_field, body_length_of_value}
 use Rattle.brk_http_model.specs.declared.problem.Problem.TheVariants.{BadRequest}
 use Rattle.brk_http_reader.specs.declared.fields.Seen.{Seen}
 
--- The facts of the fields read so far, `s`, with those of one more field `p`, a name and a value.
+-- The facts `s` of the fields that were read so far, updated for one more field `p`, a name and a
+-- value.
 abbrev pub facts_with_field : Seen → HeadField → Seen
 facts_with_field s p = record {
   chunked = s.chunked || equals_ignoring_case p.0 (codes "transfer-encoding");
@@ -13,8 +14,8 @@ facts_with_field s p = record {
   len = if equals_ignoring_case p.0 (codes "content-length") then (if s.any_length then Err BadRequest else body_length_of_value p.1) else s.len;
 }
 
--- The facts of the fields `ps` of a head: whether its body is chunked, whether it asks to close,
--- whether it has a length, and the body length or the problem with it.
+-- The facts of the fields `ps` of a head: whether the body is chunked, whether the request asks to
+-- close the stream, whether a length is given, and the body length or the problem with it.
 abbrev pub facts_of_fields : List HeadField → Seen
 facts_of_fields ps = record {
   chunked = has_field_named (codes "transfer-encoding") ps;

@@ -15,7 +15,7 @@ use httparse::spans::HeaderSpan;
 pub struct FieldFacts {
     /// Length of the body in bytes, or the problem with the fields that give it.
     pub len: Result<usize, Problem>,
-    /// True if a `Connection` field has the whole value `close`, in any case.
+    /// True if a `Connection` field has exactly the value `close`, in upper or lower case.
     pub closes: bool,
 }
 
@@ -26,7 +26,7 @@ fn equals_ignoring_case(a: &[u8], b: &[u8]) -> bool
     a.eq_ignore_ascii_case(b)
 }
 
-// Returns true if every byte is an ASCII digit, and for no byte.
+// Returns true if every byte of `value` is an ASCII digit; also if `value` is empty.
 fn consists_of_digits(value: &[u8]) -> bool
     ensures { result ≡ list_all is_ascii_digit value.now }
 {
@@ -75,7 +75,8 @@ fn body_length_of_value(value: &[u8]) -> Result<usize, Problem>
     }
 }
 
-/// The facts of the fields read so far.
+/// The facts of the fields that were read so far: whether the body is chunked, whether the request
+/// asks to close the stream, whether a length was given, and the length or the problem with it.
 #[derive(Clone, Copy, Debug)]
 struct Seen {
     chunked: bool,

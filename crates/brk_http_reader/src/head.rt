@@ -12,7 +12,8 @@ use httparse::spans::{EMPTY_HEADER_SPAN, Span, parse_request};
 
 const MOST_FIELDS: usize = 100;
 
-/// The parts of a head that serving a request needs.
+/// The parts of a request's head: the positions of method and target, the close flag, and the body
+/// length.
 #[derive(Clone, Copy, Debug)]
 pub struct HeadFacts {
     pub method: Span,

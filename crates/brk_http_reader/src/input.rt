@@ -1,4 +1,4 @@
-//! Fills a buffer from a reader, up to the end of a head and of a body.
+//! Reads of a request's head and body from a reader into a buffer.
 ghost use Rattle.std.specs.Prelude.{◌≡◌, ℕ, ◌+◌, ◌<◌, ◌≤◌, ◌++◌, List, length, true, false, Ok, IfOk, OnOk, IfSome};
 ghost use Rattle.std.specs.Io.KnownBytes.{IsAtEnd};
 ghost use Rattle.brk_http_model.specs.Heads as spec;
@@ -8,7 +8,7 @@ use brk_http_model::HeadEnd;
 use std::alloc::{AllocError, Global};
 use std::io::Read;
 
-/// The limit in bytes within which the empty line after a head must end.
+/// The greatest length of a head in bytes, including the empty line after it.
 const HEAD_LIMIT: usize = 16384;
 
 /// A failure to read from the input into the buffer.
@@ -25,6 +25,7 @@ impl From<AllocError> for InputFault {
 
     ghost from_gives = { λ _ e. e ≡ Memory };
 
+    /// Returns `Memory`: an allocation was refused.
     fn from(_error: AllocError) -> InputFault {
         InputFault::Memory
     }
@@ -69,8 +70,8 @@ pub fn head_len(bytes: &[u8]) -> Option<usize>
     None
 }
 
-/// Reads once, at most 1,024 bytes, and appends them to the buffer. Returns `false` at the end of
-/// the input.
+/// Reads at most 1,024 bytes, once, and appends them to the buffer. Returns false at the end of the
+/// input, otherwise true.
 ///
 /// Fails with `Read` or `Memory`.
 pub fn read_into_buffer<R: Read>(reader: &mut R, buffer: &mut Vec<u8>) -> Result<bool, InputFault>
@@ -86,8 +87,8 @@ pub fn read_into_buffer<R: Read>(reader: &mut R, buffer: &mut Vec<u8>) -> Result
     Ok(count > 0)
 }
 
-/// Reads until the buffer has the whole head at its front, has reached the limit for a head, or the
-/// input has ended. Returns where the head ends, or why it has no end.
+/// Reads until the buffer begins with a whole head, has reached the limit for a head, or the input
+/// has ended. Returns the position at which the head ends, or the reason why it has no end.
 ///
 /// Fails with `Read` or `Memory`.
 pub fn read_head<R: Read>(reader: &mut R, buffer: &mut Vec<u8>) -> Result<HeadEnd, InputFault>
@@ -114,7 +115,8 @@ pub fn read_head<R: Read>(reader: &mut R, buffer: &mut Vec<u8>) -> Result<HeadEn
     }
 }
 
-/// Reads until the buffer has at least `len` bytes. Returns `false` if the input ends before.
+/// Reads until the buffer has at least `len` bytes. Returns true, or false if the input ends before
+/// that.
 ///
 /// Fails with `Read` or `Memory`.
 pub fn read_body<R: Read>(

@@ -19,7 +19,7 @@ pub struct Places {
     pub body: Span,
 }
 
-/// The result of reading at the front of a stream.
+/// The result of reading the next request of a stream.
 #[derive(Clone, Copy, Debug)]
 pub enum Front {
     /// No byte is left.

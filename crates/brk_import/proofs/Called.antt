@@ -24,6 +24,7 @@ use Rattle.brk_model.specs.Run as run
 use Rattle.brk_money.specs.Spelling.{Text}
 
 module _ {S : Type 0} (g : Ghosts S) where
+  -- A call of the desk for a row has this outcome (`RowCallHasOutcome`).
   abbrev Acts : Held S → ℕ → Command × Key → run.Outcome → Held S → Type 0
   Acts old now row outcome new = RowCallHasOutcome g old now row outcome new
 

@@ -41,7 +41,7 @@ use Rattle.brk_import.proofs.Settled.{settled_push}
 
 module _ {S C : Type 0} (g : Ghosts S) (rests : Settles g) (form : Fields → ReadResult Command) (apart : (n : ℕ) (command : Command) → form (end_record_after n) ≡ Ok command → ⊥) (gives : C → ℕ → C → Type 0)
     (text : Text) (one : ClockAndWriterChange C) (base : Base) where
-  -- the rows that the first run decided
+  -- The rows that the first run decided, from the base before it to `after`.
   record Part (after : Base) : Type 0 where
     pub name : Text
     pub rows : List Fields
@@ -52,7 +52,8 @@ module _ {S C : Type 0} (g : Ghosts S) (rests : Settles g) (form : Fields → Re
     pub settled : AreDecided form step_of_row name base moments rows answers after
     pub begins : BeginsWithRecords (Some text) (batch_header name ∷ rows)
 
-  -- the call of the row after them failed, and the row was committed
+  -- The row after the decided rows was committed: `stood` is the base after its command, executed
+  -- on `after`.
   record Under (after stood : Base) : Type 0 where
     pub part : Part after
     pub row : Fields
@@ -63,11 +64,12 @@ module _ {S C : Type 0} (g : Ghosts S) (rests : Settles g) (form : Fields → Re
     pub given : gives part.mid moment one.later
     pub booked : (step_of_row after moment command (record { batch = part.name; row = length part.rows + 1 })).1 ≡ stood
 
-  -- no row was decided, or some were
+  -- The first run decided no row and `after` is the base before it, or it decided some rows.
   abbrev First : Base → Type 0
   First after = (after ≡ base) ⊎ Part after
 
-  -- the base whose tables a crash exposed
+  -- A base whose tables are in the exposed disk contents: that after the decided rows, or after one
+  -- more committed row.
   record Found (trees : Trees) : Type 0 where
     pub after : Base
     pub stood : Base

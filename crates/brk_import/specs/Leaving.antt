@@ -1,4 +1,4 @@
--- The crash states of a desk's tables.
+-- The tables that a crash of a desk's store exposes.
 use Rattle.std.specs.Prelude.{◌⊎◌}
 use Rattle.sqlite.specs.Held.{Held}
 use Rattle.sqlite_trees.specs.declared.store.Store.{Ghosts}
@@ -7,7 +7,7 @@ use Rattle.brk_model.specs.Sheets.{sheets}
 use Rattle.brk_store.specs.Holds.{AreTreesOfRows, CrashStatesSatisfy}
 use Rattle.brk_desk.specs.Reopening.{IsConsistent}
 
--- A crash exposes only the tables of `base`, or those of `other`; in the latter case `other` is
--- consistent.
+-- A crash exposes only the tables of `base` or the tables of `other`; if it exposes those of
+-- `other`, then `other` is consistent.
 abbrev pub CrashExposesOnlyOneOf : {S : Type 0} → Ghosts S → Held S → Base → Base → Type 0
 CrashExposesOnlyOneOf g desk base other = CrashStatesSatisfy g desk (λ trees. AreTreesOfRows (sheets base) trees ⊎ (AreTreesOfRows (sheets other) trees × IsConsistent other))

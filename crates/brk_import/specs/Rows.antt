@@ -1,4 +1,4 @@
--- The calls that a batch makes of a desk.
+-- The calls of a desk for the rows of a batch.
 use Rattle.std.specs.Prelude.{◌≡◌, ℕ, List, Option, Result, Some, map}
 use Rattle.sqlite_trees.specs.declared.store.Store.{Ghosts}
 use Rattle.sqlite.specs.Held.{Held}

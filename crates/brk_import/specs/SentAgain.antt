@@ -13,15 +13,15 @@ use Rattle.brk_io.specs.Moments.{ClockReturnsInOrder}
 use Rattle.brk_io.specs.Span.{ClockAndWriterChange}
 use Rattle.brk_batch_engine.specs.Batch.{BeginsWithWholeBatch}
 
--- A batch that first ran from `base` was retried in full, completed and ended at `after`. If the
--- first run refused none of the rows that it answered, the two runs equal one uninterrupted run of
--- the batch.
+-- A batch whose first run began at `base` was retried in full, and the retry completed at `after`.
+-- If the first run refused none of the rows that it answered, the two runs equal one uninterrupted
+-- run of the batch.
 pub record RetryCompletesBatch {C : Type 0} (form : Fields → ReadResult Command) (gives : C → ℕ → C → Type 0) (text : Option Text) (base after : Base) (one two : ClockAndWriterChange C) : Type 0 where
   -- All rows of the batch.
   pub name : Text
   pub rows : List Fields
   pub whole : BeginsWithWholeBatch text name rows
-  -- The answers of the first run to the first rows, and the timestamps that it took for them.
+  -- The answers of the first run to the first rows, and the timestamps of these rows.
   pub answers : List Answer
   pub moments : List ℕ
   pub mid : C
@@ -36,8 +36,9 @@ pub record RetryCompletesBatch {C : Type 0} (form : Fields → ReadResult Comman
   pub completed : refused_answer_count answers ≡ 0 → IsCompletedByRetry form name base moments others rows answers told after
       ⊎ ((moment : ℕ) × (answer : Answer) × gives mid moment one.later × IsCompletedByRetry form name base (moments ++ moment ∷ []) others rows (answers ++ answer ∷ []) told after)
 
--- A batch that first ran from `base` was retried in full, completed and ended at `after`. Whatever
--- rows the two runs refused, they are equivalent to one run of calls from `base` to `after`.
+-- A batch whose first run began at `base` was retried in full, and the retry completed at `after`.
+-- Whichever rows the two runs refused, they are equivalent to one run of calls from `base` to
+-- `after`.
 pub record RunAndRetryEqualOneRun {C : Type 0} (form : Fields → ReadResult Command) (gives : C → ℕ → C → Type 0) (text : Option Text) (base after : Base) (one two : ClockAndWriterChange C) : Type 0 where
   -- All rows of the batch.
   pub name : Text

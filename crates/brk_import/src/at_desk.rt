@@ -22,7 +22,7 @@ use sqlite::Alter;
 use std::alloc::{AllocError, Global};
 use std::marker::PhantomData;
 
-// Converts the desk's answer to a row into an answer of the batch engine.
+// Returns the answer of the batch engine that corresponds to an answer of the desk.
 fn batch_answer_of_desk(answer: Answer) -> RowAnswer<Reply>
     ensures { engine.answer_in_model abstract_reply result ≡ model_answer answer }
 {
@@ -33,7 +33,7 @@ fn batch_answer_of_desk(answer: Answer) -> RowAnswer<Reply>
     }
 }
 
-/// A desk as the batch engine uses it.
+/// The operations of a desk over a store, for the batch engine.
 pub struct DeskRows<S> {
     _store: PhantomData<S>,
 }
@@ -65,10 +65,13 @@ impl<S: Alter> Rows for DeskRows<S> {
 
     ghost step = { step_of_row };
 
+    /// Parses the fields of a row: returns a command, or the refusal of a malformed row. Fails with
+    /// `Memory` only.
     fn parse(alloc: Global, row: &[&[u8]]) -> Planned<Command> {
         parse_row(alloc, row)
     }
 
+    /// Executes a command under its key by `Desk::call`, and returns its answer.
     fn call(
         desk: &mut Desk<S>,
         alloc: Global,
@@ -82,6 +85,7 @@ impl<S: Alter> Rows for DeskRows<S> {
         }
     }
 
+    /// Returns the fields of a reply, joined by commas.
     fn reply_line(alloc: Global, reply: &Reply) -> Result<String, AllocError> {
         match line_text(alloc, reply) {
             Ok(line) => Ok(line),

@@ -26,8 +26,8 @@ use std::io::{Read, Write};
 /// the counts of the answers.
 ///
 /// The input is comma-separated: `batch,NAME`, then the rows, then `end,N` with the number of rows.
-/// A longer input is cut after 67,108,864 bytes. A row is executed only if a record follows it, so
-/// the last row of a cut input is never executed: it is refused with 18.
+/// Only the first 67,108,864 bytes of an input are read. A row is executed only if a record follows
+/// it, so the last row of such an input is not executed: it is refused with 18.
 ///
 /// Row n of batch NAME has the key (NAME, n), under which it is accepted at most once. Each decided
 /// row that is well-formed and has a record after it is one call of the desk; one more call may
@@ -36,7 +36,7 @@ use std::io::{Read, Write};
 /// `end,OK,AGAIN,NO`.
 ///
 /// A fault ends the batch, also an interrupted read or write. The changes of the decided rows
-/// remain. After a fault of the desk, a crash may still find the next row committed: retry the
+/// remain. After a fault of the desk, a crash may also expose the next row as committed: retry the
 /// batch under its name.
 pub fn run_batch<R: Read + Drop, W: Write, C: Clock, S: Alter>(
     alloc: Global,
@@ -45,21 +45,21 @@ pub fn run_batch<R: Read + Drop, W: Write, C: Clock, S: Alter>(
     clock: &mut C,
     desk: &mut Desk<S>,
 ) -> Result<Counts, BatchFault>
-    // For any result, the desk changed only by these calls, in order, with these outcomes. So every
-    // guarantee of a run holds. They are those of the rows: each decided row that is well-formed
-    // and has a record after it is one call, under its key, and one more call may have failed at
-    // the end. The clock is read once for each call, and the lines are those of the outcomes.
+    // For any result, the desk changed only by these calls, in order, with these outcomes, so every
+    // guarantee of a run holds. Each decided row that is well-formed and has a record after it is
+    // one of the calls, under its key, and one more call may have failed at the end. The clock is
+    // read once for each call, and the lines follow from the outcomes.
     ensures told { (calls : List (ℕ × made.Call)) × (outcomes : List came.Outcome) × IsRunWithOutcomes S.Store desk.old desk.new calls outcomes
         × BatchMatchesRowCalls C.gives (option_map input_text (R.remaining reader)) (map model_call calls) (map model_outcome outcomes)
         (record { clock = clock.old; later = clock.new; old = W.contents writer.old; new = W.contents writer.new }) result }
-    // Under the disk assumption, for every base that the desk represented, the answers are those of
-    // the model, and the desk represents the base after them.
+    // Under the disk assumption, for every base that the desk represented before the batch, the
+    // answers equal those of the model from this base, and the desk represents the base after them.
     ensures kept { BatchRefinesModel (λ desk. HasCleanDisk (state S.Store desk)) (λ desk. Represents S.Store desk) (parse_by_first_field row_parsers) step_of_row C.gives
         (option_map input_text (R.remaining reader)) desk.old desk.new
         (record { clock = clock.old; later = clock.new; old = W.contents writer.old; new = W.contents writer.new }) result }
     // Crash safety: if a crash before the batch exposes only the tables of such a base, a crash
-    // after it exposes those of the base after it. If the desk answered a row with a fault, a crash
-    // may also expose the tables after that row's command.
+    // after the batch exposes the tables of the base after it. If the call of a row failed, a crash
+    // may also expose the tables after the command of this row.
     ensures left { IsBatchCrashSafe (λ desk. HasCleanDisk (state S.Store desk)) (λ desk. Represents S.Store desk) (CrashExposesOnlyOneOf S.Store) (parse_by_first_field row_parsers) step_of_row
         C.gives (option_map input_text (R.remaining reader)) desk.old desk.new
         (record { clock = clock.old; later = clock.new; old = W.contents writer.old; new = W.contents writer.new }) result }

@@ -1,4 +1,4 @@
-//! Executes batches of CSV rows on a desk, and answers each row with a line.
+//! Executes batches of CSV rows on a desk, and writes a line with the answer to each row.
 #![tactic(auto)]
 
 mod at_desk;

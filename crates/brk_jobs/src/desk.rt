@@ -12,8 +12,8 @@ use brk_store::Store;
 use sqlite::{Alter, Connection};
 use std::io::{Read, Write};
 
-// Executes a job on an open desk, and returns the outcome. Nothing remains to be done for an audit,
-// which passed when the desk was opened.
+// Executes a job on an open desk, and returns the outcome. An audit passed when the desk was
+// opened, so its outcome is `Done`.
 fn execute_job_at_desk<R: Read + Drop, W: Write, S: Alter>(
     rt: &HostRuntime,
     desk: &mut Desk<S>,

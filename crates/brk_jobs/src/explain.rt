@@ -7,8 +7,8 @@ use sqlite::Alter;
 use std::alloc::Global;
 use std::io::Write;
 
-/// Parses the words of an explanation and writes the explanation, of a desk, to `output`. Returns
-/// the outcome.
+/// Parses `words` as a request for an explanation, and writes the explanation of a desk's trade or
+/// account to `output`. Returns the outcome.
 pub(crate) fn execute_explain_job<S: Alter, W: Write>(
     alloc: Global,
     desk: &mut Desk<S>,

@@ -6,7 +6,7 @@ use brk_files as file;
 use brk_io::write_all_bytes;
 use std::io::{Read, Write};
 
-// Writes the text of help or of the version to `output`, and returns the outcome.
+// Writes a help text or the version text to `output`, and returns the outcome.
 fn write_help_text<W: Write>(text: String, output: &mut W) -> Ending {
     match write_all_bytes(output, text.as_bytes()) {
         Ok(()) => Ending::Usage(UsageFault::Help(text)),
@@ -14,7 +14,7 @@ fn write_help_text<W: Write>(text: String, output: &mut W) -> Ending {
     }
 }
 
-// The place of a job's desk.
+// The place of the database of a job's desk.
 #[derive(Clone, Copy)]
 enum Place<'a> {
     Memory,

@@ -28,11 +28,12 @@ use Rattle.brk_view_theorems.proofs.Owners.{apart_sorted, missing_sorted, owned_
 use Rattle.brk_view_theorems.proofs.Sorting.{same_rows}
 use Rattle.brk_view_theorems.proofs.Worths.{same_position}
 
--- what these accounts are worth
+-- `worths` are the balances and market values of the customer's accounts.
 abbrev pub WorthsOf : ℕ → List AccountWorth → Tables → Type 0
 WorthsOf customer worths t = worths ≡ map (worth_of_account t) (filter (λ a. a.customer == customer) t.accounts)
 
--- the view is that of these accounts
+-- The records of the view are those of `customer_position_view`, if `worths` are the balances and
+-- market values of the accounts of the selected customers.
 abbrev pub IsViewOf : List AccountWorth → View → Type 0
 IsViewOf worths view = (t : Tables) (test : Customer → Bool)
     → worths ≡ map (worth_of_account t) (filter (λ a. list_any (λ c. test c && (c.id == a.customer)) t.customers) t.accounts) → records_of_view view ≡ customer_position_view t test

@@ -42,7 +42,8 @@ use Rattle.brk_queries.proofs.RecentViews.{account_missing, account_there}
 
 -- ---- one trade
 
--- what was read of a trade
+-- `settled`, `moved` and `came` are the settlement, the cash row and the history of the trade with
+-- the id `trade`.
 abbrev pub AreFollowing : ℕ → Option settlement.SettlementRow → Option cash.MoveRow → List history.HistoryRow → Tables → Type 0
 AreFollowing trade settled moved came t =
     (option_map abstract_settlement_row settled ≡ find (λ (s : SettlementRow). s.trade == trade) t.settlements) × (option_map abstract_move_row moved ≡ find (is_cash_row_of_trade trade) t.moves)
@@ -61,7 +62,8 @@ follows trade settled moved came t f base books sound s = record {
 
 -- ---- the views
 
--- the view is that of these trades, whatever test they pass
+-- The records of the view are those of `trade_lookup_view` for `test`, if `found` are the first 20
+-- trades that satisfy `test`, with their related rows.
 abbrev pub IsLookupOf : (Tables → TradeRow → Bool) → List LookedUp → View → Type 0
 IsLookupOf test found view =
     (t : Tables) → map records_of_looked_up_trade found ≡ map (trade_lookup_records t) (take 20 (trade_rows_oldest_first (filter (test t) t.trades))) → records_of_view view ≡ trade_lookup_view t (test t)
@@ -81,6 +83,7 @@ unfolding ask checks_of_query
 no_account_trades id first last t e =
     (λ base books sound s. refused (is_none (account_with_id base id)) NoAccount (view_of_base base (TradesOfAccount id first last)) (account_missing base id t s e), tt)
 
+-- True if the trade is one of the account, with a stamp from `first` to `last`.
 abbrev pub OfAccount : ℕ → ℕ → ℕ → TradeRow → Bool
 OfAccount account first last r = (r.account == account) && row_stamp_is_between first last r
 
@@ -113,6 +116,7 @@ unfolding ask checks_of_query
 no_symbol_trades symbol first last t e =
     (λ base books sound s. refused (is_none (security_with_symbol base symbol)) NoSecurity (view_of_base base (TradesOfSymbol symbol first last)) (security_missing base symbol t s e), tt)
 
+-- True if the trade is one of the symbol, with a stamp from `first` to `last`.
 abbrev pub OfSymbol : Text → ℕ → ℕ → TradeRow → Bool
 OfSymbol symbol first last r = bytes_eq r.symbol symbol && row_stamp_is_between first last r
 
@@ -192,6 +196,7 @@ oldest_named base ids rows books sound distinct few e =
     ∙ ap (λ rs. take 20 (trade_rows_oldest_first rs)) (one_by_one (trade_row_with_id (sheets base)) ids rows e)
     ∙ ap (take 20) (trades_by_id base ids books sound distinct)
 
+-- True if the id of the trade is one of `ids`.
 abbrev pub OfIds : List ℕ → TradeRow → Bool
 OfIds ids r = contains_number r.id ids
 

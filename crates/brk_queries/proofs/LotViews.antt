@@ -31,7 +31,8 @@ use Rattle.brk_queries.proofs.Tested.{answered, carried_as, refused}
 
 -- ---- gathered from the last one on
 
--- some changes that a trade made are left, and of the others the first of what became of their lots are kept
+-- `kept` are the first 20 changes of the lots of all `rows` but `rest`, sorted by
+-- `is_earlier_lot_change`.
 abbrev pub AreKeptOf : Tables → List HoldingHistoryRow → List LotChange → List LotTouch → Type 0
 AreKeptOf t rows rest kept =
     (done : List LotChange) × (map abstract_lot_change_row (rest ++ done) ≡ rows) × (kept ≡ take 20 (sort_by is_earlier_lot_change (flat_map (λ r. lot_changes_with_stamps t r.lot) (map abstract_lot_change_row done))))
@@ -84,7 +85,8 @@ pub no_lots : (id first : ℕ) (t : Tables) → None ≡ find (λ r. r.id == id)
 unfolding ask checks_of_query
 no_lots id first t e = (λ base books sound s. refused (is_none (account_with_id base id)) NoAccount (view_of_base base (LotsTouched id first)) (account_missing base id t s e), tt)
 
--- the oldest trade of an account at or after a stamp
+-- `o` is the oldest trade of the account with the id `id` whose stamp is `first` or later, or
+-- `None` if there is none.
 abbrev pub IsSince : ℕ → ℕ → Option trade.TradeRow → Tables → Type 0
 IsSince id first o t = option_to_list (option_map abstract_trade_row o) ≡ take 1 (trade_rows_oldest_first (filter (λ r. nat_le first r.stamp) (trade_rows_of_account t id)))
 

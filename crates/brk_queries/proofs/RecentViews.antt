@@ -23,11 +23,14 @@ use Rattle.brk_view_theorems.proofs.RecentRows.{same_recent}
 use Rattle.brk_queries.specs.Shows.{ShowsQueryResult}
 use Rattle.brk_queries.proofs.Tested.{answered, carried_as, is_missing, is_there, refused}
 
--- the view is that of these trades and statuses
+-- The records of the view are those of `recent_trades_view`, for each account of which `trades` and
+-- `history` are the last ten trades and their history.
 abbrev pub IsRecent : List read_trade.TradeRow → List read.HistoryRow → View → Type 0
 IsRecent trades history view = (t : Tables) (account : ℕ) → map abstract_trade_row trades ≡ last_ten_trade_rows t account
     → map abstract_history_row history ≡ flat_map (λ row. history_rows_with_trade_id t row.id) (last_ten_trade_rows t account) → records_of_view view ≡ recent_trades_view t account
 
+-- `trades` are the last ten trades of the account, the most recent first, and `history` is their
+-- history.
 abbrev pub AreRecent : ℕ → List read_trade.TradeRow → List read.HistoryRow → Tables → Type 0
 AreRecent account trades history t = (map abstract_trade_row trades ≡ last_ten_trade_rows t account) × (map abstract_history_row history ≡ flat_map (λ row. history_rows_with_trade_id t row.id) (last_ten_trade_rows t account))
 

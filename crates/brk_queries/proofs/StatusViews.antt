@@ -35,7 +35,7 @@ pub carried_in : (trade : TradeRow) (security : Security) (t : Tables) → Some 
     → rows_of_trade_status (record { trade = trade; security = security }) ≡ trade_row_with_security t (abstract_trade_row trade)
 carried_in trade security t e = λ i. (abstract_trade_row trade, e i)
 
--- the last trades of an account, each with its security
+-- `statuses` are the last 50 trades of the account, the most recent first, each with its security.
 abbrev pub AreStatuses : ℕ → List TradeStatus → Tables → Type 0
 AreStatuses account statuses t = map rows_of_trade_status statuses ≡ map (trade_row_with_security t) (take 50 (trade_rows_recent_first (trade_rows_of_account t account)))
 

@@ -38,7 +38,8 @@ append_assoc (x ∷ xs) ys zs = ap (λ ws. x ∷ ws) (append_assoc xs ys zs)
 
 -- ---- the requests of a broker in a sector, from the last one on
 
--- some requests are left, and those after them that are in the sector were kept
+-- `whole` is the list of the requests in `rest` that are in the sector, followed by the requests in
+-- `kept` in reverse order.
 abbrev pub AreKeptIn : Tables → Text → List read.RequestRow → List read.RequestRow → List RequestRow → Type 0
 AreKeptIn t sector rest kept whole = filter (λ r. is_symbol_in_sector t sector r.symbol) (map abstract_request_row rest) ++ map abstract_request_row (reverse kept) ≡ whole
 

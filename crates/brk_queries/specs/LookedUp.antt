@@ -8,14 +8,14 @@ use Rattle.brk_book_theorems.specs.Books.{BooksInvariant}
 use Rattle.brk_view.specs.Lookup.{rows_of_looked_up_trade, table_rows_of_trade}
 use Rattle.brk_view.specs.declared.lookups.LookedUp.{LookedUp}
 
--- The trade that was read, with its settlement, cash row and history, has the rows that the tables
--- have of the trade `row`. Vacuous if `t` are not the tables of a base that satisfies the books
+-- `found`, a trade with its settlement, cash row and history, has exactly the rows that the tables
+-- `t` have of the trade `row`. Vacuous if `t` are not the tables of a base that satisfies the books
 -- invariant and the audit invariant.
 abbrev pub IsLookupOfTrade : TradeRow → LookedUp → Tables → Type 0
 IsLookupOfTrade row found t = (base : Base) → BooksInvariant base → AuditInvariant base → t ≡ sheets base → rows_of_looked_up_trade found ≡ table_rows_of_trade t row
 
--- The trades that were read, each with its settlement, cash row and history, have the rows that the
--- tables have of the trades `rows`, in the order of `rows`. Vacuous if `t` are not the tables of a
--- base that satisfies the books invariant and the audit invariant.
+-- `found`, a list of trades with their settlements, cash rows and histories, has exactly the rows
+-- that the tables `t` have of the trades `rows`, in the order of `rows`. Vacuous if `t` are not the
+-- tables of a base that satisfies the books invariant and the audit invariant.
 abbrev pub AreLookupsOfTrades : List TradeRow → List LookedUp → Tables → Type 0
 AreLookupsOfTrades rows found t = (base : Base) → BooksInvariant base → AuditInvariant base → t ≡ sheets base → map rows_of_looked_up_trade found ≡ map (table_rows_of_trade t) rows

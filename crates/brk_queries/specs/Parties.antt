@@ -7,7 +7,7 @@ use Rattle.brk_model.specs.Tables.{AccountRow, Tables}
 use Rattle.brk_view.specs.declared.statuses.AccountStatus.{AccountStatus}
 use Rattle.brk_view.specs.declared.statuses.TradeStatus.{TradeStatus}
 
--- The status has the trades `trades`, the names of the account's customer, who exists in the
+-- `status` has the trades `trades`, the names of the customer of the account `a`, who exists in the
 -- tables, and the name of the account's broker.
 abbrev pub IsStatusWithParties : AccountRow → Vec TradeStatus → AccountStatus → Tables → Type 0
 IsStatusWithParties a trades status t =

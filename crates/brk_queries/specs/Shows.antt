@@ -13,8 +13,8 @@ use Rattle.brk_view.specs.Carried.{HasRowsOfQuery}
 use Rattle.brk_view.specs.Views.{records_of_view}
 use Rattle.brk_view.specs.declared.view.View.{View}
 
--- The result of the model that the result of a query represents: the records of texts of the view,
--- or the refusal.
+-- The result of the model that a query's result represents: for a view its records of texts, or the
+-- refusal.
 abbrev pub model_query_result : Result View Refusal → Result model.View Refusal
 model_query_result (Ok view) = Ok (records_of_view view)
 model_query_result (Err refusal) = Err refusal

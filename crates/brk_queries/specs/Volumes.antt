@@ -13,7 +13,8 @@ use Rattle.brk_view.specs.declared.volumes.BrokerVolume.{BrokerVolume}
 abbrev pub is_symbol_in_sector : Tables → Text → Text → Bool
 is_symbol_in_sector t sector symbol = option_map_or (λ s. bytes_eq s.sector sector) (security_row_with_symbol t symbol) false
 
--- The requests `found`, followed by the request `row` if its security is in the sector.
+-- The list `found` with the request `row` appended if its security is in the sector, otherwise
+-- `found`.
 abbrev pub with_request_in_sector : Tables → Text → read.RequestRow → List read.RequestRow → List read.RequestRow
 with_request_in_sector t sector row found = if is_symbol_in_sector t sector row.symbol then found ++ row ∷ [] else found
 
@@ -25,6 +26,7 @@ has_requests_in_sector t sector b = nat_lt 0 (length (sector_requests_of_broker 
 abbrev pub named_brokers_in_sector : Tables → Text → Text → List BrokerRow
 named_brokers_in_sector t sector name = filter (has_requests_in_sector t sector) (filter (λ b. bytes_eq b.name name) t.brokers)
 
--- The volumes in the sector of those of the brokers that have at least one pending request in it.
+-- The volumes in the sector of the brokers in `brokers` that have at least one pending request in
+-- it.
 abbrev pub sector_volumes : Tables → Text → List BrokerRow → List BrokerVolume
 sector_volumes t sector brokers = map (volume.volume_of_broker_in_sector t sector) (filter (has_requests_in_sector t sector) brokers)

@@ -1,4 +1,4 @@
-//! The views of a customer's accounts.
+//! The views of the balances and market values of a customer's accounts.
 
 ghost use Rattle.std.specs.Prelude.{◌≡◌, ◌==◌, IfErr, filter, map};
 ghost use Rattle.brk_queries.specs.Shows.{ShowsQueryResult};
@@ -53,8 +53,8 @@ fn read_account_values<S: Alter>(
     Ok(worths)
 }
 
-// Returns the view of a customer's accounts, or refuses with `NoCustomer`. Changes nothing. Fails
-// with `Memory` or `Store` only.
+// Returns the view of the balances and market values of a customer's accounts, or refuses with
+// `NoCustomer`. Changes nothing. Fails with `Memory` or `Store` only.
 pub(crate) fn view_of_position<S: Alter>(
     alloc: Global,
     store: &mut Store<S>,
@@ -71,8 +71,8 @@ pub(crate) fn view_of_position<S: Alter>(
     Ok(Ok(view))
 }
 
-// Returns the view of the accounts of the customer with a tax id, or refuses with `NoCustomer`.
-// Changes nothing. Fails with `Memory` or `Store` only.
+// Returns the view of the balances and market values of the accounts of the customer with a tax id,
+// or refuses with `NoCustomer`. Changes nothing. Fails with `Memory` or `Store` only.
 pub(crate) fn view_of_position_by_tax_id<S: Alter>(
     alloc: Global,
     store: &mut Store<S>,

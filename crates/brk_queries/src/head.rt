@@ -20,8 +20,8 @@ pub struct Head {
     pub holdings: Wide,
 }
 
-/// Returns the head of an account, or `None` if the account does not exist. Changes nothing. Fails
-/// with `Memory` or `Store` only.
+/// Returns the figures of an account's statement that are not rows, or `None` if the account does
+/// not exist. Changes nothing. Fails with `Memory` or `Store` only.
 pub fn read_head_of_account<S: Alter>(
     alloc: Global,
     store: &mut Store<S>,

@@ -1,5 +1,5 @@
-//! The answers to queries, read from a store: each view as typed rows, or a refusal. Also the head
-//! of the statement of an account.
+//! The answers to queries, read from a store: each is a view of typed rows, or a refusal. Also the
+//! figures of an account's statement that are not rows.
 #![tactic(auto)]
 
 mod accounts;

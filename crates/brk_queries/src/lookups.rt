@@ -1,4 +1,4 @@
-//! Views of trades that are looked up, with their settlements, cash rows and histories.
+//! Views of selected trades with their settlements, cash rows and histories.
 
 ghost use Rattle.std.specs.Prelude.{IfErr, map};
 ghost use Rattle.brk_changes.specs.Rows.{abstract_trade_row};
@@ -21,8 +21,8 @@ use brk_view::{
 use sqlite::Alter;
 use std::alloc::Global;
 
-// Returns a trade with its settlement, cash row and history. Changes nothing. Fails with `Memory`
-// or `Store` only.
+// Returns a trade with the rows that other tables have of it: its settlement, its cash row and its
+// history. Changes nothing. Fails with `Memory` or `Store` only.
 fn look_up_trade<S: Alter>(
     alloc: Global,
     store: &mut Store<S>,
@@ -37,8 +37,8 @@ fn look_up_trade<S: Alter>(
     create_looked_up_trade(alloc, trade, settlement, cash, &history)
 }
 
-// Returns trades, in their order, each with its settlement, cash row and history. Changes nothing.
-// Fails with `Memory` or `Store` only.
+// Returns the trades in the given order, each with its settlement, cash row and history. Changes
+// nothing. Fails with `Memory` or `Store` only.
 fn look_up_trades<S: Alter>(
     alloc: Global,
     store: &mut Store<S>,

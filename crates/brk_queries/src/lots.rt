@@ -48,7 +48,7 @@ fn read_changes_of_lot<S: Alter>(
     Ok(touches)
 }
 
-// Returns the first 20 changes of all lots that a trade touched, sorted as the view shows them.
+// Returns the first 20 changes of all lots that a trade touched, sorted by `is_earlier_lot_change`.
 // Changes nothing. Fails with `Memory` or `Store` only.
 fn read_touched_lots<S: Alter>(
     alloc: Global,

@@ -38,8 +38,8 @@ fn require_broker_name<S: Alter>(store: &mut Store<S>, id: Id) -> Result<Name, F
     }
 }
 
-// Returns the trades of an account with the names of its customer and its broker. Changes nothing.
-// Fails with `Memory` or `Store` only.
+// Returns the status of an account: its trades `trades`, and the names of its customer and its
+// broker. Changes nothing. Fails with `Memory` or `Store` only.
 pub(crate) fn read_status_with_parties<S: Alter>(
     store: &mut Store<S>,
     row: &AccountRow,

@@ -16,7 +16,7 @@ use brk_view::{View, recent};
 use sqlite::Alter;
 use std::alloc::Global;
 
-// Appends statuses to others. Fails with `Memory` or `Store` only.
+// Appends the rows `rows` to `history`. Fails with `Memory` or `Store` only.
 fn append_history(history: &mut Vec<HistoryRow>, rows: &[HistoryRow]) -> Result<(), Fault>
     ensures added { OnOk result (history.new.items ≡ history.old.items ++ rows.now) }
     ensures fault { IfErr result IsCallFault }

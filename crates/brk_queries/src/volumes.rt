@@ -35,7 +35,8 @@ fn is_in_sector<S: Alter>(
     }
 }
 
-// Appends a request to others if its security is in a sector. Fails with `Memory` or `Store` only.
+// Appends the request `row` to `found` if its security is in a sector. Changes no table. Fails with
+// `Memory` or `Store` only.
 fn append_if_in_sector<S: Alter>(
     store: &mut Store<S>,
     sector: &Name,
@@ -72,8 +73,8 @@ fn read_requests_in_sector<S: Alter>(
     Ok(found)
 }
 
-// Appends the volume of a broker in a sector, if the broker has a request in it. Fails with
-// `Memory` or `Store` only.
+// Appends to `found` the volume of a broker in a sector, if the broker has a request in it. Changes
+// no table. Fails with `Memory` or `Store` only.
 fn append_broker_volume<S: Alter>(
     alloc: Global,
     store: &mut Store<S>,
@@ -98,7 +99,8 @@ fn append_broker_volume<S: Alter>(
     Ok(())
 }
 
-// Appends the volumes in a sector of the brokers with a name. Fails with `Memory` or `Store` only.
+// Appends to `found` the volumes in a sector of the brokers with a name that have a request in it.
+// Changes no table. Fails with `Memory` or `Store` only.
 fn append_volumes_of_name<S: Alter>(
     alloc: Global,
     store: &mut Store<S>,

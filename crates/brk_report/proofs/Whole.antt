@@ -60,7 +60,7 @@ pub refused_account : (t : Tables) (account from to : ℕ) → nat_lt to from �
 unfolding statement
 refused_account t account from to h none = rw (h, none) refl
 
--- the lines of the parts, with an opening amount
+-- All lines of a statement with this opening amount.
 abbrev pub lines_at : Tables → ℕ → Head → ℕ → ℕ → ℤ → List Text
 lines_at t account head from to opening = statement_header_lines account head.name from to opening ++ cash_and_closing_lines t account from to opening ++ lot_and_total_lines t account head.holdings (length (cash_move_rows_within_days from to (cash_move_rows_of_account t account)))
 

@@ -20,9 +20,9 @@ abbrev pub cash_and_closing_lines : Tables → ℕ → ℕ → ℕ → ℤ → L
 cash_and_closing_lines t account from to opening =
     map text_line_of_cash_row (cash_move_rows_within_days from to (cash_move_rows_of_account t account)) ++ amount_line (codes "Closing") (opening +ℤ cash_row_total (cash_move_rows_within_days from to (cash_move_rows_of_account t account))) ∷ []
 
--- `Ok`: the writer got exactly the lines of the cash rows of the days and of the closing amount
--- (`cash_and_closing_lines`), and the count is that of these cash rows. `Err`: writing them failed
--- as `FailsWithinLines` specifies.
+-- `Ok`: exactly the lines of the cash rows of the days and of the closing amount
+-- (`cash_and_closing_lines`) were written, and the count is the number of these cash rows. `Err`:
+-- writing them failed as `FailsWithinLines` specifies.
 abbrev pub WritesCashAndClosingLines : Tables → ℕ → ℕ → ℕ → ℤ → Option Text → Option Text → Result ℕ LinesFault → Type 0
 WritesCashAndClosingLines t account from to opening old new (Ok count) = Appends old new (text_of_lines (cash_and_closing_lines t account from to opening)) × (count ≡ length (cash_move_rows_within_days from to (cash_move_rows_of_account t account)))
 WritesCashAndClosingLines t account from to opening old new (Err e) = FailsWithinLines (cash_and_closing_lines t account from to opening) old new e

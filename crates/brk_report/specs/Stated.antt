@@ -18,43 +18,46 @@ use Rattle.brk_report_lines.specs.declared.fault.ReportFault.{ReportFault}
 use Rattle.brk_report_lines.specs.declared.fault.ReportFault.TheVariants.{Refused, Desk, Write}
 use Rattle.brk_report.specs.declared.visitors.Moved.{Moved}
 
--- The call from `old` to `new` changes nothing of the desk: its rows and its database are the same,
--- and a crash exposes no new state.
+-- The call between the states `old` and `new` of the desk's store changes nothing: the rows and the
+-- open database are unchanged, and a crash exposes only states that a crash before the call could
+-- expose.
 pub record PreservesDesk {S : Type 0} (g : Ghosts S) (old new : Held S) : Type 0 where
-  -- The store holds the rows that it held.
+  -- The store holds after the call the rows that it held before.
   pub kept : (t : Tables) → HoldsRows g old t → HoldsRows g new t
-  -- The whole database is unchanged, under the disk assumption and if the store is open.
+  -- If the database is open after the call, it was open before and is unchanged. Vacuous if the
+  -- disk assumption fails.
   pub same : HasCleanDisk (state g new) → IsTrue (state g new).is_open → WasOpenAndIsUnchanged (state g old) (state g new)
-  -- A crash exposes only states that were possible before.
+  -- A crash exposes only states that a crash before the call could expose. Vacuous if the disk
+  -- assumption fails.
   pub survives : Survives (state g old) (state g new) (λ _. ⊥)
 
--- Under the disk assumption, `So` holds of the tables that the store held before the call, whatever
--- they are.
+-- All rows that the store held before the call satisfy `So`. Vacuous if the disk assumption fails
+-- after the call.
 abbrev pub HoldsForStoredTables : {S : Type 0} → Ghosts S → Held S → Held S → (Tables → Type 0) → Type 0
 HoldsForStoredTables g old new So = HasCleanDisk (state g new) → (t : Tables) → HoldsRows g old t → So t
 
--- A fault of the desk that left lines unwritten is `Memory` or `Store`.
+-- If the fault is one of the desk, it is `Memory` or `Store`. Vacuous for a fault of the writer.
 abbrev pub IsLinesFault : LinesFault → Type 0
 IsLinesFault (lines.Desk fault) = IsCallFault fault
 IsLinesFault lines.Write = Unit {0}
 
 -- ---- the parts of a statement
 
--- `Ok`: the sum is `total`. `Err`: the desk failed with `Memory` or `Store`.
+-- `Ok`: the returned sum equals `total`. `Err`: the fault is `Memory` or `Store` of the desk.
 abbrev pub IsTotalOrFault : ℤ → Result ℤ LinesFault → Type 0
 IsTotalOrFault total (Ok sum) = sum ≡ total
 IsTotalOrFault total (Err e) = (f : Fault) × (e ≡ lines.Desk f) × IsCallFault f
 
--- `Ok`: the writer got exactly the lines of the cash rows of `account` from the day `from` to the
--- day `to`, and the result has their number, and `amount` plus their total. `Err`: writing them
--- failed as `FailsWithinFirstLines` specifies.
+-- `Ok`: exactly the lines of the cash rows of `account` from the day `from` to the day `to` were
+-- written, and the result has the number of these rows, and `amount` plus their amounts. `Err`:
+-- writing them failed as `FailsWithinFirstLines` specifies.
 abbrev pub WritesCashLines : Tables → ℕ → ℕ → ℕ → ℤ → Option Text → Option Text → Result Moved LinesFault → Type 0
 WritesCashLines t account from to amount old new (Ok moved) =
     Appends old new (text_of_lines (map text_line_of_cash_row (cash_move_rows_within_days from to (cash_move_rows_of_account t account)))) × (moved.count ≡ length (cash_move_rows_within_days from to (cash_move_rows_of_account t account)))
     × (moved.total ≡ amount +ℤ cash_row_total (cash_move_rows_within_days from to (cash_move_rows_of_account t account)))
 WritesCashLines t account from to amount old new (Err e) = FailsWithinFirstLines (map text_line_of_cash_row (cash_move_rows_within_days from to (cash_move_rows_of_account t account))) old new e
 
--- `Ok`: the writer got exactly the lines of the lots of `account`, and the count is their number.
+-- `Ok`: exactly the lines of the lots of `account` were written, and the count is their number.
 -- `Err`: writing them failed as `FailsWithinFirstLines` specifies.
 abbrev pub WritesLotLines : Tables → ℕ → Option Text → Option Text → Result ℕ LinesFault → Type 0
 WritesLotLines t account old new (Ok count) = Appends old new (text_of_lines (map lot_line (lot_rows_of_account t account))) × (count ≡ length (lot_rows_of_account t account))
@@ -67,18 +70,18 @@ WritesLotLines t account old new (Err e) = FailsWithinFirstLines (map lot_line (
 abbrev pub AreStatementLines : Tables → ℕ → ℕ → ℕ → List Text → Type 0
 AreStatementLines t account from to lines = (nat_lt to from ≡ false) × ((a : AccountRow) × (account_row_with_id t account ≡ Some a) × (lines ≡ statement_lines t a from to (cash_move_rows_of_account t account)))
 
--- The result of writing the statement of `account` from the day `from` to the day `to` is as
--- specified. `Ok`: the writer got exactly its text. `Refused`: the model refuses the statement with
--- this refusal. `Desk`: the writer got nothing, or whole lines from the first on without the last
--- one. `Write`: it got whole lines from the first on and a part of the next one.
+-- The result of writing the statement of `account` from the day `from` to the day `to`. `Ok`:
+-- exactly the text of the model's statement was written. `Refused`: the model refuses the statement
+-- with this refusal. `Desk`: nothing was written, or the first lines whole, without the last one.
+-- `Write`: the first lines were written whole, and then a prefix of the next one.
 abbrev pub WritesStatement : Tables → ℕ → ℕ → ℕ → Option Text → Option Text → Result (Unit {0}) ReportFault → Type 0
 WritesStatement t account from to old new (Ok u) = (text : Text) × (statement t account from to ≡ Ok text) × Appends old new text
 WritesStatement t account from to old new (Err (Refused refusal)) = statement t account from to ≡ Err refusal
 WritesStatement t account from to old new (Err (Desk fault)) = IsCallFault fault × (Appends old new [] ⊎ ((lines : List Text) × AreStatementLines t account from to lines × WroteWholeLinesNotLast lines old new))
 WritesStatement t account from to old new (Err Write) = (lines : List Text) × AreStatementLines t account from to lines × WroteWholeLinesAndPart lines old new
 
--- The result is no fault of the desk, or it is `Memory` or `Store`. Vacuous for a refusal and for
--- a fault of the writer.
+-- If the fault is one of the desk, it is `Memory` or `Store`. Vacuous for a refusal and for a fault
+-- of the writer.
 abbrev pub IsReportFault : ReportFault → Type 0
 IsReportFault (Refused refusal) = Unit {0}
 IsReportFault (Desk fault) = IsCallFault fault
@@ -87,9 +90,10 @@ IsReportFault Write = Unit {0}
 -- The postcondition of writing the statement of `account` from the day `from` to the day `to`. The
 -- desk is unchanged.
 pub record StatementPost {S : Type 0} (g : Ghosts S) (old new : Held S) (account from to : ℕ) (before after : Option Text) (result : Result (Unit {0}) ReportFault) : Type 0 where
-  -- The output is as specified for the rows that the store holds, whatever they are.
+  -- The output is that of `WritesStatement` for all rows that the store held before the call.
+  -- Vacuous if the disk assumption fails after the call.
   pub told : HoldsForStoredTables g old new (λ t. WritesStatement t account from to before after result)
-  -- A fault of the desk is `Memory` or `Store`, whether or not the disk assumption holds.
+  -- A fault of the desk is `Memory` or `Store`. This does not depend on the disk assumption.
   pub fault : IfErr result IsReportFault
   pub keeps : PreservesDesk g old new
   -- Nothing is written if the statement is refused.

@@ -1,11 +1,11 @@
--- The fault of a statement whose walk failed.
+-- The fault of writing lines for a walk that failed.
 use Rattle.brk_tables_walks.specs.declared.walking.WalkError.{WalkError}
 use Rattle.brk_tables_walks.specs.declared.walking.WalkError.TheVariants.{Failed, Cause}
 use Rattle.brk_report_lines.specs.declared.fault.LinesFault.{LinesFault}
 use Rattle.brk_report_lines.specs.declared.fault.LinesFault.TheVariants.{Desk}
 
--- The fault with which writing lines fails if its walk failed: the fault of the desk, or that of
--- the visitor.
+-- The fault with which writing lines fails if its walk failed: the fault of the desk (`Failed`), or
+-- the error of the visitor (`Cause`).
 abbrev pub fault_of_walk_error : WalkError LinesFault → LinesFault
 fault_of_walk_error (Failed fault) = Desk fault
 fault_of_walk_error (Cause fault) = fault

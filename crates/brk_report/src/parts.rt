@@ -1,4 +1,5 @@
-//! The parts of a statement, each of which ends with a line that no walk writes.
+//! The parts of a statement: the header, the cash rows with the closing amount, and the lots with
+//! the totals.
 
 ghost use Rattle.std.specs.Prelude.{IfErr};
 ghost use Rattle.brk_report.specs.Stated.{PreservesDesk, IsLinesFault, HoldsForStoredTables};
@@ -34,8 +35,9 @@ pub(crate) fn write_header_lines<W: Write>(
     write_line(writer, amount_line(alloc, "Opening", opening))
 }
 
-/// Writes a line for each cash row of the days, and the line of the closing amount. Returns the
-/// number of the cash rows. Fails with `Desk` or `Write`.
+/// Writes a line for each cash row of an account from the day `from` to the day `to`, and the line
+/// of the closing amount, which is `opening` plus these rows. Returns the number of these cash
+/// rows. Fails with `Desk` or `Write`.
 pub(crate) fn write_cash_and_closing_lines<W: Write, S: Alter>(
     alloc: Global,
     desk: &mut Desk<S>,
@@ -54,8 +56,8 @@ pub(crate) fn write_cash_and_closing_lines<W: Write, S: Alter>(
     Ok(moved.count)
 }
 
-/// Writes a line for each lot, the line of their market value, and the line of the numbers of cash
-/// rows and lots. Fails with `Desk` or `Write`.
+/// Writes a line for each lot of an account, the line of the market value `holdings`, and the line
+/// of the number of cash rows, `cash`, and of lots. Fails with `Desk` or `Write`.
 pub(crate) fn write_lot_and_total_lines<W: Write, S: Alter>(
     alloc: Global,
     desk: &mut Desk<S>,

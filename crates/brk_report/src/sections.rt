@@ -1,4 +1,5 @@
-//! The parts of a statement that the desk walks over. None of them changes the desk.
+//! The parts of a statement that are computed or written row by row. The functions do not change
+//! the desk.
 
 ghost use Rattle.std.specs.Prelude.{◌≡◌, ◌+ℤ◌, IfErr};
 ghost use Rattle.brk_model.specs.Statement.{cash_move_rows_before_day, cash_move_rows_of_account, cash_row_total};
@@ -13,7 +14,8 @@ use sqlite::Alter;
 use std::alloc::Global;
 use std::io::Write;
 
-// Returns the fault with which writing lines fails if its walk failed.
+// Returns the fault of a failed walk as a fault of writing lines: the fault of the desk, or the
+// error of the visitor.
 fn fault_from_walk_error(stop: WalkError<LinesFault>) -> LinesFault
     ensures { result ≡ fault_of_walk_error stop }
 {
@@ -23,7 +25,8 @@ fn fault_from_walk_error(stop: WalkError<LinesFault>) -> LinesFault
     }
 }
 
-/// Returns `opening` plus the cash rows of the days before `from`. Fails with `Desk` only.
+/// Returns `opening` plus the amounts of the cash rows of an account on days before `from`, in
+/// cents. Fails with `Desk` only.
 pub(crate) fn balance_before_day<S: Alter>(
     desk: &mut Desk<S>,
     account: Id,
@@ -46,8 +49,8 @@ pub(crate) fn balance_before_day<S: Alter>(
     }
 }
 
-/// Writes a line for each cash row of the days. Returns their number, and `opening` plus their
-/// total. Fails with `Desk` or `Write`.
+/// Writes a line for each cash row of an account from the day `from` to the day `to`. Returns the
+/// number of these rows, and `opening` plus their amounts. Fails with `Desk` or `Write`.
 pub(crate) fn write_cash_lines<W: Write, S: Alter>(
     alloc: Global,
     desk: &mut Desk<S>,

@@ -12,7 +12,8 @@ use sqlite::Alter;
 use std::alloc::Global;
 use std::io::Write;
 
-// Writes all lines of a statement that is not refused. Fails with `Desk` or `Write`.
+// Writes all lines of the statement of an account that exists, for the days `from` to `to`. Fails
+// with `Desk` or `Write`.
 fn write_statement_lines<W: Write, S: Alter>(
     alloc: Global,
     desk: &mut Desk<S>,

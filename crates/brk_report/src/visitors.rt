@@ -14,7 +14,7 @@ use brk_report_lines::{LinesFault, cash_line, lot_line, write_line};
 use std::alloc::Global;
 use std::io::Write;
 
-/// A record that has a line.
+/// A record that is written as one line of a statement.
 pub trait Line {
     /// The text of the line.
     ghost line: { Self → Text };
@@ -60,7 +60,7 @@ fn total_plus_amount(total: Wide, amount: Cents) -> Result<Wide, LinesFault>
     }
 }
 
-/// A visitor that adds up cash rows.
+/// A visitor that adds up the amounts of cash rows.
 #[derive(Drop)]
 pub struct Sum {
     pub total: Wide,
@@ -129,7 +129,7 @@ impl<R: Line, W: Write> Visitor<R, LinesFault> for Lines<'_, W> {
     ghost transitive = { λ _ _ _ a b. b ∙ a };
 }
 
-/// The number of cash rows that were written, and an amount plus their total.
+/// The number of cash rows that were written, and an opening amount plus the amounts of these rows.
 #[derive(Clone, Copy)]
 pub struct Moved {
     pub count: u64,

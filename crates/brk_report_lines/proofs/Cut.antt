@@ -7,7 +7,7 @@ use Rattle.brk_money.specs.Spelling.{Text}
 use Rattle.brk_model.specs.Statement.{text_of_lines}
 use Rattle.brk_report_lines.specs.Written.{line_with_line_feed}
 
--- the first `k` bytes of lines, which are some of them and a part of the next one
+-- The first `k` bytes of the lines are some of the lines whole and a prefix of the next one.
 abbrev pub IsCut : List Text → ℕ → Type 0
 IsCut lines k = (first : List Text) × (next : Text) × (rest : List Text) × (j : ℕ) × (first ++ next ∷ rest ≡ lines) × (take k (text_of_lines lines) ≡ text_of_lines first ++ take j (line_with_line_feed next))
 

@@ -1,4 +1,4 @@
-//! Texts padded to columns of at most 22 places. A longer text is not cut.
+//! Texts padded with spaces to columns of at most 22 bytes. A longer text is appended whole.
 
 ghost use Rattle.std.specs.Prelude.{◌≡◌, ◌++◌, ◌≤◌, Err, OnErr, OnOk, replicate};
 ghost use Rattle.brk_money.specs.declared.fault.Fault.TheVariants.{Memory};
@@ -17,7 +17,7 @@ fn put_spaces(out: &mut Vec<u8>, count: usize) -> Result<(), Fault>
     Ok(())
 }
 
-/// Appends a text, left-aligned in `places` places. Fails with `Memory` only.
+/// Appends `text`, then spaces up to a width of `places` bytes. Fails with `Memory` only.
 pub fn put_left_aligned(out: &mut Vec<u8>, places: usize, text: &[u8]) -> Result<(), Fault>
     requires { places ≤ 22 }
     ensures ok { OnOk result (out.new.items ≡ out.old.items ++ left_aligned_text places text.now) }
@@ -27,7 +27,7 @@ pub fn put_left_aligned(out: &mut Vec<u8>, places: usize, text: &[u8]) -> Result
     put_spaces(out, places.saturating_sub(text.len()))
 }
 
-/// Appends a text, right-aligned in `places` places. Fails with `Memory` only.
+/// Appends spaces, then `text`, to a width of `places` bytes. Fails with `Memory` only.
 pub fn put_right_aligned(out: &mut Vec<u8>, places: usize, text: &[u8]) -> Result<(), Fault>
     requires { places ≤ 22 }
     ensures ok { OnOk result (out.new.items ≡ out.old.items ++ right_aligned_text places text.now) }

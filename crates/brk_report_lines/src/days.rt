@@ -1,4 +1,4 @@
-//! The stamps at the ends of days.
+//! The first and the last stamps of days, in milliseconds.
 
 ghost use Rattle.std.specs.Prelude.{◌≡◌, ◌+◌, ◌-◌, ◌*◌, ◌<◌, MatchOption};
 

@@ -1,6 +1,6 @@
 use brk_money::{Fault, Refusal};
 
-/// A cause for which the writing of lines failed.
+/// The cause of a failure to write lines.
 #[derive(Debug, Drop)]
 pub enum LinesFault {
     /// The desk failed, or memory ran out. Only whole lines are written, and not the last one.
@@ -9,8 +9,7 @@ pub enum LinesFault {
     Write,
 }
 
-/// A cause for which the writing of a report failed: of a statement, an explanation or the view of
-/// a query.
+/// The cause of a failure to write a report: a statement, an explanation or the view of a query.
 #[derive(Debug, Drop)]
 pub enum ReportFault {
     /// The report is refused, and nothing is written.

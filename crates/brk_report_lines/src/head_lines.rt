@@ -1,4 +1,4 @@
-//! The lines of a statement that are not rows, each with its line feed. The functions fail with
+//! The lines of a statement that show no row, each with its line feed. The functions fail with
 //! `Memory` only.
 
 ghost use Rattle.std.specs.Prelude.{◌≡◌, ◌++◌, Err, IfOk, OnErr, codes, decimal};
@@ -13,7 +13,7 @@ use brk_ref::Name;
 use itoa::Buffer;
 use std::alloc::Global;
 
-/// Returns the title of a statement, with the id of the account.
+/// Returns the title line of a statement, with the id of the account.
 pub fn statement_title_line(alloc: Global, account: Id) -> Result<Vec<u8>, Fault>
     ensures line { IfOk result (λ line. line.items ≡ line_with_line_feed (codes "Statement of account " ++ decimal account)) }
     ensures fault { OnErr result (result ≡ Err Memory) }
@@ -35,7 +35,7 @@ pub fn account_name_line(alloc: Global, name: &Name) -> Result<Vec<u8>, Fault>
     Ok(line)
 }
 
-/// Returns the line of the first and the last day, both included.
+/// Returns the line with the first day `from` and the last day `to` of a statement.
 pub fn first_and_last_day_line(alloc: Global, from: Day, to: Day) -> Result<Vec<u8>, Fault>
     ensures line { IfOk result (λ line. line.items ≡ line_with_line_feed (codes "From " ++ day_text from ++ codes " to " ++ day_text to)) }
     ensures fault { OnErr result (result ≡ Err Memory) }
@@ -48,7 +48,7 @@ pub fn first_and_last_day_line(alloc: Global, from: Day, to: Day) -> Result<Vec<
     Ok(line)
 }
 
-/// Returns the line of a word, left-aligned in 10 places, and an amount, right-aligned in 22.
+/// Returns the line with `word`, padded to 10 places, and `amount`, right-aligned in 22 places.
 pub fn amount_line(alloc: Global, word: &str, amount: Wide) -> Result<Vec<u8>, Fault>
     ensures line { IfOk result (λ line. line.items ≡ line_with_line_feed (statement.amount_line word.now amount)) }
     ensures fault { OnErr result (result ≡ Err Memory) }
@@ -63,7 +63,7 @@ pub fn amount_line(alloc: Global, word: &str, amount: Wide) -> Result<Vec<u8>, F
     Ok(line)
 }
 
-/// Returns the line of the numbers of cash rows and lots.
+/// Returns the line with the number of cash rows, `cash`, and the number of lots, `lots`.
 pub fn row_counts_line(alloc: Global, cash: u64, lots: u64) -> Result<Vec<u8>, Fault>
     ensures line { IfOk result (λ line. line.items ≡ line_with_line_feed (codes "Cash rows " ++ decimal cash ++ codes ", lots " ++ decimal lots)) }
     ensures fault { OnErr result (result ≡ Err Memory) }

@@ -1,4 +1,4 @@
-//! The lines of a statement, as specified, and how they are written.
+//! The lines of a statement, and functions that write lines.
 #![tactic(auto)]
 
 pub mod columns;

@@ -9,8 +9,8 @@ use brk_io::write_all_bytes;
 use brk_money::Fault;
 use std::io::Write;
 
-/// Writes `line`. Fails with `Desk` and the fault if `line` is a fault, and with `Write` if the
-/// writer fails or accepts no byte.
+/// Writes `line`, or nothing if `line` is a fault. Fails with `Desk` and this fault, and with
+/// `Write` if the writer fails or accepts no byte.
 pub fn write_line<W: Write>(writer: &mut W, line: Result<Vec<u8>, Fault>) -> Result<(), LinesFault>
     ensures written { (text : Text) → IfOk line (λ l. l.items ≡ line_with_line_feed text) → IfErr line IsCallFault → WritesLines (text ∷ []) (W.contents writer.old) (W.contents writer.new) result }
 {
@@ -25,8 +25,8 @@ pub fn write_line<W: Write>(writer: &mut W, line: Result<Vec<u8>, Fault>) -> Res
     Ok(())
 }
 
-/// Writes `text`, which is one or more lines. Fails with `Desk` and the fault if `text` is a fault,
-/// and with `Write` if the writer fails or accepts no byte.
+/// Writes `text`, which is one or more lines, or nothing if `text` is a fault. Fails with `Desk`
+/// and this fault, and with `Write` if the writer fails or accepts no byte.
 pub fn write_lines<W: Write>(writer: &mut W, text: Result<Vec<u8>, Fault>) -> Result<(), LinesFault>
     ensures written { (line : Text) (lines : List Text) → IfOk text (λ t. t.items ≡ text_of_lines (line ∷ lines)) → IfErr text IsCallFault → WritesLines (line ∷ lines) (W.contents writer.old) (W.contents writer.new) result }
 {

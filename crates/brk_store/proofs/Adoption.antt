@@ -55,7 +55,9 @@ use Rattle.brk_store.proofs.Texts.{upgraded_texts}
 
 -- ---- the rows that a move leaves
 
--- the rows were examined and upgraded
+-- If tables with the names of a desk's tables have their definitions, the database `a` contains
+-- rows of `schema` that pass their audit; and `b` is `a` after the upgrade of its tables from
+-- `schema`.
 abbrev pub Made : known.Schema → Database → Database → Type 0
 Made schema a b = (DeskNamesImplyDefinitions a → (t : Tables) × IsAuditOfStoredRows (abstract_schema schema) t a None) × UpgradesTables (abstract_schema schema) a b
 
@@ -102,7 +104,7 @@ no_rows_pass : PassesAudit third_schema tables_without_rows
 no_rows_pass = subst (PassesAudit third_schema) empty_rows (sound_passes empty_base empty_books empty_sound)
 
 module _ {S : Type 0} (g : Ghosts S) (new : Held S) where
-  -- rows that are held, and pass
+  -- The store holds rows that pass the audit of schema 3 and have texts in UTF-8.
   abbrev pub Held_rows : Type 0
   Held_rows = (t : Tables) × HoldsRows g new t × PassesAudit third_schema t × IsTrue (has_utf8_texts t)
 

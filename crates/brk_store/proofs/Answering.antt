@@ -27,7 +27,7 @@ use Rattle.brk_store.proofs.Texts.{typed_texts}
 
 -- ---- conditions of rows
 
--- it is said of rows, and not of a database
+-- The condition is one of rows: any condition but `NotEmpty` and `Schema`.
 abbrev pub IsOfRows : Condition → Type 0
 IsOfRows condition.NotEmpty = ⊥
 IsOfRows condition.Schema = ⊥
@@ -69,16 +69,27 @@ rows_are_audited schema db t (Some c) there rows texts h = (t, (rows, texts, h))
 
 -- ---- the steps of an audit
 
+-- A read of an open database left it unchanged, and `has` is true if and only if it has a desk of
+-- `schema`. The result is specified only if tables with the names of the schema's tables have their
+-- definitions.
 abbrev pub Asked : known.Schema → Bool → State → State → Type 0
 Asked schema has a b = IsTrue a.is_open × (b.now ≡ a.now) × (SchemaNamesImplyDefinitions (abstract_schema schema) a.now → IsTrue has ↔ HasDesk (abstract_schema schema) a.now)
 
+-- A read of an open database left it unchanged and returned `read`, the typed rows of its tables of
+-- `schema` (`AreSheetsOfDatabase`). The result is specified only if the database has a desk of
+-- `schema` with the definitions of its tables.
 abbrev pub WereRead : known.Schema → Option Sheets → State → State → Type 0
 WereRead schema read a b = IsTrue a.is_open × (b.now ≡ a.now) × (SchemaNamesImplyDefinitions (abstract_schema schema) a.now → HasDesk (abstract_schema schema) a.now → AreSheetsOfDatabase (abstract_schema schema) a.now read)
 
--- what is told where the desk is there
+-- An audit of an open database left it unchanged and returned `answer`, the result of its audit by
+-- `schema`. The result is specified only if the database has a desk of `schema` with the
+-- definitions of its tables.
 abbrev pub Tried : known.Schema → Option Condition → State → State → Type 0
 Tried schema answer a b = IsTrue a.is_open × (b.now ≡ a.now) × (SchemaNamesImplyDefinitions (abstract_schema schema) a.now → HasDesk (abstract_schema schema) a.now → IsAuditBySchema (abstract_schema schema) a.now answer)
 
+-- An audit of an open database left it unchanged and returned `answer`, the result of its audit by
+-- schema 3. The result is specified only if tables with the names of the schema's tables have their
+-- definitions.
 abbrev pub Told : Option Condition → State → State → Type 0
 Told answer a b = IsTrue a.is_open × (b.now ≡ a.now) × (SchemaNamesImplyDefinitions third_schema a.now → IsAuditBySchema third_schema a.now answer)
 

@@ -10,7 +10,7 @@ use Rattle.brk_book_theorems.specs.TradeReads.{last_cash_row_number}
 use Rattle.brk_tables_schema.specs.Made.{HasRows}
 use Rattle.brk_store.proofs.WalkedLists.{Climb, moves_climb}
 
--- the number of the last of some rows, or another where there is none
+-- The number of the last of the rows `rs`, or `m` if there is no row.
 abbrev last_or : ℕ → List MoveRow → ℕ
 last_or m rs = unwrap_or (option_map (λ r. r.id) (slice_get (reverse rs) 0)) m
 

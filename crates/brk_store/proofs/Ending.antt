@@ -21,6 +21,7 @@ use Rattle.brk_tables_create.specs.Made.{CreatesDeskTables}
 use Rattle.brk_tables_create.specs.Present.{has_table_of_desk}
 use Rattle.brk_store.specs.Holds.{HoldsRows, WasOpenAndIsUnchanged, ReadPost, ApplyPost, CreatePost}
 
+-- The connection `old` with a transaction open on it.
 abbrev pub begun : {S : Type 0} → Held S → Held S
 begun old = record old { in_transaction = true }
 

@@ -45,7 +45,8 @@ rows_answer schema db t (Some Schema) rows texts h = absurd (h (desk_is_there (a
 rows_answer schema db t (Some Form) rows texts h = h.1 t rows texts
 rows_answer schema db t (Some c) rows texts h = subst (λ u. IsAuditResult (abstract_schema schema) u (Some c)) (one_schema schema schema h.0 t db h.1.0 rows).1 h.1.2
 
--- it has rows that can be read, or what it lacks is told
+-- The database has rows of `schema` with texts in UTF-8; or it has a desk of `schema` and `answer`
+-- is `Form`; or it has none and `answer` is `Schema`.
 abbrev Kind : known.Schema → Database → Option Condition → Type 0
 Kind schema db answer =
     ((t : Tables) × HasRowsInSchema (abstract_schema schema) t db × IsTrue (has_utf8_texts t)) ⊎ (((answer ≡ Some Form) × HasDesk (abstract_schema schema) db) ⊎ ((answer ≡ Some Schema) × (¬ HasDesk (abstract_schema schema) db)))
@@ -71,7 +72,8 @@ one_of_kinds schema db a b h k (inr (inr p)) (inr (inr q)) = p.0 ∙ sym q.0
 pub one_answer_by : (schema : known.Schema) (db : Database) (a b : Option Condition) → IsAuditBySchema (abstract_schema schema) db a → IsAuditBySchema (abstract_schema schema) db b → a ≡ b
 one_answer_by schema db a b h k = one_of_kinds schema db a b h k (kind_of schema db a h) (kind_of schema db b k)
 
--- over all schemas: no desk is there, or what a schema answers of its desk
+-- `answer` is `Schema` and the database has a desk of no schema; or the database has a desk of some
+-- schema, and `answer` is the result of its audit by this schema.
 abbrev Answer : Database → Option Condition → Type 0
 Answer db answer = ((answer ≡ Some Schema) × IsDeskSchema None db) ⊎ ((schema : known.Schema) × HasDesk (abstract_schema schema) db × IsAuditBySchema (abstract_schema schema) db answer)
 

@@ -18,7 +18,7 @@ use Rattle.brk_store.specs.declared.examining.AuditResult.{AuditResult}
 use Rattle.brk_store.specs.declared.examining.AuditResult.TheVariants.{Passes, Fails}
 use Rattle.brk_store.proofs.Answering.{Asked, Tried}
 
--- a test told that there is no desk of a schema
+-- The database has no desk of `schema`.
 abbrev pub Not : known.Schema → Database → Type 0
 Not schema db = HasDesk (abstract_schema schema) db → ⊥
 
@@ -38,10 +38,14 @@ audited_of schema db c there h = (schema, h)
 
 -- ---- the schema that is there
 
+-- A read of an open database left it unchanged and returned `found`, the schema whose desk it has,
+-- or `None`. The result is specified only if tables with the names of a desk's tables have their
+-- definitions.
 abbrev pub Found : Option known.Schema → State → State → Type 0
 Found found a b = IsTrue a.is_open × (b.now ≡ a.now) × (DeskNamesImplyDefinitions a.now → IsDeskSchema found a.now)
 
--- some are not there
+-- A read of an open database left it unchanged and showed that it satisfies `none`. This is
+-- specified only if tables with the names of a desk's tables have their definitions.
 abbrev Denied : (Database → Type 0) → Unit {0} → State → State → Type 0
 Denied none _ a b = IsTrue a.is_open × (b.now ≡ a.now) × (DeskNamesImplyDefinitions a.now → none a.now)
 
@@ -85,6 +89,9 @@ module _ (a b c d : State) (third second first : Bool) (one : IsTransactionStep 
 
 -- ---- the rows
 
+-- An audit of an open database left it unchanged and returned `told`, whose statement about the
+-- database is true. The result is specified only if tables with the names of a desk's tables have
+-- their definitions.
 abbrev pub Looked : AuditResult → State → State → Type 0
 Looked told a b = IsTrue a.is_open × (b.now ≡ a.now) × (DeskNamesImplyDefinitions a.now → IsTrueAuditResult told a.now)
 

@@ -66,6 +66,7 @@ mapped : {X Y : Type 0} (f : X → Y) (P : X → Type 0) (Q : Y → Type 0) → 
 mapped f P Q each [] h = tt
 mapped f P Q each (x ∷ xs) h = (each x h.0, mapped f P Q each xs h.1)
 
+-- The name of the cash row is UTF-8.
 abbrev Readable : Posting → Type 0
 Readable p = is_utf8 p.name ≡ true
 

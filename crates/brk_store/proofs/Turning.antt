@@ -46,7 +46,8 @@ pub next_row : {X : Type 0} (xs : List X) (n : ℕ) (x : X) → slice_get xs n �
 next_row xs n x e = let f : n + 1 ≡ suc n = omega arith in rw f (after_row xs n x e)
 
 module _ {S : Type 0} (g : Ghosts S) (held : Held S) (lifo : Bool) (account : ℕ) (symbol : Text) where
-  -- these lots are left behind so many
+  -- For some rows that the store holds, `ls` are the lots that a source of pages with this state
+  -- still has to return.
   abbrev pub RestOf : List row.HoldingRow → Bool → ℕ → List Lot → Type 0
   RestOf pending ended read ls = (t : Tables) × HoldsRows g held t × (ls ≡ remaining_page_lots pending ended read (lot_rows_from_end lifo account symbol t))
 

@@ -38,7 +38,7 @@ use Rattle.brk_store.proofs.Walking.{is_walked}
 
 -- ---- rows that stand by a number need no more of it in their order
 
--- each has a lower number than those behind it
+-- The numbers `n` of the elements are strictly ascending.
 abbrev pub Climb : {X : Type 0} → (X → ℕ) → List X → Type 0
 Climb n [] = ⊤
 Climb n (x ∷ xs) = AllByRecursion (λ y. nat_lt (n x) (n y) ≡ true) xs × Climb n xs

@@ -1,9 +1,10 @@
--- Answers of an audit of a database, and the postconditions of an audit and of an adoption. In this
--- file a desk of a database is a set of tables, not a `Desk`: a database has a desk of a schema if
--- it has the tables of this schema by their names and columns, none that a later schema adds, and
--- one row of DESK, with the number of the schema (`HasDesk`). A clause with the premise
--- `HasCleanDisk` for the new state, and the promise on crashes in `survives`, are vacuous if the
--- disk assumption fails after the call.
+-- The result of an audit of a database, and the postconditions of an audit and of an adoption. In
+-- this file a desk of a schema is a set of tables, not a value of the type `Desk`. A database has a
+-- desk of a schema (`HasDesk`) if it has each table of the schema, with its name and exactly its
+-- columns, no table that a later schema adds, and one row of the table DESK, with the number of the
+-- schema. `brk_store/specs/Holds.antt` explains the other terms of the clauses. A clause with the
+-- premise `HasCleanDisk` for the new state, and the promise on crashes in `survives`, are vacuous
+-- if the disk assumption fails after the call.
 use Rattle.std.specs.Prelude.{◌≡◌, ◌≢◌, ◌⊎◌, ⊤, Option, Some, None, Result, Ok, Err, OnOk, OnErr, IsTrue}
 use Rattle.sqlite_trees.specs.declared.store.Store.{Ghosts}
 use Rattle.sqlite_trees.specs.Tree.{Trees}
@@ -34,42 +35,43 @@ use Rattle.brk_store.specs.Holds.{AreTreesOfRows, HoldsRows, WasOpenAndIsUnchang
 
 -- ---- answers of an audit
 
--- The database `db` contains the tables of `schema` with the rows `t`, whose texts are UTF-8, and
+-- The database `db` contains the tables of `schema` with the rows `t`, whose texts are UTF-8.
 -- `answer` is the result of the audit of `t` by the conditions of `schema`: the first condition
--- that fails, or `None`.
+-- that `t` fails, or `None` if `t` passes.
 abbrev pub IsAuditOfStoredRows : Schema → Tables → Database → Option Condition → Type 0
 IsAuditOfStoredRows schema t db answer = HasRowsInSchema schema t db × IsTrue (has_utf8_texts t) × IsAuditResult schema t answer
 
--- `answer` is the result of an audit of the database `db` by the one schema `schema`: the first
--- condition that fails, or `None` if the rows pass.
+-- `answer` is the result of an audit of the database `db` by the conditions of `schema`: the first
+-- condition that the database fails, or `None` if it passes.
 abbrev pub IsAuditBySchema : Schema → Database → Option Condition → Type 0
--- No audit returns `NotEmpty`, which only a creation returns.
+-- An audit never returns `NotEmpty`, which only the creation of the tables returns.
 IsAuditBySchema schema db (Some condition.NotEmpty) = ⊥
--- The database has no desk of the schema.
+-- `Schema`: the database has no desk of the schema.
 IsAuditBySchema schema db (Some condition.Schema) = ¬ HasDesk schema db
--- The database has a desk of the schema, and the audit of all rows `t` that it contains with texts
--- in UTF-8 returns `Form`. So `Form` is the answer, too, if it contains no such rows, for example
--- because a text is not UTF-8.
+-- `Form`: the database has a desk of the schema, and for all rows `t` that it contains with texts
+-- in UTF-8, the audit of `t` returns `Form`. So the result is `Form`, too, if the database contains
+-- no such rows, for example because a text is not UTF-8.
 IsAuditBySchema schema db (Some condition.Form) =
     HasDesk schema db × ((t : Tables) → HasRowsInSchema schema t db → IsTrue (has_utf8_texts t) → IsAuditResult schema t (Some condition.Form))
--- Any other answer, `None` included, is the result of the audit of rows that the database has.
+-- Any other result, `None` included, is that of the audit of the rows that the database contains.
 IsAuditBySchema schema db answer = (t : Tables) × IsAuditOfStoredRows schema t db answer
 
--- The database has a desk of the given schema. For `None`: it has a desk of no schema.
+-- `Some schema`: the database has a desk of this schema. `None`: the database has a desk of no
+-- schema.
 abbrev pub IsDeskSchema : Option known.Schema → Database → Type 0
 IsDeskSchema (Some schema) db = HasDesk (abstract_schema schema) db
 IsDeskSchema None db = (schema : known.Schema) → ¬ HasDesk (abstract_schema schema) db
 
--- `answer` is the result of an audit of the database `db` by the conditions of the schema of which
--- it has a desk. `NotEmpty` is never the answer. `Schema` is the answer if there is no desk of any
+-- `answer` is the result of an audit of the database `db` by the conditions of the schema whose
+-- desk it has. The result is never `NotEmpty`, and it is `Schema` if the database has a desk of no
 -- schema.
 abbrev pub IsAuditOfDatabase : Database → Option Condition → Type 0
 IsAuditOfDatabase db (Some condition.NotEmpty) = ⊥
 IsAuditOfDatabase db (Some condition.Schema) = IsDeskSchema None db
 IsAuditOfDatabase db answer = (schema : known.Schema) × IsAuditBySchema (abstract_schema schema) db answer
 
--- `P` holds of the answer of an audit that returned this result: of `None` at `Ok`, and of the
--- condition at `Damaged`. Vacuous if the result is `Memory` or `Store`.
+-- `P` holds for the result of the audit that a call with this result made: for `None` at `Ok`, and
+-- for the condition at `Damaged`. Vacuous at `Memory` and `Store`.
 abbrev pub OnAuditAnswer : Result (Unit {0}) Fault → (Option Condition → Type 0) → Type 0
 OnAuditAnswer (Ok x) P = P None
 OnAuditAnswer (Err (Damaged failing)) P = P (Some failing)
@@ -78,15 +80,16 @@ OnAuditAnswer (Err Store) P = ⊤
 
 -- ---- premises on the database
 
--- For each schema: if the current database has all tables of a desk by their names and columns,
--- they are defined as a desk defines them (`DeskNamesImplyDefinitions`). So a database without
--- these tables, an empty one too, satisfies it. Vacuous if the disk assumption fails, or once the
--- database is closed.
+-- For each schema: if the current database has all tables of a desk of this schema, by their names
+-- and columns, these tables have the definitions of the desk's tables: their types, keys and
+-- foreign keys (`DeskNamesImplyDefinitions`). So a database without these tables, for example an
+-- empty one, satisfies it. Vacuous if the disk assumption fails, or once the database is closed.
 abbrev pub StoreNamesImplyDefinitions : {S : Type 0} → Ghosts S → Held S → Type 0
 StoreNamesImplyDefinitions g held = HasCleanDisk (state g held) → IsTrue (state g held).is_open → DeskNamesImplyDefinitions (state g held).now
 
--- If the current database has all tables of schema 3 by their names and columns, they are defined
--- as a desk defines them. Vacuous if the disk assumption fails, or once the database is closed.
+-- If the current database has all tables of schema 3, by their names and columns, these tables have
+-- the definitions of the desk's tables: their types, keys and foreign keys. Vacuous if the disk
+-- assumption fails, or once the database is closed.
 abbrev pub ThirdNamesImplyDefinitions : {S : Type 0} → Ghosts S → Held S → Type 0
 ThirdNamesImplyDefinitions g held = HasCleanDisk (state g held) → IsTrue (state g held).is_open → SchemaNamesImplyDefinitions third_schema (state g held).now
 
@@ -114,23 +117,24 @@ pub record AuditPost {S : Type 0} (g : Ghosts S) (old new : Held S) (result : Re
 
 -- ---- an adoption
 
--- Rows of some schema in the database `db` pass the audit of this schema, and the database `after`
--- contains the tables of schema 3 with the tables of the base that these rows determine. The other
--- tables of `db` still exist in `after`, with their rows, unless a foreign key of their own changes
--- or deletes these rows by CASCADE, SET NULL or SET DEFAULT.
+-- The database `db` contains rows of some schema that pass the audit of this schema. The database
+-- `after` contains the tables of schema 3 with the rows of the base that these rows determine.
+-- Every other table of `db` exists in `after` with its rows, unless a foreign key of this table
+-- changes or deletes the rows by CASCADE, SET NULL or SET DEFAULT.
 abbrev pub UpgradesPassingRows : Database → Database → Type 0
 UpgradesPassingRows db after =
     (schema : known.Schema) × (t : Tables) × (passed : IsAuditOfStoredRows (abstract_schema schema) t db None) × HasRows (sheets (base_of_tables t)) after × PreservesTablesOutside (IsTableOfSchema (abstract_schema schema)) passed.0.0 db after
 
--- Rows of an older schema in the database `db` pass the audit of that schema, and `trees` contain
--- the tables of schema 3 of the base that these rows determine.
+-- The database `db` contains rows of a schema older than 3 that pass the audit of this schema, and
+-- `trees` are the disk contents of a database that contains the tables of schema 3 with the rows of
+-- the base that these rows determine.
 abbrev pub AreUpgradedTrees : Database → Trees → Type 0
 AreUpgradedTrees db trees = (schema : known.Schema) × (t : Tables) × (schema ≢ Third) × IsAuditOfStoredRows (abstract_schema schema) t db None × AreTreesOfRows (sheets (base_of_tables t)) trees
 
--- The postcondition of an adoption: an audit by the conditions of the schema of the desk that the
--- database has and, at `Ok`, a store that holds the rows in schema 3. The clauses with the premise
--- `StoreNamesImplyDefinitions` are vacuous for a database whose tables have the names and columns
--- of a desk's, but are not defined as a desk defines them.
+-- The postcondition of an adoption: an audit by the conditions of the schema whose desk the
+-- database has and, at `Ok`, a store that holds the rows, converted to schema 3. The clauses with
+-- the premise `StoreNamesImplyDefinitions` are vacuous for a database that has all tables of a desk
+-- by their names and columns, but with other definitions.
 pub record AdoptPost {S : Type 0} (g : Ghosts S) (old new : Held S) (result : Result (Unit {0}) Fault) : Type 0 where
   -- `Ok` is returned only if the rows pass, and `Damaged` only with the first condition that fails.
   -- Vacuous if the disk assumption fails after the call, or if the old database does not satisfy
@@ -141,22 +145,23 @@ pub record AdoptPost {S : Type 0} (g : Ghosts S) (old new : Held S) (result : Re
   -- At `Ok` the store holds rows that pass the audit of schema 3, with texts in UTF-8. Vacuous if
   -- the old database does not satisfy `StoreNamesImplyDefinitions`.
   pub adopted : StoreNamesImplyDefinitions g old → OnOk result ((t : Tables) × HoldsRows g new t × PassesAudit third_schema t × IsTrue (has_utf8_texts t))
-  -- At `Ok` the store has the tables of the base of the old rows, committed, if it is open.
+  -- At `Ok`, if the store is open, it has committed the tables of the base that the old rows
+  -- determine.
   pub upgraded : HasCleanDisk (state g new) → IsTrue (state g new).is_open → StoreNamesImplyDefinitions g old → OnOk result (UpgradesPassingRows (state g old).now (state g new).now × ((state g new).committed ≡ (state g new).now))
-  -- At `Ok` the database had a desk of schema 3, or the store is open.
+  -- At `Ok` the store is open, unless the database had a desk of schema 3.
   pub stays : HasCleanDisk (state g new) → StoreNamesImplyDefinitions g old → OnOk result (StoreHasThirdDesk g old ⊎ IsTrue (state g new).is_open)
   -- At an error: if the database is open after the call, it was open before and is unchanged.
   pub same : HasCleanDisk (state g new) → IsTrue (state g new).is_open → OnErr result (WasOpenAndIsUnchanged (state g old) (state g new))
   -- A crash exposes a state that a crash before the call could expose or, if rows of an older
-  -- schema passed, the tables of their base in schema 3.
+  -- schema passed their audit, the tables of their base in schema 3.
   pub survives : StoreNamesImplyDefinitions g old → Survives (state g old) (state g new) (AreUpgradedTrees (state g old).now)
-  -- If the database had a desk of schema 3, the call satisfies the postcondition of an audit, which
-  -- writes nothing.
+  -- If the database had a desk of schema 3, the adoption satisfies the postcondition of an audit by
+  -- schema 3, which writes nothing.
   pub audited : StoreNamesImplyDefinitions g old → StoreHasThirdDesk g old → AuditPost g old new result
 
--- The abstraction relation: the store holds the tables of `base`, and `base` satisfies the books
+-- The store represents `base`: it holds the tables of `base`, and `base` satisfies the books
 -- invariant and the audit invariant and has texts in UTF-8. The clause on the rows is vacuous if
--- the disk assumption fails, or once the store is closed; then the store represents every base that
+-- the disk assumption fails, or once the store is closed: the store then represents every base that
 -- satisfies the other clauses.
 pub record Represents {S : Type 0} (g : Ghosts S) (store : Held S) (base : Base) : Type 0 where
   pub rows : HoldsRows g store (sheets base)

@@ -1,7 +1,14 @@
--- The rows that a store holds, and the postconditions of its calls. A store, its connection and its
--- database are open if `is_open` of their state is true. A clause with the premise `HasCleanDisk`
--- for the new state, and the promise on crashes in `survives`, are vacuous if the disk assumption
--- fails after the call.
+-- The rows that a store holds, and the postconditions of its calls. The clauses use these terms.
+-- `state g store` is the state of the store's connection, with the fields `is_open`, true if the
+-- store is open; `now`, the current database; `committed`, the database at the last commit;
+-- `may_leave`, the disk contents that a crash may expose. `Trees` are disk contents: the rows of
+-- each table and index of a database, by number. `HasCleanDisk` is the disk assumption: every read
+-- so far returned what was written. `Survives old new P`: a crash after the call exposes disk
+-- contents that a crash before it could expose, or contents that satisfy `P`; no contents satisfy
+-- `λ _. ⊥`. `IfOk` and `OnOk` are vacuous at an error, `IfErr` and `OnErr` at `Ok`. A store, its
+-- connection and its database are open if `is_open` of their state is true. A clause with the
+-- premise `HasCleanDisk` for the new state, and the promise on crashes in `survives`, are vacuous
+-- if the disk assumption fails after the call.
 use Rattle.std.specs.Prelude.{◌≡◌, ◌⊎◌, ℕ, true, false, Result, Err, IfOk, OnOk, OnErr, IsTrue}
 use Rattle.sqlite_trees.specs.declared.store.Store.{Ghosts}
 use Rattle.sqlite_trees.specs.Tree.{Trees}
@@ -22,26 +29,27 @@ use Rattle.brk_tables_create.specs.Present.{has_table_of_desk}
 abbrev pub HoldsRows : {S : Type 0} → Ghosts S → Held S → Tables → Type 0
 HoldsRows g store t = HasCleanDisk (state g store) → IsTrue (state g store).is_open → HasRows t (state g store).now
 
--- The trees, which are the contents of a database on disk, are those of some database that contains
--- all tables of a desk with exactly the rows `t` (`HasRows`).
+-- `trees` are the disk contents of some database that contains all tables of a desk with exactly
+-- the rows `t` (`HasRows`).
 abbrev pub AreTreesOfRows : Tables → Trees → Type 0
 AreTreesOfRows t trees = (db : Database) × HasRows t db × (trees ≡ db.trees)
 
--- Every state of the disk that a crash in this state of the store may expose satisfies `P`.
+-- All disk contents that a crash of the store may expose satisfy `P`.
 abbrev pub CrashStatesSatisfy : {S : Type 0} → Ghosts S → Held S → (Trees → Type 0) → Type 0
 CrashStatesSatisfy g store P = (trees : Trees) → (state g store).may_leave trees → P trees
 
--- The state `old` is open, and the state `new` has its current and its committed database.
+-- The state `old` is open, and the current and the committed database of `new` equal those of
+-- `old`.
 pub record WasOpenAndIsUnchanged (old new : State) : Type 0 where
   pub was_open : IsTrue old.is_open
   pub now : new.now ≡ old.now
   pub committed : new.committed ≡ old.committed
 
--- The postcondition of a read, which writes nothing. `Told` is the relation between the returned
--- value and the rows.
+-- The postcondition of a read, which writes nothing. `Told` relates the returned value to the rows
+-- that the store holds.
 pub record ReadPost {S V E : Type 0} (g : Ghosts S) (old new : Held S) (result : Result V E) (Told : V → Tables → Type 0) : Type 0 where
-  -- A returned value satisfies `Told` with the rows that the store held. Vacuous if the disk
-  -- assumption fails after the call.
+  -- A returned value satisfies `Told` with the rows that the store held before the call. Vacuous if
+  -- the disk assumption fails after the call.
   pub told : HasCleanDisk (state g new) → IfOk result (λ answer. (t : Tables) → HoldsRows g old t → Told answer t)
   -- A value is returned only if the store was open.
   pub opened : HasCleanDisk (state g new) → OnOk result (IsTrue (state g old).is_open)
@@ -58,9 +66,8 @@ pub record ApplyPost {S V E : Type 0} (g : Ghosts S) (old new : Held S) (result 
   pub made : OnOk result ((t : Tables) → HoldsRows g old t → HoldsRows g new (after t))
   -- At `Ok` the store was open, is open, and has committed its current state.
   pub opened : HasCleanDisk (state g new) → OnOk result (IsTrue (state g old).is_open × IsTrue (state g new).is_open × ((state g new).committed ≡ (state g new).now))
-  -- At `Ok` the database schema is unchanged. The rows of each table that is not the desk's are
-  -- unchanged too, unless a foreign key of that table changes or deletes them by CASCADE, SET NULL
-  -- or SET DEFAULT.
+  -- At `Ok` the database schema is unchanged. The rows of each other table are unchanged too,
+  -- unless a foreign key of that table changes or deletes them by CASCADE, SET NULL or SET DEFAULT.
   pub others : HasCleanDisk (state g new) → OnOk result ((t : Tables) (tree : Which → ℕ) → HasTables desk t tree (state g old).now → PreservesUnrelatedTables tree (state g old).now (state g new).now)
   -- At an error the store holds the rows that it held before.
   pub kept : OnErr result ((t : Tables) → HoldsRows g old t → HoldsRows g new t)
@@ -95,9 +102,9 @@ pub record CreatePost {S : Type 0} (g : Ghosts S) (old new : Held S) (result : R
   -- At `Ok` a crash exposes only the tables without rows.
   pub durable : HasCleanDisk (state g new) → OnOk result (CrashStatesSatisfy g new (AreTreesOfRows tables_without_rows))
 
--- The connection was opened over `trees`. Under the disk assumption it is live, that is, its
--- current and its committed state are well-formed databases if it is open, and the trees of its
--- current state are `trees`.
+-- `conn` is a connection to a database with the disk contents `trees`: under the disk assumption
+-- its current database has these contents, and its current and its committed database are
+-- well-formed if it is open.
 pub record IsOpenedOverTrees {S : Type 0} (g : Ghosts S) (trees : Trees) (conn : Held S) : Type 0 where
   pub live : HasCleanDisk (state g conn) → IsLive (state g conn)
   pub same : HasCleanDisk (state g conn) → (state g conn).now.trees ≡ trees

@@ -10,7 +10,7 @@ use Rattle.brk_sql.proofs.Inside.{clean_before}
 use Rattle.brk_store.specs.Holds.{HoldsRows, ReadPost, WasOpenAndIsUnchanged}
 
 -- The postcondition of any number of reads: the store holds the rows that it held before them; if
--- the database is open after them, it was open and is unchanged; and a crash exposes only states
+-- the database is open after them, it was open before and is unchanged; a crash exposes only states
 -- that a crash before the reads could expose.
 pub record IsUnchangedByReads {S : Type 0} (g : Ghosts S) (old new : Held S) : Type 0 where
   pub kept : (t : Tables) → HoldsRows g old t → HoldsRows g new t
@@ -22,7 +22,7 @@ module _ {S : Type 0} {g : Ghosts S} where
   pub clean_at : (old new : Held S) → IsUnchangedByReads g old new → HasCleanDisk (state g new) → HasCleanDisk (state g old)
   clean_at old new k = clean_before (state g old) (state g new) (λ _. ⊥) k.survives
 
-  -- Reads after reads satisfy `IsUnchangedByReads`.
+  -- Reads that follow other reads satisfy `IsUnchangedByReads` together with them.
   pub kept_then : (p q r : Held S) → IsUnchangedByReads g p q → IsUnchangedByReads g q r → IsUnchangedByReads g p r
   kept_then p q r a b = record {
     kept = λ t h. b.kept t (a.kept t h);

@@ -14,11 +14,11 @@ use Rattle.brk_book_theorems.specs.TradeReads.{lot_of_row}
 abbrev pub lot_rows_from_end : Bool → ℕ → Text → Tables → List HoldingRow
 lot_rows_from_end lifo account symbol t = list_in_closing_order lifo (position_lots_by_age account symbol t)
 
--- The elements of `rows` after the first `read`, or none if all rows were read (`ended`).
+-- The elements of `rows` after the first `read`, or no element if `ended` is true.
 abbrev pub unread_rows : Bool → ℕ → List HoldingRow → List HoldingRow
 unread_rows ended read rows = if ended then [] else drop read rows
 
--- The lots that a source of pages has yet to return: the lots of the rows `pending`, which were
--- read, and then the lots of those of `rows` that were not read.
+-- The lots that a source of pages still has to return: first the lots of `pending`, the rows that
+-- were read and not yet returned, then the lots of the rows in `rows` that were not read.
 abbrev pub remaining_page_lots : List row.HoldingRow → Bool → ℕ → List HoldingRow → List Lot
 remaining_page_lots pending ended read rows = map lot_of_row (map abstract_holding_row pending ++ unread_rows ended read rows)

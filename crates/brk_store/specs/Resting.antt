@@ -1,4 +1,4 @@
--- The lots that a source of pages has still to return.
+-- The lots that a source of pages still has to return.
 use Rattle.std.specs.Borrow.{MutBor}
 use Rattle.std.specs.Prelude.{◌≡◌, ℕ, List, drop}
 use Rattle.sqlite_trees.specs.declared.store.Store.{Ghosts}
@@ -19,7 +19,7 @@ abbrev pub number_of_rows_read : {S P : Type 0} → Pages S P → ℕ
 number_of_rows_read p = p.read
 
 -- For some rows `t` that the store of the source holds, `ls` are exactly the lots that the source
--- has yet to return. Any rows `t` count as held if the disk assumption fails, or once the store is
--- closed.
+-- still has to return. The store holds any rows `t` in this sense if the disk assumption fails, or
+-- once it is closed.
 abbrev pub AreRemainingLots : {S : Type 0} → Ghosts S → Pages S Page → List Lot → Type 0
 AreRemainingLots g p ls = (t : Tables) × HoldsRows g p.store.now t × (ls ≡ remaining_page_lots (drop p.page.given p.page.rows.items) p.ended p.read (lot_rows_from_end p.lifo p.account p.symbol.now t))

@@ -1,6 +1,7 @@
--- The postconditions of the walks of a store. A clause with the premise `HasCleanDisk` for the new
--- state, and the promise on crashes in `survives`, are vacuous if the disk assumption fails after
--- the call.
+-- The postconditions of the walks of a store, which pass the rows of a list to a visitor or a
+-- closure, one at a time. `brk_store/specs/Holds.antt` explains the terms of the clauses. A clause
+-- with the premise `HasCleanDisk` for the new state, and the promise on crashes in `survives`, are
+-- vacuous if the disk assumption fails after the call.
 use Rattle.std.specs.Prelude.{◌≡◌, ℕ, ◌&&◌, List, ◌++◌, filter, nat_le, Result, Ok, Err, OnOk, IfErr, IsTrue}
 use Rattle.sqlite_trees.specs.declared.store.Store.{Ghosts}
 use Rattle.sqlite.specs.Held.{Held, state}
@@ -26,46 +27,49 @@ cash_rows_in_span account from to t = filter (λ r. nat_le from r.stamp && nat_l
 abbrev pub completed_trades_by_stamp : Tables → List TradeRow
 completed_trades_by_stamp t = sort_by_key (λ r. r.stamp) (filter (λ r. is_same_trade_status r.status Completed) t.trades)
 
--- The records `all` equal the whole `list` of the rows that the store holds.
+-- The records `all` equal the whole list that `list` selects from the rows that the store holds.
 abbrev pub IsWholeStoredList : {S M : Type 0} → Ghosts S → Held S → (Tables → List M) → List M → Type 0
 IsWholeStoredList g store list all = (t : Tables) → HoldsRows g store t → all ≡ list t
 
--- The records `first` are a prefix of the `list` of the rows that the store holds.
+-- The records `first` are a prefix of the list that `list` selects from the rows that the store
+-- holds.
 abbrev pub IsPrefixOfStoredList : {S M : Type 0} → Ghosts S → Held S → (Tables → List M) → List M → Type 0
 IsPrefixOfStoredList {S} {M} g store list first = (t : Tables) → HoldsRows g store t → (rest : List M) × (first ++ rest ≡ list t)
 
--- The postcondition of a walk, which passes the records of a list to a visitor, one at a time and
--- in order, until the last record, an error of the visitor or a fault.
+-- The postcondition of a walk, which passes the records that `list` selects to a visitor, in order
+-- and one at a time. The walk ends after the last record, at an error of the visitor, or at a
+-- fault. `takes` and `stops` relate the visitor before and after it takes a record or returns an
+-- error for it.
 pub record WalkPost {S X M V E : Type 0} (g : Ghosts S) (old new : Held S) (of : X → M) (list : Tables → List M) (takes : V → X → V → Type 0) (stops : V → X → E → V → Type 0)
     (before after : V) (result : Result (Unit {0}) (WalkError E)) : Type 0 where
   -- At `Ok` the visitor has taken every record.
   pub all : HasCleanDisk (state g new) → OnOk result (TakesInOrder (IsWholeStoredList g old list) of takes before after)
   -- At a fault the visitor has taken a prefix of the records. At its own error it has taken the
-  -- records before the one at which it stopped.
+  -- records before the one for which it returned the error.
   pub early : HasCleanDisk (state g new) → IfErr result (StopsBeforeEnd (IsPrefixOfStoredList g old list) of takes stops before after)
   -- The error is `Memory` or `Store`, or that of the visitor, whether or not the disk assumption
   -- holds.
   pub fault : IfErr result (IsWalkError stops after)
   -- `Ok` is returned only if the store was open.
   pub opened : HasCleanDisk (state g new) → OnOk result (IsTrue (state g old).is_open)
-  -- The store holds the rows that it held, whatever the result.
+  -- The store holds after the call the rows that it held before, whatever the result.
   pub kept : (t : Tables) → HoldsRows g old t → HoldsRows g new t
   -- If the database is open after the call, it was open before and is unchanged.
   pub same : HasCleanDisk (state g new) → IsTrue (state g new).is_open → WasOpenAndIsUnchanged (state g old) (state g new)
   -- A crash exposes only states that a crash before the call could expose.
   pub survives : Survives (state g old) (state g new) (λ _. ⊥)
 
--- The result of a closure's walk follows from the outcome of the walk: `Ok` from `Ok`, the
--- closure's own error from `Cause`, and from `Failed` an error that `gives` relates to the fault.
+-- The result of a walk that calls a closure, for the outcome of the walk: `Ok` for `Ok`, the
+-- closure's own error for `Cause`, and for `Failed` an error that `gives` relates to the fault.
 abbrev pub MatchesWalkResult : {E : Type 0} → (Fault → E → Type 0) → Result (Unit {0}) (WalkError E) → Result (Unit {0}) E → Type 0
 MatchesWalkResult {E} gives (Ok u) result = result ≡ Ok tt
 MatchesWalkResult {E} gives (Err (Cause e)) result = result ≡ Err e
 MatchesWalkResult {E} gives (Err (Failed fault)) result = (e : E) × (result ≡ Err e) × gives fault e
 
--- The closure was called with the records of the list, in order, one at a time, until it returned
--- an error or the walk failed. The result is `Ok` after the last record, the closure's error, or an
--- error that `gives` relates to the fault. The calls satisfy `WalkPost`, with the closure as the
--- visitor.
+-- The closure was called with the records that `list` selects, in order and one at a time, until it
+-- returned an error or the walk failed. The result is `Ok` after the last record, otherwise the
+-- closure's error, or an error that `gives` relates to the fault. The calls satisfy `WalkPost`,
+-- with the closure as the visitor.
 abbrev pub CallsClosureOnEach : {S X M F E : Type 0} → Ghosts S → Held S → Held S → (X → M) → (Tables → List M) → (F → X → Result (Unit {0}) E → F → Type 0) → (Fault → E → Type 0) → F → Result (Unit {0}) E → Type 0
 CallsClosureOnEach {S} {X} {M} {F} {E} g old new of list called gives call result =
     (last : F) × (outcome : Result (Unit {0}) (WalkError E)) × WalkPost g old new of list (λ p x q. called p x (Ok tt) q) (λ p x e q. called p x (Err e) q) call last outcome × MatchesWalkResult gives outcome result

@@ -1,4 +1,4 @@
-//! Theorems about the answer of an audit, and about an adopted store.
+//! Theorems about the result of an audit, and about an adopted store.
 
 ghost use Rattle.brk_model.specs.Form.{has_utf8_texts};
 ghost use Rattle.std.specs.Prelude.{◌≡◌, IsTrue, None, Ok, Option, Result};
@@ -20,8 +20,8 @@ ghost use Rattle.brk_store.specs.Holds.{HoldsRows};
 
 use sqlite::Alter;
 
-/// Proves that at most one answer is that of an audit of a database (`whole`), and at most one that
-/// of an audit by a given schema (`by`).
+/// Proves that an audit of a database has at most one result, both by the schema whose desk the
+/// database has (`whole`) and by a given schema (`by`).
 pub fn an_audit_has_one_answer()
     ensures whole { (db : Database) (a b : Option Condition) → IsAuditOfDatabase db a → IsAuditOfDatabase db b → a ≡ b }
     ensures by { (schema : Schema) (db : Database) (a b : Option Condition) → IsAuditBySchema (abstract_schema schema) db a → IsAuditBySchema (abstract_schema schema) db b → a ≡ b }
@@ -34,9 +34,9 @@ pub fn stored_rows_imply_definitions<S: Alter>()
     ensures there { (held : Held S) (t : Tables) → HoldsRows S.Store held t → StoreHasThirdDesk S.Store held }
 {}
 
-/// Proves that an audit of a store that holds rows with texts in UTF-8 returns the audit of these
-/// rows, unless it fails with `Memory` or `Store`, and that it never returns `Damaged` if the store
-/// represents a base. Both under the disk assumption.
+/// Proves, under the disk assumption, that an audit of a store that holds rows with texts in UTF-8
+/// returns the result of the audit of these rows (`rows`), and does not return `Damaged` if the
+/// store represents a base (`books`). Vacuous if the audit fails with `Memory` or `Store`.
 pub fn audits_return_the_audit_of_rows<S: Alter>()
     ensures rows { (old new : Held S) (result : Result (Unit {0}) Fault) (t : Tables)
         → AuditPost S.Store old new result → HoldsRows S.Store old t → IsTrue (has_utf8_texts t) → HasCleanDisk (state S.Store new) → OnAuditAnswer result (IsAuditResult third_schema t) }
@@ -57,8 +57,9 @@ pub fn an_adoption_of_rows_is_an_audit<S: Alter>()
 /// `adopted`: a store that was adopted under the premise `StoreNamesImplyDefinitions` represents
 /// some base.
 ///
-/// `found`: if this store is open, under the disk assumption, the base is the one that the rows of
-/// the old database determine, of whichever schema, and these passed their audit.
+/// `found`: if this store is open, then under the disk assumption the old database contained rows
+/// of some schema that pass their audit, and the store represents the base that these rows
+/// determine.
 pub fn adopted_stores_represent_a_base<S: Alter>()
     ensures rows { (store : Held S) (t : Tables) → HoldsRows S.Store store t → PassesAudit third_schema t → IsTrue (has_utf8_texts t) → Represents S.Store store (base_of_tables t) }
     ensures adopted { (old new : Held S) → AdoptPost S.Store old new (Ok tt) → StoreNamesImplyDefinitions S.Store old → (base : Base) × Represents S.Store new base }

@@ -1,4 +1,4 @@
-//! The audit of a desk's database by the conditions of schema 3.
+//! The audit of a database by the conditions of schema 3.
 
 ghost use Rattle.std.specs.Prelude.{◌≡◌, ◌≢◌, IfErr, IfOk, IsTrue, Some, false};
 ghost use Rattle.brk_money.specs.declared.fault.Condition.TheVariants.{NotEmpty};
@@ -19,9 +19,10 @@ use brk_tables_scan::{has_desk, read_sheets};
 use sqlite::{Alter, Connection, Transaction};
 use std::alloc::Global;
 
-/// Returns the first condition that the rows of a schema fail, or `None` if they pass. Fails with
-/// `Memory` or `Store` only. The result is specified only if the database has a desk of the schema,
-/// defined as a desk defines it.
+/// Returns the first condition of a schema that the rows of its tables fail, or `None` if they
+/// pass. Fails with `Memory` or `Store` only. The result is specified only if the database has a
+/// desk of the schema, with the definitions of the desk's tables (`HasDesk`,
+/// `SchemaNamesImplyDefinitions`).
 pub(crate) fn audit_rows_of_schema<S: Alter>(
     tx: &mut Transaction<'_, S>,
     alloc: Global,
@@ -40,7 +41,7 @@ pub(crate) fn audit_rows_of_schema<S: Alter>(
 
 // Returns the first condition of schema 3 that the database fails, or `None` if it passes. Fails
 // with `Memory` or `Store` only. The result is specified only if tables with the names and columns
-// of schema 3 are defined as a desk defines them.
+// of schema 3 have the definitions of the desk's tables (`SchemaNamesImplyDefinitions`).
 fn first_failing_condition<S: Alter>(
     tx: &mut Transaction<'_, S>,
     alloc: Global,
@@ -81,9 +82,9 @@ impl<S: Alter> Store<S> {
     ///
     /// A crash exposes only states that a crash before the call could expose.
     ///
-    /// The result is specified only under the premise `ThirdNamesImplyDefinitions` on the database:
-    /// if it has all tables of schema 3 by their names and columns, they are defined as a desk
-    /// defines them. Every store that holds rows satisfies this premise
+    /// The result is specified only if the database satisfies `ThirdNamesImplyDefinitions`: if it
+    /// has all tables of schema 3, by their names and columns, these have the definitions of the
+    /// desk's tables. Every store that holds rows satisfies this premise
     /// (`stored_rows_imply_definitions`).
     pub fn audit(&mut self, alloc: Global) -> Result<(), Fault>
         ensures audited { AuditPost S.Store self.old self.new result }

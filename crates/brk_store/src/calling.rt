@@ -22,6 +22,7 @@ impl<R, E, F: FnMut(&R) -> Result<(), E>> Visitor<R, E> for Calls<F> {
 
     ghost stops = { λ p item e q. CalledAt F.FnMut p.call item (Err e) q.call };
 
+    /// Calls the closure with the record. Fails with the closure's error.
     fn visit(&mut self, item: &R) -> Result<(), E> {
         (self.call)(item)
     }
@@ -49,6 +50,7 @@ impl<E, F: FnMut(&str, &Lot) -> Result<(), E>> Visitor<HoldingRow, E> for LotCal
 
     ghost stops = { λ p item e q. IsCallWithLot F.FnMut p.call item (Err e) q.call };
 
+    /// Calls the closure with the symbol and the lot of the row. Fails with the closure's error.
     fn visit(&mut self, item: &HoldingRow) -> Result<(), E> {
         let lot = Lot {
             trade: item.trade,

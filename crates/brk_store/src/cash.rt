@@ -52,8 +52,8 @@ impl<S: Alter> Store<S> {
         brk_tables_cash::last_move(&mut tx)
     }
 
-    // Returns true if there are at least `ALL_MOVEMENTS` deposits and withdrawals. The database
-    // steps over the cash rows. Changes nothing. Fails with `Store` only.
+    // Returns true if there are at least `ALL_MOVEMENTS` deposits and withdrawals. The time grows
+    // with the number of cash rows. Changes nothing. Fails with `Store` only.
     fn movement_count_is_maximum(&mut self) -> Result<bool, Fault>
         ensures read { ReadPost S.Store self.old self.new result (λ all t. all ≡ nat_le greatest_id (length (filter (λ r. is_none r.trade) t.moves))) }
         ensures fault { OnErr result (result ≡ Err fault.Store) }
@@ -62,8 +62,9 @@ impl<S: Alter> Store<S> {
         brk_tables_cash::has_maximum_movements(&mut tx)
     }
 
-    /// Returns the number of the next cash row: one more than the greatest, or 1 if there is none.
-    /// Changes nothing. Fails with `Store` only, also if the greatest number is taken.
+    /// Returns the number of the next cash row: one more than the greatest number, or 1 if there is
+    /// no cash row. Changes nothing. Fails with `Store` only, also if the greatest `MoveId` is in
+    /// use.
     pub fn next_cash_row_number(&mut self) -> Result<MoveId, Fault>
         ensures read { ReadPost S.Store self.old self.new result (λ next t. next ≡ last_cash_row_number t + 1) }
         ensures fault { OnErr result (result ≡ Err fault.Store) }
@@ -85,7 +86,8 @@ impl<S: Alter> Store<S> {
         ensures fault { OnErr result (result ≡ Err fault.Store) }
     {
         let next = self.next_cash_row_number()?;
-        // Below this number there cannot be that many, so they are not counted.
+        // If the next number is below `ALL_MOVEMENTS`, there are fewer movements than that, so they
+        // are not counted.
         if next.get() < ALL_MOVEMENTS {
             return Ok(false);
         }

@@ -111,7 +111,7 @@ pub(crate) fn apply_in_transaction<S: Alter>(
 {
     let _settled = conn.is_autocommit();
     let mut tx = conn.transaction();
-    // The value is not needed. That the read succeeds shows that the store is open.
+    // The value is not needed: the read succeeds only if the store is open.
     let _last = brk_tables_schema::last_stamp(&mut tx)?;
     apply_each_change(&mut tx, changes)?;
     match tx.commit() {

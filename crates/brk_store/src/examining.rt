@@ -26,8 +26,9 @@ pub enum AuditResult {
     Fails(Condition),
 }
 
-// Returns the schema of the desk in the database, or `None` if it has a desk of no schema. Fails
-// with `Store` only. The result is specified only under the premise `DeskNamesImplyDefinitions`.
+// Returns the schema whose desk the database has, or `None` if it has a desk of no schema. Fails
+// with `Store` only. The result is specified only if the database satisfies
+// `DeskNamesImplyDefinitions`.
 fn schema_of_desk<S: Alter>(tx: &mut Transaction<'_, S>) -> Result<Option<Schema>, Fault>
     ensures same_reference { tx.new.conn.ghost_name ≡ tx.old.conn.ghost_name }
     ensures step { IsConnectionStep S.Store tx.old tx.new result (λ found a b. IsTrue a.is_open × (b.now ≡ a.now) × (DeskNamesImplyDefinitions a.now → IsDeskSchema found a.now)) }
@@ -45,9 +46,10 @@ fn schema_of_desk<S: Alter>(tx: &mut Transaction<'_, S>) -> Result<Option<Schema
     Ok(None)
 }
 
-/// Audits the desk in the database by the conditions of its own schema and returns the result,
-/// which is `Fails` with the condition `Schema` if there is no desk. Fails with `Memory` or `Store`
-/// only. The result is specified only under the premise `DeskNamesImplyDefinitions`.
+/// Audits the database by the conditions of the schema whose desk it has, and returns the result:
+/// `Fails` with the condition `Schema` if it has a desk of no schema. Fails with `Memory` or
+/// `Store` only. The result is specified only if the database satisfies
+/// `DeskNamesImplyDefinitions`.
 pub(crate) fn audit_by_own_schema<S: Alter>(
     tx: &mut Transaction<'_, S>,
     alloc: Global,

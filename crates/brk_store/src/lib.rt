@@ -1,4 +1,5 @@
-//! A desk's database: creation, adoption, audit, reads, and changes in transactions.
+//! The store of a desk: the creation, the adoption and the audit of its database, reads of its
+//! rows, and changes of its rows in transactions.
 #![tactic(auto)]
 
 pub mod adopting;

@@ -34,8 +34,8 @@ pub struct Page {
 /// 15 rows more than the lots that it returns (`rows_read`). It borrows the store.
 pub type LotPages<'a, S> = Pages<'a, S, Page>;
 
-/// Pages of a borrowed store. The page is a type parameter, so that a caller knows the store's
-/// state afterwards.
+/// A source of lots that reads a borrowed store in pages. The page is a type parameter, so that the
+/// contract of a caller can state the store's state after the source is dropped.
 pub struct Pages<'a, S: Alter, P> {
     store: &'a mut Store<S>,
     alloc: Global,
@@ -43,7 +43,7 @@ pub struct Pages<'a, S: Alter, P> {
     symbol: &'a Symbol,
     lifo: bool,
     page: P,
-    // The number of rows read, and whether there are no more.
+    // The number of rows that were read, and true if no more rows exist.
     read: u32,
     ended: bool,
 }
@@ -51,6 +51,7 @@ pub struct Pages<'a, S: Alter, P> {
 impl<S: Alter, P: Drop> Drop for Pages<'_, S, P> {
     ghost use Rattle.std.specs.Prelude.{◌≡◌};
 
+    /// Ends the borrow of the store. The store is unchanged.
     fn drop(self)
         ensures { self.exit.0.now ≡ self.entry.store.now }
     {
@@ -282,6 +283,9 @@ impl<S: Alter> LotSource for Pages<'_, S, Page> {
 
     ghost fails = { λ _ fault _. IsCallFault fault };
 
+    /// Returns the next lot, or `None` if no lot remains. Reads the next page if all lots of this
+    /// one were returned. Fails with `Memory` or `Store` only; the remaining lots are then
+    /// unchanged.
     fn next(&mut self) -> Result<Option<Lot>, Fault> {
         match self.page.rows.get(self.page.given) {
             Some(row) => {

@@ -11,13 +11,13 @@ ghost use Rattle.brk_store.specs.Holds.{AreTreesOfRows, HoldsRows, IsOpenedOverT
 
 use sqlite::Alter;
 
-/// Proves that a connection that was opened over trees with the rows `t` holds these rows.
+/// Proves that a connection to a database whose disk contents (`trees`) have the rows `t` holds
+/// these rows.
 pub fn reopening_finds_the_rows<S: Alter>()
     ensures { (t : Tables) (trees : Trees) (conn : Held S) → AreTreesOfRows t trees → IsOpenedOverTrees S.Store trees conn → HoldsRows S.Store conn t }
 {}
 
-/// Proves that a crash of an open store exposes no state of the disk but the trees of its last
-/// commit.
+/// Proves that a crash of an open store exposes only the disk contents of its last commit.
 pub fn an_open_store_leaves_its_last_commit<S: Alter>()
     ensures { (store : Held S) → IsTrue (state S.Store store).is_open → CrashStatesSatisfy S.Store store (λ trees. trees ≡ (state S.Store store).committed.trees) }
 {}

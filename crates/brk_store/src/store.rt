@@ -4,9 +4,9 @@ use brk_money::Fault;
 use sqlite::{Alter, Connection};
 use std::marker::Model;
 
-/// A connection to a database with the tables of a desk. `HoldsRows` states which rows these have;
-/// the type itself ensures only that no transaction is open between calls. Contracts see a store as
-/// the state of its connection.
+/// A connection to a database with the tables of a desk. `HoldsRows` states which rows these tables
+/// have; the type itself ensures only that no transaction is open between calls. In contracts the
+/// value of a store is the state of its connection.
 pub struct Store<S: Alter> {
     pub(crate) conn: Connection<S>,
 }
@@ -25,6 +25,7 @@ impl<S: Alter> Model for Store<S> {
 }
 
 impl<S: Alter + Drop> Drop for Store<S> {
+    /// Drops the connection of the store.
     fn drop(self) {
         let Store { conn: _ } = self;
     }
@@ -37,8 +38,8 @@ impl<S: Alter> Store<S> {
     ghost use Rattle.brk_changes.specs.Changes.{tables_after_changes};
     ghost use Rattle.brk_store.specs.Holds.{ApplyPost, CreatePost};
 
-    /// Creates the tables of a desk, without rows but the one of DESK, in the database of `conn`,
-    /// commits them and returns the store. Other tables keep their rows.
+    /// Creates the tables of a desk in the database of `conn`, commits them and returns the store.
+    /// The tables have no rows, except for one row of DESK. The rows of other tables are unchanged.
     ///
     /// Errors return the connection; a database that is still open is unchanged.
     /// `Damaged(NotEmpty)` is returned only if a table with the name of a desk's table exists; if
@@ -64,9 +65,9 @@ impl<S: Alter> Store<S> {
         }
     }
 
-    /// Applies `changes` in order, in one transaction, and commits them. Tables that are not the
-    /// desk's keep their rows, unless a foreign key of their own changes or deletes these rows by
-    /// CASCADE, SET NULL or SET DEFAULT.
+    /// Applies `changes` in order, in one transaction, and commits them. The rows of each other
+    /// table are unchanged, unless a foreign key of that table changes or deletes them by CASCADE,
+    /// SET NULL or SET DEFAULT.
     ///
     /// Fails with `Store` only. The rows and the open database are then unchanged.
     ///

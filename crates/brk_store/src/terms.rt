@@ -1,4 +1,5 @@
-//! Reads of the terms of an order. Each read is a transaction of its own, which is rolled back.
+//! Reads of the rows on which the terms of an order depend: permissions, securities, charges, bands
+//! and taxes. Each read is a transaction of its own, which is rolled back.
 
 ghost use Rattle.std.specs.Prelude.{◌≡◌, ◌==◌, ◌&&◌, Err, IfErr, OnErr, bytes_eq};
 ghost use Rattle.brk_money.specs.declared.fault.Fault.TheVariants as fault;
@@ -40,8 +41,8 @@ impl<S: Alter> Store<S> {
         brk_tables_reference::security_by_symbol(&mut tx, symbol)
     }
 
-    /// Returns the charge of a type and a tier, or `None` if there is none. Changes nothing. Fails
-    /// with `Store` only.
+    /// Returns the charge of a trade type and a tier, or `None` if there is none. Changes nothing.
+    /// Fails with `Store` only.
     pub fn charge(&mut self, kind: TradeType, tier: Tier) -> Result<Option<Charge>, Fault>
         ensures read { ReadPost S.Store self.old self.new result (IsFirstMatch Charges abstract_charge (λ r. is_same_trade_type r.kind kind && (r.tier == tier))) }
         ensures fault { OnErr result (result ≡ Err fault.Store) }
@@ -50,8 +51,8 @@ impl<S: Alter> Store<S> {
         brk_tables_reference::charge_by_key(&mut tx, kind, tier)
     }
 
-    /// Returns the bands of a tier, a type and an exchange, sorted by lower bound, ascending.
-    /// Changes nothing. Fails with `Memory` or `Store`.
+    /// Returns the commission bands of a tier, a trade type and an exchange, sorted by lower bound,
+    /// ascending. Changes nothing. Fails with `Memory` or `Store`.
     pub fn bands_for(
         &mut self,
         alloc: Global,

@@ -53,8 +53,8 @@ impl<S: Alter> Store<S> {
         brk_tables_trading::submitted_trades(&mut tx, alloc)
     }
 
-    /// Returns the requests of a symbol and a type with a bid of at least `price`, sorted by trade,
-    /// ascending. Changes nothing. Fails with `Memory` or `Store`.
+    /// Returns the requests of a symbol and a trade type with a bid of at least `price`, sorted by
+    /// trade, ascending. Changes nothing. Fails with `Memory` or `Store`.
     pub fn requests_at_or_above(
         &mut self,
         alloc: Global,
@@ -69,8 +69,8 @@ impl<S: Alter> Store<S> {
         brk_tables_trading::requests_at_or_above(&mut tx, alloc, symbol, kind, price)
     }
 
-    /// Returns the requests of a symbol and a type with a bid of at most `price`, sorted by trade,
-    /// ascending. Changes nothing. Fails with `Memory` or `Store`.
+    /// Returns the requests of a symbol and a trade type with a bid of at most `price`, sorted by
+    /// trade, ascending. Changes nothing. Fails with `Memory` or `Store`.
     pub fn requests_at_or_below(
         &mut self,
         alloc: Global,
@@ -85,7 +85,7 @@ impl<S: Alter> Store<S> {
         brk_tables_trading::requests_at_or_below(&mut tx, alloc, symbol, kind, price)
     }
 
-    /// Returns the LAST_TRADE row of a symbol, which has its last price on the market, or `None` if
+    /// Returns the row of LAST_TRADE of a symbol, with its last price on the market, or `None` if
     /// there is none. Changes nothing. Fails with `Store` only.
     pub fn last_trade(&mut self, symbol: &Symbol) -> Result<Option<LastTrade>, Fault>
         ensures read { ReadPost S.Store self.old self.new result (IsFirstMatch LastTrades abstract_last_trade_row (λ r. bytes_eq r.symbol symbol.now)) }

@@ -13,9 +13,9 @@ use brk_tables_upgrade::upgrade_tables;
 use sqlite::{Alter, Connection};
 use std::alloc::Global;
 
-// Audits the rows of the desk in the database by the conditions of its own schema. If they pass and
-// the schema is older, upgrades them to schema 3 in the same transaction. Fails with `Damaged`,
-// `Memory` or `Store`.
+// Audits the database by the conditions of the schema whose desk it has. If its rows pass and the
+// schema is older than 3, upgrades the tables to schema 3 in the same transaction and commits it.
+// Fails with `Damaged`, `Memory` or `Store`.
 fn adopt_desk<S: Alter>(conn: &mut Connection<S>, alloc: Global) -> Result<(), Fault>
     requires { conn.old.in_transaction ≡ false }
     ensures mode { conn.new.in_transaction ≡ false }
@@ -52,11 +52,11 @@ impl<S: Alter> Store<S> {
     /// schema passed, the upgraded tables. After an error, too, a crash may expose the upgraded
     /// tables.
     ///
-    /// The result and the crash states are specified only under a premise on the database
-    /// (`StoreNamesImplyDefinitions`): if it has all tables of a desk of some schema by their names
-    /// and columns, then these are defined as a desk defines them, with the same types, keys and
-    /// references, and none of their foreign keys has CASCADE, SET NULL or SET DEFAULT. A database
-    /// without such tables, an empty one too, satisfies this premise.
+    /// The result and the crash states are specified only if the database satisfies
+    /// `StoreNamesImplyDefinitions`: if it has all tables of a desk of some schema, by their names
+    /// and columns, then these tables have the definitions of the desk's tables, with the same
+    /// types, keys and foreign keys, and no foreign key with CASCADE, SET NULL or SET DEFAULT. A
+    /// database without such tables, for example an empty one, satisfies this premise.
     pub fn adopt(alloc: Global, mut conn: Connection<S>) -> Result<Store<S>, (Connection<S>, Fault)>
         ensures adopted { MatchResult result (λ store. AdoptPost S.Store conn store (Ok tt)) (λ e. AdoptPost S.Store conn e.0 (Err e.1)) }
         ensures condition { IfErr result (λ e. e.1 ≢ fault.Damaged NotEmpty) }

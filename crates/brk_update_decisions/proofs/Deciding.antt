@@ -20,7 +20,8 @@ use Rattle.brk_decisions.specs.Decisions.{Decides}
 use Rattle.brk_update_theorems.specs.Corrections.{UpdateFactsMatchTables, PlanUpdatePrecondition}
 use Rattle.brk_update_theorems.proofs.Correcting.{update_does, update_refused}
 
--- the last stamp, and what was found for an update
+-- `last` is the last stamp of the tables, and the facts for the text update equal those of the
+-- tables.
 abbrev pub Known : Update → Option TextUpdate → Option ℕ → Tables → Type 0
 Known u found last t = (last ≡ t.last) × UpdateFactsMatchTables t u found
 

@@ -15,8 +15,8 @@ use brk_trade::{Plan, TextUpdate, plan_update};
 use sqlite::Alter;
 use std::alloc::Global;
 
-// Returns the trades that an update changes, or `None` if a trade, account or security that it
-// names does not exist. Changes nothing. Fails with `Memory` or `Store` only.
+// Returns the trades that an update selects, or `None` if a trade, account or security of the
+// update does not exist. Changes nothing. Fails with `Memory` or `Store` only.
 fn read_update_facts<S: Alter>(
     alloc: Global,
     store: &mut Store<S>,

@@ -18,8 +18,8 @@ use brk_trade::{CashText, SettlementText, TextUpdate};
 use sqlite::Alter;
 use std::alloc::Global;
 
-// Returns the selected trades of an account, each with the cash type of its settlement. Changes
-// nothing. Fails with `Memory` or `Store` only.
+// Returns the trades of an account that an update with this span selects, each with the cash type
+// of its settlement. Changes nothing. Fails with `Memory` or `Store` only.
 fn read_settled_trades<S: Alter>(
     alloc: Global,
     store: &mut Store<S>,
@@ -42,8 +42,8 @@ fn read_settled_trades<S: Alter>(
     Ok(settled)
 }
 
-// Returns the selected cash trades of a symbol, each with the name of its cash row. Changes
-// nothing. Fails with `Memory` or `Store` only.
+// Returns the cash trades of a symbol that an update with this span selects, each with the name of
+// its cash row. Changes nothing. Fails with `Memory` or `Store` only.
 fn read_paid_trades<S: Alter>(
     alloc: Global,
     store: &mut Store<S>,
@@ -67,8 +67,8 @@ fn read_paid_trades<S: Alter>(
     Ok(paid)
 }
 
-// Returns the trades of an update of executors, or `None` if one of them does not exist. Changes
-// nothing. Fails with `Memory` or `Store` only.
+// Returns the trades with these ids, for an update of their executors, or `None` if one of them
+// does not exist. Changes nothing. Fails with `Memory` or `Store` only.
 pub(crate) fn read_executor_trades<S: Alter>(
     alloc: Global,
     store: &mut Store<S>,
@@ -91,8 +91,8 @@ fn account_row_exists<S: Alter>(store: &mut Store<S>, account: Id) -> Result<boo
     Ok(store.account(account)?.is_some())
 }
 
-// Returns the trades of an update of cash types, or `None` if the account does not exist. Changes
-// nothing. Fails with `Memory` or `Store` only.
+// Returns the trades of an account that an update of cash types selects, or `None` if the account
+// does not exist. Changes nothing. Fails with `Memory` or `Store` only.
 pub(crate) fn read_cash_type_trades<S: Alter>(
     alloc: Global,
     store: &mut Store<S>,
@@ -124,8 +124,8 @@ fn read_security_name<S: Alter>(
     }
 }
 
-// Returns the trades of an update of cash names, or `None` if the security does not exist. Changes
-// nothing. Fails with `Memory` or `Store` only.
+// Returns the trades of a symbol that an update of cash names selects, or `None` if the security
+// does not exist. Changes nothing. Fails with `Memory` or `Store` only.
 pub(crate) fn read_cash_name_trades<S: Alter>(
     alloc: Global,
     store: &mut Store<S>,

@@ -1,4 +1,5 @@
-//! Reads of the texts of a completed trade. If its row does not exist, the fault is `Store`.
+//! Reads of texts of a completed trade. They fail with `Store` if the row with the text does not
+//! exist.
 
 ghost use Rattle.std.specs.Prelude.{◌≡◌, IfErr, Some, option_map, string_bytes};
 ghost use Rattle.brk_changes.specs.Rows.{cash_type_text};
