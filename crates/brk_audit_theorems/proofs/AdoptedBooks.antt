@@ -45,7 +45,7 @@ found_mapped p f xs = ap is_some (find-map p f xs) ∙ is_some-map f (find (λ x
 
 account_names : (t : Tables) (a : AccountRow) → is_well_formed_account_row t a ≡ true → (has_customer t a.customer ≡ true) × (has_broker t a.broker ≡ true)
 account_names t a e =
-    let k = parts6 (is_id a.id) (has_customer t a.customer) (has_broker t a.broker) (is_name a.name) (is_amount a.opening) (is_amount a.balance) e in (k.1, k.2)
+    let k = parts6 (is_id a.id) (is_name a.name) (is_amount a.opening) (is_amount a.balance) (has_customer t a.customer) (has_broker t a.broker) e in (k.4, k.5)
 
 knows_broker : (t : Tables) (a : AccountRow) → is_well_formed_account_row t a ≡ true → BrokerOfAccountExists (base_of_tables t) (account_of_row a)
 unfolding base_of_tables

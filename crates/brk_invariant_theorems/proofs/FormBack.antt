@@ -324,9 +324,9 @@ sound_back base books told form =
     let r : KeyParts T = key_parts T f.keys in
     let brokers = All-map base.brokers (λ b h. and_parts (is_id b.id && is_name b.name) (nat_le (commission_total_of_broker base.accounts done b.id) greatest_amount) h)
     (back_mapped is_well_formed_broker_row broker_key (broker_row base.accounts done) base.brokers f.brokers) in
-    let accounts = All-map base.accounts (λ a h. parts6 (is_id a.id) (has_customer T a.customer) (has_broker T a.broker) (is_name a.name) (is_amount a.opening) (is_amount (balance_of_account base.accounts (postings_of_base base) a.id)) h)
+    let accounts = All-map base.accounts (λ a h. parts6 (is_id a.id) (is_name a.name) (is_amount a.opening) (is_amount (balance_of_account base.accounts (postings_of_base base) a.id)) (has_customer T a.customer) (has_broker T a.broker) h)
     (back_mapped (is_well_formed_account_row T) account_key (account_row base.accounts (postings_of_base base)) base.accounts f.accounts) in
-    let permissions = All-map base.permissions (λ p h. parts5 (has_account T p.account) (is_acl p.acl) (is_tax_id p.tax_id) (is_name p.last_name) (is_name p.first_name) h)
+    let permissions = All-map base.permissions (λ p h. parts5 (is_acl p.acl) (is_tax_id p.tax_id) (is_name p.last_name) (is_name p.first_name) (has_account T p.account) h)
     (back_rows (is_well_formed_permission_row T) permission_key base.permissions f.permissions) in
     let securities = All-map base.securities (λ s h. parts5 (is_symbol s.symbol) (is_name s.name) (is_exchange s.exchange) (is_name s.sector) (list_any (λ l. bytes_eq l.symbol s.symbol) T.last_trades) h)
     (back_mapped (is_well_formed_security_row T) security_key security_row base.securities f.securities) in
@@ -343,12 +343,12 @@ sound_back base books told form =
       parties = record {
         brokers = All-map base.brokers (λ b h. h.0) brokers;
         customers = back_rows is_well_formed_customer_row customer_key base.customers f.customers;
-        accounts = All-map base.accounts (λ a h. and3 (is_id a.id) (is_name a.name) (is_amount a.opening) h.0 h.3 h.4) accounts;
-        permissions = All-map base.permissions (λ p h. and4 (is_acl p.acl) (is_tax_id p.tax_id) (is_name p.last_name) (is_name p.first_name) h.1 h.2 h.3 h.4) permissions;
+        accounts = All-map base.accounts (λ a h. and3 (is_id a.id) (is_name a.name) (is_amount a.opening) h.0 h.1 h.2) accounts;
+        permissions = All-map base.permissions (λ p h. and4 (is_acl p.acl) (is_tax_id p.tax_id) (is_name p.last_name) (is_name p.first_name) h.0 h.1 h.2 h.3) permissions;
         broker_keys = apart_unmap broker_id_key broker_key (broker_row base.accounts done) base.brokers (λ b. refl) (back_keys broker_key (map (broker_row base.accounts done) base.brokers) r.brokers);
         customer_keys = back_keys customer_key base.customers r.customers;
         tax_ids = apart_unsort customer_tax_id_key (is_row_key_less customer_key) base.customers (tax_ids_each (rows_sorted_by_key customer_key base.customers) f.tax_ids);
-        permitted = All-map base.permissions (λ p h. sym (has_account_is base p.account) ∙ h.0) permissions;
+        permitted = All-map base.permissions (λ p h. sym (has_account_is base p.account) ∙ h.4) permissions;
         owned = λ customer. owned_back base customer books (All-map base.customers (λ c h. leb-true _ most_accounts_per_customer (sym (ap (λ n. nat_le n most_accounts_per_customer) (reads_count base c.id)) ∙ h.0)) limits);
       };
       terms = record {
@@ -379,7 +379,7 @@ sound_back base books told form =
             (All-map base.accounts (λ a h. All-map base.securities (λ s g. row_low T done a.id s.symbol g) (All-unflat (λ r. is_well_formed_summary_row third_schema T r ≡ true) (λ s. summary_rows done a.id s.symbol) base.securities h))
             (All-unflat (λ r. is_well_formed_summary_row third_schema T r ≡ true) (λ a. flat_map (λ s. summary_rows done a.id s.symbol) base.securities) base.accounts
             (back_rows (is_well_formed_summary_row third_schema T) summary_key (flat_map (λ a. flat_map (λ s. summary_rows done a.id s.symbol) base.securities) base.accounts) f.summaries)));
-        balances = λ account. balances_back base account books (All-map base.accounts (λ a h. leb-true _ greatest_amount h.5) accounts);
+        balances = λ account. balances_back base account books (All-map base.accounts (λ a h. leb-true _ greatest_amount h.3) accounts);
         commissions = λ broker. commissions_back base broker books (All-map base.brokers (λ b h. leb-true _ greatest_amount h.1) brokers);
       };
     }

@@ -22,7 +22,7 @@ use Rattle.brk_model.specs.Tables.{HistoryRow, Tables, account_row, broker_row, 
 use Rattle.brk_model.specs.Sheets.{sheets, tables_sorted_by_key}
 use Rattle.brk_model.specs.Adopted.{base_of_tables}
 use Rattle.brk_model.specs.Joins.{history_rows_with_trade_id, trade_row_with_id}
-use Rattle.brk_model.specs.Form.{is_well_formed_account_row, is_well_formed_band_row, is_well_formed_broker_row, is_well_formed_cash_row, is_well_formed_charge_row, is_well_formed_customer_row, is_within_customer_limits, is_well_formed_customer_tax_row, has_account, has_broker, has_customer, satisfies_form_condition, has_security, has_trade, is_well_formed_history_row, is_well_formed_holding_row, is_well_formed_holding_history_row, is_amount, is_cash_row_name_of_trade, is_cash_type_of_trade, is_id, is_up_to_last_stamp, is_price, is_quantity_in_schema, is_well_formed_kept_row, is_well_formed_last_trade_row, is_well_formed_permission_row, price_matches_completion, is_well_formed_request_row, are_equal_number_lists, is_well_formed_security_row, is_well_formed_settlement_row, is_well_formed_summary_row, is_well_formed_tax_rate_row, is_well_formed_trade_row, is_movement_name_and_amount, is_well_formed_move_row, trade_ids_of_cash_rows}
+use Rattle.brk_model.specs.Form.{is_well_formed_account_row, is_well_formed_band_row, is_well_formed_broker_row, is_well_formed_cash_row, is_well_formed_charge_row, is_well_formed_customer_row, is_within_customer_limits, is_well_formed_customer_tax_row, has_account, has_broker, has_customer, satisfies_form_condition, has_security, has_trade, is_well_formed_history_row, is_well_formed_holding_row, is_well_formed_holding_history_row, is_amount, is_cash_row_name_of_trade, is_cash_type_of_trade, is_id, is_up_to_last_stamp, is_price, is_quantity_in_schema, is_well_formed_kept_row, is_well_formed_last_trade_row, is_well_formed_permission_row, price_matches_completion, is_well_formed_request_row, are_equal_number_lists, is_well_formed_security_row, is_well_formed_settlement_row, is_well_formed_summary_row, is_well_formed_tax_rate_row, is_well_formed_trade_row, is_movement_name_and_amount, is_well_formed_move_row, trade_ids_of_cash_rows, has_well_formed_permission_texts}
 use Rattle.brk_model.specs.Forms.{is_acl, is_exchange, is_name, is_symbol, is_tax_id}
 use Rattle.brk_model.specs.Keys.{KeyPart, word, rows_sorted_by_key, is_row_key_less, account_key, band_key, broker_key, cash_key, charge_key, customer_key, customer_tax_key, history_key, holding_history_key, holding_key, kept_key, last_trade_key, permission_key, request_key, security_key, settlement_key, summary_key, tax_rate_key, trade_key, move_key}
 use Rattle.brk_model.specs.Ways.{is_valid_status_sequence}
@@ -45,7 +45,7 @@ use Rattle.brk_audit_theorems.proofs.AgainStatus.{all_list, first_of_two, some_l
 use Rattle.brk_audit_theorems.proofs.Marks.{filtered, last_has, no_more_ways, three_ways}
 use Rattle.brk_audit_theorems.proofs.Members.{All-flat_map}
 use Rattle.brk_audit_theorems.proofs.Sorted.{All-rows}
-use Rattle.brk_invariant_theorems.specs.Sound.{HasDueDayInCalendar, StatusChangeIsUpToLastStamp, AuditInvariant, BaseTradeAuditInvariant, PermissionAccountIsListed, TaxCustomerIsListed, TaxRateIsListed, is_well_formed_account, is_well_formed_permission, is_well_formed_security, has_cash_text_for_name, is_well_formed_movement}
+use Rattle.brk_invariant_theorems.specs.Sound.{HasDueDayInCalendar, StatusChangeIsUpToLastStamp, AuditInvariant, BaseTradeAuditInvariant, PermissionAccountIsListed, TaxCustomerIsListed, TaxRateIsListed, is_well_formed_account, is_well_formed_security, has_cash_text_for_name, is_well_formed_movement}
 use Rattle.brk_invariant_theorems.proofs.OneTrade.{false_true, price_of_done}
 use Rattle.brk_invariant_theorems.proofs.SoundRecords.{sum-same}
 use Rattle.brk_invariant_theorems.proofs.SortedRows.{bands_sort, overlap_none, tax_ids_apart}
@@ -267,13 +267,13 @@ account_whole : (base : Base) (a : Account) → AuditInvariant base → is_well_
     → is_well_formed_account_row (sheets base) (account_row base.accounts (postings_of_base base) a) ≡ true
 account_whole base a k h c b =
     let f = parts3 (is_id a.id) (is_name a.name) (is_amount a.opening) h in
-    and6 (is_id a.id) (has_customer (sheets base) a.customer) (has_broker (sheets base) a.broker) (is_name a.name) (is_amount a.opening) (is_amount (balance_of_account base.accounts (postings_of_base base) a.id))
-    f.0 (has_customer_is base a.customer ∙ c) (has_broker_is base a.broker ∙ b) f.1 f.2 (le-leb _ greatest_amount (k.balances a.id))
+    and6 (is_id a.id) (is_name a.name) (is_amount a.opening) (is_amount (balance_of_account base.accounts (postings_of_base base) a.id)) (has_customer (sheets base) a.customer) (has_broker (sheets base) a.broker)
+    f.0 f.1 f.2 (le-leb _ greatest_amount (k.balances a.id)) (has_customer_is base a.customer ∙ c) (has_broker_is base a.broker ∙ b)
 
-permission_whole : (base : Base) (p : Permission) → is_well_formed_permission p ≡ true → PermissionAccountIsListed base.accounts p → is_well_formed_permission_row (sheets base) p ≡ true
+permission_whole : (base : Base) (p : Permission) → has_well_formed_permission_texts p ≡ true → PermissionAccountIsListed base.accounts p → is_well_formed_permission_row (sheets base) p ≡ true
 permission_whole base p h n =
     let f = parts4 (is_acl p.acl) (is_tax_id p.tax_id) (is_name p.last_name) (is_name p.first_name) h in
-    and5 (has_account (sheets base) p.account) (is_acl p.acl) (is_tax_id p.tax_id) (is_name p.last_name) (is_name p.first_name) (has_account_is base p.account ∙ n) f.0 f.1 f.2 f.3
+    and5 (is_acl p.acl) (is_tax_id p.tax_id) (is_name p.last_name) (is_name p.first_name) (has_account (sheets base) p.account) f.0 f.1 f.2 f.3 (has_account_is base p.account ∙ n)
 
 security_whole : (base : Base) (s : Security) → is_well_formed_security s ≡ true → is_some (security_with_symbol base s.symbol) ≡ true → is_well_formed_security_row (sheets base) (security_row s) ≡ true
 security_whole base s h n =
@@ -339,7 +339,7 @@ form_of base books k =
           (All-map base.accounts (λ a h. account_whole base a k h.0 h.1.0 h.1.1)
           (both_all (λ a. is_well_formed_account a ≡ true) (λ a. CustomerOfAccountExists base a × BrokerOfAccountExists base a) base.accounts k.accounts (both_all (CustomerOfAccountExists base) (BrokerOfAccountExists base) base.accounts books.customers books.brokers)));
       permissions = rows_form (is_well_formed_permission_row T) permission_key base.permissions
-          (All-map base.permissions (λ p h. permission_whole base p h.0 h.1) (both_all (λ p. is_well_formed_permission p ≡ true) (PermissionAccountIsListed base.accounts) base.permissions k.permissions k.permitted));
+          (All-map base.permissions (λ p h. permission_whole base p h.0 h.1) (both_all (λ p. has_well_formed_permission_texts p ≡ true) (PermissionAccountIsListed base.accounts) base.permissions k.permissions k.permitted));
       securities = mapped_form (is_well_formed_security_row T) security_key security_row base.securities
           (All-map base.securities (λ s h. security_whole base s h.0 h.1) (both_all (λ s. is_well_formed_security s ≡ true) (λ s. is_some (security_with_symbol base s.symbol) ≡ true) base.securities k.securities listed));
       last_trades = mapped_form (is_well_formed_last_trade_row T) last_trade_key last_trade_row base.securities

@@ -13,7 +13,7 @@ use Rattle.brk_model.specs.Records.{Account, Band, Broker, Charge, Customer, Cus
 use Rattle.brk_model.specs.Base.{Base, account_with_id, broker_id_in_accounts, completed_trades, customer_with_id, tax_rate_sum_of_customer, tax_rate_of_id}
 use Rattle.brk_model.specs.Derived.{settlement_amount, balance_of_account, cash_trades, commission_total_of_broker, trades_of_account, trades_of_broker, postings_to_account, postings, postings_of_base}
 use Rattle.brk_model.specs.Commands.{Command, Listing, Reply, AddBroker, AddCustomer, AddAccount, AddPermission, AddSecurity, AddCharge, AddBand, AddTaxRate, AddCustomerTax}
-use Rattle.brk_model.specs.Form.{is_well_formed_band_row, is_well_formed_charge_row, is_well_formed_customer_row, is_amount, is_id, is_up_to_last_stamp, is_quantity_in_schema, is_tier, is_well_formed_kept_row, is_well_formed_tax_rate_row}
+use Rattle.brk_model.specs.Form.{is_well_formed_band_row, is_well_formed_charge_row, is_well_formed_customer_row, is_amount, is_id, is_up_to_last_stamp, is_quantity_in_schema, is_tier, is_well_formed_kept_row, is_well_formed_tax_rate_row, has_well_formed_permission_texts}
 use Rattle.brk_model.specs.Forms.{is_exchange, is_name}
 use Rattle.brk_model.specs.Keys.{KeyPart, number, word, charge_key, customer_key, customer_tax_key, kept_key, tax_rate_key}
 use Rattle.brk_model.specs.Keyed.{base_with_stored_reply, stored_row_with_key}
@@ -34,7 +34,7 @@ use Rattle.brk_book_theorems.proofs.Steps.{in_order}
 use Rattle.brk_audit_theorems.proofs.Again.{both_all}
 use Rattle.brk_model_theorems.proofs.Conjunctions.{parts3, parts5}
 use Rattle.brk_audit_theorems.specs.Told.{broker_id_key}
-use Rattle.brk_invariant_theorems.specs.Sound.{AuditInvariant, TradeAuditInvariant, BaseTradeAuditInvariant, HasDistinctKeys, PermissionAccountIsListed, TaxCustomerIsListed, TaxRateIsListed, is_well_formed_account, is_well_formed_broker, has_cash_text_for_name, is_well_formed_permission, is_well_formed_security, customer_tax_id_key}
+use Rattle.brk_invariant_theorems.specs.Sound.{AuditInvariant, TradeAuditInvariant, BaseTradeAuditInvariant, HasDistinctKeys, PermissionAccountIsListed, TaxCustomerIsListed, TaxRateIsListed, is_well_formed_account, is_well_formed_broker, has_cash_text_for_name, is_well_formed_security, customer_tax_id_key}
 use Rattle.brk_invariant_theorems.specs.InForm.{MeetsAuditFormats, IsWellFormedKey}
 use Rattle.brk_invariant_theorems.proofs.OneTrade.{past_itself, sound_last}
 
@@ -127,7 +127,7 @@ sound_permission base now x k books form e =
         brokers = l.brokers;
         customers = l.customers;
         accounts = l.accounts;
-        permissions = All-append (λ p. is_well_formed_permission p ≡ true) base.permissions (x ∷ []) k.permissions (form, tt);
+        permissions = All-append (λ p. has_well_formed_permission_texts p ≡ true) base.permissions (x ∷ []) k.permissions (form, tt);
         broker_keys = l.broker_keys;
         customer_keys = l.customer_keys;
         tax_ids = l.tax_ids;

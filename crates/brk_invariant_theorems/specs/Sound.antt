@@ -11,8 +11,7 @@ use Rattle.brk_model.specs.Records.{Account, Band, Broker, Charge, Customer, Cus
 use Rattle.brk_model.specs.Base.{Base, completed_trades, account_with_id_in_list, is_completed}
 use Rattle.brk_model.specs.Derived.{settlement_amount, balance_of_account, commission_total_of_broker, postings, holding_summary_quantity}
 use Rattle.brk_model.specs.Schemas.{third_schema}
-use Rattle.brk_model.specs.Forms.{is_acl, is_name, is_tax_id}
-use Rattle.brk_model.specs.Form.{is_well_formed_band_row, is_well_formed_charge_row, is_well_formed_customer_row, is_amount, is_cash_type_of_trade, is_due_within_calendar, is_id, is_movement_name_and_amount, is_up_to_last_stamp, is_price, has_price_exactly_if, is_quantity_in_schema, is_well_formed_kept_row, are_well_formed_listing_texts, is_well_formed_tax_rate_row}
+use Rattle.brk_model.specs.Form.{is_well_formed_band_row, is_well_formed_charge_row, is_well_formed_customer_row, is_amount, is_cash_type_of_trade, is_due_within_calendar, is_id, is_movement_name_and_amount, is_up_to_last_stamp, is_price, has_price_exactly_if, is_quantity_in_schema, is_well_formed_kept_row, are_well_formed_listing_texts, is_well_formed_tax_rate_row, are_well_formed_account_fields, are_well_formed_id_and_name, has_well_formed_permission_texts}
 use Rattle.brk_model.specs.Ways.{is_strictly_ascending}
 use Rattle.brk_model.specs.Keys.{KeyPart, word, charge_key, customer_key, customer_tax_key, kept_key, tax_rate_key}
 use Rattle.brk_audit_theorems.specs.Told.{HasValidTransitions, HasNoStrayTexts, HasAscendingStamps, broker_id_key}
@@ -30,15 +29,11 @@ customer_tax_id_key c = word c.tax_id ∷ []
 
 -- True if the id and the name of the broker are well-formed.
 abbrev pub is_well_formed_broker : Broker → Bool
-is_well_formed_broker b = is_id b.id && is_name b.name
+is_well_formed_broker b = are_well_formed_id_and_name b.id b.name
 
 -- True if the id, the name and the opening balance of the account are well-formed.
 abbrev pub is_well_formed_account : Account → Bool
-is_well_formed_account a = is_id a.id && is_name a.name && is_amount a.opening
-
--- True if the access control list, the tax id and both names of the permission are well-formed.
-abbrev pub is_well_formed_permission : Permission → Bool
-is_well_formed_permission p = is_acl p.acl && is_tax_id p.tax_id && is_name p.last_name && is_name p.first_name
+is_well_formed_account a = are_well_formed_account_fields a.id a.name a.opening
 
 -- True if the symbol, name, exchange, sector and last price of the security are well-formed.
 abbrev pub is_well_formed_security : Security → Bool
@@ -156,7 +151,7 @@ pub record PartyAuditInvariant (all_brokers : List Broker) (all_customers : List
   pub brokers : AllByRecursion (λ b. is_well_formed_broker b ≡ true) all_brokers
   pub customers : AllByRecursion (λ c. is_well_formed_customer_row c ≡ true) all_customers
   pub accounts : AllByRecursion (λ a. is_well_formed_account a ≡ true) all_accounts
-  pub permissions : AllByRecursion (λ p. is_well_formed_permission p ≡ true) all_permissions
+  pub permissions : AllByRecursion (λ p. has_well_formed_permission_texts p ≡ true) all_permissions
   pub broker_keys : HasDistinctKeys broker_id_key all_brokers
   pub customer_keys : HasDistinctKeys customer_key all_customers
   pub tax_ids : HasDistinctKeys customer_tax_id_key all_customers

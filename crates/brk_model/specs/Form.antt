@@ -84,25 +84,38 @@ is_well_formed_key key = is_batch_name key.batch && is_id key.row
 abbrev pub is_well_formed_kept_row : Kept → Bool
 is_well_formed_kept_row k = is_well_formed_key k.key
 
+-- True if the id and the name of a record are well-formed.
+abbrev pub are_well_formed_id_and_name : ℕ → Text → Bool
+are_well_formed_id_and_name id name = is_id id && is_name name
+
 -- True if the id and the name of a row of BROKER are well-formed and its commission total is within
 -- its limit; the trade count is not checked.
 abbrev pub is_well_formed_broker_row : BrokerRow → Bool
-is_well_formed_broker_row b = is_id b.id && is_name b.name && nat_le b.commissions greatest_amount
+is_well_formed_broker_row b = are_well_formed_id_and_name b.id b.name && nat_le b.commissions greatest_amount
 
 -- True if the id, the tier, the tax id and both names of a row of CUSTOMER are well-formed.
 abbrev pub is_well_formed_customer_row : Customer → Bool
 is_well_formed_customer_row c = is_id c.id && is_tier c.tier && is_tax_id c.tax_id && is_name c.last_name && is_name c.first_name
 
+-- True if the id, the name and the opening balance of an account are well-formed.
+abbrev pub are_well_formed_account_fields : ℕ → Text → ℤ → Bool
+are_well_formed_account_fields id name opening = are_well_formed_id_and_name id name && is_amount opening
+
 -- True if the id, the name, the opening balance and the balance of a row of CUSTOMER_ACCOUNT are
 -- well-formed, and its customer and broker exist.
 abbrev pub is_well_formed_account_row : Tables → AccountRow → Bool
 is_well_formed_account_row t a =
-    is_id a.id && has_customer t a.customer && has_broker t a.broker && is_name a.name && is_amount a.opening && is_amount a.balance
+    are_well_formed_account_fields a.id a.name a.opening && is_amount a.balance && has_customer t a.customer && has_broker t a.broker
+
+-- True if the ACL, the tax id and both names of a permission are well-formed; whether its account
+-- exists is not checked.
+abbrev pub has_well_formed_permission_texts : Permission → Bool
+has_well_formed_permission_texts p = is_acl p.acl && is_tax_id p.tax_id && is_name p.last_name && is_name p.first_name
 
 -- True if the ACL, the tax id and both names of a row of ACCOUNT_PERMISSION are well-formed, and
 -- its account exists.
 abbrev pub is_well_formed_permission_row : Tables → Permission → Bool
-is_well_formed_permission_row t p = has_account t p.account && is_acl p.acl && is_tax_id p.tax_id && is_name p.last_name && is_name p.first_name
+is_well_formed_permission_row t p = has_well_formed_permission_texts p && has_account t p.account
 
 -- True if the symbol, the name, the exchange and the sector of a security are well-formed.
 abbrev pub are_well_formed_listing_texts : Text → Text → Text → Text → Bool
@@ -133,7 +146,7 @@ is_well_formed_band_row schema b = has_well_formed_bounds schema b && nat_le b.f
 
 -- True if the id and the name of a row of TAXRATE are well-formed and its rate is within its limit.
 abbrev pub is_well_formed_tax_rate_row : TaxRate → Bool
-is_well_formed_tax_rate_row r = is_id r.id && is_name r.name && nat_le r.rate greatest_tax_rate
+is_well_formed_tax_rate_row r = are_well_formed_id_and_name r.id r.name && nat_le r.rate greatest_tax_rate
 
 -- True if the customer and the tax rate of a row of CUSTOMER_TAXRATE exist.
 abbrev pub is_well_formed_customer_tax_row : Tables → CustomerTax → Bool

@@ -7,9 +7,9 @@ use Rattle.std.specs.Str.{is_utf8}
 use Rattle.std.proofs.lemmas.Bool.{and_parts, eq-eqb}
 use Rattle.brk_money.specs.Moments.{greatest_day, greatest_stamp}
 use Rattle.brk_model.specs.Limits.{greatest_tax_rate}
-use Rattle.brk_model.specs.Forms.{is_name, is_tax_id, is_symbol, is_exchange, is_batch_name}
+use Rattle.brk_model.specs.Forms.{is_name, is_tax_id, is_symbol, is_exchange, is_batch_name, is_acl}
 use Rattle.brk_model.specs.Joins.{trade_row_with_id}
-use Rattle.brk_model.specs.Form.{is_id, is_tier, is_price, is_cash_type_of_trade, is_cash_row_name_of_trade, satisfies_form_condition, is_well_formed_kept_row, is_well_formed_broker_row, is_well_formed_customer_row, is_well_formed_account_row, is_well_formed_permission_row, is_well_formed_security_row, is_well_formed_last_trade_row, is_well_formed_charge_row, is_well_formed_band_row, is_well_formed_tax_rate_row, is_well_formed_customer_tax_row, is_well_formed_trade_row, is_well_formed_history_row, is_well_formed_request_row, is_well_formed_holding_row, is_well_formed_summary_row, is_well_formed_holding_history_row, is_well_formed_settlement_row, is_well_formed_cash_row, is_well_formed_move_row, has_cash_row_name_of_trade, is_movement_name_and_amount, is_cash_row_number, has_account, is_at_most_last_stamp, is_amount, has_utf8_texts}
+use Rattle.brk_model.specs.Form.{is_id, is_tier, is_price, is_cash_type_of_trade, is_cash_row_name_of_trade, satisfies_form_condition, is_well_formed_kept_row, is_well_formed_broker_row, is_well_formed_customer_row, is_well_formed_account_row, is_well_formed_permission_row, is_well_formed_security_row, is_well_formed_last_trade_row, is_well_formed_charge_row, is_well_formed_band_row, is_well_formed_tax_rate_row, is_well_formed_customer_tax_row, is_well_formed_trade_row, is_well_formed_history_row, is_well_formed_request_row, is_well_formed_holding_row, is_well_formed_summary_row, is_well_formed_holding_history_row, is_well_formed_settlement_row, is_well_formed_cash_row, is_well_formed_move_row, has_cash_row_name_of_trade, is_movement_name_and_amount, is_cash_row_number, has_account, is_at_most_last_stamp, is_amount, has_utf8_texts, has_customer, has_broker}
 use Rattle.brk_model.specs.Schemas.{Schema, third_schema}
 use Rattle.brk_model.specs.Tables.{Tables, MoveRow}
 use Rattle.brk_model_theorems.specs.FormParts.{SatisfiesFormParts}
@@ -61,10 +61,10 @@ module _ (schema : Schema) (narrow : schema.greatest_qty ≤ third_schema.greate
 
   accounts_formed : list_all (passes_all_cell_checks account_column_cell_checks) (map account_cells t.accounts) ≡ true
   accounts_formed = each_formed account_column_cell_checks account_cells (is_well_formed_account_row t)
-      (λ a h. let q = parts6 _ _ _ _ _ _ h in both q.0 (both (customer_id schema t p a.customer q.1) (both (broker_id schema t p a.broker q.2) (both q.3 (both (tax_status_formed a.tax_status) (both q.4 (both q.5 refl))))))) t.accounts p.accounts
+      (λ a h. let q = parts6 (is_id a.id) (is_name a.name) (is_amount a.opening) (is_amount a.balance) (has_customer t a.customer) (has_broker t a.broker) h in both q.0 (both (customer_id schema t p a.customer q.4) (both (broker_id schema t p a.broker q.5) (both q.1 (both (tax_status_formed a.tax_status) (both q.2 (both q.3 refl))))))) t.accounts p.accounts
 
   permissions_formed : list_all (passes_all_cell_checks permission_column_cell_checks) (map permission_cells t.permissions) ≡ true
-  permissions_formed = each_formed permission_column_cell_checks permission_cells (is_well_formed_permission_row t) (λ a h. let q = parts5 _ _ _ _ _ h in both (account_id schema t p a.account q.0) (both q.2 (both q.1 (both q.3 (both q.4 refl))))) t.permissions p.permissions
+  permissions_formed = each_formed permission_column_cell_checks permission_cells (is_well_formed_permission_row t) (λ a h. let q = parts5 (is_acl a.acl) (is_tax_id a.tax_id) (is_name a.last_name) (is_name a.first_name) (has_account t a.account) h in both (account_id schema t p a.account q.4) (both q.1 (both q.0 (both q.2 (both q.3 refl))))) t.permissions p.permissions
 
   securities_formed : list_all (passes_all_cell_checks security_column_cell_checks) (map security_cells t.securities) ≡ true
   securities_formed = each_formed security_column_cell_checks security_cells (is_well_formed_security_row t) (λ s h. let q = parts5 (is_symbol s.symbol) (is_name s.name) (is_exchange s.exchange) (is_name s.sector) (list_any (λ l. bytes_eq l.symbol s.symbol) t.last_trades) h in both q.0 (both q.1 (both q.2 (both q.3 refl)))) t.securities p.securities
