@@ -58,8 +58,8 @@ knows_customer t a e = (account_names t a e).0
 
 trade_names : (schema : Schema) (t : Tables) (row : TradeRow) → is_well_formed_trade_row schema t row ≡ true → (has_security t row.symbol ≡ true) × (has_account t row.account ≡ true)
 trade_names schema t row e =
-    let k = parts10 (is_id row.id) (is_at_most_last_stamp t row.stamp) (has_security t row.symbol) (is_quantity_in_schema schema row.qty) (is_price row.bid) (has_account t row.account) (price_matches_completion t row)
-    (nat_le row.charge greatest_charge) (nat_le row.commission greatest_amount) (nat_le row.tax greatest_amount) e in (k.2, k.5)
+    let k = parts10 (is_id row.id) (is_quantity_in_schema schema row.qty) (is_price row.bid) (nat_le row.charge greatest_charge) (nat_le row.commission greatest_amount) (nat_le row.tax greatest_amount)
+    (is_at_most_last_stamp t row.stamp) (has_security t row.symbol) (has_account t row.account) (price_matches_completion t row) e in (k.7, k.8)
 
 knows_account : (schema : Schema) (t : Tables) (row : TradeRow) → is_well_formed_trade_row schema t row ≡ true → AccountOfTradeExists (base_of_tables t) (trade_of_row t row)
 unfolding base_of_tables

@@ -54,10 +54,10 @@ band_wider schema w b e =
 
 trade_wider : (schema : Schema) (t : Tables) → HasNoGreaterLimits schema → (r : TradeRow) → is_well_formed_trade_row schema t r ≡ true → is_well_formed_trade_row third_schema t r ≡ true
 trade_wider schema t w r e =
-    let k = parts10 (is_id r.id) (is_at_most_last_stamp t r.stamp) (has_security t r.symbol) (is_quantity_in_schema schema r.qty) (is_price r.bid) (has_account t r.account) (price_matches_completion t r)
-    (nat_le r.charge greatest_charge) (nat_le r.commission greatest_amount) (nat_le r.tax greatest_amount) e in
-    and_from _ _ (and_from _ _ (and_from _ _ (and_from _ _ (and_from _ _ (and_from _ _ (and_from _ _ (and_from _ _ (and_from _ _ k.0 k.1) k.2)
-    (qty_wider schema w r.qty k.3)) k.4) k.5) k.6) k.7) k.8) k.9
+    let k = parts10 (is_id r.id) (is_quantity_in_schema schema r.qty) (is_price r.bid) (nat_le r.charge greatest_charge) (nat_le r.commission greatest_amount) (nat_le r.tax greatest_amount)
+    (is_at_most_last_stamp t r.stamp) (has_security t r.symbol) (has_account t r.account) (price_matches_completion t r) e in
+    and_from _ _ (and_from _ _ (and_from _ _ (and_from _ _ (and_from _ _ (and_from _ _ (and_from _ _ (and_from _ _ (and_from _ _ k.0
+    (qty_wider schema w r.qty k.1)) k.2) k.3) k.4) k.5) k.6) k.7) k.8) k.9
 
 request_wider : (schema : Schema) (t : Tables) → HasNoGreaterLimits schema → (r : RequestRow) → is_well_formed_request_row schema t r ≡ true → is_well_formed_request_row third_schema t r ≡ true
 request_wider schema t w r e =
@@ -90,8 +90,8 @@ cash_posted schema t h c e =
   where
     account_of : (r : TradeRow) → is_well_formed_trade_row schema t r ≡ true → has_account t r.account ≡ true
     account_of r f =
-        (parts10 (is_id r.id) (is_at_most_last_stamp t r.stamp) (has_security t r.symbol) (is_quantity_in_schema schema r.qty) (is_price r.bid) (has_account t r.account) (price_matches_completion t r)
-        (nat_le r.charge greatest_charge) (nat_le r.commission greatest_amount) (nat_le r.tax greatest_amount) f).5
+        (parts10 (is_id r.id) (is_quantity_in_schema schema r.qty) (is_price r.bid) (nat_le r.charge greatest_charge) (nat_le r.commission greatest_amount) (nat_le r.tax greatest_amount)
+        (is_at_most_last_stamp t r.stamp) (has_security t r.symbol) (has_account t r.account) (price_matches_completion t r) f).8
 
     by_trade : (o : Option TradeRow) → trade_row_with_id t c.trade ≡ o → option_map_or (is_cash_row_name_of_trade t c.name) o false ≡ true → has_account t (option_map_or (λ r. r.account) (trade_row_with_id t c.trade) 0) ≡ true
     by_trade None f g = absurd (cc)
@@ -142,8 +142,8 @@ ids_low : (schema : Schema) (t : Tables) → SatisfiesFormParts schema t → All
 unfolding base_of_tables
 ids_low schema t p =
     All-mapped (λ u. u.id ≤ greatest_id) (trade_of_row t) t.trades (All-map t.trades (λ r e.
-    let k = parts10 (is_id r.id) (is_at_most_last_stamp t r.stamp) (has_security t r.symbol) (is_quantity_in_schema schema r.qty) (is_price r.bid) (has_account t r.account) (price_matches_completion t r)
-    (nat_le r.charge greatest_charge) (nat_le r.commission greatest_amount) (nat_le r.tax greatest_amount) e in
+    let k = parts10 (is_id r.id) (is_quantity_in_schema schema r.qty) (is_price r.bid) (nat_le r.charge greatest_charge) (nat_le r.commission greatest_amount) (nat_le r.tax greatest_amount)
+    (is_at_most_last_stamp t r.stamp) (has_security t r.symbol) (has_account t r.account) (price_matches_completion t r) e in
     leb-true r.id greatest_id (and_parts (nat_le 1 r.id) (nat_le r.id greatest_id) k.0).1) (list_all_true (is_well_formed_trade_row schema t) t.trades p.trades))
 
 pub few_postings : (base : Base) → AreNumberedFrom 1 base.trades → AllByRecursion (λ u. u.id ≤ greatest_id) base.trades → length base.movements ≤ greatest_id

@@ -239,8 +239,8 @@ trade_back : (base : Base) (t : Trade) → BooksInvariant base → HasValidHisto
 unfolding tables_sorted_by_key tables_of_base_in_schema
 trade_back base t books told h =
     let T : Tables = sheets base in
-    let f = parts10 (is_id t.id) (is_up_to_last_stamp base.last (last_status_stamp_of_trade t)) (has_security T t.symbol) (is_quantity_in_schema third_schema t.qty) (is_price t.bid) (has_account T t.account) (price_matches_completion T (trade_row t))
-    (nat_le t.charge greatest_charge) (nat_le t.commission greatest_amount) (nat_le t.tax greatest_amount) h.row in
+    let f = parts10 (is_id t.id) (is_quantity_in_schema third_schema t.qty) (is_price t.bid) (nat_le t.charge greatest_charge) (nat_le t.commission greatest_amount) (nat_le t.tax greatest_amount)
+    (is_up_to_last_stamp base.last (last_status_stamp_of_trade t)) (has_security T t.symbol) (has_account T t.account) (price_matches_completion T (trade_row t)) h.row in
     let marks = All-map t.marks (λ m k. parts3 (has_trade T t.id) (is_up_to_last_stamp base.last m.stamp) (not (is_same_trade_status m.status Completed) || nat_le (due_day_of_completion_stamp base.rule m.stamp) greatest_day) k)
     (All-unmapped (λ r. is_well_formed_history_row T r ≡ true) (row_of t.id) t.marks h.history) in
     let done : list_any (λ h. is_same_trade_status h.status Completed) (history_rows_with_trade_id T t.id) ≡ is_completed t =
@@ -250,10 +250,10 @@ trade_back base t books told h =
     let row = row_of_trade base t h.found in
     record {
       alone = record {
-        fields = and6 (is_id t.id) (is_quantity_in_schema third_schema t.qty) (is_price t.bid) (nat_le t.charge greatest_charge) (nat_le t.commission greatest_amount) (nat_le t.tax greatest_amount) f.0 f.3 f.4 f.7 f.8 f.9;
+        fields = and6 (is_id t.id) (is_quantity_in_schema third_schema t.qty) (is_price t.bid) (nat_le t.charge greatest_charge) (nat_le t.commission greatest_amount) (nat_le t.tax greatest_amount) f.0 f.1 f.2 f.3 f.4 f.5;
         stamps = h.stamps;
         way = h.way;
-        priced = sym (ap (λ b. cond b (option_map_or is_price t.price false) (is_none t.price)) done) ∙ f.6;
+        priced = sym (ap (λ b. cond b (option_map_or is_price t.price false) (is_none t.price)) done) ∙ f.9;
         words = h.words;
         cash_type = λ d.
             let p = parts3 (option_map_or (λ row. is_cash_type_of_trade row.is_cash t.cash_type) (trade_row_with_id T t.id) false) (nat_le (due_day base.rule t) greatest_day) (is_amount (settlement_amount base.accounts t)) (h.settled d) in

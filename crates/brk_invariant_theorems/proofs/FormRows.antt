@@ -168,9 +168,9 @@ trade_whole : (base : Base) (t : Trade) → Known base t → is_well_formed_trad
 unfolding tables_sorted_by_key tables_of_base_in_schema
 trade_whole base t h =
     let f = parts6 (is_id t.id) (is_quantity_in_schema third_schema t.qty) (is_price t.bid) (nat_le t.charge greatest_charge) (nat_le t.commission greatest_amount) (nat_le t.tax greatest_amount) h.sound.fields in
-    and10 (is_id t.id) (is_up_to_last_stamp base.last (last_status_stamp_of_trade t)) (has_security (sheets base) t.symbol) (is_quantity_in_schema third_schema t.qty) (is_price t.bid) (has_account (sheets base) t.account) (price_matches_completion (sheets base) (trade_row t))
-    (nat_le t.charge greatest_charge) (nat_le t.commission greatest_amount) (nat_le t.tax greatest_amount)
-    f.0 (moment_past base t h.sound) (has_security_is base t.symbol ∙ h.security) f.1 f.2 (has_account_is base t.account ∙ h.account) (priced_row base t h) f.3 f.4 f.5
+    and10 (is_id t.id) (is_quantity_in_schema third_schema t.qty) (is_price t.bid) (nat_le t.charge greatest_charge) (nat_le t.commission greatest_amount) (nat_le t.tax greatest_amount)
+    (is_up_to_last_stamp base.last (last_status_stamp_of_trade t)) (has_security (sheets base) t.symbol) (has_account (sheets base) t.account) (price_matches_completion (sheets base) (trade_row t))
+    f.0 f.1 f.2 f.3 f.4 f.5 (moment_past base t h.sound) (has_security_is base t.symbol ∙ h.security) (has_account_is base t.account ∙ h.account) (priced_row base t h)
 
 numbers_whole : (n : ℕ) (ts : List Trade) → AreNumberedFrom n ts → are_equal_number_lists (map (λ row. row.id) (map trade_row ts)) (range_with_len n (length (map trade_row ts))) ≡ true
 numbers_whole n [] k = refl

@@ -6,12 +6,12 @@ use Rattle.std.specs.Option.{option_map_or}
 use Rattle.brk_money.specs.Spelling.{Text}
 use Rattle.brk_money.specs.Moments.{greatest_day}
 use Rattle.brk_money.specs.Kinds.{trade_type_name}
-use Rattle.brk_model.specs.Limits.{greatest_amount, greatest_charge, greatest_id, greatest_summary, greatest_tax_rate, most_accounts_per_customer}
+use Rattle.brk_model.specs.Limits.{greatest_amount, greatest_id, greatest_summary, greatest_tax_rate, most_accounts_per_customer}
 use Rattle.brk_model.specs.Records.{Account, Band, Broker, Charge, Customer, CustomerTax, Kept, StatusChange, Movement, Permission, Security, SettleRule, TaxRate, Trade}
 use Rattle.brk_model.specs.Base.{Base, completed_trades, account_with_id_in_list, is_completed}
 use Rattle.brk_model.specs.Derived.{settlement_amount, balance_of_account, commission_total_of_broker, postings, holding_summary_quantity}
 use Rattle.brk_model.specs.Schemas.{third_schema}
-use Rattle.brk_model.specs.Form.{is_well_formed_band_row, is_well_formed_charge_row, is_well_formed_customer_row, is_amount, is_cash_type_of_trade, is_due_within_calendar, is_id, is_movement_name_and_amount, is_up_to_last_stamp, is_price, has_price_exactly_if, is_quantity_in_schema, is_well_formed_kept_row, are_well_formed_listing_texts, is_well_formed_tax_rate_row, are_well_formed_account_fields, are_well_formed_id_and_name, has_well_formed_permission_texts}
+use Rattle.brk_model.specs.Form.{is_well_formed_band_row, is_well_formed_charge_row, is_well_formed_customer_row, is_amount, is_cash_type_of_trade, is_due_within_calendar, is_movement_name_and_amount, is_up_to_last_stamp, is_price, has_price_exactly_if, is_well_formed_kept_row, are_well_formed_listing_texts, is_well_formed_tax_rate_row, are_well_formed_account_fields, are_well_formed_id_and_name, has_well_formed_permission_texts, are_trade_numbers_in_range}
 use Rattle.brk_model.specs.Ways.{is_strictly_ascending}
 use Rattle.brk_model.specs.Keys.{KeyPart, word, charge_key, customer_key, customer_tax_key, kept_key, tax_rate_key}
 use Rattle.brk_audit_theorems.specs.Told.{HasValidTransitions, HasNoStrayTexts, HasAscendingStamps, broker_id_key}
@@ -41,7 +41,7 @@ is_well_formed_security s = are_well_formed_listing_texts s.symbol s.name s.exch
 
 -- True if the trade's number, quantity, bid, charge, commission and tax are within their limits.
 abbrev pub has_trade_numbers_in_range : Trade → Bool
-has_trade_numbers_in_range t = is_id t.id && is_quantity_in_schema third_schema t.qty && is_price t.bid && nat_le t.charge greatest_charge && nat_le t.commission greatest_amount && nat_le t.tax greatest_amount
+has_trade_numbers_in_range t = are_trade_numbers_in_range third_schema t.id t.qty t.bid t.charge t.commission t.tax
 
 -- ---- trades
 

@@ -161,13 +161,22 @@ has_price_exactly_if is_done price = if is_done then option_map_or is_price pric
 abbrev pub price_matches_completion : Tables → TradeRow → Bool
 price_matches_completion t row = has_price_exactly_if (list_any (λ h. is_same_trade_status h.status Completed) (history_rows_with_trade_id t row.id)) row.price
 
+-- True if the numbers of a trade are within their limits in the schema `schema`: its id, its
+-- quantity, its bid, its charge, its commission and its tax.
+abbrev pub are_trade_numbers_in_range : Schema → (id qty bid charge commission tax : ℕ) → Bool
+are_trade_numbers_in_range schema id qty bid charge commission tax =
+    is_id id && is_quantity_in_schema schema qty && is_price bid && nat_le charge greatest_charge && nat_le commission greatest_amount && nat_le tax greatest_amount
+
 -- True if the id, the quantity, the bid, the charge, the commission and the tax of a row of TRADE
 -- are within their limits, its stamp is not after the last stamp, its security and account exist,
 -- and its price agrees with its history. The executor is not checked.
 abbrev pub is_well_formed_trade_row : Schema → Tables → TradeRow → Bool
 is_well_formed_trade_row schema t row =
-    is_id row.id && is_at_most_last_stamp t row.stamp && has_security t row.symbol && is_quantity_in_schema schema row.qty && is_price row.bid && has_account t row.account && price_matches_completion t row
-    && nat_le row.charge greatest_charge && nat_le row.commission greatest_amount && nat_le row.tax greatest_amount
+    are_trade_numbers_in_range schema row.id row.qty row.bid row.charge row.commission row.tax
+    && is_at_most_last_stamp t row.stamp
+    && has_security t row.symbol
+    && has_account t row.account
+    && price_matches_completion t row
 
 -- True if the status is not `Completed`, or the due day of a completion with this stamp is within
 -- the calendar.

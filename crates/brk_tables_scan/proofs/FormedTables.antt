@@ -6,10 +6,10 @@ use Rattle.std.specs.Option.{option_map_or}
 use Rattle.std.specs.Str.{is_utf8}
 use Rattle.std.proofs.lemmas.Bool.{and_parts, eq-eqb}
 use Rattle.brk_money.specs.Moments.{greatest_day, greatest_stamp}
-use Rattle.brk_model.specs.Limits.{greatest_tax_rate}
+use Rattle.brk_model.specs.Limits.{greatest_tax_rate, greatest_charge, greatest_amount}
 use Rattle.brk_model.specs.Forms.{is_name, is_tax_id, is_symbol, is_exchange, is_batch_name, is_acl}
 use Rattle.brk_model.specs.Joins.{trade_row_with_id}
-use Rattle.brk_model.specs.Form.{is_id, is_tier, is_price, is_cash_type_of_trade, is_cash_row_name_of_trade, satisfies_form_condition, is_well_formed_kept_row, is_well_formed_broker_row, is_well_formed_customer_row, is_well_formed_account_row, is_well_formed_permission_row, is_well_formed_security_row, is_well_formed_last_trade_row, is_well_formed_charge_row, is_well_formed_band_row, is_well_formed_tax_rate_row, is_well_formed_customer_tax_row, is_well_formed_trade_row, is_well_formed_history_row, is_well_formed_request_row, is_well_formed_holding_row, is_well_formed_summary_row, is_well_formed_holding_history_row, is_well_formed_settlement_row, is_well_formed_cash_row, is_well_formed_move_row, has_cash_row_name_of_trade, is_movement_name_and_amount, is_cash_row_number, has_account, is_at_most_last_stamp, is_amount, has_utf8_texts, has_customer, has_broker}
+use Rattle.brk_model.specs.Form.{is_id, is_tier, is_price, is_cash_type_of_trade, is_cash_row_name_of_trade, satisfies_form_condition, is_well_formed_kept_row, is_well_formed_broker_row, is_well_formed_customer_row, is_well_formed_account_row, is_well_formed_permission_row, is_well_formed_security_row, is_well_formed_last_trade_row, is_well_formed_charge_row, is_well_formed_band_row, is_well_formed_tax_rate_row, is_well_formed_customer_tax_row, is_well_formed_trade_row, is_well_formed_history_row, is_well_formed_request_row, is_well_formed_holding_row, is_well_formed_summary_row, is_well_formed_holding_history_row, is_well_formed_settlement_row, is_well_formed_cash_row, is_well_formed_move_row, has_cash_row_name_of_trade, is_movement_name_and_amount, is_cash_row_number, has_account, is_at_most_last_stamp, is_amount, has_utf8_texts, has_customer, has_broker, is_quantity_in_schema, has_security, price_matches_completion}
 use Rattle.brk_model.specs.Schemas.{Schema, third_schema}
 use Rattle.brk_model.specs.Tables.{Tables, MoveRow}
 use Rattle.brk_model_theorems.specs.FormParts.{SatisfiesFormParts}
@@ -88,9 +88,10 @@ module _ (schema : Schema) (narrow : schema.greatest_qty ≤ third_schema.greate
   trades_formed texts = each_formed trade_column_cell_checks trade_cells (λ r. is_well_formed_trade_row schema t r && is_utf8 r.executor)
       (λ r h.
       let both_parts = and_parts (is_well_formed_trade_row schema t r) _ h in
-      let q = parts10 _ _ _ _ _ _ _ _ _ _ both_parts.0 in
-      both q.0 (both (stamp_of schema t p r.stamp q.1) (both (status_formed r.status) (both (type_formed r.kind) (both (flag_formed r.is_cash) (both (symbol_of schema t p r.symbol q.2) (both (wider schema narrow r.qty q.3) (both q.4 (both (account_id schema t p r.account q.5)
-      (both both_parts.1 (both (price_formed _ r.price q.6) (both q.7 (both q.8 (both q.9 (both (flag_formed r.is_lifo) refl)))))))))))))))
+      let q = parts10 (is_id r.id) (is_quantity_in_schema schema r.qty) (is_price r.bid) (nat_le r.charge greatest_charge) (nat_le r.commission greatest_amount) (nat_le r.tax greatest_amount)
+      (is_at_most_last_stamp t r.stamp) (has_security t r.symbol) (has_account t r.account) (price_matches_completion t r) both_parts.0 in
+      both q.0 (both (stamp_of schema t p r.stamp q.6) (both (status_formed r.status) (both (type_formed r.kind) (both (flag_formed r.is_cash) (both (symbol_of schema t p r.symbol q.7) (both (wider schema narrow r.qty q.1) (both q.2 (both (account_id schema t p r.account q.8)
+      (both both_parts.1 (both (price_formed _ r.price q.9) (both q.3 (both q.4 (both q.5 (both (flag_formed r.is_lifo) refl)))))))))))))))
       t.trades (all_both (is_well_formed_trade_row schema t) _ t.trades p.trades texts)
 
   history_formed : list_all (passes_all_cell_checks history_column_cell_checks) (map history_cells t.history) ≡ true
