@@ -1,15 +1,15 @@
 -- The audit invariant: what an audit of a base's tables needs beyond the books invariant:
 -- well-formed fields, unique keys, existing references, and limits.
-use Rattle.std.specs.Prelude.{◌≡◌, ◌≤◌, ⊤, ℕ, ◌+◌, ◌==◌, ◌&&◌, ◌||◌, Bool, true, List, [], ◌∷◌, Option, is_some, nat_le, nat_abs, length, filter, map, find, sum_by, codes, decimal, bytes_eq, ◌++◌}
+use Rattle.std.specs.Prelude.{◌≡◌, ◌≤◌, ⊤, ℕ, ◌+◌, ◌==◌, ◌&&◌, ◌||◌, Bool, true, List, [], ◌∷◌, Option, is_some, nat_le, nat_abs, length, filter, map, find, sum_by, codes, bytes_eq}
 use Rattle.std.specs.List.{AllByRecursion}
 use Rattle.std.specs.Option.{option_map_or}
 use Rattle.brk_money.specs.Spelling.{Text}
 use Rattle.brk_money.specs.Moments.{greatest_day}
-use Rattle.brk_money.specs.Kinds.{trade_type_name}
 use Rattle.brk_model.specs.Limits.{greatest_amount, greatest_id, greatest_summary, greatest_tax_rate, most_accounts_per_customer}
 use Rattle.brk_model.specs.Records.{Account, Band, Broker, Charge, Customer, CustomerTax, Kept, StatusChange, Movement, Permission, Security, SettleRule, TaxRate, Trade}
 use Rattle.brk_model.specs.Base.{Base, completed_trades, account_with_id_in_list, is_completed}
 use Rattle.brk_model.specs.Derived.{settlement_amount, balance_of_account, commission_total_of_broker, postings, holding_summary_quantity}
+use Rattle.brk_model.specs.Results.{cash_row_name_from_parts}
 use Rattle.brk_model.specs.Schemas.{third_schema}
 use Rattle.brk_model.specs.Form.{is_well_formed_band_row, is_well_formed_charge_row, is_well_formed_customer_row, is_amount, is_cash_type_of_trade, is_due_within_calendar, is_movement_name_and_amount, is_up_to_last_stamp, is_price, has_price_exactly_if, is_well_formed_kept_row, are_well_formed_listing_texts, is_well_formed_tax_rate_row, are_well_formed_account_fields, are_well_formed_id_and_name, has_well_formed_permission_texts, are_trade_numbers_in_range}
 use Rattle.brk_model.specs.Ways.{is_strictly_ascending}
@@ -62,8 +62,8 @@ has_price_exactly_if_completed t = has_price_exactly_if (is_completed t) t.price
 -- name `name`.
 abbrev pub has_cash_text_for_name : Trade → Text → Bool
 has_cash_text_for_name t name =
-    bytes_eq t.cash_name (trade_type_name t.kind ++ 32 ∷ decimal t.qty ++ codes " shares of " ++ name)
-    || bytes_eq t.cash_name (trade_type_name t.kind ++ 32 ∷ decimal t.qty ++ codes " Shares of " ++ name)
+    bytes_eq t.cash_name (cash_row_name_from_parts (codes " shares of ") t.kind t.qty name)
+    || bytes_eq t.cash_name (cash_row_name_from_parts (codes " Shares of ") t.kind t.qty name)
 
 -- True if the trade's cash text is one of the two texts for its type, its quantity and the name of
 -- its security.
