@@ -1,13 +1,13 @@
 -- The audit invariant: what an audit of a base's tables needs beyond the books invariant:
 -- well-formed fields, unique keys, existing references, and limits.
-use Rattle.std.specs.Prelude.{◌≡◌, ◌≤◌, ⊤, ℕ, ◌+◌, ◌==◌, ◌&&◌, ◌||◌, Bool, true, List, [], ◌∷◌, Option, is_some, nat_le, nat_abs, length, filter, map, find, sum_by, codes, bytes_eq}
+use Rattle.std.specs.Prelude.{◌≡◌, ◌≤◌, ⊤, ℕ, ◌+◌, ◌==◌, ◌&&◌, ◌||◌, Bool, true, List, [], ◌∷◌, Option, is_some, nat_le, nat_abs, length, filter, map, codes, bytes_eq}
 use Rattle.std.specs.List.{AllByRecursion}
 use Rattle.std.specs.Option.{option_map_or}
 use Rattle.brk_money.specs.Spelling.{Text}
 use Rattle.brk_money.specs.Moments.{greatest_day}
 use Rattle.brk_model.specs.Limits.{greatest_amount, greatest_id, greatest_summary, greatest_tax_rate, most_accounts_per_customer}
 use Rattle.brk_model.specs.Records.{Account, Band, Broker, Charge, Customer, CustomerTax, Kept, StatusChange, Movement, Permission, Security, SettleRule, TaxRate, Trade}
-use Rattle.brk_model.specs.Base.{Base, completed_trades, account_with_id_in_list, is_completed}
+use Rattle.brk_model.specs.Base.{Base, completed_trades, account_with_id_in_list, is_completed, customer_with_id_in_list, security_name_in_list, tax_rate_sum_in_lists, tax_rate_with_id_in_list}
 use Rattle.brk_model.specs.Derived.{settlement_amount, balance_of_account, commission_total_of_broker, postings, holding_summary_quantity}
 use Rattle.brk_model.specs.Results.{cash_row_name_from_parts}
 use Rattle.brk_model.specs.Schemas.{third_schema}
@@ -68,7 +68,7 @@ has_cash_text_for_name t name =
 -- True if the trade's cash text is one of the two texts for its type, its quantity and the name of
 -- its security.
 abbrev pub has_cash_text_of_security : List Security → Trade → Bool
-has_cash_text_of_security securities t = has_cash_text_for_name t (option_map_or (λ s. s.name) (find (λ s. bytes_eq s.symbol t.symbol) securities) [])
+has_cash_text_of_security securities t = has_cash_text_for_name t (security_name_in_list securities t.symbol)
 
 -- The trade satisfies the conditions of the audit invariant that depend on the trade alone.
 pub record TradeOnlyAuditInvariant (t : Trade) : Type 0 where
@@ -125,17 +125,11 @@ PermissionAccountIsListed accounts p = is_some (account_with_id_in_list accounts
 
 -- The customer of the customer's tax is one of `customers`.
 abbrev pub TaxCustomerIsListed : List Customer → CustomerTax → Type 0
-TaxCustomerIsListed customers x = is_some (find (λ c. c.id == x.customer) customers) ≡ true
+TaxCustomerIsListed customers x = is_some (customer_with_id_in_list customers x.customer) ≡ true
 
 -- The tax rate of the customer's tax is one of `tax_rates`.
 abbrev pub TaxRateIsListed : List TaxRate → CustomerTax → Type 0
-TaxRateIsListed tax_rates x = is_some (find (λ r. r.id == x.tax) tax_rates) ≡ true
-
--- The sum of the rates of the taxes that the customer pays. A tax rate that does not exist counts
--- 0.
-abbrev pub rate_sum_of_payer : List TaxRate → List CustomerTax → ℕ → ℕ
-rate_sum_of_payer tax_rates customer_taxes customer =
-    sum_by (λ x. option_map_or (λ r. r.rate) (find (λ r. r.id == x.tax) tax_rates) 0) (filter (λ x. x.customer == customer) customer_taxes)
+TaxRateIsListed tax_rates x = is_some (tax_rate_with_id_in_list tax_rates x.tax) ≡ true
 
 -- ---- the parts of the invariant: well-formed fields, and unique keys
 
@@ -174,7 +168,7 @@ pub record RateAuditInvariant (all_customers : List Customer) (all_charges : Lis
   pub payers : AllByRecursion (TaxCustomerIsListed all_customers) all_taxes
   pub taxes : AllByRecursion (TaxRateIsListed all_tax_rates) all_taxes
   -- The rates of a customer sum to at most the greatest tax rate.
-  pub rates : (customer : ℕ) → rate_sum_of_payer all_tax_rates all_taxes customer ≤ greatest_tax_rate
+  pub rates : (customer : ℕ) → tax_rate_sum_in_lists all_tax_rates all_taxes customer ≤ greatest_tax_rate
 
 -- The part of the audit invariant that concerns securities: well-formed fields, and no last trade
 -- after the last stamp.

@@ -12,7 +12,7 @@ use Rattle.brk_model.specs.Limits.{greatest_price, greatest_charge, greatest_com
 use Rattle.brk_model.specs.Lists.{all_distinct}
 use Rattle.brk_model.specs.Schemas.{Schema}
 use Rattle.brk_model.specs.Records.{Customer, Permission, Charge, Band, TaxRate, CustomerTax, Key, Kept, SettleRule}
-use Rattle.brk_model.specs.Base.{tax_rate_sum_of_customer}
+use Rattle.brk_model.specs.Base.{tax_rate_sum_of_customer, customer_with_id_in_list}
 use Rattle.brk_model.specs.Tables.{Tables, BrokerRow, AccountRow, SecurityRow, LastTradeRow, TradeRow, HistoryRow, RequestRow, HoldingRow, SummaryRow, HoldingHistoryRow, SettlementRow, CashRow, MoveRow}
 use Rattle.brk_model.specs.Derived.{due_day_of_completion_stamp}
 use Rattle.brk_model.specs.Results.{cash_row_name}
@@ -69,7 +69,7 @@ has_security tables symbol = is_some (security_row_with_symbol tables symbol)
 
 -- True if the tables have a CUSTOMER row with the id `id`.
 abbrev pub has_customer : Tables → ℕ → Bool
-has_customer tables id = is_some (find (λ c. c.id == id) tables.customers)
+has_customer tables id = is_some (customer_with_id_in_list tables.customers id)
 
 -- True if the tables have a BROKER row with the id `id`.
 abbrev pub has_broker : Tables → ℕ → Bool
