@@ -1,5 +1,5 @@
 -- Lookups in the tables by symbol, trade or account, and rows of TRADE sorted by stamp.
-use Rattle.std.specs.Prelude.{ℕ, ◌==◌, List, filter, find, Option, bytes_eq}
+use Rattle.std.specs.Prelude.{ℕ, Bool, false, ◌==◌, List, filter, find, Option, bytes_eq}
 use Rattle.std.specs.Option.{option_map_or}
 use Rattle.brk_money.specs.Spelling.{Text}
 use Rattle.brk_model.specs.Lists.{sort_by, is_pair_less}
@@ -20,6 +20,10 @@ trade_row_with_id tables id = find (λ row. row.id == id) tables.trades
 -- The CUSTOMER_ACCOUNT row with the id `id`, or none.
 abbrev pub account_row_with_id : Tables → ℕ → Option AccountRow
 account_row_with_id tables id = find (λ row. row.id == id) tables.accounts
+
+-- True if the optional id `id` of a trade is `trade`; false if there is none.
+abbrev pub is_id_of_trade : ℕ → Option ℕ → Bool
+is_id_of_trade trade id = option_map_or (λ n. n == trade) id false
 
 -- The TRADE rows of the account `account`, in their sequence.
 abbrev pub trade_rows_of_account : Tables → ℕ → List TradeRow

@@ -9,7 +9,7 @@ use Rattle.brk_model.specs.Lists.{sort_by, is_pair_less}
 use Rattle.brk_model.specs.Tables.{Tables, TradeRow, HoldingHistoryRow, SettlementRow, MoveRow}
 use Rattle.brk_model.specs.Rows.{nonnegative_cents_text, cash_or_margin_word, lifo_or_fifo_word}
 use Rattle.brk_model.specs.Queries.{View}
-use Rattle.brk_model.specs.Joins.{trade_row_with_id, trade_rows_of_account, history_rows_with_trade_id, trade_rows_oldest_first}
+use Rattle.brk_model.specs.Joins.{trade_row_with_id, trade_rows_of_account, history_rows_with_trade_id, trade_rows_oldest_first, is_id_of_trade}
 
 -- The record of a settlement: the word `settlement`, cash type, due day and amount.
 abbrev pub settlement_record : SettlementRow → List Text
@@ -30,7 +30,7 @@ trade_record t =
 
 -- True if the CASH_MOVE row belongs to the trade with the id `trade`.
 abbrev pub is_cash_row_of_trade : ℕ → MoveRow → Bool
-is_cash_row_of_trade trade row = option_map_or (λ id. id == trade) row.trade false
+is_cash_row_of_trade trade row = is_id_of_trade trade row.trade
 
 -- The records of the trade of a TRADE row: the trade, its settlement and its cash row if they
 -- exist, and its status changes, sorted by stamp, ascending.
