@@ -1,4 +1,5 @@
 ghost use Rattle.std.specs.Prelude.{◌≡◌, nat_le};
+ghost use Rattle.brk_money.specs.Spelling.{is_within_amount_limit};
 ghost use Rattle.brk_model.specs.Form as form;
 ghost use Rattle.brk_model.specs.Limits as limits;
 ghost use Rattle.brk_changes.specs.Schemas.{abstract_schema};
@@ -45,7 +46,7 @@ pub(crate) fn is_tier(tier: Tier) -> bool
 
 /// Returns true if the signed amount is within its limits.
 pub(crate) fn is_balance_within_limit(cents: Cents) -> bool
-    ensures { result ≡ form.is_amount cents }
+    ensures { result ≡ is_within_amount_limit cents }
 {
     cents.get().unsigned_abs() <= Cents::GREATEST
 }

@@ -5,6 +5,7 @@ use Rattle.std.specs.Option.{option_map_or}
 use Rattle.std.specs.List.{AllByRecursion, list_all}
 use Rattle.std.proofs.lemmas.Bool.{and_from, and_parts, leb-true, le-leb}
 use Rattle.std.proofs.lemmas.Bool.Decides.{nat_tests}
+use Rattle.brk_money.specs.Spelling.{is_within_amount_limit}
 use Rattle.brk_model.specs.Limits.{greatest_amount, greatest_charge, greatest_id, greatest_cash_row_number, greatest_commission_rate}
 use Rattle.brk_model.specs.Records.{Band, Movement, Trade}
 use Rattle.brk_model.specs.Base.{Base, completed_trades, is_completed}
@@ -16,7 +17,7 @@ use Rattle.brk_model.specs.Joins.{trade_row_with_id}
 use Rattle.brk_model.specs.Keys.{number, is_key_less, cash_key, move_key}
 use Rattle.brk_model.specs.Adopted.{base_of_tables, movement_of_row, posting_of_cash_row, posting_of_move_row, postings_of_tables, trade_of_row}
 use Rattle.brk_model.specs.Lists.{all_distinct}
-use Rattle.brk_model.specs.Form.{is_well_formed_band_row, is_well_formed_cash_row, has_account, has_broker, satisfies_form_condition, tables_are_sorted_by_unique_key, has_security, has_trade, is_amount, is_cash_row_name_of_trade, has_cash_row_name_of_trade, is_id, is_cash_row_number, is_movement_name_and_amount, is_price, is_quantity_in_schema, is_at_most_last_stamp, is_tier, is_well_formed_move_row, price_matches_completion, is_well_formed_request_row, is_sorted_by_unique_key, is_well_formed_summary_row, is_well_formed_trade_row, trade_ids_of_cash_rows}
+use Rattle.brk_model.specs.Form.{is_well_formed_band_row, is_well_formed_cash_row, has_account, has_broker, satisfies_form_condition, tables_are_sorted_by_unique_key, has_security, has_trade, is_cash_row_name_of_trade, has_cash_row_name_of_trade, is_id, is_cash_row_number, is_movement_name_and_amount, is_price, is_quantity_in_schema, is_at_most_last_stamp, is_tier, is_well_formed_move_row, price_matches_completion, is_well_formed_request_row, is_sorted_by_unique_key, is_well_formed_summary_row, is_well_formed_trade_row, trade_ids_of_cash_rows}
 use Rattle.brk_model.specs.Forms.{is_exchange}
 use Rattle.brk_model.specs.Upgraded.{tables_after_upgrade}
 use Rattle.brk_model.specs.Names.{AreNumberedFrom}
@@ -76,16 +77,16 @@ pub record HasForm (t : Tables) (p : Posting) : Type 0 where
   pub account : has_account t p.account ≡ true
   pub name : option_map_or (λ id. option_map_or (is_cash_row_name_of_trade t p.name) (trade_row_with_id t id) false) p.trade (is_movement_name_and_amount p.name p.amount) ≡ true
   pub stamp : is_at_most_last_stamp t p.stamp ≡ true
-  pub amount : is_amount p.amount ≡ true
+  pub amount : is_within_amount_limit p.amount ≡ true
 
 pub move_posted : (t : Tables) (r : MoveRow) → is_well_formed_move_row t r ≡ true → HasForm t (posting_of_move_row r)
 move_posted t r e =
-    let k = parts5 (is_cash_row_number r.id) (has_account t r.account) (option_map_or (has_cash_row_name_of_trade t r) r.trade (is_movement_name_and_amount r.name r.amount)) (is_at_most_last_stamp t r.stamp) (is_amount r.amount) e in
+    let k = parts5 (is_cash_row_number r.id) (has_account t r.account) (option_map_or (has_cash_row_name_of_trade t r) r.trade (is_movement_name_and_amount r.name r.amount)) (is_at_most_last_stamp t r.stamp) (is_within_amount_limit r.amount) e in
     record { account = k.1; name = k.2; stamp = k.3; amount = k.4 }
 
 cash_posted : (schema : Schema) (t : Tables) → AllByRecursion (λ r. is_well_formed_trade_row schema t r ≡ true) t.trades → (c : CashRow) → is_well_formed_cash_row t c ≡ true → HasForm t (posting_of_cash_row t c)
 cash_posted schema t h c e =
-    let k = parts3 (option_map_or (is_cash_row_name_of_trade t c.name) (trade_row_with_id t c.trade) false) (is_at_most_last_stamp t c.stamp) (is_amount c.amount) e in
+    let k = parts3 (option_map_or (is_cash_row_name_of_trade t c.name) (trade_row_with_id t c.trade) false) (is_at_most_last_stamp t c.stamp) (is_within_amount_limit c.amount) e in
     record { account = by_trade (trade_row_with_id t c.trade) refl k.0; name = k.0; stamp = k.1; amount = k.2 }
   where
     account_of : (r : TradeRow) → is_well_formed_trade_row schema t r ≡ true → has_account t r.account ≡ true

@@ -5,7 +5,7 @@ use Rattle.std.specs.List.{AllByRecursion, list_all, list_any}
 use Rattle.std.specs.Option.{option_map_or}
 use Rattle.std.proofs.lemmas.Bool.{and_parts, eqb-true, leb-true, not-true, and_from}
 use Rattle.std.proofs.lemmas.Slice.Eq.{bytes_eq-Decides}
-use Rattle.brk_money.specs.Spelling.{Text}
+use Rattle.brk_money.specs.Spelling.{Text, is_within_amount_limit}
 use Rattle.brk_money.specs.Moments.{day_of, greatest_day}
 use Rattle.brk_money.specs.Kinds.{is_same_trade_status, side_of_trade_type}
 use Rattle.brk_money.specs.declared.status.Status.TheVariants.{Completed}
@@ -22,7 +22,7 @@ use Rattle.brk_model.specs.Tables.{Tables, account_row, broker_row, history_rows
 use Rattle.brk_model.specs.Sheets.{sheets, tables_sorted_by_key}
 use Rattle.brk_model.specs.Adopted.{base_of_tables, posting_of_move_row}
 use Rattle.brk_model.specs.Joins.{history_rows_with_trade_id, trade_row_with_id}
-use Rattle.brk_model.specs.Form.{is_well_formed_account_row, is_well_formed_broker_row, is_well_formed_cash_row, is_well_formed_charge_row, is_well_formed_customer_row, is_within_customer_limits, is_well_formed_customer_tax_row, has_account, has_broker, has_customer, satisfies_form_condition, has_security, has_trade, is_well_formed_history_row, is_amount, is_cash_row_name_of_trade, is_cash_type_of_trade, is_id, is_up_to_last_stamp, is_price, is_quantity_in_schema, is_well_formed_last_trade_row, has_distinct_tax_ids, is_well_formed_permission_row, price_matches_completion, is_well_formed_security_row, is_well_formed_settlement_row, is_well_formed_summary_row, is_well_formed_trade_row, is_movement_name_and_amount, is_well_formed_move_row}
+use Rattle.brk_model.specs.Form.{is_well_formed_account_row, is_well_formed_broker_row, is_well_formed_cash_row, is_well_formed_charge_row, is_well_formed_customer_row, is_within_customer_limits, is_well_formed_customer_tax_row, has_account, has_broker, has_customer, satisfies_form_condition, has_security, has_trade, is_well_formed_history_row, is_cash_row_name_of_trade, is_cash_type_of_trade, is_id, is_up_to_last_stamp, is_price, is_quantity_in_schema, is_well_formed_last_trade_row, has_distinct_tax_ids, is_well_formed_permission_row, price_matches_completion, is_well_formed_security_row, is_well_formed_settlement_row, is_well_formed_summary_row, is_well_formed_trade_row, is_movement_name_and_amount, is_well_formed_move_row}
 use Rattle.brk_model.specs.Forms.{is_acl, is_exchange, is_name, is_symbol, is_tax_id}
 use Rattle.brk_model.specs.Keys.{KeyPart, word, rows_sorted_by_key, is_row_key_less, account_key, band_key, broker_key, cash_key, charge_key, customer_key, customer_tax_key, history_key, kept_key, last_trade_key, permission_key, security_key, settlement_key, summary_key, tax_rate_key, trade_key}
 use Rattle.brk_book_theorems.specs.Books.{BooksInvariant}
@@ -256,7 +256,7 @@ trade_back base t books told h =
         priced = sym (ap (λ b. cond b (option_map_or is_price t.price false) (is_none t.price)) done) ∙ f.9;
         words = h.words;
         cash_type = λ d.
-            let p = parts3 (option_map_or (λ row. is_cash_type_of_trade row.is_cash t.cash_type) (trade_row_with_id T t.id) false) (nat_le (due_day base.rule t) greatest_day) (is_amount (settlement_amount base.accounts t)) (h.settled d) in
+            let p = parts3 (option_map_or (λ row. is_cash_type_of_trade row.is_cash t.cash_type) (trade_row_with_id T t.id) false) (nat_le (due_day base.rule t) greatest_day) (is_within_amount_limit (settlement_amount base.accounts t)) (h.settled d) in
             sym (ap (λ o. option_map_or (λ row. is_cash_type_of_trade row.is_cash t.cash_type) o false) row) ∙ p.0;
       };
       past = All-map t.marks (λ m k. k.1) marks;
@@ -264,7 +264,7 @@ trade_back base t books told h =
       cash_name = λ d.
           let c = and_parts (is_completed t) t.is_cash d in
           sym (ap (has_cash_text_for_name t) (same_name base t.symbol books told)) ∙ sym (ap (λ o. option_map_or (is_cash_row_name_of_trade T t.cash_name) o false) row) ∙ (h.moved c.0 c.1).name;
-      amount = λ d. (parts3 (option_map_or (λ row. is_cash_type_of_trade row.is_cash t.cash_type) (trade_row_with_id T t.id) false) (nat_le (due_day base.rule t) greatest_day) (is_amount (settlement_amount base.accounts t)) (h.settled d)).2;
+      amount = λ d. (parts3 (option_map_or (λ row. is_cash_type_of_trade row.is_cash t.cash_type) (trade_row_with_id T t.id) false) (nat_le (due_day base.rule t) greatest_day) (is_within_amount_limit (settlement_amount base.accounts t)) (h.settled d)).2;
     }
 
 -- the postings of a base whose cash rows have form
@@ -281,7 +281,7 @@ cash_back base h =
 
 movements_formed : (base : Base) → AllByRecursion (HasForm (sheets base)) (postings_of_base base) → AllByRecursion (λ m. is_well_formed_movement m ≡ true) base.movements
 movements_formed base h =
-    All-map base.movements (λ m k. and_from (is_movement_name_and_amount m.name m.amount) (is_amount m.amount) k.name k.amount)
+    All-map base.movements (λ m k. and_from (is_movement_name_and_amount m.name m.amount) (is_within_amount_limit m.amount) k.name k.amount)
     (All-unmapped (HasForm (sheets base)) posting_of_movement base.movements
     (All-back (HasForm (sheets base)) (map (posting_of_trade base.accounts) (cash_trades (completed_trades base))) (map posting_of_movement base.movements) h))
 
@@ -324,7 +324,7 @@ sound_back base books told form =
     let r : KeyParts T = key_parts T f.keys in
     let brokers = All-map base.brokers (λ b h. and_parts (is_id b.id && is_name b.name) (nat_le (commission_total_of_broker base.accounts done b.id) greatest_amount) h)
     (back_mapped is_well_formed_broker_row broker_key (broker_row base.accounts done) base.brokers f.brokers) in
-    let accounts = All-map base.accounts (λ a h. parts6 (is_id a.id) (is_name a.name) (is_amount a.opening) (is_amount (balance_of_account base.accounts (postings_of_base base) a.id)) (has_customer T a.customer) (has_broker T a.broker) h)
+    let accounts = All-map base.accounts (λ a h. parts6 (is_id a.id) (is_name a.name) (is_within_amount_limit a.opening) (is_within_amount_limit (balance_of_account base.accounts (postings_of_base base) a.id)) (has_customer T a.customer) (has_broker T a.broker) h)
     (back_mapped (is_well_formed_account_row T) account_key (account_row base.accounts (postings_of_base base)) base.accounts f.accounts) in
     let permissions = All-map base.permissions (λ p h. parts5 (is_acl p.acl) (is_tax_id p.tax_id) (is_name p.last_name) (is_name p.first_name) (has_account T p.account) h)
     (back_rows (is_well_formed_permission_row T) permission_key base.permissions f.permissions) in
@@ -343,7 +343,7 @@ sound_back base books told form =
       parties = record {
         brokers = All-map base.brokers (λ b h. h.0) brokers;
         customers = back_rows is_well_formed_customer_row customer_key base.customers f.customers;
-        accounts = All-map base.accounts (λ a h. and3 (is_id a.id) (is_name a.name) (is_amount a.opening) h.0 h.1 h.2) accounts;
+        accounts = All-map base.accounts (λ a h. and3 (is_id a.id) (is_name a.name) (is_within_amount_limit a.opening) h.0 h.1 h.2) accounts;
         permissions = All-map base.permissions (λ p h. and4 (is_acl p.acl) (is_tax_id p.tax_id) (is_name p.last_name) (is_name p.first_name) h.0 h.1 h.2 h.3) permissions;
         broker_keys = apart_unmap broker_id_key broker_key (broker_row base.accounts done) base.brokers (λ b. refl) (back_keys broker_key (map (broker_row base.accounts done) base.brokers) r.brokers);
         customer_keys = back_keys customer_key base.customers r.customers;

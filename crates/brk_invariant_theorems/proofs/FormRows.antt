@@ -5,7 +5,7 @@ use Rattle.std.specs.List.{AllByRecursion, last_or, list_all, list_any, range_wi
 use Rattle.std.specs.Option.{option_map_or}
 use Rattle.std.proofs.lemmas.Bool.{and_from, eq-eqb, le-leb, and_parts, leb-true}
 use Rattle.std.proofs.lemmas.Slice.Eq.{bytes_eq-Decides}
-use Rattle.brk_money.specs.Spelling.{Text}
+use Rattle.brk_money.specs.Spelling.{Text, is_within_amount_limit}
 use Rattle.brk_money.specs.Moments.{day_of, greatest_day, greatest_stamp}
 use Rattle.brk_money.specs.Kinds.{is_same_trade_status}
 use Rattle.brk_money.specs.declared.status.Status.TheVariants.{Completed, Pending}
@@ -22,7 +22,7 @@ use Rattle.brk_model.specs.Tables.{HistoryRow, Tables, account_row, broker_row, 
 use Rattle.brk_model.specs.Sheets.{sheets, tables_sorted_by_key}
 use Rattle.brk_model.specs.Adopted.{base_of_tables}
 use Rattle.brk_model.specs.Joins.{history_rows_with_trade_id, trade_row_with_id}
-use Rattle.brk_model.specs.Form.{is_well_formed_account_row, is_well_formed_band_row, is_well_formed_broker_row, is_well_formed_cash_row, is_well_formed_charge_row, is_well_formed_customer_row, is_within_customer_limits, is_well_formed_customer_tax_row, has_account, has_broker, has_customer, satisfies_form_condition, has_security, has_trade, is_well_formed_history_row, is_well_formed_holding_row, is_well_formed_holding_history_row, is_amount, is_cash_row_name_of_trade, is_cash_type_of_trade, is_id, is_up_to_last_stamp, is_price, is_quantity_in_schema, is_well_formed_kept_row, is_well_formed_last_trade_row, is_well_formed_permission_row, price_matches_completion, is_well_formed_request_row, are_equal_number_lists, is_well_formed_security_row, is_well_formed_settlement_row, is_well_formed_summary_row, is_well_formed_tax_rate_row, is_well_formed_trade_row, is_movement_name_and_amount, is_well_formed_move_row, trade_ids_of_cash_rows, has_well_formed_permission_texts}
+use Rattle.brk_model.specs.Form.{is_well_formed_account_row, is_well_formed_band_row, is_well_formed_broker_row, is_well_formed_cash_row, is_well_formed_charge_row, is_well_formed_customer_row, is_within_customer_limits, is_well_formed_customer_tax_row, has_account, has_broker, has_customer, satisfies_form_condition, has_security, has_trade, is_well_formed_history_row, is_well_formed_holding_row, is_well_formed_holding_history_row, is_cash_row_name_of_trade, is_cash_type_of_trade, is_id, is_up_to_last_stamp, is_price, is_quantity_in_schema, is_well_formed_kept_row, is_well_formed_last_trade_row, is_well_formed_permission_row, price_matches_completion, is_well_formed_request_row, are_equal_number_lists, is_well_formed_security_row, is_well_formed_settlement_row, is_well_formed_summary_row, is_well_formed_tax_rate_row, is_well_formed_trade_row, is_movement_name_and_amount, is_well_formed_move_row, trade_ids_of_cash_rows, has_well_formed_permission_texts}
 use Rattle.brk_model.specs.Forms.{is_acl, is_exchange, is_name, is_symbol, is_tax_id}
 use Rattle.brk_model.specs.Keys.{KeyPart, word, rows_sorted_by_key, is_row_key_less, account_key, band_key, broker_key, cash_key, charge_key, customer_key, customer_tax_key, history_key, holding_history_key, holding_key, kept_key, last_trade_key, permission_key, request_key, security_key, settlement_key, summary_key, tax_rate_key, trade_key, move_key}
 use Rattle.brk_model.specs.Ways.{is_valid_status_sequence}
@@ -200,7 +200,7 @@ row_in base t h = reads_trade base t.id ∙ ap (option_map trade_row) h.found
 
 settlement_whole : (base : Base) (t : Trade) → Done base t → is_well_formed_settlement_row (sheets base) (settlement_row base.accounts base.rule t) ≡ true
 settlement_whole base t h =
-    and3 (option_map_or (λ row. is_cash_type_of_trade row.is_cash t.cash_type) (trade_row_with_id (sheets base) t.id) false) (nat_le (due_day base.rule t) greatest_day) (is_amount (settlement_amount base.accounts t))
+    and3 (option_map_or (λ row. is_cash_type_of_trade row.is_cash t.cash_type) (trade_row_with_id (sheets base) t.id) false) (nat_le (due_day base.rule t) greatest_day) (is_within_amount_limit (settlement_amount base.accounts t))
     (ap (λ o. option_map_or (λ row. is_cash_type_of_trade row.is_cash t.cash_type) o false) (row_in base t h.0) ∙ h.0.sound.cash_type h.1) (moment_due base t h.0.sound h.1) (h.0.sound.amount h.1)
 
 pub same_name : (base : Base) (symbol : Text) → BooksInvariant base → HasValidHistories base → security_name (base_of_tables (sheets base)) symbol ≡ security_name base symbol
@@ -228,7 +228,7 @@ made_past (Some l) m e = le-leb m.stamp l e
 moved_whole : (base : Base) (m : Movement) → is_well_formed_movement m ≡ true → MovementAccountExists base.accounts m → IsMovementUpToLastStamp base.last m → HasForm (sheets base) (posting_of_movement m)
 unfolding tables_sorted_by_key tables_of_base_in_schema
 moved_whole base m f h e =
-    let k = and_parts (is_movement_name_and_amount m.name m.amount) (is_amount m.amount) f in
+    let k = and_parts (is_movement_name_and_amount m.name m.amount) (is_within_amount_limit m.amount) f in
     record { account = has_account_is base m.account ∙ h; name = k.0; stamp = made_past base.last m e; amount = k.1 }
 
 all_posted : (base : Base) → BooksInvariant base → AuditInvariant base → HasValidHistories base → AllByRecursion (Done base) (completed_trades base) → AllByRecursion (HasForm (sheets base)) (postings_of_base base)
@@ -266,8 +266,8 @@ mapped_form form key row xs h = rows_form form key (map row xs) (All-mapped (λ 
 account_whole : (base : Base) (a : Account) → AuditInvariant base → is_well_formed_account a ≡ true → CustomerOfAccountExists base a → BrokerOfAccountExists base a
     → is_well_formed_account_row (sheets base) (account_row base.accounts (postings_of_base base) a) ≡ true
 account_whole base a k h c b =
-    let f = parts3 (is_id a.id) (is_name a.name) (is_amount a.opening) h in
-    and6 (is_id a.id) (is_name a.name) (is_amount a.opening) (is_amount (balance_of_account base.accounts (postings_of_base base) a.id)) (has_customer (sheets base) a.customer) (has_broker (sheets base) a.broker)
+    let f = parts3 (is_id a.id) (is_name a.name) (is_within_amount_limit a.opening) h in
+    and6 (is_id a.id) (is_name a.name) (is_within_amount_limit a.opening) (is_within_amount_limit (balance_of_account base.accounts (postings_of_base base) a.id)) (has_customer (sheets base) a.customer) (has_broker (sheets base) a.broker)
     f.0 f.1 f.2 (le-leb _ greatest_amount (k.balances a.id)) (has_customer_is base a.customer ∙ c) (has_broker_is base a.broker ∙ b)
 
 permission_whole : (base : Base) (p : Permission) → has_well_formed_permission_texts p ≡ true → PermissionAccountIsListed base.accounts p → is_well_formed_permission_row (sheets base) p ≡ true

@@ -3,7 +3,7 @@
 use Rattle.std.specs.Prelude.{◌≡◌, ◌≤◌, ⊤, ℕ, ◌+◌, ◌==◌, ◌&&◌, ◌||◌, Bool, true, List, [], ◌∷◌, Option, is_some, nat_le, nat_abs, length, filter, map, codes, bytes_eq}
 use Rattle.std.specs.List.{AllByRecursion}
 use Rattle.std.specs.Option.{option_map_or}
-use Rattle.brk_money.specs.Spelling.{Text}
+use Rattle.brk_money.specs.Spelling.{Text, is_within_amount_limit}
 use Rattle.brk_money.specs.Moments.{greatest_day}
 use Rattle.brk_model.specs.Limits.{greatest_amount, greatest_id, greatest_summary, greatest_tax_rate, most_accounts_per_customer}
 use Rattle.brk_model.specs.Records.{Account, Band, Broker, Charge, Customer, CustomerTax, Kept, StatusChange, Movement, Permission, Security, SettleRule, TaxRate, Trade}
@@ -11,7 +11,7 @@ use Rattle.brk_model.specs.Base.{Base, completed_trades, account_with_id_in_list
 use Rattle.brk_model.specs.Derived.{settlement_amount, balance_of_account, commission_total_of_broker, postings, holding_summary_quantity}
 use Rattle.brk_model.specs.Results.{cash_row_name_from_parts}
 use Rattle.brk_model.specs.Schemas.{third_schema}
-use Rattle.brk_model.specs.Form.{is_well_formed_band_row, is_well_formed_charge_row, is_well_formed_customer_row, is_amount, is_cash_type_of_trade, is_due_within_calendar, is_movement_name_and_amount, is_up_to_last_stamp, is_price, has_price_exactly_if, is_well_formed_kept_row, are_well_formed_listing_texts, is_well_formed_tax_rate_row, are_well_formed_account_fields, are_well_formed_id_and_name, has_well_formed_permission_texts, are_trade_numbers_in_range}
+use Rattle.brk_model.specs.Form.{is_well_formed_band_row, is_well_formed_charge_row, is_well_formed_customer_row, is_cash_type_of_trade, is_due_within_calendar, is_movement_name_and_amount, is_up_to_last_stamp, is_price, has_price_exactly_if, is_well_formed_kept_row, are_well_formed_listing_texts, is_well_formed_tax_rate_row, are_well_formed_account_fields, are_well_formed_id_and_name, has_well_formed_permission_texts, are_trade_numbers_in_range}
 use Rattle.brk_model.specs.Ways.{is_strictly_ascending}
 use Rattle.brk_model.specs.Keys.{KeyPart, word, charge_key, customer_key, customer_tax_key, kept_key, tax_rate_key}
 use Rattle.brk_audit_theorems.specs.Told.{HasValidTransitions, HasNoStrayTexts, HasAscendingStamps, broker_id_key}
@@ -94,7 +94,7 @@ pub record TradeAuditInvariant (last : Option ℕ) (rule : SettleRule) (accounts
   -- A completed cash trade has one of the two cash texts for its security.
   pub cash_name : is_completed t && t.is_cash ≡ true → has_cash_text_of_security securities t ≡ true
   -- Its settlement amount is within the limit.
-  pub amount : is_completed t ≡ true → is_amount (settlement_amount accounts t) ≡ true
+  pub amount : is_completed t ≡ true → is_within_amount_limit (settlement_amount accounts t) ≡ true
 
 -- The trade satisfies the conditions of the audit invariant on a trade, given the last stamp, the
 -- settlement day, the accounts and the securities of the base.
@@ -105,7 +105,7 @@ BaseTradeAuditInvariant base t = TradeAuditInvariant base.last base.rule base.ac
 
 -- True if the text of the movement fits the sign of its amount, and the amount is within the limit.
 abbrev pub is_well_formed_movement : Movement → Bool
-is_well_formed_movement m = is_movement_name_and_amount m.name m.amount && is_amount m.amount
+is_well_formed_movement m = is_movement_name_and_amount m.name m.amount && is_within_amount_limit m.amount
 
 -- The part of the audit invariant that concerns the movements and the settlement day `rule`.
 pub record MovementAuditInvariant (movements : List Movement) (rule : SettleRule) : Type 0 where

@@ -3,7 +3,7 @@ use Rattle.std.specs.Prelude.{ℕ, Bool, true, false, not, ◌&&◌, ◌||◌, �
 use Rattle.std.specs.List.{list_any, list_all, range_with_len}
 use Rattle.std.specs.Option.{option_map_or}
 use Rattle.std.specs.Str.{is_utf8}
-use Rattle.brk_money.specs.Spelling.{Text}
+use Rattle.brk_money.specs.Spelling.{Text, is_within_amount_limit}
 use Rattle.brk_money.specs.Moments.{greatest_day, greatest_stamp}
 use Rattle.brk_money.specs.Kinds.{is_same_trade_status}
 use Rattle.brk_money.specs.declared.status.Status.{Status}
@@ -41,10 +41,6 @@ is_price n = nat_le 1 n && nat_le n greatest_price
 -- True if `n` is a customer tier: from 1 to 3.
 abbrev pub is_tier : ℕ → Bool
 is_tier n = nat_le 1 n && nat_le n 3
-
--- True if the absolute value of the amount `z` is at most the greatest amount, in cents.
-abbrev pub is_amount : ℤ → Bool
-is_amount z = nat_le (nat_abs z) greatest_amount
 
 -- True if the stamp is at most the last stamp `last`; false if `last` is `None`.
 abbrev pub is_up_to_last_stamp : Option ℕ → ℕ → Bool
@@ -99,13 +95,13 @@ is_well_formed_customer_row c = is_id c.id && is_tier c.tier && is_tax_id c.tax_
 
 -- True if the id, the name and the opening balance of an account are well-formed.
 abbrev pub are_well_formed_account_fields : ℕ → Text → ℤ → Bool
-are_well_formed_account_fields id name opening = are_well_formed_id_and_name id name && is_amount opening
+are_well_formed_account_fields id name opening = are_well_formed_id_and_name id name && is_within_amount_limit opening
 
 -- True if the id, the name, the opening balance and the balance of a row of CUSTOMER_ACCOUNT are
 -- well-formed, and its customer and broker exist.
 abbrev pub is_well_formed_account_row : Tables → AccountRow → Bool
 is_well_formed_account_row t a =
-    are_well_formed_account_fields a.id a.name a.opening && is_amount a.balance && has_customer t a.customer && has_broker t a.broker
+    are_well_formed_account_fields a.id a.name a.opening && is_within_amount_limit a.balance && has_customer t a.customer && has_broker t a.broker
 
 -- True if the ACL, the tax id and both names of a permission are well-formed; whether its account
 -- exists is not checked.
@@ -218,7 +214,7 @@ is_cash_type_of_trade is_cash word =
 -- and its due day and amount are within their limits.
 abbrev pub is_well_formed_settlement_row : Tables → SettlementRow → Bool
 is_well_formed_settlement_row t s =
-    option_map_or (λ row. is_cash_type_of_trade row.is_cash s.cash_type) (trade_row_with_id t s.trade) false && nat_le s.due_day greatest_day && is_amount s.amount
+    option_map_or (λ row. is_cash_type_of_trade row.is_cash s.cash_type) (trade_row_with_id t s.trade) false && nat_le s.due_day greatest_day && is_within_amount_limit s.amount
 
 -- True if `name` is one of the two names that a cash row of the trade of the TRADE row may have:
 -- with " shares of " or with " Shares of ".
@@ -231,7 +227,7 @@ is_cash_row_name_of_trade t name row =
 -- of that trade may have, its stamp is not after the last stamp, and its amount is within its
 -- limit.
 abbrev pub is_well_formed_cash_row : Tables → CashRow → Bool
-is_well_formed_cash_row t c = option_map_or (is_cash_row_name_of_trade t c.name) (trade_row_with_id t c.trade) false && is_at_most_last_stamp t c.stamp && is_amount c.amount
+is_well_formed_cash_row t c = option_map_or (is_cash_row_name_of_trade t c.name) (trade_row_with_id t c.trade) false && is_at_most_last_stamp t c.stamp && is_within_amount_limit c.amount
 
 -- True if `name` and `amount` are those of a movement: `Deposit` and above 0, or `Withdrawal` and
 -- below 0.
@@ -249,7 +245,7 @@ has_cash_row_name_of_trade t r trade = option_map_or (is_cash_row_name_of_trade 
 abbrev pub is_well_formed_move_row : Tables → MoveRow → Bool
 is_well_formed_move_row t r =
     is_cash_row_number r.id && has_account t r.account && option_map_or (has_cash_row_name_of_trade t r) r.trade (is_movement_name_and_amount r.name r.amount)
-    && is_at_most_last_stamp t r.stamp && is_amount r.amount
+    && is_at_most_last_stamp t r.stamp && is_within_amount_limit r.amount
 
 -- The ids of the trades of the CASH_MOVE rows, in their sequence; a row without a trade adds none.
 abbrev pub trade_ids_of_cash_rows : List MoveRow → List ℕ

@@ -1,11 +1,11 @@
 -- The formats of fields. A malformed field is refused; of several refusals the first in the order
 -- of the format checks is returned.
-use Rattle.std.specs.Prelude.{ℕ, Bool, not, ◌&&◌, ◌||◌, ◌==◌, nat_le, if◌then◌else◌, List, [], ◌∷◌, length, find, Option, Some, None, Result, Ok, Err, ℤ, pos, negsuc, nat_abs, codes, bytes_eq, chars}
+use Rattle.std.specs.Prelude.{ℕ, Bool, not, ◌&&◌, ◌||◌, ◌==◌, nat_le, if◌then◌else◌, List, [], ◌∷◌, length, find, Option, Some, None, Result, Ok, Err, ℤ, pos, negsuc, codes, bytes_eq, chars}
 use Rattle.std.specs.List.{list_all}
 use Rattle.std.specs.Option.{option_and_then}
 use Rattle.std.specs.Str.{is_utf8}
 use Rattle.std.specs.Char.{is_control, is_ascii_digit, is_ascii_uppercase, is_ascii_alphanumeric}
-use Rattle.brk_money.specs.Spelling.{Text, decimal_number_of_text, cents_of_text, day_of_text}
+use Rattle.brk_money.specs.Spelling.{Text, decimal_number_of_text, cents_of_text, day_of_text, is_within_amount_limit}
 use Rattle.brk_money.specs.Moments.{greatest_day, greatest_stamp}
 use Rattle.brk_money.specs.Kinds.{trade_type_code, tax_status_with_number}
 use Rattle.brk_money.specs.declared.order_type.OrderType.{OrderType}
@@ -109,7 +109,7 @@ read_day text = value_if_valid (λ day. nat_le day greatest_day) BadText (day_of
 -- The opening balance that a text parses as, in cents, with an absolute value of at most
 -- `greatest_amount`; otherwise the refusal `BadText`.
 abbrev pub read_opening_balance : Text → ReadResult ℤ
-read_opening_balance text = value_if_valid (λ z. nat_le (nat_abs z) greatest_amount) BadText (cents_of_text text)
+read_opening_balance text = value_if_valid (λ z. is_within_amount_limit z) BadText (cents_of_text text)
 
 -- True if the text has 1 to `most` bytes, and each of them passes `test`.
 abbrev pub is_word_up_to_length : ℕ → (ℕ → Bool) → Text → Bool
