@@ -4,7 +4,7 @@ use Rattle.brk_money.specs.OrderTypes.{price_of_order}
 use Rattle.brk_money.specs.Moments.{greatest_day}
 use Rattle.std.specs.Prelude.{◌≡◌, ⊤, ℕ, ◌&&◌, Bool, true, nat_le, IfSome}
 use Rattle.std.specs.List.{AllByRecursion}
-use Rattle.brk_model.specs.Limits.{greatest_amount, greatest_commission_rate}
+use Rattle.brk_model.specs.Limits.{greatest_amount, greatest_commission_rate, is_in_range}
 use Rattle.brk_model.specs.Schemas.{third_schema}
 use Rattle.brk_model.specs.Records.{Band, Key}
 use Rattle.brk_model.specs.Commands.{Command, Listing, Order, Tick, AddBroker, AddCustomer, AddAccount, AddPermission, AddSecurity, AddCharge, AddBand, AddTaxRate, AddCustomerTax, PlaceOrder, FeedTicks, CancelTrade, CompleteTrade, ChangeExecutors, ChangeCashTypes, ChangeCashNames, DepositCash, WithdrawCash, SetOneDay}
@@ -31,7 +31,7 @@ TickMeetsAuditFormats tick = is_price tick.price ≡ true
 
 -- True if the amount of a movement is at least 1 and at most the greatest amount, in cents.
 abbrev pub is_movement_amount : ℕ → Bool
-is_movement_amount n = nat_le 1 n && nat_le n greatest_amount
+is_movement_amount n = is_in_range 1 greatest_amount n
 
 -- The fields of the command whose formats an audit needs are well-formed. Ids that must exist, and
 -- the numbers of ids and ticks, are not checked here.

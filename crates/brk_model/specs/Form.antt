@@ -8,7 +8,7 @@ use Rattle.brk_money.specs.Moments.{greatest_day, greatest_stamp}
 use Rattle.brk_money.specs.Kinds.{is_same_trade_status}
 use Rattle.brk_money.specs.declared.status.Status.{Status}
 use Rattle.brk_money.specs.declared.status.Status.TheVariants.{Completed}
-use Rattle.brk_model.specs.Limits.{greatest_price, greatest_charge, greatest_commission_rate, greatest_tax_rate, greatest_amount, greatest_id, greatest_cash_row_number, most_accounts_per_customer}
+use Rattle.brk_model.specs.Limits.{greatest_price, greatest_charge, greatest_commission_rate, greatest_tax_rate, greatest_amount, greatest_id, greatest_cash_row_number, most_accounts_per_customer, is_in_range}
 use Rattle.brk_model.specs.Lists.{all_distinct}
 use Rattle.brk_model.specs.Schemas.{Schema}
 use Rattle.brk_model.specs.Records.{Customer, Permission, Charge, Band, TaxRate, CustomerTax, Key, Kept, SettleRule}
@@ -24,23 +24,23 @@ use Rattle.brk_model.specs.Keys.{KeyPart, is_key_less, kept_key, broker_key, cus
 
 -- True if `n` is an id: from 1 to the greatest id.
 abbrev pub is_id : ℕ → Bool
-is_id n = nat_le 1 n && nat_le n greatest_id
+is_id n = is_in_range 1 greatest_id n
 
 -- True if `n` is the number of a cash row: from 1 to the greatest number of a cash row.
 abbrev pub is_cash_row_number : ℕ → Bool
-is_cash_row_number n = nat_le 1 n && nat_le n greatest_cash_row_number
+is_cash_row_number n = is_in_range 1 greatest_cash_row_number n
 
 -- True if the quantity `n` is from 1 to the greatest quantity of the schema `schema`.
 abbrev pub is_quantity_in_schema : Schema → ℕ → Bool
-is_quantity_in_schema schema n = nat_le 1 n && nat_le n schema.greatest_qty
+is_quantity_in_schema schema n = is_in_range 1 schema.greatest_qty n
 
 -- True if the price `n` is from 1 cent to the greatest price.
 abbrev pub is_price : ℕ → Bool
-is_price n = nat_le 1 n && nat_le n greatest_price
+is_price n = is_in_range 1 greatest_price n
 
 -- True if `n` is a customer tier: from 1 to 3.
 abbrev pub is_tier : ℕ → Bool
-is_tier n = nat_le 1 n && nat_le n 3
+is_tier n = is_in_range 1 3 n
 
 -- True if the stamp is at most the last stamp `last`; false if `last` is `None`.
 abbrev pub is_up_to_last_stamp : Option ℕ → ℕ → Bool

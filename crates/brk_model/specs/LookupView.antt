@@ -5,6 +5,7 @@ use Rattle.std.specs.Option.{option_map_or}
 use Rattle.std.specs.Fmt.{signed_decimal}
 use Rattle.brk_money.specs.Spelling.{Text, cents_text, day_text}
 use Rattle.brk_money.specs.Kinds.{trade_type_code, trade_status_code}
+use Rattle.brk_model.specs.Limits.{is_in_range}
 use Rattle.brk_model.specs.Lists.{sort_by, is_pair_less}
 use Rattle.brk_model.specs.Tables.{Tables, TradeRow, HoldingHistoryRow, SettlementRow, MoveRow}
 use Rattle.brk_model.specs.Rows.{nonnegative_cents_text, cash_or_margin_word, lifo_or_fifo_word}
@@ -47,7 +48,7 @@ trade_lookup_view tables test = flat_map (trade_lookup_records tables) (take 20 
 
 -- True if the stamp of the TRADE row is between `first` and `last`, both included.
 abbrev pub row_stamp_is_between : ℕ → ℕ → TradeRow → Bool
-row_stamp_is_between first last t = nat_le first t.stamp && nat_le t.stamp last
+row_stamp_is_between first last t = is_in_range first last t.stamp
 
 -- True if a HOLDING_HISTORY row has the trade `trade` and the lot `lot`: the trade touched the lot.
 abbrev pub trade_touches_lot : Tables → ℕ → ℕ → Bool
