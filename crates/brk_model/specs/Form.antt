@@ -91,7 +91,12 @@ is_well_formed_broker_row b = are_well_formed_id_and_name b.id b.name && nat_le 
 
 -- True if the id, the tier, the tax id and both names of a row of CUSTOMER are well-formed.
 abbrev pub is_well_formed_customer_row : Customer → Bool
-is_well_formed_customer_row c = is_id c.id && is_tier c.tier && is_tax_id c.tax_id && is_name c.last_name && is_name c.first_name
+is_well_formed_customer_row c =
+    is_id c.id
+    && is_tier c.tier
+    && is_tax_id c.tax_id
+    && is_name c.last_name
+    && is_name c.first_name
 
 -- True if the id, the name and the opening balance of an account are well-formed.
 abbrev pub are_well_formed_account_fields : ℕ → Text → ℤ → Bool
@@ -101,12 +106,19 @@ are_well_formed_account_fields id name opening = are_well_formed_id_and_name id 
 -- well-formed, and its customer and broker exist.
 abbrev pub is_well_formed_account_row : Tables → AccountRow → Bool
 is_well_formed_account_row t a =
-    are_well_formed_account_fields a.id a.name a.opening && is_within_amount_limit a.balance && has_customer t a.customer && has_broker t a.broker
+    are_well_formed_account_fields a.id a.name a.opening
+    && is_within_amount_limit a.balance
+    && has_customer t a.customer
+    && has_broker t a.broker
 
 -- True if the ACL, the tax id and both names of a permission are well-formed; whether its account
 -- exists is not checked.
 abbrev pub has_well_formed_permission_texts : Permission → Bool
-has_well_formed_permission_texts p = is_acl p.acl && is_tax_id p.tax_id && is_name p.last_name && is_name p.first_name
+has_well_formed_permission_texts p =
+    is_acl p.acl
+    && is_tax_id p.tax_id
+    && is_name p.last_name
+    && is_name p.first_name
 
 -- True if the ACL, the tax id and both names of a row of ACCOUNT_PERMISSION are well-formed, and
 -- its account exists.
@@ -120,12 +132,18 @@ are_well_formed_listing_texts symbol name exchange sector = is_symbol symbol && 
 -- True if the symbol, the name, the exchange and the sector of a row of SECURITY are well-formed,
 -- and a LAST_TRADE row of the symbol exists.
 abbrev pub is_well_formed_security_row : Tables → SecurityRow → Bool
-is_well_formed_security_row t s = are_well_formed_listing_texts s.symbol s.name s.exchange s.sector && list_any (λ l. bytes_eq l.symbol s.symbol) t.last_trades
+is_well_formed_security_row t s =
+    are_well_formed_listing_texts s.symbol s.name s.exchange s.sector
+    && list_any (λ l. bytes_eq l.symbol s.symbol) t.last_trades
 
 -- True if the security of a row of LAST_TRADE exists, its stamp is not after the last stamp, and
 -- its price and volume are within their limits.
 abbrev pub is_well_formed_last_trade_row : Tables → LastTradeRow → Bool
-is_well_formed_last_trade_row t l = has_security t l.symbol && is_at_most_last_stamp t l.stamp && is_price l.price && nat_le l.volume greatest_amount
+is_well_formed_last_trade_row t l =
+    has_security t l.symbol
+    && is_at_most_last_stamp t l.stamp
+    && is_price l.price
+    && nat_le l.volume greatest_amount
 
 -- True if the tier and the amount of a row of CHARGE are within their limits.
 abbrev pub is_well_formed_charge_row : Charge → Bool
@@ -133,12 +151,19 @@ is_well_formed_charge_row c = is_tier c.tier && nat_le c.amount greatest_charge
 
 -- True if the tier, the exchange and both bounds of the band are well-formed in the schema `schema`.
 abbrev pub has_well_formed_bounds : Schema → Band → Bool
-has_well_formed_bounds schema b = is_tier b.tier && is_exchange b.exchange && is_quantity_in_schema schema b.from_qty && is_quantity_in_schema schema b.to_qty
+has_well_formed_bounds schema b =
+    is_tier b.tier
+    && is_exchange b.exchange
+    && is_quantity_in_schema schema b.from_qty
+    && is_quantity_in_schema schema b.to_qty
 
 -- True if the tier, the exchange, the bounds and the rate of a row of COMMISSION_RATE are
 -- well-formed in the schema `schema`, and its lower bound is at most its upper bound.
 abbrev pub is_well_formed_band_row : Schema → Band → Bool
-is_well_formed_band_row schema b = has_well_formed_bounds schema b && nat_le b.from_qty b.to_qty && nat_le b.rate greatest_commission_rate
+is_well_formed_band_row schema b =
+    has_well_formed_bounds schema b
+    && nat_le b.from_qty b.to_qty
+    && nat_le b.rate greatest_commission_rate
 
 -- True if the id and the name of a row of TAXRATE are well-formed and its rate is within its limit.
 abbrev pub is_well_formed_tax_rate_row : TaxRate → Bool
@@ -161,7 +186,12 @@ price_matches_completion t row = has_price_exactly_if (list_any (λ h. is_same_t
 -- quantity, its bid, its charge, its commission and its tax.
 abbrev pub are_trade_numbers_in_range : Schema → (id qty bid charge commission tax : ℕ) → Bool
 are_trade_numbers_in_range schema id qty bid charge commission tax =
-    is_id id && is_quantity_in_schema schema qty && is_price bid && nat_le charge greatest_charge && nat_le commission greatest_amount && nat_le tax greatest_amount
+    is_id id
+    && is_quantity_in_schema schema qty
+    && is_price bid
+    && nat_le charge greatest_charge
+    && nat_le commission greatest_amount
+    && nat_le tax greatest_amount
 
 -- True if the id, the quantity, the bid, the charge, the commission and the tax of a row of TRADE
 -- are within their limits, its stamp is not after the last stamp, its security and account exist,
@@ -182,22 +212,38 @@ is_due_within_calendar rule status stamp = not (is_same_trade_status status Comp
 -- True if the trade of a row of TRADE_HISTORY exists, its stamp is not after the last stamp, and,
 -- for a completion, the due day is within the calendar.
 abbrev pub is_well_formed_history_row : Tables → HistoryRow → Bool
-is_well_formed_history_row t h = has_trade t h.trade && is_at_most_last_stamp t h.stamp && is_due_within_calendar t.rule h.status h.stamp
+is_well_formed_history_row t h =
+    has_trade t h.trade
+    && is_at_most_last_stamp t h.stamp
+    && is_due_within_calendar t.rule h.status h.stamp
 
 -- True if the quantity and the bid of a row of TRADE_REQUEST are within their limits, and its
 -- trade, security and broker exist.
 abbrev pub is_well_formed_request_row : Schema → Tables → RequestRow → Bool
-is_well_formed_request_row schema t r = has_trade t r.trade && has_security t r.symbol && is_quantity_in_schema schema r.qty && is_price r.bid && has_broker t r.broker
+is_well_formed_request_row schema t r =
+    has_trade t r.trade
+    && has_security t r.symbol
+    && is_quantity_in_schema schema r.qty
+    && is_price r.bid
+    && has_broker t r.broker
 
 -- True if the price of a row of HOLDING is within its limit, its stamp is not after the last stamp,
 -- and its trade, account and security exist. The quantity is not checked.
 abbrev pub is_well_formed_holding_row : Tables → HoldingRow → Bool
-is_well_formed_holding_row t h = has_trade t h.trade && has_account t h.account && has_security t h.symbol && is_at_most_last_stamp t h.stamp && is_price h.price
+is_well_formed_holding_row t h =
+    has_trade t h.trade
+    && has_account t h.account
+    && has_security t h.symbol
+    && is_at_most_last_stamp t h.stamp
+    && is_price h.price
 
 -- True if the quantity of a row of HOLDING_SUMMARY is within the limit of the schema `schema`, and
 -- its account and security exist.
 abbrev pub is_well_formed_summary_row : Schema → Tables → SummaryRow → Bool
-is_well_formed_summary_row schema t s = has_account t s.account && has_security t s.symbol && nat_le (nat_abs s.qty) schema.greatest_summary
+is_well_formed_summary_row schema t s =
+    has_account t s.account
+    && has_security t s.symbol
+    && nat_le (nat_abs s.qty) schema.greatest_summary
 
 -- True if both trades of a row of HOLDING_HISTORY exist; the quantities are not checked.
 abbrev pub is_well_formed_holding_history_row : Tables → HoldingHistoryRow → Bool
@@ -214,7 +260,9 @@ is_cash_type_of_trade is_cash word =
 -- and its due day and amount are within their limits.
 abbrev pub is_well_formed_settlement_row : Tables → SettlementRow → Bool
 is_well_formed_settlement_row t s =
-    option_map_or (λ row. is_cash_type_of_trade row.is_cash s.cash_type) (trade_row_with_id t s.trade) false && nat_le s.due_day greatest_day && is_within_amount_limit s.amount
+    option_map_or (λ row. is_cash_type_of_trade row.is_cash s.cash_type) (trade_row_with_id t s.trade) false
+    && nat_le s.due_day greatest_day
+    && is_within_amount_limit s.amount
 
 -- True if `name` is one of the two names that a cash row of the trade of the TRADE row may have:
 -- with " shares of " or with " Shares of ".
@@ -227,7 +275,10 @@ is_cash_row_name_of_trade t name row =
 -- of that trade may have, its stamp is not after the last stamp, and its amount is within its
 -- limit.
 abbrev pub is_well_formed_cash_row : Tables → CashRow → Bool
-is_well_formed_cash_row t c = option_map_or (is_cash_row_name_of_trade t c.name) (trade_row_with_id t c.trade) false && is_at_most_last_stamp t c.stamp && is_within_amount_limit c.amount
+is_well_formed_cash_row t c =
+    option_map_or (is_cash_row_name_of_trade t c.name) (trade_row_with_id t c.trade) false
+    && is_at_most_last_stamp t c.stamp
+    && is_within_amount_limit c.amount
 
 -- True if `name` and `amount` are those of a movement: `Deposit` and above 0, or `Withdrawal` and
 -- below 0.
@@ -244,8 +295,11 @@ has_cash_row_name_of_trade t r trade = option_map_or (is_cash_row_name_of_trade 
 -- the name is one of its two; otherwise the name and the amount are those of a movement.
 abbrev pub is_well_formed_move_row : Tables → MoveRow → Bool
 is_well_formed_move_row t r =
-    is_cash_row_number r.id && has_account t r.account && option_map_or (has_cash_row_name_of_trade t r) r.trade (is_movement_name_and_amount r.name r.amount)
-    && is_at_most_last_stamp t r.stamp && is_within_amount_limit r.amount
+    is_cash_row_number r.id
+    && has_account t r.account
+    && option_map_or (has_cash_row_name_of_trade t r) r.trade (is_movement_name_and_amount r.name r.amount)
+    && is_at_most_last_stamp t r.stamp
+    && is_within_amount_limit r.amount
 
 -- The ids of the trades of the CASH_MOVE rows, in their sequence; a row without a trade adds none.
 abbrev pub trade_ids_of_cash_rows : List MoveRow → List ℕ
@@ -270,7 +324,8 @@ are_equal_number_lists _ _ = false
 -- tax rate.
 abbrev pub is_within_customer_limits : Tables → Customer → Bool
 is_within_customer_limits t c =
-    nat_le (length (filter (λ a. a.customer == c.id) t.accounts)) most_accounts_per_customer && nat_le (tax_rate_sum_of_customer (base_of_tables t) c.id) greatest_tax_rate
+    nat_le (length (filter (λ a. a.customer == c.id) t.accounts)) most_accounts_per_customer
+    && nat_le (tax_rate_sum_of_customer (base_of_tables t) c.id) greatest_tax_rate
 
 -- True if the rows are sorted by `key`, strictly ascending, so that no key occurs twice.
 abbrev pub is_sorted_by_unique_key : {Row : Type 0} → (Row → List KeyPart) → List Row → Bool
@@ -282,11 +337,25 @@ is_sorted_by_unique_key key (a ∷ b ∷ rows) = is_key_less (key a) (key b) && 
 -- occurs twice in a table.
 unfoldable pub tables_are_sorted_by_unique_key : Tables → Bool
 tables_are_sorted_by_unique_key t =
-    is_sorted_by_unique_key kept_key t.kept && is_sorted_by_unique_key broker_key t.brokers && is_sorted_by_unique_key customer_key t.customers && is_sorted_by_unique_key account_key t.accounts
-    && is_sorted_by_unique_key permission_key t.permissions && is_sorted_by_unique_key security_key t.securities && is_sorted_by_unique_key last_trade_key t.last_trades && is_sorted_by_unique_key charge_key t.charges
-    && is_sorted_by_unique_key band_key t.bands && is_sorted_by_unique_key tax_rate_key t.tax_rates && is_sorted_by_unique_key customer_tax_key t.customer_taxes && is_sorted_by_unique_key trade_key t.trades
-    && is_sorted_by_unique_key history_key t.history && is_sorted_by_unique_key request_key t.requests && is_sorted_by_unique_key holding_key t.holdings && is_sorted_by_unique_key summary_key t.summaries
-    && is_sorted_by_unique_key holding_history_key t.holding_history && is_sorted_by_unique_key settlement_key t.settlements && is_sorted_by_unique_key cash_key t.cash
+    is_sorted_by_unique_key kept_key t.kept
+    && is_sorted_by_unique_key broker_key t.brokers
+    && is_sorted_by_unique_key customer_key t.customers
+    && is_sorted_by_unique_key account_key t.accounts
+    && is_sorted_by_unique_key permission_key t.permissions
+    && is_sorted_by_unique_key security_key t.securities
+    && is_sorted_by_unique_key last_trade_key t.last_trades
+    && is_sorted_by_unique_key charge_key t.charges
+    && is_sorted_by_unique_key band_key t.bands
+    && is_sorted_by_unique_key tax_rate_key t.tax_rates
+    && is_sorted_by_unique_key customer_tax_key t.customer_taxes
+    && is_sorted_by_unique_key trade_key t.trades
+    && is_sorted_by_unique_key history_key t.history
+    && is_sorted_by_unique_key request_key t.requests
+    && is_sorted_by_unique_key holding_key t.holdings
+    && is_sorted_by_unique_key summary_key t.summaries
+    && is_sorted_by_unique_key holding_history_key t.holding_history
+    && is_sorted_by_unique_key settlement_key t.settlements
+    && is_sorted_by_unique_key cash_key t.cash
     && is_sorted_by_unique_key move_key t.moves
 
 -- True if no two customers of the list have one tax id.
@@ -332,5 +401,7 @@ satisfies_form_condition schema t =
 -- satisfy this; the bytes of a database need not.
 abbrev pub has_utf8_texts : Tables → Bool
 has_utf8_texts t =
-    list_all (λ k. is_utf8 k.row_text && is_utf8 k.line) t.kept && list_all (λ r. is_utf8 r.executor) t.trades && list_all (λ r. is_utf8 r.name) t.cash
+    list_all (λ k. is_utf8 k.row_text && is_utf8 k.line) t.kept
+    && list_all (λ r. is_utf8 r.executor) t.trades
+    && list_all (λ r. is_utf8 r.name) t.cash
     && list_all (λ r. is_utf8 r.name) t.moves
