@@ -1,5 +1,5 @@
 -- The base that is read from the rows of a database.
-use Rattle.std.specs.Prelude.{ℕ, Bool, false, ◌==◌, List, [], ◌++◌, map, filter, find, Some, is_none, bytes_eq}
+use Rattle.std.specs.Prelude.{ℕ, Bool, ◌==◌, List, [], ◌++◌, map, filter, find, Some, is_none, bytes_eq}
 use Rattle.std.specs.Option.{option_map_or}
 use Rattle.brk_money.specs.Spelling.{Text}
 use Rattle.brk_model.specs.Lists.{sort_by_key}
