@@ -1,17 +1,15 @@
 -- The audit invariant: what an audit of a base's tables needs beyond the books invariant:
 -- well-formed fields, unique keys, existing references, and limits.
-use Rattle.std.specs.Prelude.{◌≡◌, ◌≤◌, ⊤, ℕ, ◌+◌, ◌==◌, ◌&&◌, ◌||◌, Bool, true, List, [], ◌∷◌, Option, is_some, nat_le, nat_abs, length, filter, map, codes, bytes_eq}
+use Rattle.std.specs.Prelude.{◌≡◌, ◌≤◌, ⊤, ℕ, ◌==◌, ◌&&◌, ◌||◌, Bool, true, List, [], ◌∷◌, Option, is_some, nat_abs, length, filter, map, codes, bytes_eq}
 use Rattle.std.specs.List.{AllByRecursion}
-use Rattle.std.specs.Option.{option_map_or}
 use Rattle.brk_money.specs.Spelling.{Text, is_within_amount_limit}
-use Rattle.brk_money.specs.Moments.{greatest_day}
 use Rattle.brk_model.specs.Limits.{greatest_amount, greatest_id, greatest_summary, greatest_tax_rate, most_accounts_per_customer}
 use Rattle.brk_model.specs.Records.{Account, Band, Broker, Charge, Customer, CustomerTax, Kept, StatusChange, Movement, Permission, Security, SettleRule, TaxRate, Trade}
 use Rattle.brk_model.specs.Base.{Base, completed_trades, account_with_id_in_list, is_completed, customer_with_id_in_list, security_name_in_list, tax_rate_sum_in_lists, tax_rate_with_id_in_list}
 use Rattle.brk_model.specs.Derived.{settlement_amount, balance_of_account, commission_total_of_broker, postings, holding_summary_quantity}
 use Rattle.brk_model.specs.Results.{cash_row_name_from_parts}
 use Rattle.brk_model.specs.Schemas.{third_schema}
-use Rattle.brk_model.specs.Form.{is_well_formed_band_row, is_well_formed_charge_row, is_well_formed_customer_row, is_cash_type_of_trade, is_due_within_calendar, is_movement_name_and_amount, is_up_to_last_stamp, is_price, has_price_exactly_if, is_well_formed_kept_row, are_well_formed_listing_texts, is_well_formed_tax_rate_row, are_well_formed_account_fields, are_well_formed_id_and_name, has_well_formed_permission_texts, are_trade_numbers_in_range}
+use Rattle.brk_model.specs.Form.{is_well_formed_band_row, is_well_formed_charge_row, is_well_formed_customer_row, is_cash_type_of_trade, is_due_within_calendar, is_movement_name_and_amount, is_up_to_last_stamp, is_price, has_price_exactly_if, is_well_formed_kept_row, are_well_formed_listing_texts, is_well_formed_tax_rate_row, are_well_formed_account_fields, are_well_formed_id_and_name, has_well_formed_permission_texts, are_trade_numbers_in_range, is_settlement_day_in_calendar}
 use Rattle.brk_model.specs.Ways.{is_strictly_ascending}
 use Rattle.brk_model.specs.Keys.{KeyPart, word, charge_key, customer_key, customer_tax_key, kept_key, tax_rate_key}
 use Rattle.brk_audit_theorems.specs.Told.{HasValidTransitions, HasNoStrayTexts, HasAscendingStamps, broker_id_key}
@@ -115,7 +113,7 @@ pub record MovementAuditInvariant (movements : List Movement) (rule : SettleRule
   pub risen : is_strictly_ascending (map (λ m. m.stamp) movements) ≡ true
   pub few : length movements ≤ greatest_id
   -- The settlement day is within the calendar.
-  pub day : option_map_or (λ day. nat_le day greatest_day) rule true ≡ true
+  pub day : is_settlement_day_in_calendar rule ≡ true
 
 -- ---- references
 

@@ -51,6 +51,14 @@ is_up_to_last_stamp last stamp = option_map_or (λ l. nat_le stamp l) last false
 abbrev pub is_at_most_last_stamp : Tables → ℕ → Bool
 is_at_most_last_stamp tables stamp = is_up_to_last_stamp tables.last stamp
 
+-- True if the last stamp `last` is at most the greatest stamp, or there is none.
+abbrev pub is_last_stamp_in_calendar : Option ℕ → Bool
+is_last_stamp_in_calendar last = option_map_or (λ l. nat_le l greatest_stamp) last true
+
+-- True if the settlement day `rule` is at most the greatest day, or there is none.
+abbrev pub is_settlement_day_in_calendar : SettleRule → Bool
+is_settlement_day_in_calendar rule = option_map_or (λ day. nat_le day greatest_day) rule true
+
 -- True if the tables have a TRADE row with the id `id`.
 abbrev pub has_trade : Tables → ℕ → Bool
 has_trade tables id = is_some (trade_row_with_id tables id)
@@ -371,7 +379,7 @@ has_distinct_tax_ids (c ∷ customers) = not (list_any (λ d. bytes_eq d.tax_id 
 -- settlement day are within the calendar. The tables that the schema lacks have no rows.
 unfoldable pub satisfies_form_condition : Schema → Tables → Bool
 satisfies_form_condition schema t =
-    option_map_or (λ last. nat_le last greatest_stamp) t.last true
+    is_last_stamp_in_calendar t.last
     && tables_are_sorted_by_unique_key t
     && has_distinct_tax_ids t.customers
     && list_all is_well_formed_kept_row t.kept
@@ -394,7 +402,7 @@ satisfies_form_condition schema t =
     && list_all (is_well_formed_settlement_row t) t.settlements
     && list_all (is_well_formed_cash_row t) t.cash
     && list_all (is_well_formed_move_row t) t.moves && all_distinct (trade_ids_of_cash_rows t.moves) && nat_le (length (filter (λ r. is_none r.trade) t.moves)) greatest_id
-    && option_map_or (λ day. nat_le day greatest_day) t.rule true
+    && is_settlement_day_in_calendar t.rule
     && lacks_rows_of_later_schemas schema t
 
 -- True if the texts of K_ROW, K_LINE, T_EXEC_NAME, CT_NAME and CM_NAME are UTF-8. Typed rows always
