@@ -73,9 +73,9 @@ priced_row schema t r f e d =
     let status : is_same_trade_status k.row.status Completed ≡ true = ap (λ s. is_same_trade_status s Completed) (k.status ∙ sym (same_statuses r.status l.mark.status l.status)) ∙ d in
     let done : list_any (λ h. is_same_trade_status h.status Completed) (history_rows_with_trade_id t r.id) ≡ true =
     any_in (λ h. is_same_trade_status h.status Completed) (history_rows_with_trade_id t r.id) k.row (in_filter (λ h. h.trade == r.id) t.history k.row k.there (eq-eqb k.row.trade r.id k.trade)) status in
-    let p = parts10 (is_id r.id) (is_at_most_last_stamp t r.stamp) (has_security t r.symbol) (is_quantity_in_schema schema r.qty) (is_price r.bid) (has_account t r.account) (price_matches_completion t r)
-    (nat_le r.charge greatest_charge) (nat_le r.commission greatest_amount) (nat_le r.tax greatest_amount) f in
-    let q : option_map_or is_price r.price false ≡ true = rw done at p.6 in
+    let p = parts10 (is_id r.id) (is_quantity_in_schema schema r.qty) (is_price r.bid) (nat_le r.charge greatest_charge) (nat_le r.commission greatest_amount) (nat_le r.tax greatest_amount)
+    (is_at_most_last_stamp t r.stamp) (has_security t r.symbol) (has_account t r.account) (price_matches_completion t r) f in
+    let q : option_map_or is_price r.price false ≡ true = rw done at p.9 in
     has_price r.price q
 
 pub priced_rows : (t : Tables) → IsWellFormedBySomeSchema t → satisfies_status_condition t ≡ true → AllByRecursion (λ r. IsSome r.price) (completed_trade_rows t)

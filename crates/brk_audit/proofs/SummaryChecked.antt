@@ -88,9 +88,9 @@ IsKnown t account symbol = (has_account t account ≡ true) × (has_security t s
 
 trade_known : (schema : Schema) (t : Tables) (r : TradeRow) → is_well_formed_trade_row schema t r ≡ true → IsKnown t r.account r.symbol
 trade_known schema t r e =
-    let k = parts10 (is_id r.id) (is_at_most_last_stamp t r.stamp) (has_security t r.symbol) (is_quantity_in_schema schema r.qty) (is_price r.bid) (has_account t r.account) (price_matches_completion t r)
-    (nat_le r.charge greatest_charge) (nat_le r.commission greatest_amount) (nat_le r.tax greatest_amount) e in
-    (k.5, k.2)
+    let k = parts10 (is_id r.id) (is_quantity_in_schema schema r.qty) (is_price r.bid) (nat_le r.charge greatest_charge) (nat_le r.commission greatest_amount) (nat_le r.tax greatest_amount)
+    (is_at_most_last_stamp t r.stamp) (has_security t r.symbol) (has_account t r.account) (price_matches_completion t r) e in
+    (k.8, k.7)
 
 summary_known : (schema : Schema) (t : Tables) (h : SummaryRow) → is_well_formed_summary_row schema t h ≡ true → IsKnown t h.account h.symbol
 summary_known schema t h e = let p = parts3 (has_account t h.account) (has_security t h.symbol) (nat_le (nat_abs h.qty) schema.greatest_summary) e in (p.0, p.1)

@@ -1,8 +1,9 @@
 -- The sums that the limits of a customer apply to.
-use Rattle.std.specs.Prelude.{ℕ, ◌==◌, filter, find, unwrap_or, sum_by}
+use Rattle.std.specs.Prelude.{ℕ, unwrap_or}
 use Rattle.std.specs.Ordering.{nat_cmp}
 use Rattle.std.specs.BTreeMap.{BTreeMap, get}
 use Rattle.std.specs.Option.{option_map_or}
+use Rattle.brk_model.specs.Base.{tax_rate_sum_in_lists, tax_rate_with_id_in_list}
 use Rattle.brk_model.specs.Tables.{Tables}
 
 -- The sum at the id `q` in the map `sums`, or 0 if the map does not contain the id.
@@ -11,9 +12,9 @@ sum_at sums q = unwrap_or (get nat_cmp sums q) 0
 
 -- The rate of the tax rate with the id `tax`, or 0 if it does not exist.
 abbrev pub tax_rate_or_zero : Tables → ℕ → ℕ
-tax_rate_or_zero t tax = option_map_or (λ r. r.rate) (find (λ r. r.id == tax) t.tax_rates) 0
+tax_rate_or_zero t tax = option_map_or (λ r. r.rate) (tax_rate_with_id_in_list t.tax_rates tax) 0
 
 -- The sum of the rates of the taxes that the customer pays. A tax rate that does not exist counts
 -- 0.
 abbrev pub rate_sum_paid_by : Tables → ℕ → ℕ
-rate_sum_paid_by t customer = sum_by (λ x. tax_rate_or_zero t x.tax) (filter (λ x. x.customer == customer) t.customer_taxes)
+rate_sum_paid_by t customer = tax_rate_sum_in_lists t.tax_rates t.customer_taxes customer

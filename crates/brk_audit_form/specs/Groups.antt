@@ -1,12 +1,10 @@
 -- The format checks of typed rows, by groups of tables.
 use Rattle.std.specs.Prelude.{Bool, true, ◌&&◌, filter, is_none, length, map, nat_le}
 use Rattle.std.specs.List.{list_all, range_with_len}
-use Rattle.std.specs.Option.{option_map_or}
-use Rattle.brk_money.specs.Moments.{greatest_day, greatest_stamp}
 use Rattle.brk_model.specs.Limits.{greatest_id}
 use Rattle.brk_model.specs.Schemas.{Schema}
 use Rattle.brk_model.specs.Keys.{kept_key, broker_key, customer_key, account_key, permission_key, security_key, last_trade_key, charge_key, band_key, tax_rate_key, customer_tax_key, trade_key, history_key, request_key, holding_key, summary_key, holding_history_key, settlement_key, cash_key, move_key}
-use Rattle.brk_model.specs.Form.{tables_are_sorted_by_unique_key, bands_are_disjoint, are_equal_number_lists, is_sorted_by_unique_key, is_well_formed_kept_row, is_well_formed_broker_row, is_well_formed_customer_row, is_well_formed_account_row, is_well_formed_permission_row, is_well_formed_security_row, is_well_formed_last_trade_row, is_well_formed_charge_row, is_well_formed_band_row, is_well_formed_tax_rate_row, is_well_formed_customer_tax_row, is_well_formed_trade_row, is_well_formed_history_row, is_well_formed_request_row, is_well_formed_holding_row, is_well_formed_summary_row, is_well_formed_holding_history_row, is_well_formed_settlement_row, lacks_rows_of_later_schemas}
+use Rattle.brk_model.specs.Form.{tables_are_sorted_by_unique_key, bands_are_disjoint, are_equal_number_lists, is_sorted_by_unique_key, is_well_formed_kept_row, is_well_formed_broker_row, is_well_formed_customer_row, is_well_formed_account_row, is_well_formed_permission_row, is_well_formed_security_row, is_well_formed_last_trade_row, is_well_formed_charge_row, is_well_formed_band_row, is_well_formed_tax_rate_row, is_well_formed_customer_tax_row, is_well_formed_trade_row, is_well_formed_history_row, is_well_formed_request_row, is_well_formed_holding_row, is_well_formed_summary_row, is_well_formed_holding_history_row, is_well_formed_settlement_row, lacks_rows_of_later_schemas, is_last_stamp_in_calendar, is_settlement_day_in_calendar}
 use Rattle.brk_ref.specs.Records.{abstract_kept_row, abstract_broker_row, abstract_customer, abstract_account_row, abstract_permission, abstract_security_row, abstract_last_trade_row, abstract_charge, abstract_band, abstract_tax_rate, abstract_customer_tax}
 use Rattle.brk_changes.specs.Rows.{abstract_trade_row, abstract_history_row, abstract_request_row, abstract_holding_row, abstract_summary_row, abstract_lot_change_row, abstract_settlement_row, abstract_cash_row, abstract_move_row}
 use Rattle.brk_changes.specs.Sheets.{tables_in_sheets}
@@ -72,6 +70,6 @@ trading_rows_are_well_formed schema s =
 -- those of tax ids, of the limits of customers, and of cash rows.
 abbrev pub passes_unallocated_checks : Schema → Sheets → Bool
 passes_unallocated_checks schema s =
-    tables_are_sorted_by_unique_key (tables_in_sheets s) && reference_rows_are_well_formed schema s && option_map_or (λ last. nat_le last greatest_stamp) s.last true && trading_rows_are_well_formed schema s
+    tables_are_sorted_by_unique_key (tables_in_sheets s) && reference_rows_are_well_formed schema s && is_last_stamp_in_calendar s.last && trading_rows_are_well_formed schema s
     && bands_are_disjoint (map abstract_band s.bands.items) && are_equal_number_lists (map (λ row. row.id) s.trades.items) (range_with_len 1 (length s.trades.items))
-    && nat_le (length (filter (λ r. is_none r.trade) s.moves.items)) greatest_id && option_map_or (λ day. nat_le day greatest_day) s.rule true && lacks_rows_of_later_schemas schema (tables_in_sheets s)
+    && nat_le (length (filter (λ r. is_none r.trade) s.moves.items)) greatest_id && is_settlement_day_in_calendar s.rule && lacks_rows_of_later_schemas schema (tables_in_sheets s)

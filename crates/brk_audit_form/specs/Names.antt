@@ -1,10 +1,10 @@
 -- The text of a trade's cash row, from the rows.
-use Rattle.std.specs.Prelude.{[], ◌∷◌, ◌++◌, decimal}
+use Rattle.std.specs.Prelude.{[]}
 use Rattle.std.specs.Option.{option_map_or}
 use Rattle.brk_money.specs.Spelling.{Text}
-use Rattle.brk_money.specs.Kinds.{trade_type_name}
 use Rattle.brk_model.specs.Tables.{Tables, TradeRow}
 use Rattle.brk_model.specs.Joins.{security_row_with_symbol}
+use Rattle.brk_model.specs.Results.{cash_row_name_from_parts}
 
 -- The name of the security, or the empty text if the security does not exist.
 abbrev pub security_name_in : Tables → Text → Text
@@ -13,4 +13,4 @@ security_name_in t symbol = option_map_or (λ s. s.name) (security_row_with_symb
 -- The cash text of the trade: the name of its type, a space, its quantity, `words`, and the name of
 -- its security.
 abbrev pub cash_text_in : Tables → Text → TradeRow → Text
-cash_text_in t words row = trade_type_name row.kind ++ 32 ∷ decimal row.qty ++ words ++ security_name_in t row.symbol
+cash_text_in t words row = cash_row_name_from_parts words row.kind row.qty (security_name_in t row.symbol)

@@ -1,10 +1,10 @@
 ghost use Rattle.std.specs.Prelude.{◌≡◌, ◌∷◌, ◌++◌, IfErr, IfOk, OnOk, decimal, false, map, string_bytes};
 ghost use Rattle.std.specs.List.{list_all};
 ghost use Rattle.std.specs.Option.{option_map_or};
-ghost use Rattle.brk_money.specs.Kinds.{trade_type_name};
 ghost use Rattle.brk_money.specs.declared.fault.Fault.TheVariants.{Memory};
 ghost use Rattle.brk_model.specs.Form as form;
 ghost use Rattle.brk_model.specs.Joins.{trade_row_with_id};
+ghost use Rattle.brk_model.specs.Results.{cash_row_name_from_parts};
 ghost use Rattle.brk_changes.specs.Rows.{abstract_cash_row, abstract_move_row, abstract_trade_row};
 ghost use Rattle.brk_changes.specs.Sheets.{tables_in_sheets};
 ghost use Rattle.brk_audit_form.specs.Conditions.{HasSortedKeys};
@@ -43,7 +43,7 @@ fn format_cash_name(
     words: &str,
     security: &str,
 ) -> Result<String, Fault>
-    ensures name { IfOk result (λ name. string_bytes name ≡ trade_type_name trade.now.kind ++ 32 ∷ decimal trade.now.qty ++ words.now ++ security.now) }
+    ensures name { IfOk result (λ name. string_bytes name ≡ cash_row_name_from_parts words.now trade.now.kind trade.now.qty security.now) }
     ensures fault { IfErr result (λ fault. fault ≡ Memory) }
 {
     let mut name = String::from_str(alloc, trade.kind.name())?;

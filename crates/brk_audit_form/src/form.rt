@@ -1,10 +1,8 @@
-ghost use Rattle.std.specs.Prelude.{◌≡◌, ◌↔◌, nat_le, true, IfErr, IfOk, IsTrue};
-ghost use Rattle.std.specs.Option.{option_map_or};
-ghost use Rattle.brk_money.specs.Moments.{greatest_day, greatest_stamp};
+ghost use Rattle.std.specs.Prelude.{◌≡◌, ◌↔◌, true, IfErr, IfOk, IsTrue};
 ghost use Rattle.brk_money.specs.declared.fault.Condition.TheVariants.{Form};
 ghost use Rattle.brk_money.specs.declared.fault.Fault.TheVariants.{Memory};
 ghost use Rattle.brk_model.specs.Audit.{ConditionHolds};
-ghost use Rattle.brk_model.specs.Form.{lacks_rows_of_later_schemas};
+ghost use Rattle.brk_model.specs.Form.{is_last_stamp_in_calendar, is_settlement_day_in_calendar, lacks_rows_of_later_schemas};
 ghost use Rattle.brk_changes.specs.Schemas.{abstract_schema};
 ghost use Rattle.brk_changes.specs.Sheets.{tables_in_sheets};
 ghost use Rattle.brk_audit_form.specs.Groups.{passes_unallocated_checks};
@@ -24,7 +22,7 @@ use std::alloc::Global;
 
 // Returns true if there is no last stamp, or if it is within the calendar.
 fn is_valid_last_stamp(last: Option<Stamp>) -> bool
-    ensures { result ≡ option_map_or (λ last. nat_le last greatest_stamp) last true }
+    ensures { result ≡ is_last_stamp_in_calendar last }
 {
     match last {
         Some(last) => last.get() <= Stamp::GREATEST,
@@ -34,7 +32,7 @@ fn is_valid_last_stamp(last: Option<Stamp>) -> bool
 
 // Returns true if no settlement day is set, or if it is within the calendar.
 fn is_valid_settlement_day(rule: Option<Day>) -> bool
-    ensures { result ≡ option_map_or (λ day. nat_le day greatest_day) rule true }
+    ensures { result ≡ is_settlement_day_in_calendar rule }
 {
     match rule {
         Some(day) => day.get() <= Day::GREATEST,

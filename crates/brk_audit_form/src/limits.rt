@@ -1,4 +1,5 @@
 ghost use Rattle.std.specs.Prelude.{◌≡◌, nat_le};
+ghost use Rattle.brk_money.specs.Spelling.{is_within_amount_limit};
 ghost use Rattle.brk_model.specs.Form as form;
 ghost use Rattle.brk_model.specs.Limits as limits;
 ghost use Rattle.brk_changes.specs.Schemas.{abstract_schema};
@@ -46,7 +47,7 @@ pub(crate) fn is_tier(tier: Tier) -> bool
 /// Returns true if the absolute value of the signed amount, in cents, is at most the greatest
 /// amount.
 pub(crate) fn is_balance_within_limit(cents: Cents) -> bool
-    ensures { result ≡ form.is_amount cents }
+    ensures { result ≡ is_within_amount_limit cents }
 {
     cents.get().unsigned_abs() <= Cents::GREATEST
 }

@@ -59,11 +59,11 @@ impl Formed for AccountRow {
     // broker exist.
     fn is_formed(&self, _schema: Schema, sheets: &Sheets) -> bool {
         is_id(self.account.id)
-            && has_customer(sheets, self.account.customer)
-            && has_broker(sheets, self.account.broker)
             && is_well_formed_text(&self.account.name)
             && is_balance_within_limit(self.account.opening)
             && is_balance_within_limit(self.balance)
+            && has_customer(sheets, self.account.customer)
+            && has_broker(sheets, self.account.broker)
     }
 }
 
@@ -73,11 +73,11 @@ impl Formed for Permission {
     // Returns true if the access control list, the tax id and both names are well-formed, and the
     // account exists.
     fn is_formed(&self, _schema: Schema, sheets: &Sheets) -> bool {
-        has_account(sheets, self.account)
-            && is_well_formed_text(&self.acl)
+        is_well_formed_text(&self.acl)
             && is_well_formed_text(&self.tax_id)
             && is_well_formed_text(&self.last_name)
             && is_well_formed_text(&self.first_name)
+            && has_account(sheets, self.account)
     }
 }
 

@@ -56,15 +56,15 @@ impl Formed for TradeRow {
     // account and the security exist, and the row has a price if and only if it has a completion.
     fn is_formed(&self, schema: Schema, sheets: &Sheets) -> bool {
         is_id(self.id)
-            && is_stamp_up_to_last(sheets, self.stamp)
-            && has_security(sheets, &self.symbol)
             && is_quantity_within_limits(schema, self.qty)
             && is_price(self.bid)
-            && has_account(sheets, self.account)
-            && row_has_price_exactly_if_completed(sheets, self)
             && is_charge_within_limit(self.charge)
             && is_amount(self.commission)
             && is_amount(self.tax)
+            && is_stamp_up_to_last(sheets, self.stamp)
+            && has_security(sheets, &self.symbol)
+            && has_account(sheets, self.account)
+            && row_has_price_exactly_if_completed(sheets, self)
     }
 }
 

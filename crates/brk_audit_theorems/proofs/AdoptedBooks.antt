@@ -6,7 +6,7 @@ use Rattle.std.specs.Option.{option_map_or}
 use Rattle.std.proofs.lemmas.Bool.{and_from, and_parts, eqb-true, eq-eqb, leb-true, not-true, or_left, or_right, ne_eqb}
 use Rattle.std.proofs.lemmas.Bool.Decides.{nat_tests}
 use Rattle.std.proofs.lemmas.Slice.Eq.{bytes_eq-Decides}
-use Rattle.brk_money.specs.Spelling.{Text}
+use Rattle.brk_money.specs.Spelling.{Text, is_within_amount_limit}
 use Rattle.brk_money.specs.Moments.{greatest_day, greatest_stamp}
 use Rattle.brk_money.specs.Kinds.{is_same_trade_status}
 use Rattle.brk_money.specs.declared.status.Status.TheVariants.{Completed}
@@ -21,7 +21,7 @@ use Rattle.brk_model.specs.Keys.{number, word, is_key_less, account_key, permiss
 use Rattle.brk_model.specs.Tests.{bands_overlap}
 use Rattle.brk_model.specs.Forms.{is_name, is_exchange}
 use Rattle.brk_model.specs.Adopted.{account_of_row, base_of_tables, movement_of_row, zero_last_trade_row, security_of_row, security_of_rows, trade_of_row}
-use Rattle.brk_model.specs.Form.{is_well_formed_account_row, is_well_formed_band_row, has_account, has_broker, has_customer, satisfies_form_condition, has_security, has_trade, is_well_formed_history_row, is_amount, has_cash_row_name_of_trade, is_id, is_cash_row_number, is_movement_name_and_amount, is_price, is_quantity_in_schema, is_at_most_last_stamp, is_tier, is_well_formed_last_trade_row, is_well_formed_move_row, bands_are_disjoint, price_matches_completion, are_equal_number_lists, is_well_formed_trade_row}
+use Rattle.brk_model.specs.Form.{is_well_formed_account_row, is_well_formed_band_row, has_account, has_broker, has_customer, satisfies_form_condition, has_security, has_trade, is_well_formed_history_row, has_cash_row_name_of_trade, is_id, is_cash_row_number, is_movement_name_and_amount, is_price, is_quantity_in_schema, is_at_most_last_stamp, is_tier, is_well_formed_last_trade_row, is_well_formed_move_row, bands_are_disjoint, price_matches_completion, are_equal_number_lists, is_well_formed_trade_row}
 use Rattle.brk_model.specs.Ways.{completion_stamps, satisfies_status_condition, movement_stamps, has_valid_status_history}
 use Rattle.brk_model.specs.Names.{AccountOfTradeExists, BrokerOfAccountExists, CustomerOfAccountExists, SecurityOfTradeExists, AreNumberedFrom}
 use Rattle.brk_book_theorems.specs.Books.{MovementBooksInvariant, HasDisjointBands, HasNoCompletionIfSubmitted, HasDistinctAccountIds, HasDistinctSymbols, HasOrderedBounds, MovementAccountExists, HasVolumeWithinLimit, BooksInvariant, IsTradeUpToLastStamp, IsMovementUpToLastStamp, HasOtherStatusStamp, HasDistinctStatusStamps, HasDistinctMovementStamps, HasDistinctPermissions, HasOneChangeIfPending}
@@ -45,7 +45,7 @@ found_mapped p f xs = ap is_some (find-map p f xs) ∙ is_some-map f (find (λ x
 
 account_names : (t : Tables) (a : AccountRow) → is_well_formed_account_row t a ≡ true → (has_customer t a.customer ≡ true) × (has_broker t a.broker ≡ true)
 account_names t a e =
-    let k = parts6 (is_id a.id) (has_customer t a.customer) (has_broker t a.broker) (is_name a.name) (is_amount a.opening) (is_amount a.balance) e in (k.1, k.2)
+    let k = parts6 (is_id a.id) (is_name a.name) (is_within_amount_limit a.opening) (is_within_amount_limit a.balance) (has_customer t a.customer) (has_broker t a.broker) e in (k.4, k.5)
 
 knows_broker : (t : Tables) (a : AccountRow) → is_well_formed_account_row t a ≡ true → BrokerOfAccountExists (base_of_tables t) (account_of_row a)
 unfolding base_of_tables
@@ -58,8 +58,8 @@ knows_customer t a e = (account_names t a e).0
 
 trade_names : (schema : Schema) (t : Tables) (row : TradeRow) → is_well_formed_trade_row schema t row ≡ true → (has_security t row.symbol ≡ true) × (has_account t row.account ≡ true)
 trade_names schema t row e =
-    let k = parts10 (is_id row.id) (is_at_most_last_stamp t row.stamp) (has_security t row.symbol) (is_quantity_in_schema schema row.qty) (is_price row.bid) (has_account t row.account) (price_matches_completion t row)
-    (nat_le row.charge greatest_charge) (nat_le row.commission greatest_amount) (nat_le row.tax greatest_amount) e in (k.2, k.5)
+    let k = parts10 (is_id row.id) (is_quantity_in_schema schema row.qty) (is_price row.bid) (nat_le row.charge greatest_charge) (nat_le row.commission greatest_amount) (nat_le row.tax greatest_amount)
+    (is_at_most_last_stamp t row.stamp) (has_security t row.symbol) (has_account t row.account) (price_matches_completion t row) e in (k.7, k.8)
 
 knows_account : (schema : Schema) (t : Tables) (row : TradeRow) → is_well_formed_trade_row schema t row ≡ true → AccountOfTradeExists (base_of_tables t) (trade_of_row t row)
 unfolding base_of_tables
@@ -320,7 +320,7 @@ made_at (Some last) n m e h = let k : n ≤ last = leb-true n last h in omega ar
 
 pub move_parts : (t : Tables) (r : MoveRow) → is_well_formed_move_row t r ≡ true → (has_account t r.account ≡ true) × (is_at_most_last_stamp t r.stamp ≡ true)
 move_parts t r e =
-    let k = parts5 (is_cash_row_number r.id) (has_account t r.account) (option_map_or (has_cash_row_name_of_trade t r) r.trade (is_movement_name_and_amount r.name r.amount)) (is_at_most_last_stamp t r.stamp) (is_amount r.amount) e in (k.1, k.3)
+    let k = parts5 (is_cash_row_number r.id) (has_account t r.account) (option_map_or (has_cash_row_name_of_trade t r) r.trade (is_movement_name_and_amount r.name r.amount)) (is_at_most_last_stamp t r.stamp) (is_within_amount_limit r.amount) e in (k.1, k.3)
 
 adopted_movements : (t : Tables) (ds : List TradeRow) → AllByRecursion (λ r. is_well_formed_move_row t r ≡ true) t.moves
     → AllByRecursion (λ d. contains_number (last_status_stamp_of_trade (trade_of_row t d)) (movement_stamps t) ≡ false) ds → all_distinct (movement_stamps t) ≡ true

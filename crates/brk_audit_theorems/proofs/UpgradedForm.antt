@@ -5,6 +5,7 @@ use Rattle.std.specs.Option.{option_map_or}
 use Rattle.std.specs.List.{AllByRecursion, list_all}
 use Rattle.std.proofs.lemmas.Bool.{and_from, and_parts, leb-true, le-leb}
 use Rattle.std.proofs.lemmas.Bool.Decides.{nat_tests}
+use Rattle.brk_money.specs.Spelling.{is_within_amount_limit}
 use Rattle.brk_model.specs.Limits.{greatest_amount, greatest_charge, greatest_id, greatest_cash_row_number, greatest_commission_rate}
 use Rattle.brk_model.specs.Records.{Band, Movement, Trade}
 use Rattle.brk_model.specs.Base.{Base, completed_trades, is_completed}
@@ -16,7 +17,7 @@ use Rattle.brk_model.specs.Joins.{trade_row_with_id}
 use Rattle.brk_model.specs.Keys.{number, is_key_less, cash_key, move_key}
 use Rattle.brk_model.specs.Adopted.{base_of_tables, movement_of_row, posting_of_cash_row, posting_of_move_row, postings_of_tables, trade_of_row}
 use Rattle.brk_model.specs.Lists.{all_distinct}
-use Rattle.brk_model.specs.Form.{is_well_formed_band_row, is_well_formed_cash_row, has_account, has_broker, satisfies_form_condition, tables_are_sorted_by_unique_key, has_security, has_trade, is_amount, is_cash_row_name_of_trade, has_cash_row_name_of_trade, is_id, is_cash_row_number, is_movement_name_and_amount, is_price, is_quantity_in_schema, is_at_most_last_stamp, is_tier, is_well_formed_move_row, price_matches_completion, is_well_formed_request_row, is_sorted_by_unique_key, is_well_formed_summary_row, is_well_formed_trade_row, trade_ids_of_cash_rows}
+use Rattle.brk_model.specs.Form.{is_well_formed_band_row, is_well_formed_cash_row, has_account, has_broker, satisfies_form_condition, tables_are_sorted_by_unique_key, has_security, has_trade, is_cash_row_name_of_trade, has_cash_row_name_of_trade, is_id, is_cash_row_number, is_movement_name_and_amount, is_price, is_quantity_in_schema, is_at_most_last_stamp, is_tier, is_well_formed_move_row, price_matches_completion, is_well_formed_request_row, is_sorted_by_unique_key, is_well_formed_summary_row, is_well_formed_trade_row, trade_ids_of_cash_rows}
 use Rattle.brk_model.specs.Forms.{is_exchange}
 use Rattle.brk_model.specs.Upgraded.{tables_after_upgrade}
 use Rattle.brk_model.specs.Names.{AreNumberedFrom}
@@ -54,10 +55,10 @@ band_wider schema w b e =
 
 trade_wider : (schema : Schema) (t : Tables) → HasNoGreaterLimits schema → (r : TradeRow) → is_well_formed_trade_row schema t r ≡ true → is_well_formed_trade_row third_schema t r ≡ true
 trade_wider schema t w r e =
-    let k = parts10 (is_id r.id) (is_at_most_last_stamp t r.stamp) (has_security t r.symbol) (is_quantity_in_schema schema r.qty) (is_price r.bid) (has_account t r.account) (price_matches_completion t r)
-    (nat_le r.charge greatest_charge) (nat_le r.commission greatest_amount) (nat_le r.tax greatest_amount) e in
-    and_from _ _ (and_from _ _ (and_from _ _ (and_from _ _ (and_from _ _ (and_from _ _ (and_from _ _ (and_from _ _ (and_from _ _ k.0 k.1) k.2)
-    (qty_wider schema w r.qty k.3)) k.4) k.5) k.6) k.7) k.8) k.9
+    let k = parts10 (is_id r.id) (is_quantity_in_schema schema r.qty) (is_price r.bid) (nat_le r.charge greatest_charge) (nat_le r.commission greatest_amount) (nat_le r.tax greatest_amount)
+    (is_at_most_last_stamp t r.stamp) (has_security t r.symbol) (has_account t r.account) (price_matches_completion t r) e in
+    and_from _ _ (and_from _ _ (and_from _ _ (and_from _ _ (and_from _ _ (and_from _ _ (and_from _ _ (and_from _ _ (and_from _ _ k.0
+    (qty_wider schema w r.qty k.1)) k.2) k.3) k.4) k.5) k.6) k.7) k.8) k.9
 
 request_wider : (schema : Schema) (t : Tables) → HasNoGreaterLimits schema → (r : RequestRow) → is_well_formed_request_row schema t r ≡ true → is_well_formed_request_row third_schema t r ≡ true
 request_wider schema t w r e =
@@ -76,22 +77,22 @@ pub record HasForm (t : Tables) (p : Posting) : Type 0 where
   pub account : has_account t p.account ≡ true
   pub name : option_map_or (λ id. option_map_or (is_cash_row_name_of_trade t p.name) (trade_row_with_id t id) false) p.trade (is_movement_name_and_amount p.name p.amount) ≡ true
   pub stamp : is_at_most_last_stamp t p.stamp ≡ true
-  pub amount : is_amount p.amount ≡ true
+  pub amount : is_within_amount_limit p.amount ≡ true
 
 pub move_posted : (t : Tables) (r : MoveRow) → is_well_formed_move_row t r ≡ true → HasForm t (posting_of_move_row r)
 move_posted t r e =
-    let k = parts5 (is_cash_row_number r.id) (has_account t r.account) (option_map_or (has_cash_row_name_of_trade t r) r.trade (is_movement_name_and_amount r.name r.amount)) (is_at_most_last_stamp t r.stamp) (is_amount r.amount) e in
+    let k = parts5 (is_cash_row_number r.id) (has_account t r.account) (option_map_or (has_cash_row_name_of_trade t r) r.trade (is_movement_name_and_amount r.name r.amount)) (is_at_most_last_stamp t r.stamp) (is_within_amount_limit r.amount) e in
     record { account = k.1; name = k.2; stamp = k.3; amount = k.4 }
 
 cash_posted : (schema : Schema) (t : Tables) → AllByRecursion (λ r. is_well_formed_trade_row schema t r ≡ true) t.trades → (c : CashRow) → is_well_formed_cash_row t c ≡ true → HasForm t (posting_of_cash_row t c)
 cash_posted schema t h c e =
-    let k = parts3 (option_map_or (is_cash_row_name_of_trade t c.name) (trade_row_with_id t c.trade) false) (is_at_most_last_stamp t c.stamp) (is_amount c.amount) e in
+    let k = parts3 (option_map_or (is_cash_row_name_of_trade t c.name) (trade_row_with_id t c.trade) false) (is_at_most_last_stamp t c.stamp) (is_within_amount_limit c.amount) e in
     record { account = by_trade (trade_row_with_id t c.trade) refl k.0; name = k.0; stamp = k.1; amount = k.2 }
   where
     account_of : (r : TradeRow) → is_well_formed_trade_row schema t r ≡ true → has_account t r.account ≡ true
     account_of r f =
-        (parts10 (is_id r.id) (is_at_most_last_stamp t r.stamp) (has_security t r.symbol) (is_quantity_in_schema schema r.qty) (is_price r.bid) (has_account t r.account) (price_matches_completion t r)
-        (nat_le r.charge greatest_charge) (nat_le r.commission greatest_amount) (nat_le r.tax greatest_amount) f).5
+        (parts10 (is_id r.id) (is_quantity_in_schema schema r.qty) (is_price r.bid) (nat_le r.charge greatest_charge) (nat_le r.commission greatest_amount) (nat_le r.tax greatest_amount)
+        (is_at_most_last_stamp t r.stamp) (has_security t r.symbol) (has_account t r.account) (price_matches_completion t r) f).8
 
     by_trade : (o : Option TradeRow) → trade_row_with_id t c.trade ≡ o → option_map_or (is_cash_row_name_of_trade t c.name) o false ≡ true → has_account t (option_map_or (λ r. r.account) (trade_row_with_id t c.trade) 0) ≡ true
     by_trade None f g = absurd (cc)
@@ -142,8 +143,8 @@ ids_low : (schema : Schema) (t : Tables) → SatisfiesFormParts schema t → All
 unfolding base_of_tables
 ids_low schema t p =
     All-mapped (λ u. u.id ≤ greatest_id) (trade_of_row t) t.trades (All-map t.trades (λ r e.
-    let k = parts10 (is_id r.id) (is_at_most_last_stamp t r.stamp) (has_security t r.symbol) (is_quantity_in_schema schema r.qty) (is_price r.bid) (has_account t r.account) (price_matches_completion t r)
-    (nat_le r.charge greatest_charge) (nat_le r.commission greatest_amount) (nat_le r.tax greatest_amount) e in
+    let k = parts10 (is_id r.id) (is_quantity_in_schema schema r.qty) (is_price r.bid) (nat_le r.charge greatest_charge) (nat_le r.commission greatest_amount) (nat_le r.tax greatest_amount)
+    (is_at_most_last_stamp t r.stamp) (has_security t r.symbol) (has_account t r.account) (price_matches_completion t r) e in
     leb-true r.id greatest_id (and_parts (nat_le 1 r.id) (nat_le r.id greatest_id) k.0).1) (list_all_true (is_well_formed_trade_row schema t) t.trades p.trades))
 
 pub few_postings : (base : Base) → AreNumberedFrom 1 base.trades → AllByRecursion (λ u. u.id ≤ greatest_id) base.trades → length base.movements ≤ greatest_id

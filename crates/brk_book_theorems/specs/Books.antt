@@ -1,13 +1,13 @@
 -- The books invariant: what holds of every base that accepted commands reach from the empty base,
 -- and of every base that is read from rows that pass an audit.
-use Rattle.std.specs.Prelude.{◌≡◌, ◌≤◌, ⊤, ℕ, ◌==◌, ◌&&◌, true, false, List, [], ◌∷◌, Option, Some, None, nat_le, IfSome, bytes_eq, find, is_some}
+use Rattle.std.specs.Prelude.{◌≡◌, ◌≤◌, ⊤, ℕ, ◌==◌, ◌&&◌, true, false, List, [], ◌∷◌, Option, Some, None, nat_le, IfSome, bytes_eq, is_some}
 use Rattle.std.specs.List.{AllByRecursion}
 use Rattle.brk_money.specs.Moments.{greatest_stamp}
 use Rattle.brk_money.specs.Kinds.{is_same_trade_status}
 use Rattle.brk_money.specs.declared.status.Status.TheVariants.{Completed, Pending, Submitted}
 use Rattle.brk_model.specs.Limits.{greatest_amount}
 use Rattle.brk_model.specs.Records.{Account, Band, Broker, Customer, StatusChange, Movement, Permission, Security, Trade}
-use Rattle.brk_model.specs.Base.{Base, completed_trades, account_with_id_in_list, has_status, last_status_stamp_of_trade}
+use Rattle.brk_model.specs.Base.{Base, completed_trades, account_with_id_in_list, has_status, last_status_stamp_of_trade, broker_with_id_in_list, customer_with_id_in_list, security_with_symbol_in_list}
 use Rattle.brk_model.specs.Names.{AreNumberedFrom}
 use Rattle.brk_model.specs.Tests.{bands_overlap}
 
@@ -102,19 +102,19 @@ HasDisjointBands (b ∷ bs) = AllByRecursion (λ c. bands_overlap b c ≡ false)
 
 -- The broker of the account is one of `brokers`.
 abbrev pub AccountBrokerExists : List Broker → Account → Type 0
-AccountBrokerExists brokers a = is_some (find (λ b. b.id == a.broker) brokers) ≡ true
+AccountBrokerExists brokers a = is_some (broker_with_id_in_list brokers a.broker) ≡ true
 
 -- The customer of the account is one of `customers`.
 abbrev pub AccountCustomerExists : List Customer → Account → Type 0
-AccountCustomerExists customers a = is_some (find (λ c. c.id == a.customer) customers) ≡ true
+AccountCustomerExists customers a = is_some (customer_with_id_in_list customers a.customer) ≡ true
 
 -- The account of the trade is one of `accounts`.
 abbrev pub TradeAccountExists : List Account → Trade → Type 0
-TradeAccountExists accounts t = is_some (find (λ a. a.id == t.account) accounts) ≡ true
+TradeAccountExists accounts t = is_some (account_with_id_in_list accounts t.account) ≡ true
 
 -- The symbol of the trade is that of one of `securities`.
 abbrev pub TradeSecurityExists : List Security → Trade → Type 0
-TradeSecurityExists securities t = is_some (find (λ s. bytes_eq s.symbol t.symbol) securities) ≡ true
+TradeSecurityExists securities t = is_some (security_with_symbol_in_list securities t.symbol) ≡ true
 
 -- The part of the books invariant that concerns accounts and permissions: brokers and customers of
 -- accounts exist, and ids of accounts and permissions of an account are unique.

@@ -5,6 +5,7 @@ use Rattle.brk_money.specs.Spelling.{Text}
 use Rattle.brk_money.specs.Kinds.{is_same_trade_type}
 use Rattle.brk_money.specs.declared.trade_type.TradeType.{TradeType}
 use Rattle.brk_model.specs.Records.{Band, TaxRate}
+use Rattle.brk_model.specs.Base.{tax_rate_with_id_in_list}
 use Rattle.brk_model.specs.Tables.{Tables}
 use Rattle.brk_model.specs.Tests.{bands_overlap}
 
@@ -35,7 +36,7 @@ overlaps_some_band t b = list_any (bands_overlap b) (matching_bands t b.tier b.k
 
 -- The row of the tax rate with the id `id`, or `None` if there is none.
 abbrev pub tax_rate_with_id : Tables → ℕ → Option TaxRate
-tax_rate_with_id t id = find (λ r. r.id == id) t.tax_rates
+tax_rate_with_id t id = tax_rate_with_id_in_list t.tax_rates id
 
 -- True if the tables contain a tax rate with the id `id`.
 abbrev pub contains_tax_rate : Tables → ℕ → Bool

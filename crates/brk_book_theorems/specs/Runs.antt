@@ -30,7 +30,9 @@ pub record TradeRowHasTax (t : Tables) (id tax : ℕ) : Type 0 where
 -- The tax of the trade `t` if it is completed at the clock reading `now` and the price `price`. It
 -- is the tax on exactly the shares that the trade then closes, at the rates of the base.
 abbrev pub tax_at_completion : Base → ℕ → ℕ → Trade → ℕ
-tax_at_completion base now price t = tax_on_deal base t.account (deal_of_result (stamp_of_next_command base now) price t) (shares_of_position (completed_trades base) t.account t.symbol)
+tax_at_completion base now price t =
+    tax_on_deal base t.account (deal_of_result (stamp_of_next_command base now) price t)
+    (shares_of_position (completed_trades base) t.account t.symbol)
 
 -- If the call is an accepted result, the row of its trade in the tables `later` has the tax of its
 -- completion from `base` at the clock reading `now`. Vacuous for other calls and for other

@@ -6,15 +6,11 @@ use Rattle.brk_lots.specs.Position.{IsPosition}
 use Rattle.brk_money.specs.Kinds.{is_same_trade_status}
 use Rattle.brk_money.specs.declared.status.Status.TheVariants.{Completed}
 use Rattle.brk_money.specs.Spelling.{Text}
-use Rattle.brk_model.specs.Joins.{account_row_with_id, trade_row_with_id}
+use Rattle.brk_model.specs.Joins.{account_row_with_id, trade_row_with_id, move_rows_of_account}
 use Rattle.brk_model.specs.Lists.{total_by}
-use Rattle.brk_model.specs.Tables.{AccountRow, BrokerRow, MoveRow, HoldingRow, SummaryRow, Tables, TradeRow}
+use Rattle.brk_model.specs.Tables.{AccountRow, BrokerRow, HoldingRow, SummaryRow, Tables, TradeRow}
 use Rattle.brk_book_theorems.specs.Lives.{AllLotChangesFormChains}
 use Rattle.brk_book_theorems.specs.TradeReads.{position_lots, summary_row_of_position}
-
--- The rows of CASH_MOVE of the account, in the order of the table.
-abbrev pub cash_rows_of_account : Tables → ℕ → List MoveRow
-cash_rows_of_account t account = filter (λ r. r.account == account) t.moves
 
 -- True if the trade `r` is completed and the broker of its account is `broker`.
 abbrev pub is_completed_for_broker : Tables → ℕ → TradeRow → Bool
@@ -42,7 +38,7 @@ pub record BrokerTotalsMatch (t : Tables) (b : BrokerRow) : Type 0 where
 
 -- The balance of the account's row equals its opening balance plus the amounts of its cash rows.
 abbrev pub BalanceMatchesCashRows : Tables → AccountRow → Type 0
-BalanceMatchesCashRows t a = a.balance ≡ a.opening +ℤ total_by (λ c. c.amount) (cash_rows_of_account t a.id)
+BalanceMatchesCashRows t a = a.balance ≡ a.opening +ℤ total_by (λ c. c.amount) (move_rows_of_account t a.id)
 
 -- The quantity of the summary equals the sum of the quantities of the lots of its account in its
 -- symbol, and is not 0.

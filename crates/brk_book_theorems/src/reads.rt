@@ -12,7 +12,7 @@ ghost use Rattle.brk_model.specs.Base.{Base, account_with_id, commission_band_fo
 ghost use Rattle.brk_model.specs.Commands.{Tick};
 ghost use Rattle.brk_model.specs.Derived.{postings_of_base, shares_of_position, holding_summary_quantity};
 ghost use Rattle.brk_model.specs.Feed.{is_triggered_by_tick};
-ghost use Rattle.brk_model.specs.Joins.{account_row_with_id, trade_row_with_id};
+ghost use Rattle.brk_model.specs.Joins.{account_row_with_id, trade_row_with_id, move_rows_of_account};
 ghost use Rattle.brk_model.specs.Keyed.{stored_row_with_key};
 ghost use Rattle.brk_model.specs.Lists.{all_distinct, total_by};
 ghost use Rattle.brk_model.specs.Orders.{assets_of_account, permitted};
@@ -26,7 +26,7 @@ ghost use Rattle.brk_ref.specs.Records.{abstract_tax_rate};
 ghost use Rattle.brk_ref.specs.declared.tax.Tax.{Tax};
 ghost use Rattle.brk_book_theorems.specs.Books.{BooksInvariant};
 ghost use Rattle.brk_book_theorems.specs.Reads.{account_count_of_customer, overlaps_some_band, contains_tax_id, rate_sum_of_customer, tax_rate_with_id};
-ghost use Rattle.brk_book_theorems.specs.Sums.{cash_rows_of_account, completed_rows_of_broker};
+ghost use Rattle.brk_book_theorems.specs.Sums.{completed_rows_of_broker};
 ghost use Rattle.brk_book_theorems.specs.TradeReads.{band_of_quantity, last_cash_row_number, last_trade_number, shares_of_lot_row, holding_rows_of_position, permission_for_tax_id, permissions_of_account, position_lots, summary_row_of_quantity, summary_quantity, summary_row_of_position};
 ghost use Rattle.brk_book_theorems.specs.Trading.{ids_triggered_by_tick};
 
@@ -179,7 +179,7 @@ pub fn summary_rows_match_the_base()
 /// the base satisfies the books invariant.
 pub fn balances_equal_cash_row_sums()
     ensures { (base : Base) (id : ℕ) (r : AccountRow) → BooksInvariant base → account_row_with_id (sheets base) id ≡ Some r
-        → r.balance ≡ r.opening +ℤ total_by (λ r. r.amount) (cash_rows_of_account (sheets base) id) }
+        → r.balance ≡ r.opening +ℤ total_by (λ r. r.amount) (move_rows_of_account (sheets base) id) }
 {}
 
 /// Proves that the totals of a broker's row equal the number of completed trades of the broker's

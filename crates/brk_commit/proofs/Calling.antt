@@ -202,7 +202,7 @@ module _ {S : Type 0} (g : Ghosts S) (old mid : Held S) (now : ℕ) (command : C
         record {
           answered = λ clean base keeps.
               let l = lands (clean_mid clean) base keeps in
-              (l.0, record { books = l.2; sound = sound_after base keeps l.0 (model_answer (given.Done kept.reply)) l.3; texts = l.4; rows = subst (HoldsRows g end) (sym l.1) (applied.made (sheets base) (seen.kept (sheets base) keeps.rows)) }, l.3);
+              (l.0, record { rows = subst (HoldsRows g end) (sym l.1) (applied.made (sheets base) (seen.kept (sheets base) keeps.rows)); consistent = record { books = l.2; sound = sound_after base keeps l.0 (model_answer (given.Done kept.reply)) l.3; texts = l.4 } }, l.3);
           kept = tt;
           fault = tt;
           survives = come applied;

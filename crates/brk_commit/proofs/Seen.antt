@@ -23,7 +23,7 @@ still s = record { clean = omega arith; shield = λ x. x; counts = omega arith; 
 module _ {S : Type 0} (g : Ghosts S) where
   -- books are kept where the rows are
   pub still_kept : (old new : Held S) (base : Base) → (HoldsRows g old (sheets base) → HoldsRows g new (sheets base)) → Represents g old base → Represents g new base
-  still_kept old new base rows keeps = record { books = keeps.books; sound = keeps.sound; texts = keeps.texts; rows = rows keeps.rows }
+  still_kept old new base rows keeps = record { rows = rows keeps.rows; consistent = keeps.consistent }
 
   -- The store is unchanged between the states `old` and `new`, and the rows that it held satisfy
   -- `P`. The latter is vacuous if the disk assumption fails.

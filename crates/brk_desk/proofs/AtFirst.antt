@@ -22,14 +22,17 @@ use Rattle.brk_desk.specs.Stops.{MayBeRecovered}
 use Rattle.brk_desk.proofs.UpgradedRows.{are_upgraded}
 
 pub made_keeps : {S : Type 0} (g : Ghosts S) (store : Held S) → HoldsRows g store tables_without_rows → Represents g store empty_base
-made_keeps g store holds = record { books = empty_books; sound = empty_sound; texts = ap has_utf8_texts empty_rows; rows = subst (HoldsRows g store) (sym empty_rows) holds }
+made_keeps g store holds = record {
+  rows = subst (HoldsRows g store) (sym empty_rows) holds;
+  consistent = record { books = empty_books; sound = empty_sound; texts = ap has_utf8_texts empty_rows };
+}
 
 -- the rows of whichever schema that passed, upgraded to the third
 pub upgraded_keeps : {S : Type 0} (g : Ghosts S) (store : Held S) (schema : known.Schema) (rows : Tables) → HoldsRows g store (tables_upgraded_from_schema (abstract_schema schema) rows) → IsTrue (has_utf8_texts rows)
     → PassesAudit (abstract_schema schema) rows → Represents g store (base_of_tables rows)
 upgraded_keeps g store schema rows holds texts passes =
     let k = are_upgraded schema rows passes texts in
-    record { rows = subst (HoldsRows g store) k.tables holds; books = k.books; sound = k.sound; texts = k.texts }
+    record { rows = subst (HoldsRows g store) k.tables holds; consistent = record { books = k.books; sound = k.sound; texts = k.texts } }
 
 -- the calls before one of them, and it
 up_to : (earlier : List (ℕ × Call)) (call : ℕ × Call) (later : List (ℕ × Call)) → AllByRecursion CallMeetsAuditFormats (earlier ++ call ∷ later) → AllByRecursion CallMeetsAuditFormats earlier × CallMeetsAuditFormats call

@@ -16,7 +16,7 @@ use Rattle.brk_sql.proofs.Inside.{clean_before}
 use Rattle.brk_book_theorems.proofs.Steps.{empty_books, empty_rows}
 use Rattle.brk_invariant_theorems.proofs.SoundRuns.{keyed_both}
 use Rattle.brk_invariant_theorems.proofs.SoundSteps.{empty_sound}
-use Rattle.brk_store.specs.Audited.{AdoptPost, AuditPost, Represents}
+use Rattle.brk_store.specs.Audited.{AdoptPost, AuditPost, Represents, IsConsistent}
 use Rattle.brk_store.specs.Holds.{AreTreesOfRows, CreatePost, CrashStatesSatisfy}
 use Rattle.brk_store.proofs.Found.{found_again}
 use Rattle.brk_store.proofs.Taking.{sound_books_pass, third_audited}
@@ -24,7 +24,7 @@ use Rattle.brk_desk.specs.Answers.{model_outcome}
 use Rattle.brk_desk.specs.Commands.{model_call}
 use Rattle.brk_commit.specs.Booked.{CallPost, MayBeCommitted, base_after_call}
 use Rattle.brk_desk.specs.Keeping.{RunPost}
-use Rattle.brk_desk.specs.Reopening.{IsConsistent, IsJustOpened, IsReopenedAfterCrash, IsRecovered, RepresentsDurableBase}
+use Rattle.brk_desk.specs.Reopening.{IsJustOpened, IsReopenedAfterCrash, IsRecovered, RepresentsDurableBase}
 use Rattle.brk_desk.specs.Stops.{MayBeRecovered}
 use Rattle.brk_commit.specs.declared.answer.Answer.{Answer}
 use Rattle.brk_desk.specs.declared.call.Call.{Call}
@@ -41,7 +41,7 @@ made_stands g conn store created clean = record {
 -- ---- what can be kept
 
 pub kept_can_be : {S : Type 0} (g : Ghosts S) (store : Held S) (base : Base) → Represents g store base → IsConsistent base
-kept_can_be g store base keeps = record { books = keeps.books; sound = keeps.sound; texts = keeps.texts }
+kept_can_be g store base keeps = keeps.consistent
 
 -- what may come of a call can be kept too
 pub booked_can_be : {S : Type 0} (g : Ghosts S) (old new : Held S) (base : Base) (now : ℕ) (command : Command) (key : Option Key) (answer : Result Answer Fault) (trees : Trees)
@@ -59,7 +59,7 @@ Settles {S} g = (s : S) (db : Trees) → IsTrue (g.view s).is_open → g.recover
 module _ {S : Type 0} (g : Ghosts S) (settled : Settles g) where
   -- a connection opened over the tables of sound books in order keeps them
   opened_keeps : (trees : Trees) (conn : Held S) (base : Base) → IsConsistent base → AreTreesOfRows (sheets base) trees → IsJustOpened g trees conn → Represents g conn base
-  opened_keeps trees conn base can are opened = record { books = can.books; sound = can.sound; texts = can.texts; rows = found_again g (sheets base) trees conn are opened.over }
+  opened_keeps trees conn base can are opened = record { rows = found_again g (sheets base) trees conn are opened.over; consistent = can }
 
   -- a connection that was just opened leaves its trees alone
   pub leaves_alone : (trees : Trees) (conn : Held S) → IsJustOpened g trees conn → HasCleanDisk (state g conn) → CrashStatesSatisfy g conn (λ left. left ≡ trees)

@@ -24,11 +24,11 @@ use Rattle.brk_sql.proofs.Inside.{clean_before}
 use Rattle.brk_tables_schema.specs.Made.{HasRows}
 use Rattle.brk_tables_scan.proofs.Defined.{desk_is_there}
 use Rattle.brk_tables_unique.proofs.OneTables.{one_schema}
-use Rattle.brk_store.specs.Audited.{IsAuditOfStoredRows, IsAuditOfDatabase, AdoptPost, StoreNamesImplyDefinitions, OnAuditAnswer}
+use Rattle.brk_store.specs.Audited.{IsAuditOfStoredRows, IsAuditOfDatabase, AdoptPost, StoreNamesImplyDefinitions, OnAuditAnswer, IsConsistent}
 use Rattle.brk_store.specs.Holds.{AreTreesOfRows}
 use Rattle.brk_store.proofs.Schemas.{third_rows}
 use Rattle.brk_store.proofs.Taking.{one_answer}
-use Rattle.brk_desk.specs.Reopening.{IsConsistent, AdoptsPassingRows, IsJustOpened, AdoptsBaseUndamaged, IsReopenedAfterCrash, IsRecovered, RepresentsDurableBase}
+use Rattle.brk_desk.specs.Reopening.{AdoptsPassingRows, IsJustOpened, AdoptsBaseUndamaged, IsReopenedAfterCrash, IsRecovered, RepresentsDurableBase}
 use Rattle.brk_desk.proofs.Defined.{defined_whole}
 use Rattle.brk_desk.proofs.UpgradedRows.{are_upgraded}
 use Rattle.brk_desk.proofs.Reopened.{Settles, audited_stands, leaves_alone, taken_over}
@@ -73,7 +73,7 @@ module _ {S : Type 0} (g : Ghosts S) (settled : Settles g) where
         let there : HasRows (sheets (base_of_tables rows)) (state g store).now = subst (λ (t : Tables). HasRows (sheets (base_of_tables t)) (state g store).now) (sym same) m.0.3 in
         let can = rows_can_be schema rows (state g conn).now a in
         record {
-          keeps = record { rows = λ _ _. there; books = can.books; sound = can.sound; texts = can.texts };
+          keeps = record { rows = λ _ _. there; consistent = can };
           alone = λ left may. ((state g store).now, there, settled store.store left on may ∙ ap (λ (db : Database). db.trees) m.1);
         }
 

@@ -1,5 +1,5 @@
 -- Adoption of a database after a crash.
-use Rattle.std.specs.Prelude.{◌≡◌, None, OnOk, Result, IsTrue}
+use Rattle.std.specs.Prelude.{◌≡◌, None, OnOk, Result}
 use Rattle.sqlite_trees.specs.declared.store.Store.{Ghosts}
 use Rattle.sqlite_trees.specs.Tree.{Trees}
 use Rattle.sqlite.specs.Held.{Held, state}
@@ -7,21 +7,12 @@ use Rattle.sqlite.specs.State.{HasCleanDisk, Opens}
 use Rattle.brk_money.specs.declared.fault.Fault.{Fault}
 use Rattle.brk_model.specs.Adopted.{base_of_tables}
 use Rattle.brk_model.specs.Base.{Base}
-use Rattle.brk_model.specs.Form.{has_utf8_texts}
 use Rattle.brk_model.specs.Sheets.{sheets}
 use Rattle.brk_model.specs.Tables.{Tables}
 use Rattle.brk_changes.specs.Schemas.{abstract_schema}
 use Rattle.brk_changes.specs.declared.schema.Schema as known
-use Rattle.brk_book_theorems.specs.Books.{BooksInvariant}
-use Rattle.brk_invariant_theorems.specs.Sound.{AuditInvariant}
 use Rattle.brk_store.specs.Audited.{IsAuditOfStoredRows, OnAuditAnswer, Represents}
 use Rattle.brk_store.specs.Holds.{AreTreesOfRows, IsOpenedOverTrees, CrashStatesSatisfy}
-
--- The base satisfies the books invariant and the audit invariant, and its texts are UTF-8.
-pub record IsConsistent (base : Base) : Type 0 where
-  pub books : BooksInvariant base
-  pub sound : AuditInvariant base
-  pub texts : IsTrue (has_utf8_texts (sheets base))
 
 -- The store represents the base, and a crash exposes only the tables of this base.
 pub record RepresentsDurableBase {S : Type 0} (g : Ghosts S) (store : Held S) (base : Base) : Type 0 where

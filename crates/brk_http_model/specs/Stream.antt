@@ -44,7 +44,8 @@ stream_after_reply false rest = Continues rest
 -- The bytes `reply` are the reply to `request`, after `n` earlier requests. The stream ends with it
 -- if the request is number `most_requests` or asks to close the stream, or if the response is a
 -- fault; otherwise it continues with the bytes `rest`.
-pub record Replied {B : Type 0} (forms : Forms) (does : CallRelation B) (n : ℕ) (request : Request) (rest : Text) (base : B) (taken : List ℕ) (reply : Text) (next : Next) (after : B) : Type 0 where
+pub record Replied {B : Type 0} (forms : Forms) (does : CallRelation B) (n : ℕ) (request : Request) (rest : Text)
+    (base : B) (taken : List ℕ) (reply : Text) (next : Next) (after : B) : Type 0 where
   pub response : Response
   pub closes : Bool
   pub responds : IsResponseToDemand does (demand_of_request forms request) base taken response after
@@ -64,7 +65,8 @@ IsReplyToReading forms does n (Asks request rest) base taken reply next after = 
 -- The bytes `reply` are the first reply to `input`, after `n` earlier requests of the stream. It
 -- takes the clock readings `taken`, `next` is the state of the stream after it, and it leads from
 -- `base` to `after`.
-pub record One {B : Type 0} (forms : Forms) (does : CallRelation B) (n : ℕ) (input : Text) (base : B) (taken : List ℕ) (reply : Text) (next : Next) (after : B) : Type 0 where
+pub record One {B : Type 0} (forms : Forms) (does : CallRelation B) (n : ℕ) (input : Text)
+    (base : B) (taken : List ℕ) (reply : Text) (next : Next) (after : B) : Type 0 where
   pub found : Found
   pub finds : ReadsFirstRequest input found
   pub replied : IsReplyToReading forms does n found base taken reply next after

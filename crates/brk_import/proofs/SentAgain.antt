@@ -24,9 +24,9 @@ use Rattle.brk_model_theorems.proofs.LeftLaws.{done-kept, left-over, one-run}
 use Rattle.brk_model_theorems.proofs.StoppedLaws.{booked-completed, completed, next-goes-on, rows-go-on}
 use Rattle.brk_io.specs.Moments.{ClockReturnsInOrder}
 use Rattle.brk_io.specs.Span.{ClockAndWriterChange, change_with_bases}
-use Rattle.brk_store.specs.Audited.{AdoptPost, OnAuditAnswer, Represents}
+use Rattle.brk_store.specs.Audited.{AdoptPost, OnAuditAnswer, Represents, IsConsistent}
 use Rattle.brk_store.specs.Holds.{AreTreesOfRows}
-use Rattle.brk_desk.specs.Reopening.{IsConsistent, IsReopenedAfterCrash, RepresentsDurableBase}
+use Rattle.brk_desk.specs.Reopening.{IsReopenedAfterCrash, RepresentsDurableBase}
 use Rattle.brk_desk.proofs.Reopened.{Settles, kept_can_be, taken_over}
 use Rattle.brk_batch_engine.specs.Batch.{IsBatchResult, BatchEndsWith, BatchFailsWith, CrashMayCommitFailedRow, BatchRefinesModel, BoundsBatchCrashStates, IsBatchCrashSafe, BatchProgress}
 use Rattle.brk_import.specs.Leaving.{CrashExposesOnlyOneOf}

@@ -15,13 +15,12 @@ use Rattle.brk_model.specs.Sheets.{sheets}
 use Rattle.brk_store.specs.Holds.{AreTreesOfRows}
 use Rattle.brk_commit.specs.Answers.{model_answer}
 use Rattle.brk_commit.specs.Booked.{CallPost}
-use Rattle.brk_store.specs.Audited.{Represents}
+use Rattle.brk_store.specs.Audited.{Represents, IsConsistent}
 use Rattle.brk_commit.specs.Keys.{optional_model_key}
 use Rattle.brk_commands.specs.Commands.{abstract_command}
 use Rattle.brk_commands.specs.declared.command.Command as commands
 use Rattle.brk_ref.specs.Records.{abstract_key}
 use Rattle.brk_ref.specs.declared.key.Key as keys
-use Rattle.brk_desk.specs.Reopening.{IsConsistent}
 use Rattle.brk_desk.specs.declared.call.Call.TheVariants as made
 use Rattle.brk_desk.specs.declared.call.Outcome.TheVariants as came
 use Rattle.brk_commit.specs.declared.answer.Answer.{Answer}

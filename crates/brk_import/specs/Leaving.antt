@@ -4,8 +4,8 @@ use Rattle.sqlite.specs.Held.{Held}
 use Rattle.sqlite_trees.specs.declared.store.Store.{Ghosts}
 use Rattle.brk_model.specs.Base.{Base}
 use Rattle.brk_model.specs.Sheets.{sheets}
+use Rattle.brk_store.specs.Audited.{IsConsistent}
 use Rattle.brk_store.specs.Holds.{AreTreesOfRows, CrashStatesSatisfy}
-use Rattle.brk_desk.specs.Reopening.{IsConsistent}
 
 -- A crash exposes only the tables of `base` or the tables of `other`; if it exposes those of
 -- `other`, then `other` is consistent.

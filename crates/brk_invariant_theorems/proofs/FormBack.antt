@@ -5,7 +5,7 @@ use Rattle.std.specs.List.{AllByRecursion, list_all, list_any}
 use Rattle.std.specs.Option.{option_map_or}
 use Rattle.std.proofs.lemmas.Bool.{and_parts, eqb-true, leb-true, not-true, and_from}
 use Rattle.std.proofs.lemmas.Slice.Eq.{bytes_eq-Decides}
-use Rattle.brk_money.specs.Spelling.{Text}
+use Rattle.brk_money.specs.Spelling.{Text, is_within_amount_limit}
 use Rattle.brk_money.specs.Moments.{day_of, greatest_day}
 use Rattle.brk_money.specs.Kinds.{is_same_trade_status, side_of_trade_type}
 use Rattle.brk_money.specs.declared.status.Status.TheVariants.{Completed}
@@ -22,7 +22,7 @@ use Rattle.brk_model.specs.Tables.{Tables, account_row, broker_row, history_rows
 use Rattle.brk_model.specs.Sheets.{sheets, tables_sorted_by_key}
 use Rattle.brk_model.specs.Adopted.{base_of_tables, posting_of_move_row}
 use Rattle.brk_model.specs.Joins.{history_rows_with_trade_id, trade_row_with_id}
-use Rattle.brk_model.specs.Form.{is_well_formed_account_row, is_well_formed_broker_row, is_well_formed_cash_row, is_well_formed_charge_row, is_well_formed_customer_row, is_within_customer_limits, is_well_formed_customer_tax_row, has_account, has_broker, has_customer, satisfies_form_condition, has_security, has_trade, is_well_formed_history_row, is_amount, is_cash_row_name_of_trade, is_cash_type_of_trade, is_id, is_up_to_last_stamp, is_price, is_quantity_in_schema, is_well_formed_last_trade_row, has_distinct_tax_ids, is_well_formed_permission_row, price_matches_completion, is_well_formed_security_row, is_well_formed_settlement_row, is_well_formed_summary_row, is_well_formed_trade_row, is_movement_name_and_amount, is_well_formed_move_row}
+use Rattle.brk_model.specs.Form.{is_well_formed_account_row, is_well_formed_broker_row, is_well_formed_cash_row, is_well_formed_charge_row, is_well_formed_customer_row, is_within_customer_limits, is_well_formed_customer_tax_row, has_account, has_broker, has_customer, satisfies_form_condition, has_security, has_trade, is_well_formed_history_row, is_cash_row_name_of_trade, is_cash_type_of_trade, is_id, is_up_to_last_stamp, is_price, is_quantity_in_schema, is_well_formed_last_trade_row, has_distinct_tax_ids, is_well_formed_permission_row, price_matches_completion, is_well_formed_security_row, is_well_formed_settlement_row, is_well_formed_summary_row, is_well_formed_trade_row, is_movement_name_and_amount, is_well_formed_move_row}
 use Rattle.brk_model.specs.Forms.{is_acl, is_exchange, is_name, is_symbol, is_tax_id}
 use Rattle.brk_model.specs.Keys.{KeyPart, word, rows_sorted_by_key, is_row_key_less, account_key, band_key, broker_key, cash_key, charge_key, customer_key, customer_tax_key, history_key, kept_key, last_trade_key, permission_key, security_key, settlement_key, summary_key, tax_rate_key, trade_key}
 use Rattle.brk_book_theorems.specs.Books.{BooksInvariant}
@@ -239,8 +239,8 @@ trade_back : (base : Base) (t : Trade) → BooksInvariant base → HasValidHisto
 unfolding tables_sorted_by_key tables_of_base_in_schema
 trade_back base t books told h =
     let T : Tables = sheets base in
-    let f = parts10 (is_id t.id) (is_up_to_last_stamp base.last (last_status_stamp_of_trade t)) (has_security T t.symbol) (is_quantity_in_schema third_schema t.qty) (is_price t.bid) (has_account T t.account) (price_matches_completion T (trade_row t))
-    (nat_le t.charge greatest_charge) (nat_le t.commission greatest_amount) (nat_le t.tax greatest_amount) h.row in
+    let f = parts10 (is_id t.id) (is_quantity_in_schema third_schema t.qty) (is_price t.bid) (nat_le t.charge greatest_charge) (nat_le t.commission greatest_amount) (nat_le t.tax greatest_amount)
+    (is_up_to_last_stamp base.last (last_status_stamp_of_trade t)) (has_security T t.symbol) (has_account T t.account) (price_matches_completion T (trade_row t)) h.row in
     let marks = All-map t.marks (λ m k. parts3 (has_trade T t.id) (is_up_to_last_stamp base.last m.stamp) (not (is_same_trade_status m.status Completed) || nat_le (due_day_of_completion_stamp base.rule m.stamp) greatest_day) k)
     (All-unmapped (λ r. is_well_formed_history_row T r ≡ true) (row_of t.id) t.marks h.history) in
     let done : list_any (λ h. is_same_trade_status h.status Completed) (history_rows_with_trade_id T t.id) ≡ is_completed t =
@@ -250,13 +250,13 @@ trade_back base t books told h =
     let row = row_of_trade base t h.found in
     record {
       alone = record {
-        fields = and6 (is_id t.id) (is_quantity_in_schema third_schema t.qty) (is_price t.bid) (nat_le t.charge greatest_charge) (nat_le t.commission greatest_amount) (nat_le t.tax greatest_amount) f.0 f.3 f.4 f.7 f.8 f.9;
+        fields = and6 (is_id t.id) (is_quantity_in_schema third_schema t.qty) (is_price t.bid) (nat_le t.charge greatest_charge) (nat_le t.commission greatest_amount) (nat_le t.tax greatest_amount) f.0 f.1 f.2 f.3 f.4 f.5;
         stamps = h.stamps;
         way = h.way;
-        priced = sym (ap (λ b. cond b (option_map_or is_price t.price false) (is_none t.price)) done) ∙ f.6;
+        priced = sym (ap (λ b. cond b (option_map_or is_price t.price false) (is_none t.price)) done) ∙ f.9;
         words = h.words;
         cash_type = λ d.
-            let p = parts3 (option_map_or (λ row. is_cash_type_of_trade row.is_cash t.cash_type) (trade_row_with_id T t.id) false) (nat_le (due_day base.rule t) greatest_day) (is_amount (settlement_amount base.accounts t)) (h.settled d) in
+            let p = parts3 (option_map_or (λ row. is_cash_type_of_trade row.is_cash t.cash_type) (trade_row_with_id T t.id) false) (nat_le (due_day base.rule t) greatest_day) (is_within_amount_limit (settlement_amount base.accounts t)) (h.settled d) in
             sym (ap (λ o. option_map_or (λ row. is_cash_type_of_trade row.is_cash t.cash_type) o false) row) ∙ p.0;
       };
       past = All-map t.marks (λ m k. k.1) marks;
@@ -264,7 +264,7 @@ trade_back base t books told h =
       cash_name = λ d.
           let c = and_parts (is_completed t) t.is_cash d in
           sym (ap (has_cash_text_for_name t) (same_name base t.symbol books told)) ∙ sym (ap (λ o. option_map_or (is_cash_row_name_of_trade T t.cash_name) o false) row) ∙ (h.moved c.0 c.1).name;
-      amount = λ d. (parts3 (option_map_or (λ row. is_cash_type_of_trade row.is_cash t.cash_type) (trade_row_with_id T t.id) false) (nat_le (due_day base.rule t) greatest_day) (is_amount (settlement_amount base.accounts t)) (h.settled d)).2;
+      amount = λ d. (parts3 (option_map_or (λ row. is_cash_type_of_trade row.is_cash t.cash_type) (trade_row_with_id T t.id) false) (nat_le (due_day base.rule t) greatest_day) (is_within_amount_limit (settlement_amount base.accounts t)) (h.settled d)).2;
     }
 
 -- the postings of a base whose cash rows have form
@@ -281,7 +281,7 @@ cash_back base h =
 
 movements_formed : (base : Base) → AllByRecursion (HasForm (sheets base)) (postings_of_base base) → AllByRecursion (λ m. is_well_formed_movement m ≡ true) base.movements
 movements_formed base h =
-    All-map base.movements (λ m k. and_from (is_movement_name_and_amount m.name m.amount) (is_amount m.amount) k.name k.amount)
+    All-map base.movements (λ m k. and_from (is_movement_name_and_amount m.name m.amount) (is_within_amount_limit m.amount) k.name k.amount)
     (All-unmapped (HasForm (sheets base)) posting_of_movement base.movements
     (All-back (HasForm (sheets base)) (map (posting_of_trade base.accounts) (cash_trades (completed_trades base))) (map posting_of_movement base.movements) h))
 
@@ -324,9 +324,9 @@ sound_back base books told form =
     let r : KeyParts T = key_parts T f.keys in
     let brokers = All-map base.brokers (λ b h. and_parts (is_id b.id && is_name b.name) (nat_le (commission_total_of_broker base.accounts done b.id) greatest_amount) h)
     (back_mapped is_well_formed_broker_row broker_key (broker_row base.accounts done) base.brokers f.brokers) in
-    let accounts = All-map base.accounts (λ a h. parts6 (is_id a.id) (has_customer T a.customer) (has_broker T a.broker) (is_name a.name) (is_amount a.opening) (is_amount (balance_of_account base.accounts (postings_of_base base) a.id)) h)
+    let accounts = All-map base.accounts (λ a h. parts6 (is_id a.id) (is_name a.name) (is_within_amount_limit a.opening) (is_within_amount_limit (balance_of_account base.accounts (postings_of_base base) a.id)) (has_customer T a.customer) (has_broker T a.broker) h)
     (back_mapped (is_well_formed_account_row T) account_key (account_row base.accounts (postings_of_base base)) base.accounts f.accounts) in
-    let permissions = All-map base.permissions (λ p h. parts5 (has_account T p.account) (is_acl p.acl) (is_tax_id p.tax_id) (is_name p.last_name) (is_name p.first_name) h)
+    let permissions = All-map base.permissions (λ p h. parts5 (is_acl p.acl) (is_tax_id p.tax_id) (is_name p.last_name) (is_name p.first_name) (has_account T p.account) h)
     (back_rows (is_well_formed_permission_row T) permission_key base.permissions f.permissions) in
     let securities = All-map base.securities (λ s h. parts5 (is_symbol s.symbol) (is_name s.name) (is_exchange s.exchange) (is_name s.sector) (list_any (λ l. bytes_eq l.symbol s.symbol) T.last_trades) h)
     (back_mapped (is_well_formed_security_row T) security_key security_row base.securities f.securities) in
@@ -343,12 +343,12 @@ sound_back base books told form =
       parties = record {
         brokers = All-map base.brokers (λ b h. h.0) brokers;
         customers = back_rows is_well_formed_customer_row customer_key base.customers f.customers;
-        accounts = All-map base.accounts (λ a h. and3 (is_id a.id) (is_name a.name) (is_amount a.opening) h.0 h.3 h.4) accounts;
-        permissions = All-map base.permissions (λ p h. and4 (is_acl p.acl) (is_tax_id p.tax_id) (is_name p.last_name) (is_name p.first_name) h.1 h.2 h.3 h.4) permissions;
+        accounts = All-map base.accounts (λ a h. and3 (is_id a.id) (is_name a.name) (is_within_amount_limit a.opening) h.0 h.1 h.2) accounts;
+        permissions = All-map base.permissions (λ p h. and4 (is_acl p.acl) (is_tax_id p.tax_id) (is_name p.last_name) (is_name p.first_name) h.0 h.1 h.2 h.3) permissions;
         broker_keys = apart_unmap broker_id_key broker_key (broker_row base.accounts done) base.brokers (λ b. refl) (back_keys broker_key (map (broker_row base.accounts done) base.brokers) r.brokers);
         customer_keys = back_keys customer_key base.customers r.customers;
         tax_ids = apart_unsort customer_tax_id_key (is_row_key_less customer_key) base.customers (tax_ids_each (rows_sorted_by_key customer_key base.customers) f.tax_ids);
-        permitted = All-map base.permissions (λ p h. sym (has_account_is base p.account) ∙ h.0) permissions;
+        permitted = All-map base.permissions (λ p h. sym (has_account_is base p.account) ∙ h.4) permissions;
         owned = λ customer. owned_back base customer books (All-map base.customers (λ c h. leb-true _ most_accounts_per_customer (sym (ap (λ n. nat_le n most_accounts_per_customer) (reads_count base c.id)) ∙ h.0)) limits);
       };
       terms = record {
@@ -379,7 +379,7 @@ sound_back base books told form =
             (All-map base.accounts (λ a h. All-map base.securities (λ s g. row_low T done a.id s.symbol g) (All-unflat (λ r. is_well_formed_summary_row third_schema T r ≡ true) (λ s. summary_rows done a.id s.symbol) base.securities h))
             (All-unflat (λ r. is_well_formed_summary_row third_schema T r ≡ true) (λ a. flat_map (λ s. summary_rows done a.id s.symbol) base.securities) base.accounts
             (back_rows (is_well_formed_summary_row third_schema T) summary_key (flat_map (λ a. flat_map (λ s. summary_rows done a.id s.symbol) base.securities) base.accounts) f.summaries)));
-        balances = λ account. balances_back base account books (All-map base.accounts (λ a h. leb-true _ greatest_amount h.5) accounts);
+        balances = λ account. balances_back base account books (All-map base.accounts (λ a h. leb-true _ greatest_amount h.3) accounts);
         commissions = λ broker. commissions_back base broker books (All-map base.brokers (λ b h. leb-true _ greatest_amount h.1) brokers);
       };
     }

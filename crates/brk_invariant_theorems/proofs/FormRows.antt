@@ -5,7 +5,7 @@ use Rattle.std.specs.List.{AllByRecursion, last_or, list_all, list_any, range_wi
 use Rattle.std.specs.Option.{option_map_or}
 use Rattle.std.proofs.lemmas.Bool.{and_from, eq-eqb, le-leb, and_parts, leb-true}
 use Rattle.std.proofs.lemmas.Slice.Eq.{bytes_eq-Decides}
-use Rattle.brk_money.specs.Spelling.{Text}
+use Rattle.brk_money.specs.Spelling.{Text, is_within_amount_limit}
 use Rattle.brk_money.specs.Moments.{day_of, greatest_day, greatest_stamp}
 use Rattle.brk_money.specs.Kinds.{is_same_trade_status}
 use Rattle.brk_money.specs.declared.status.Status.TheVariants.{Completed, Pending}
@@ -22,7 +22,7 @@ use Rattle.brk_model.specs.Tables.{HistoryRow, Tables, account_row, broker_row, 
 use Rattle.brk_model.specs.Sheets.{sheets, tables_sorted_by_key}
 use Rattle.brk_model.specs.Adopted.{base_of_tables}
 use Rattle.brk_model.specs.Joins.{history_rows_with_trade_id, trade_row_with_id}
-use Rattle.brk_model.specs.Form.{is_well_formed_account_row, is_well_formed_band_row, is_well_formed_broker_row, is_well_formed_cash_row, is_well_formed_charge_row, is_well_formed_customer_row, is_within_customer_limits, is_well_formed_customer_tax_row, has_account, has_broker, has_customer, satisfies_form_condition, has_security, has_trade, is_well_formed_history_row, is_well_formed_holding_row, is_well_formed_holding_history_row, is_amount, is_cash_row_name_of_trade, is_cash_type_of_trade, is_id, is_up_to_last_stamp, is_price, is_quantity_in_schema, is_well_formed_kept_row, is_well_formed_last_trade_row, is_well_formed_permission_row, price_matches_completion, is_well_formed_request_row, are_equal_number_lists, is_well_formed_security_row, is_well_formed_settlement_row, is_well_formed_summary_row, is_well_formed_tax_rate_row, is_well_formed_trade_row, is_movement_name_and_amount, is_well_formed_move_row, trade_ids_of_cash_rows}
+use Rattle.brk_model.specs.Form.{is_well_formed_account_row, is_well_formed_band_row, is_well_formed_broker_row, is_well_formed_cash_row, is_well_formed_charge_row, is_well_formed_customer_row, is_within_customer_limits, is_well_formed_customer_tax_row, has_account, has_broker, has_customer, satisfies_form_condition, has_security, has_trade, is_well_formed_history_row, is_well_formed_holding_row, is_well_formed_holding_history_row, is_cash_row_name_of_trade, is_cash_type_of_trade, is_id, is_up_to_last_stamp, is_price, is_quantity_in_schema, is_well_formed_kept_row, is_well_formed_last_trade_row, is_well_formed_permission_row, price_matches_completion, is_well_formed_request_row, are_equal_number_lists, is_well_formed_security_row, is_well_formed_settlement_row, is_well_formed_summary_row, is_well_formed_tax_rate_row, is_well_formed_trade_row, is_movement_name_and_amount, is_well_formed_move_row, trade_ids_of_cash_rows, has_well_formed_permission_texts}
 use Rattle.brk_model.specs.Forms.{is_acl, is_exchange, is_name, is_symbol, is_tax_id}
 use Rattle.brk_model.specs.Keys.{KeyPart, word, rows_sorted_by_key, is_row_key_less, account_key, band_key, broker_key, cash_key, charge_key, customer_key, customer_tax_key, history_key, holding_history_key, holding_key, kept_key, last_trade_key, permission_key, request_key, security_key, settlement_key, summary_key, tax_rate_key, trade_key, move_key}
 use Rattle.brk_model.specs.Ways.{is_valid_status_sequence}
@@ -45,7 +45,7 @@ use Rattle.brk_audit_theorems.proofs.AgainStatus.{all_list, first_of_two, some_l
 use Rattle.brk_audit_theorems.proofs.Marks.{filtered, last_has, no_more_ways, three_ways}
 use Rattle.brk_audit_theorems.proofs.Members.{All-flat_map}
 use Rattle.brk_audit_theorems.proofs.Sorted.{All-rows}
-use Rattle.brk_invariant_theorems.specs.Sound.{HasDueDayInCalendar, StatusChangeIsUpToLastStamp, AuditInvariant, BaseTradeAuditInvariant, PermissionAccountIsListed, TaxCustomerIsListed, TaxRateIsListed, is_well_formed_account, is_well_formed_permission, is_well_formed_security, has_cash_text_for_name, is_well_formed_movement}
+use Rattle.brk_invariant_theorems.specs.Sound.{HasDueDayInCalendar, StatusChangeIsUpToLastStamp, AuditInvariant, BaseTradeAuditInvariant, PermissionAccountIsListed, TaxCustomerIsListed, TaxRateIsListed, is_well_formed_account, is_well_formed_security, has_cash_text_for_name, is_well_formed_movement}
 use Rattle.brk_invariant_theorems.proofs.OneTrade.{false_true, price_of_done}
 use Rattle.brk_invariant_theorems.proofs.SoundRecords.{sum-same}
 use Rattle.brk_invariant_theorems.proofs.SortedRows.{bands_sort, overlap_none, tax_ids_apart}
@@ -168,9 +168,9 @@ trade_whole : (base : Base) (t : Trade) → Known base t → is_well_formed_trad
 unfolding tables_sorted_by_key tables_of_base_in_schema
 trade_whole base t h =
     let f = parts6 (is_id t.id) (is_quantity_in_schema third_schema t.qty) (is_price t.bid) (nat_le t.charge greatest_charge) (nat_le t.commission greatest_amount) (nat_le t.tax greatest_amount) h.sound.fields in
-    and10 (is_id t.id) (is_up_to_last_stamp base.last (last_status_stamp_of_trade t)) (has_security (sheets base) t.symbol) (is_quantity_in_schema third_schema t.qty) (is_price t.bid) (has_account (sheets base) t.account) (price_matches_completion (sheets base) (trade_row t))
-    (nat_le t.charge greatest_charge) (nat_le t.commission greatest_amount) (nat_le t.tax greatest_amount)
-    f.0 (moment_past base t h.sound) (has_security_is base t.symbol ∙ h.security) f.1 f.2 (has_account_is base t.account ∙ h.account) (priced_row base t h) f.3 f.4 f.5
+    and10 (is_id t.id) (is_quantity_in_schema third_schema t.qty) (is_price t.bid) (nat_le t.charge greatest_charge) (nat_le t.commission greatest_amount) (nat_le t.tax greatest_amount)
+    (is_up_to_last_stamp base.last (last_status_stamp_of_trade t)) (has_security (sheets base) t.symbol) (has_account (sheets base) t.account) (price_matches_completion (sheets base) (trade_row t))
+    f.0 f.1 f.2 f.3 f.4 f.5 (moment_past base t h.sound) (has_security_is base t.symbol ∙ h.security) (has_account_is base t.account ∙ h.account) (priced_row base t h)
 
 numbers_whole : (n : ℕ) (ts : List Trade) → AreNumberedFrom n ts → are_equal_number_lists (map (λ row. row.id) (map trade_row ts)) (range_with_len n (length (map trade_row ts))) ≡ true
 numbers_whole n [] k = refl
@@ -200,7 +200,7 @@ row_in base t h = reads_trade base t.id ∙ ap (option_map trade_row) h.found
 
 settlement_whole : (base : Base) (t : Trade) → Done base t → is_well_formed_settlement_row (sheets base) (settlement_row base.accounts base.rule t) ≡ true
 settlement_whole base t h =
-    and3 (option_map_or (λ row. is_cash_type_of_trade row.is_cash t.cash_type) (trade_row_with_id (sheets base) t.id) false) (nat_le (due_day base.rule t) greatest_day) (is_amount (settlement_amount base.accounts t))
+    and3 (option_map_or (λ row. is_cash_type_of_trade row.is_cash t.cash_type) (trade_row_with_id (sheets base) t.id) false) (nat_le (due_day base.rule t) greatest_day) (is_within_amount_limit (settlement_amount base.accounts t))
     (ap (λ o. option_map_or (λ row. is_cash_type_of_trade row.is_cash t.cash_type) o false) (row_in base t h.0) ∙ h.0.sound.cash_type h.1) (moment_due base t h.0.sound h.1) (h.0.sound.amount h.1)
 
 pub same_name : (base : Base) (symbol : Text) → BooksInvariant base → HasValidHistories base → security_name (base_of_tables (sheets base)) symbol ≡ security_name base symbol
@@ -228,7 +228,7 @@ made_past (Some l) m e = le-leb m.stamp l e
 moved_whole : (base : Base) (m : Movement) → is_well_formed_movement m ≡ true → MovementAccountExists base.accounts m → IsMovementUpToLastStamp base.last m → HasForm (sheets base) (posting_of_movement m)
 unfolding tables_sorted_by_key tables_of_base_in_schema
 moved_whole base m f h e =
-    let k = and_parts (is_movement_name_and_amount m.name m.amount) (is_amount m.amount) f in
+    let k = and_parts (is_movement_name_and_amount m.name m.amount) (is_within_amount_limit m.amount) f in
     record { account = has_account_is base m.account ∙ h; name = k.0; stamp = made_past base.last m e; amount = k.1 }
 
 all_posted : (base : Base) → BooksInvariant base → AuditInvariant base → HasValidHistories base → AllByRecursion (Done base) (completed_trades base) → AllByRecursion (HasForm (sheets base)) (postings_of_base base)
@@ -266,14 +266,14 @@ mapped_form form key row xs h = rows_form form key (map row xs) (All-mapped (λ 
 account_whole : (base : Base) (a : Account) → AuditInvariant base → is_well_formed_account a ≡ true → CustomerOfAccountExists base a → BrokerOfAccountExists base a
     → is_well_formed_account_row (sheets base) (account_row base.accounts (postings_of_base base) a) ≡ true
 account_whole base a k h c b =
-    let f = parts3 (is_id a.id) (is_name a.name) (is_amount a.opening) h in
-    and6 (is_id a.id) (has_customer (sheets base) a.customer) (has_broker (sheets base) a.broker) (is_name a.name) (is_amount a.opening) (is_amount (balance_of_account base.accounts (postings_of_base base) a.id))
-    f.0 (has_customer_is base a.customer ∙ c) (has_broker_is base a.broker ∙ b) f.1 f.2 (le-leb _ greatest_amount (k.balances a.id))
+    let f = parts3 (is_id a.id) (is_name a.name) (is_within_amount_limit a.opening) h in
+    and6 (is_id a.id) (is_name a.name) (is_within_amount_limit a.opening) (is_within_amount_limit (balance_of_account base.accounts (postings_of_base base) a.id)) (has_customer (sheets base) a.customer) (has_broker (sheets base) a.broker)
+    f.0 f.1 f.2 (le-leb _ greatest_amount (k.balances a.id)) (has_customer_is base a.customer ∙ c) (has_broker_is base a.broker ∙ b)
 
-permission_whole : (base : Base) (p : Permission) → is_well_formed_permission p ≡ true → PermissionAccountIsListed base.accounts p → is_well_formed_permission_row (sheets base) p ≡ true
+permission_whole : (base : Base) (p : Permission) → has_well_formed_permission_texts p ≡ true → PermissionAccountIsListed base.accounts p → is_well_formed_permission_row (sheets base) p ≡ true
 permission_whole base p h n =
     let f = parts4 (is_acl p.acl) (is_tax_id p.tax_id) (is_name p.last_name) (is_name p.first_name) h in
-    and5 (has_account (sheets base) p.account) (is_acl p.acl) (is_tax_id p.tax_id) (is_name p.last_name) (is_name p.first_name) (has_account_is base p.account ∙ n) f.0 f.1 f.2 f.3
+    and5 (is_acl p.acl) (is_tax_id p.tax_id) (is_name p.last_name) (is_name p.first_name) (has_account (sheets base) p.account) f.0 f.1 f.2 f.3 (has_account_is base p.account ∙ n)
 
 security_whole : (base : Base) (s : Security) → is_well_formed_security s ≡ true → is_some (security_with_symbol base s.symbol) ≡ true → is_well_formed_security_row (sheets base) (security_row s) ≡ true
 security_whole base s h n =
@@ -339,7 +339,7 @@ form_of base books k =
           (All-map base.accounts (λ a h. account_whole base a k h.0 h.1.0 h.1.1)
           (both_all (λ a. is_well_formed_account a ≡ true) (λ a. CustomerOfAccountExists base a × BrokerOfAccountExists base a) base.accounts k.accounts (both_all (CustomerOfAccountExists base) (BrokerOfAccountExists base) base.accounts books.customers books.brokers)));
       permissions = rows_form (is_well_formed_permission_row T) permission_key base.permissions
-          (All-map base.permissions (λ p h. permission_whole base p h.0 h.1) (both_all (λ p. is_well_formed_permission p ≡ true) (PermissionAccountIsListed base.accounts) base.permissions k.permissions k.permitted));
+          (All-map base.permissions (λ p h. permission_whole base p h.0 h.1) (both_all (λ p. has_well_formed_permission_texts p ≡ true) (PermissionAccountIsListed base.accounts) base.permissions k.permissions k.permitted));
       securities = mapped_form (is_well_formed_security_row T) security_key security_row base.securities
           (All-map base.securities (λ s h. security_whole base s h.0 h.1) (both_all (λ s. is_well_formed_security s ≡ true) (λ s. is_some (security_with_symbol base s.symbol) ≡ true) base.securities k.securities listed));
       last_trades = mapped_form (is_well_formed_last_trade_row T) last_trade_key last_trade_row base.securities

@@ -2,7 +2,7 @@
 use Rattle.std.proofs.Common.{◌≡◌, ℕ, Bool, true, false, cond, List, [], ◌∷◌, refl, Option, Some, None, ℤ}
 use Rattle.std.specs.Prelude.{◌&&◌, ⊤, IfSome, Ok, Err, IfOk, bytes_eq, find, length, nat_le}
 use Rattle.std.specs.List.{AllByRecursion}
-use Rattle.brk_money.specs.Spelling.{Text, cents_of_text, decimal_number_of_text, day_of_text}
+use Rattle.brk_money.specs.Spelling.{Text, cents_of_text, decimal_number_of_text, day_of_text, is_within_amount_limit}
 use Rattle.brk_money.specs.OrderTypes.{price_of_order}
 use Rattle.brk_money.specs.declared.order_type.OrderType.{OrderType}
 use Rattle.brk_money.specs.declared.order_type.OrderType.TheVariants as asked
@@ -16,11 +16,11 @@ use Rattle.brk_model.specs.Schemas.{third_schema}
 use Rattle.brk_model.specs.Limits.{greatest_charge, greatest_commission_rate, greatest_tax_rate}
 use Rattle.brk_model.specs.Records.{Account, Band, Broker, Charge, Customer, Executor, Permission, TaxRate}
 use Rattle.brk_model.specs.Commands.{Command, Listing, Order, Tick, AddBroker, AddCustomer, AddAccount, AddPermission, AddSecurity, AddCharge, AddBand, AddTaxRate, AddCustomerTax, PlaceOrder, FeedTicks, CancelTrade, CompleteTrade, ChangeExecutors, ChangeCashTypes, ChangeCashNames, DepositCash, WithdrawCash, SetOneDay}
-use Rattle.brk_model.specs.Form.{is_well_formed_charge_row, is_well_formed_customer_row, is_amount, is_id, is_price, is_quantity_in_schema, is_tier, is_well_formed_tax_rate_row}
+use Rattle.brk_model.specs.Form.{is_well_formed_charge_row, is_well_formed_customer_row, is_id, is_price, is_quantity_in_schema, is_tier, is_well_formed_tax_rate_row, has_well_formed_permission_texts}
 use Rattle.brk_model.specs.Forms.{ReadResult, ◌⊛◌, is_acl, is_exchange, is_name, is_symbol, is_tax_id, order_type_with_price, market_order_type, refusal_of_unknown_type, priced_order_type, read_acl, read_cash_or_margin, read_charge_amount, read_commission_rate, read_lifo_or_fifo, read_exchange, read_id, value_if_valid, read_distinct_ids, read_name, read_number_in_range, read_opening_balance, read_order_type, read_price, read_quantity, read_tax_rate_number, read_stamp, read_symbol, read_tax_id, read_tax_status, read_valid_text, read_tier, read_trade_type, one_to_twenty_elements, check_read_value, trade_type_with_code, nonnegative_amount, read_movement_amount, read_day}
 use Rattle.brk_model.specs.Parse.{NamedParser, ordered_bounds, parse_row, read_account, read_commission_band, read_quantity_bounds, read_broker, read_with_parser, read_canceled_trade_id, read_charge, read_customer, read_customer_tax, read_executor, read_feed, read_order, read_permission, read_result_command, read_listing, read_tax_rate, read_ticks, read_cash_type_update, read_cash_name_update, row_parsers, read_movement_command, read_settlement_day}
 use Rattle.brk_book_theorems.proofs.Same.{find-All}
-use Rattle.brk_invariant_theorems.specs.Sound.{is_well_formed_account, is_well_formed_broker, is_well_formed_permission}
+use Rattle.brk_invariant_theorems.specs.Sound.{is_well_formed_account, is_well_formed_broker}
 use Rattle.brk_invariant_theorems.specs.InForm.{MeetsAuditFormats, OrderMeetsAuditFormats, TickMeetsAuditFormats, is_well_formed_band, is_well_formed_listing, is_movement_amount}
 use Rattle.brk_model_theorems.proofs.Conjunctions.{and3, and4}
 use Rattle.brk_model_theorems.proofs.Conjunctions.{and5}
@@ -81,8 +81,8 @@ on_day text = on_if (λ n. nat_le n greatest_day) BadText (day_of_text text)
 on_charge : (text : Text) → IfOk (read_charge_amount text) (λ n. nat_le n greatest_charge ≡ true)
 on_charge text = on_if (λ n. nat_le n greatest_charge) BadText (nonnegative_amount (cents_of_text text))
 
-on_opening : (text : Text) → IfOk (read_opening_balance text) (λ z. is_amount z ≡ true)
-on_opening text = on_if (λ z. is_amount z) BadText (cents_of_text text)
+on_opening : (text : Text) → IfOk (read_opening_balance text) (λ z. is_within_amount_limit z ≡ true)
+on_opening text = on_if (λ z. is_within_amount_limit z) BadText (cents_of_text text)
 
 on_rate : (text : Text) → IfOk (read_commission_rate text) (λ n. nat_le n greatest_commission_rate ≡ true)
 on_rate text = on_up_to greatest_commission_rate text
@@ -129,18 +129,18 @@ customer_on _ = tt
 account_on : (fields : List Text) → IfOk (read_account fields) (λ x. is_well_formed_account x ≡ true)
 account_on (id ∷ customer ∷ broker ∷ name ∷ status ∷ opening ∷ []) =
     let P : Account → Type 0 = λ x. is_well_formed_account x ≡ true in
-    on_apply (λ o. is_amount o ≡ true) P (Ok (λ i c b n t o. record { id = i; customer = c; broker = b; name = n; tax_status = t; opening = o }) ⊛ read_id id ⊛ read_id customer ⊛ read_id broker ⊛ read_name name ⊛ read_tax_status status) (read_opening_balance opening)
-    (on_apply (λ t. ⊤) (λ z. (o : ℤ) → is_amount o ≡ true → P (z o)) (Ok (λ i c b n t o. record { id = i; customer = c; broker = b; name = n; tax_status = t; opening = o }) ⊛ read_id id ⊛ read_id customer ⊛ read_id broker ⊛ read_name name) (read_tax_status status)
-    (on_apply (λ n. is_name n ≡ true) (λ z. (t : TaxStatus) → ⊤ → (o : ℤ) → is_amount o ≡ true → P (z t o)) (Ok (λ i c b n t o. record { id = i; customer = c; broker = b; name = n; tax_status = t; opening = o }) ⊛ read_id id ⊛ read_id customer ⊛ read_id broker) (read_name name)
-    (on_apply (λ b. ⊤) (λ z. (n : Text) → is_name n ≡ true → (t : TaxStatus) → ⊤ → (o : ℤ) → is_amount o ≡ true → P (z n t o)) (Ok (λ i c b n t o. record { id = i; customer = c; broker = b; name = n; tax_status = t; opening = o }) ⊛ read_id id ⊛ read_id customer) (read_id broker)
-    (on_apply (λ c. ⊤) (λ z. (b : ℕ) → ⊤ → (n : Text) → is_name n ≡ true → (t : TaxStatus) → ⊤ → (o : ℤ) → is_amount o ≡ true → P (z b n t o)) (Ok (λ i c b n t o. record { id = i; customer = c; broker = b; name = n; tax_status = t; opening = o }) ⊛ read_id id) (read_id customer)
-    (on_apply (λ i. is_id i ≡ true) (λ z. (c : ℕ) → ⊤ → (b : ℕ) → ⊤ → (n : Text) → is_name n ≡ true → (t : TaxStatus) → ⊤ → (o : ℤ) → is_amount o ≡ true → P (z c b n t o)) (Ok (λ i c b n t o. record { id = i; customer = c; broker = b; name = n; tax_status = t; opening = o })) (read_id id)
-    (λ i i' c c' b b' n n' t t' o o'. and3 (is_id i) (is_name n) (is_amount o) i' n' o') (on_id id)) (on_any (read_id customer))) (on_any (read_id broker))) (on_text is_name name)) (on_any (read_tax_status status))) (on_opening opening)
+    on_apply (λ o. is_within_amount_limit o ≡ true) P (Ok (λ i c b n t o. record { id = i; customer = c; broker = b; name = n; tax_status = t; opening = o }) ⊛ read_id id ⊛ read_id customer ⊛ read_id broker ⊛ read_name name ⊛ read_tax_status status) (read_opening_balance opening)
+    (on_apply (λ t. ⊤) (λ z. (o : ℤ) → is_within_amount_limit o ≡ true → P (z o)) (Ok (λ i c b n t o. record { id = i; customer = c; broker = b; name = n; tax_status = t; opening = o }) ⊛ read_id id ⊛ read_id customer ⊛ read_id broker ⊛ read_name name) (read_tax_status status)
+    (on_apply (λ n. is_name n ≡ true) (λ z. (t : TaxStatus) → ⊤ → (o : ℤ) → is_within_amount_limit o ≡ true → P (z t o)) (Ok (λ i c b n t o. record { id = i; customer = c; broker = b; name = n; tax_status = t; opening = o }) ⊛ read_id id ⊛ read_id customer ⊛ read_id broker) (read_name name)
+    (on_apply (λ b. ⊤) (λ z. (n : Text) → is_name n ≡ true → (t : TaxStatus) → ⊤ → (o : ℤ) → is_within_amount_limit o ≡ true → P (z n t o)) (Ok (λ i c b n t o. record { id = i; customer = c; broker = b; name = n; tax_status = t; opening = o }) ⊛ read_id id ⊛ read_id customer) (read_id broker)
+    (on_apply (λ c. ⊤) (λ z. (b : ℕ) → ⊤ → (n : Text) → is_name n ≡ true → (t : TaxStatus) → ⊤ → (o : ℤ) → is_within_amount_limit o ≡ true → P (z b n t o)) (Ok (λ i c b n t o. record { id = i; customer = c; broker = b; name = n; tax_status = t; opening = o }) ⊛ read_id id) (read_id customer)
+    (on_apply (λ i. is_id i ≡ true) (λ z. (c : ℕ) → ⊤ → (b : ℕ) → ⊤ → (n : Text) → is_name n ≡ true → (t : TaxStatus) → ⊤ → (o : ℤ) → is_within_amount_limit o ≡ true → P (z c b n t o)) (Ok (λ i c b n t o. record { id = i; customer = c; broker = b; name = n; tax_status = t; opening = o })) (read_id id)
+    (λ i i' c c' b b' n n' t t' o o'. and3 (is_id i) (is_name n) (is_within_amount_limit o) i' n' o') (on_id id)) (on_any (read_id customer))) (on_any (read_id broker))) (on_text is_name name)) (on_any (read_tax_status status))) (on_opening opening)
 account_on _ = tt
 
-permission_on : (fields : List Text) → IfOk (read_permission fields) (λ x. is_well_formed_permission x ≡ true)
+permission_on : (fields : List Text) → IfOk (read_permission fields) (λ x. has_well_formed_permission_texts x ≡ true)
 permission_on (account ∷ acl ∷ tax_id ∷ last ∷ first ∷ []) =
-    let P : Permission → Type 0 = λ x. is_well_formed_permission x ≡ true in
+    let P : Permission → Type 0 = λ x. has_well_formed_permission_texts x ≡ true in
     on_apply (λ f. is_name f ≡ true) P (Ok (λ a c x l f. record { account = a; acl = c; tax_id = x; last_name = l; first_name = f }) ⊛ read_id account ⊛ read_acl acl ⊛ read_tax_id tax_id ⊛ read_name last) (read_name first)
     (on_apply (λ l. is_name l ≡ true) (λ z. (f : Text) → is_name f ≡ true → P (z f)) (Ok (λ a c x l f. record { account = a; acl = c; tax_id = x; last_name = l; first_name = f }) ⊛ read_id account ⊛ read_acl acl ⊛ read_tax_id tax_id) (read_name last)
     (on_apply (λ x. is_tax_id x ≡ true) (λ z. (l : Text) → is_name l ≡ true → (f : Text) → is_name f ≡ true → P (z l f)) (Ok (λ a c x l f. record { account = a; acl = c; tax_id = x; last_name = l; first_name = f }) ⊛ read_id account ⊛ read_acl acl) (read_tax_id tax_id)
@@ -307,7 +307,7 @@ all_readers = (
     (
       (λ fs. as_on AddAccount (λ a. is_well_formed_account a ≡ true) (read_account fs) (λ a e. e) (account_on fs)),
       (
-        (λ fs. as_on AddPermission (λ p. is_well_formed_permission p ≡ true) (read_permission fs) (λ p e. e) (permission_on fs)),
+        (λ fs. as_on AddPermission (λ p. has_well_formed_permission_texts p ≡ true) (read_permission fs) (λ p e. e) (permission_on fs)),
         (
           (λ fs. as_on AddSecurity (λ l. is_well_formed_listing l ≡ true) (read_listing fs) (λ l e. e) (security_on fs)),
           (

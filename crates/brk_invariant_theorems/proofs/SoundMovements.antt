@@ -5,6 +5,7 @@ use Rattle.std.specs.Option.{option_map_or}
 use Rattle.std.specs.List.{AllByRecursion}
 use Rattle.std.proofs.lemmas.Bool.{and_from, and_parts, eqb-true, leb-true, le-leb, ltb-false, or_left}
 use Rattle.std.proofs.lemmas.Bool.Decides.{nat_tests}
+use Rattle.brk_money.specs.Spelling.{is_within_amount_limit}
 use Rattle.brk_money.specs.Kinds.{is_same_trade_status}
 use Rattle.brk_money.specs.Moments.{day_of, greatest_day}
 use Rattle.brk_money.specs.declared.status.Status.TheVariants.{Completed}
@@ -13,7 +14,7 @@ use Rattle.brk_model.specs.Records.{StatusChange, Movement, SettleRule, Trade}
 use Rattle.brk_model.specs.Base.{Base, completed_trades}
 use Rattle.brk_model.specs.Commands.{Command, DepositCash, WithdrawCash, SetOneDay}
 use Rattle.brk_model.specs.Derived.{balance_of_account, due_day_of_completion_stamp, postings_of_base}
-use Rattle.brk_model.specs.Form.{is_amount, is_movement_name_and_amount}
+use Rattle.brk_model.specs.Form.{is_movement_name_and_amount}
 use Rattle.brk_model.specs.Movements.{deposit_movement, withdrawal_movement, base_after_movement, base_with_settlement_day}
 use Rattle.brk_model.specs.Step.{base_after_command_unstamped}
 use Rattle.brk_model.specs.Ways.{is_strictly_ascending}
@@ -30,13 +31,13 @@ use Rattle.brk_invariant_theorems.proofs.SoundRecords.{LeavesSound}
 
 -- ---- a movement
 
-deposited : (n : ℕ) → is_movement_amount n ≡ true → is_movement_name_and_amount (codes "Deposit") (pos n) && is_amount (pos n) ≡ true
+deposited : (n : ℕ) → is_movement_amount n ≡ true → is_movement_name_and_amount (codes "Deposit") (pos n) && is_within_amount_limit (pos n) ≡ true
 deposited zero e = e
 deposited (suc n) e =
     let k = and_parts (nat_le 1 (suc n)) (nat_le (suc n) greatest_amount) e in
     and_from (nat_le 1 (suc n) || false) (nat_le (suc n) greatest_amount) (or_left (nat_le 1 (suc n)) false k.0) k.1
 
-withdrawn : (n : ℕ) → is_movement_amount n ≡ true → is_movement_name_and_amount (codes "Withdrawal") (neg_ℤ (pos n)) && is_amount (neg_ℤ (pos n)) ≡ true
+withdrawn : (n : ℕ) → is_movement_amount n ≡ true → is_movement_name_and_amount (codes "Withdrawal") (neg_ℤ (pos n)) && is_within_amount_limit (neg_ℤ (pos n)) ≡ true
 withdrawn zero e = e
 withdrawn (suc n) e = (and_parts (nat_le 1 (suc n)) (nat_le (suc n) greatest_amount) e).1
 

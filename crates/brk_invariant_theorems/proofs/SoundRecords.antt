@@ -5,7 +5,7 @@ use Rattle.std.specs.List.{AllByRecursion}
 use Rattle.std.specs.Option.{option_map_or}
 use Rattle.std.proofs.lemmas.Bool.{and_from, eqb-true, eq-eqb, leb-true, leb-false, ltb-false}
 use Rattle.std.proofs.lemmas.List.Sums.{sum_by-cons, sum_by-append}
-use Rattle.brk_money.specs.Spelling.{Text}
+use Rattle.brk_money.specs.Spelling.{Text, is_within_amount_limit}
 use Rattle.brk_model.specs.Schemas.{third_schema}
 use Rattle.brk_model.specs.Lists.{total_by}
 use Rattle.brk_model.specs.Limits.{greatest_amount, greatest_commission_rate, greatest_tax_rate, most_accounts_per_customer}
@@ -13,7 +13,7 @@ use Rattle.brk_model.specs.Records.{Account, Band, Broker, Charge, Customer, Cus
 use Rattle.brk_model.specs.Base.{Base, account_with_id, broker_id_in_accounts, completed_trades, customer_with_id, tax_rate_sum_of_customer, tax_rate_of_id}
 use Rattle.brk_model.specs.Derived.{settlement_amount, balance_of_account, cash_trades, commission_total_of_broker, trades_of_account, trades_of_broker, postings_to_account, postings, postings_of_base}
 use Rattle.brk_model.specs.Commands.{Command, Listing, Reply, AddBroker, AddCustomer, AddAccount, AddPermission, AddSecurity, AddCharge, AddBand, AddTaxRate, AddCustomerTax}
-use Rattle.brk_model.specs.Form.{is_well_formed_band_row, is_well_formed_charge_row, is_well_formed_customer_row, is_amount, is_id, is_up_to_last_stamp, is_quantity_in_schema, is_tier, is_well_formed_kept_row, is_well_formed_tax_rate_row}
+use Rattle.brk_model.specs.Form.{is_well_formed_band_row, is_well_formed_charge_row, is_well_formed_customer_row, is_id, is_up_to_last_stamp, is_quantity_in_schema, is_tier, is_well_formed_kept_row, is_well_formed_tax_rate_row, has_well_formed_permission_texts}
 use Rattle.brk_model.specs.Forms.{is_exchange, is_name}
 use Rattle.brk_model.specs.Keys.{KeyPart, number, word, charge_key, customer_key, customer_tax_key, kept_key, tax_rate_key}
 use Rattle.brk_model.specs.Keyed.{base_with_stored_reply, stored_row_with_key}
@@ -34,7 +34,7 @@ use Rattle.brk_book_theorems.proofs.Steps.{in_order}
 use Rattle.brk_audit_theorems.proofs.Again.{both_all}
 use Rattle.brk_model_theorems.proofs.Conjunctions.{parts3, parts5}
 use Rattle.brk_audit_theorems.specs.Told.{broker_id_key}
-use Rattle.brk_invariant_theorems.specs.Sound.{AuditInvariant, TradeAuditInvariant, BaseTradeAuditInvariant, HasDistinctKeys, PermissionAccountIsListed, TaxCustomerIsListed, TaxRateIsListed, is_well_formed_account, is_well_formed_broker, has_cash_text_for_name, is_well_formed_permission, is_well_formed_security, customer_tax_id_key}
+use Rattle.brk_invariant_theorems.specs.Sound.{AuditInvariant, TradeAuditInvariant, BaseTradeAuditInvariant, HasDistinctKeys, PermissionAccountIsListed, TaxCustomerIsListed, TaxRateIsListed, is_well_formed_account, is_well_formed_broker, has_cash_text_for_name, is_well_formed_security, customer_tax_id_key}
 use Rattle.brk_invariant_theorems.specs.InForm.{MeetsAuditFormats, IsWellFormedKey}
 use Rattle.brk_invariant_theorems.proofs.OneTrade.{past_itself, sound_last}
 
@@ -127,7 +127,7 @@ sound_permission base now x k books form e =
         brokers = l.brokers;
         customers = l.customers;
         accounts = l.accounts;
-        permissions = All-append (λ p. is_well_formed_permission p ≡ true) base.permissions (x ∷ []) k.permissions (form, tt);
+        permissions = All-append (λ p. has_well_formed_permission_texts p ≡ true) base.permissions (x ∷ []) k.permissions (form, tt);
         broker_keys = l.broker_keys;
         customer_keys = l.customer_keys;
         tax_ids = l.tax_ids;
@@ -335,7 +335,7 @@ unfolding balance_of_account
 other_balance base a id books e =
     λ i. option_map_or (λ a. a.opening) (find_other (λ b. b.id == id) base.accounts a e i) (pos 0) +ℤ total_by (λ p. p.amount) (postings_to_account (postings_as_before base a books i) id)
 
-balances_more : (base : Base) (a : Account) → BooksInvariant base → is_some (account_with_id base a.id) ≡ false → is_amount a.opening ≡ true
+balances_more : (base : Base) (a : Account) → BooksInvariant base → is_some (account_with_id base a.id) ≡ false → is_within_amount_limit a.opening ≡ true
     → ((id : ℕ) → nat_abs (balance_of_account base.accounts (postings_of_base base) id) ≤ greatest_amount)
     → (id : ℕ) → nat_abs (balance_of_account (more base a) (postings (more base a) (completed_trades base) base.movements) id) ≤ greatest_amount
 balances_more base a books new form k id = by_test (a.id == id) refl
@@ -381,7 +381,7 @@ owned_more accounts a h k customer = by_test (a.customer == customer) refl
         omega (arith, p, one, m)
 
 trade_owned : (base : Base) (a : Account) (t : Trade) → AccountOfTradeExists base t → BaseTradeAuditInvariant base t → TradeAuditInvariant base.last base.rule (more base a) base.securities t
-trade_owned base a t known k = record { alone = k.alone; past = k.past; due = k.due; cash_name = k.cash_name; amount = λ d. ap is_amount (amount_as_before base a t known) ∙ k.amount d }
+trade_owned base a t known k = record { alone = k.alone; past = k.past; due = k.due; cash_name = k.cash_name; amount = λ d. ap is_within_amount_limit (amount_as_before base a t known) ∙ k.amount d }
 
 pub sound_account : (base : Base) (now : ℕ) (a : Account) → LeavesSound base now (AddAccount a)
 unfolding base_after_command_unstamped checks_of_command
@@ -408,7 +408,7 @@ sound_account base now a k books form e =
       cash = l.cash;
       sums = record {
         summaries = l.summaries;
-        balances = balances_more base a books p.1.1.0 (parts3 (is_id a.id) (is_name a.name) (is_amount a.opening) form).2 k.balances;
+        balances = balances_more base a books p.1.1.0 (parts3 (is_id a.id) (is_name a.name) (is_within_amount_limit a.opening) form).2 k.balances;
         commissions = λ id. subst (λ n. n ≤ greatest_amount) (sym (same_commissions base a id books)) (k.commissions id);
       };
     }

@@ -4,12 +4,12 @@ use Rattle.brk_money.specs.OrderTypes.{price_of_order}
 use Rattle.brk_money.specs.Moments.{greatest_day}
 use Rattle.std.specs.Prelude.{◌≡◌, ⊤, ℕ, ◌&&◌, Bool, true, nat_le, IfSome}
 use Rattle.std.specs.List.{AllByRecursion}
-use Rattle.brk_model.specs.Limits.{greatest_amount, greatest_commission_rate}
+use Rattle.brk_model.specs.Limits.{greatest_amount, greatest_commission_rate, is_in_range}
 use Rattle.brk_model.specs.Schemas.{third_schema}
 use Rattle.brk_model.specs.Records.{Band, Key}
 use Rattle.brk_model.specs.Commands.{Command, Listing, Order, Tick, AddBroker, AddCustomer, AddAccount, AddPermission, AddSecurity, AddCharge, AddBand, AddTaxRate, AddCustomerTax, PlaceOrder, FeedTicks, CancelTrade, CompleteTrade, ChangeExecutors, ChangeCashTypes, ChangeCashNames, DepositCash, WithdrawCash, SetOneDay}
-use Rattle.brk_model.specs.Form.{has_well_formed_bounds, is_well_formed_charge_row, is_well_formed_customer_row, is_price, is_quantity_in_schema, is_well_formed_key, are_well_formed_listing_texts, is_well_formed_tax_rate_row}
-use Rattle.brk_invariant_theorems.specs.Sound.{is_well_formed_account, is_well_formed_broker, is_well_formed_permission}
+use Rattle.brk_model.specs.Form.{has_well_formed_bounds, is_well_formed_charge_row, is_well_formed_customer_row, is_price, is_quantity_in_schema, is_well_formed_key, are_well_formed_listing_texts, is_well_formed_tax_rate_row, has_well_formed_permission_texts}
+use Rattle.brk_invariant_theorems.specs.Sound.{is_well_formed_account, is_well_formed_broker}
 
 -- True if the symbol, name, exchange, sector and price of the listing are well-formed.
 abbrev pub is_well_formed_listing : Listing → Bool
@@ -31,7 +31,7 @@ TickMeetsAuditFormats tick = is_price tick.price ≡ true
 
 -- True if the amount of a movement, in cents, is at least 1 and at most the greatest amount.
 abbrev pub is_movement_amount : ℕ → Bool
-is_movement_amount n = nat_le 1 n && nat_le n greatest_amount
+is_movement_amount n = is_in_range 1 greatest_amount n
 
 -- The fields of the command whose formats an audit needs are well-formed. Ids that must exist, and
 -- the numbers of ids and ticks, are not checked here.
@@ -39,7 +39,7 @@ abbrev pub MeetsAuditFormats : Command → Type 0
 MeetsAuditFormats (AddBroker b) = is_well_formed_broker b ≡ true
 MeetsAuditFormats (AddCustomer c) = is_well_formed_customer_row c ≡ true
 MeetsAuditFormats (AddAccount a) = is_well_formed_account a ≡ true
-MeetsAuditFormats (AddPermission p) = is_well_formed_permission p ≡ true
+MeetsAuditFormats (AddPermission p) = has_well_formed_permission_texts p ≡ true
 MeetsAuditFormats (AddSecurity l) = is_well_formed_listing l ≡ true
 MeetsAuditFormats (AddCharge c) = is_well_formed_charge_row c ≡ true
 MeetsAuditFormats (AddBand b) = is_well_formed_band b ≡ true

@@ -1,18 +1,15 @@
 -- The audit invariant: what an audit of a base's tables needs beyond the books invariant:
 -- well-formed fields, unique keys, existing references, and limits.
-use Rattle.std.specs.Prelude.{◌≡◌, ◌≤◌, ⊤, ℕ, ◌+◌, ◌==◌, ◌&&◌, ◌||◌, Bool, true, List, [], ◌∷◌, Option, is_some, nat_le, nat_abs, length, filter, map, find, sum_by, codes, decimal, bytes_eq, ◌++◌}
+use Rattle.std.specs.Prelude.{◌≡◌, ◌≤◌, ⊤, ℕ, ◌==◌, ◌&&◌, ◌||◌, Bool, true, List, [], ◌∷◌, Option, is_some, nat_abs, length, filter, map, codes, bytes_eq}
 use Rattle.std.specs.List.{AllByRecursion}
-use Rattle.std.specs.Option.{option_map_or}
-use Rattle.brk_money.specs.Spelling.{Text}
-use Rattle.brk_money.specs.Moments.{greatest_day}
-use Rattle.brk_money.specs.Kinds.{trade_type_name}
-use Rattle.brk_model.specs.Limits.{greatest_amount, greatest_charge, greatest_id, greatest_summary, greatest_tax_rate, most_accounts_per_customer}
+use Rattle.brk_money.specs.Spelling.{Text, is_within_amount_limit}
+use Rattle.brk_model.specs.Limits.{greatest_amount, greatest_id, greatest_summary, greatest_tax_rate, most_accounts_per_customer}
 use Rattle.brk_model.specs.Records.{Account, Band, Broker, Charge, Customer, CustomerTax, Kept, StatusChange, Movement, Permission, Security, SettleRule, TaxRate, Trade}
-use Rattle.brk_model.specs.Base.{Base, completed_trades, account_with_id_in_list, is_completed}
+use Rattle.brk_model.specs.Base.{Base, completed_trades, account_with_id_in_list, is_completed, customer_with_id_in_list, security_name_in_list, tax_rate_sum_in_lists, tax_rate_with_id_in_list}
 use Rattle.brk_model.specs.Derived.{settlement_amount, balance_of_account, commission_total_of_broker, postings, holding_summary_quantity}
+use Rattle.brk_model.specs.Results.{cash_row_name_from_parts}
 use Rattle.brk_model.specs.Schemas.{third_schema}
-use Rattle.brk_model.specs.Forms.{is_acl, is_name, is_tax_id}
-use Rattle.brk_model.specs.Form.{is_well_formed_band_row, is_well_formed_charge_row, is_well_formed_customer_row, is_amount, is_cash_type_of_trade, is_due_within_calendar, is_id, is_movement_name_and_amount, is_up_to_last_stamp, is_price, has_price_exactly_if, is_quantity_in_schema, is_well_formed_kept_row, are_well_formed_listing_texts, is_well_formed_tax_rate_row}
+use Rattle.brk_model.specs.Form.{is_well_formed_band_row, is_well_formed_charge_row, is_well_formed_customer_row, is_cash_type_of_trade, is_due_within_calendar, is_movement_name_and_amount, is_up_to_last_stamp, is_price, has_price_exactly_if, is_well_formed_kept_row, are_well_formed_listing_texts, is_well_formed_tax_rate_row, are_well_formed_account_fields, are_well_formed_id_and_name, has_well_formed_permission_texts, are_trade_numbers_in_range, is_settlement_day_in_calendar}
 use Rattle.brk_model.specs.Ways.{is_strictly_ascending}
 use Rattle.brk_model.specs.Keys.{KeyPart, word, charge_key, customer_key, customer_tax_key, kept_key, tax_rate_key}
 use Rattle.brk_audit_theorems.specs.Told.{HasValidTransitions, HasNoStrayTexts, HasAscendingStamps, broker_id_key}
@@ -30,15 +27,11 @@ customer_tax_id_key c = word c.tax_id ∷ []
 
 -- True if the id and the name of the broker are well-formed.
 abbrev pub is_well_formed_broker : Broker → Bool
-is_well_formed_broker b = is_id b.id && is_name b.name
+is_well_formed_broker b = are_well_formed_id_and_name b.id b.name
 
 -- True if the id, the name and the opening balance of the account are well-formed.
 abbrev pub is_well_formed_account : Account → Bool
-is_well_formed_account a = is_id a.id && is_name a.name && is_amount a.opening
-
--- True if the access control list, the tax id and both names of the permission are well-formed.
-abbrev pub is_well_formed_permission : Permission → Bool
-is_well_formed_permission p = is_acl p.acl && is_tax_id p.tax_id && is_name p.last_name && is_name p.first_name
+is_well_formed_account a = are_well_formed_account_fields a.id a.name a.opening
 
 -- True if the symbol, name, exchange, sector and last price of the security are well-formed.
 abbrev pub is_well_formed_security : Security → Bool
@@ -46,7 +39,7 @@ is_well_formed_security s = are_well_formed_listing_texts s.symbol s.name s.exch
 
 -- True if the trade's number, quantity, bid, charge, commission and tax are within their limits.
 abbrev pub has_trade_numbers_in_range : Trade → Bool
-has_trade_numbers_in_range t = is_id t.id && is_quantity_in_schema third_schema t.qty && is_price t.bid && nat_le t.charge greatest_charge && nat_le t.commission greatest_amount && nat_le t.tax greatest_amount
+has_trade_numbers_in_range t = are_trade_numbers_in_range third_schema t.id t.qty t.bid t.charge t.commission t.tax
 
 -- ---- trades
 
@@ -67,13 +60,13 @@ has_price_exactly_if_completed t = has_price_exactly_if (is_completed t) t.price
 -- name `name`.
 abbrev pub has_cash_text_for_name : Trade → Text → Bool
 has_cash_text_for_name t name =
-    bytes_eq t.cash_name (trade_type_name t.kind ++ 32 ∷ decimal t.qty ++ codes " shares of " ++ name)
-    || bytes_eq t.cash_name (trade_type_name t.kind ++ 32 ∷ decimal t.qty ++ codes " Shares of " ++ name)
+    bytes_eq t.cash_name (cash_row_name_from_parts (codes " shares of ") t.kind t.qty name)
+    || bytes_eq t.cash_name (cash_row_name_from_parts (codes " Shares of ") t.kind t.qty name)
 
 -- True if the trade's cash text is one of the two texts for its type, its quantity and the name of
 -- its security.
 abbrev pub has_cash_text_of_security : List Security → Trade → Bool
-has_cash_text_of_security securities t = has_cash_text_for_name t (option_map_or (λ s. s.name) (find (λ s. bytes_eq s.symbol t.symbol) securities) [])
+has_cash_text_of_security securities t = has_cash_text_for_name t (security_name_in_list securities t.symbol)
 
 -- The trade satisfies the conditions of the audit invariant that depend on the trade alone.
 pub record TradeOnlyAuditInvariant (t : Trade) : Type 0 where
@@ -99,7 +92,7 @@ pub record TradeAuditInvariant (last : Option ℕ) (rule : SettleRule) (accounts
   -- A completed cash trade has one of the two cash texts for its security.
   pub cash_name : is_completed t && t.is_cash ≡ true → has_cash_text_of_security securities t ≡ true
   -- Its settlement amount is within the limit.
-  pub amount : is_completed t ≡ true → is_amount (settlement_amount accounts t) ≡ true
+  pub amount : is_completed t ≡ true → is_within_amount_limit (settlement_amount accounts t) ≡ true
 
 -- The trade satisfies the conditions of the audit invariant on a trade, given the last stamp, the
 -- settlement day, the accounts and the securities of the base.
@@ -111,7 +104,7 @@ BaseTradeAuditInvariant base t = TradeAuditInvariant base.last base.rule base.ac
 -- True if the text of the movement is `Deposit` and its amount is above 0, or the text is
 -- `Withdrawal` and the amount is below 0, and the amount is within the limit.
 abbrev pub is_well_formed_movement : Movement → Bool
-is_well_formed_movement m = is_movement_name_and_amount m.name m.amount && is_amount m.amount
+is_well_formed_movement m = is_movement_name_and_amount m.name m.amount && is_within_amount_limit m.amount
 
 -- The part of the audit invariant that concerns the movements and the settlement day `rule`.
 pub record MovementAuditInvariant (movements : List Movement) (rule : SettleRule) : Type 0 where
@@ -121,7 +114,7 @@ pub record MovementAuditInvariant (movements : List Movement) (rule : SettleRule
   pub risen : is_strictly_ascending (map (λ m. m.stamp) movements) ≡ true
   pub few : length movements ≤ greatest_id
   -- The settlement day is within the calendar.
-  pub day : option_map_or (λ day. nat_le day greatest_day) rule true ≡ true
+  pub day : is_settlement_day_in_calendar rule ≡ true
 
 -- ---- references
 
@@ -131,17 +124,11 @@ PermissionAccountIsListed accounts p = is_some (account_with_id_in_list accounts
 
 -- The customer of the customer's tax is one of `customers`.
 abbrev pub TaxCustomerIsListed : List Customer → CustomerTax → Type 0
-TaxCustomerIsListed customers x = is_some (find (λ c. c.id == x.customer) customers) ≡ true
+TaxCustomerIsListed customers x = is_some (customer_with_id_in_list customers x.customer) ≡ true
 
 -- The tax rate of the customer's tax is one of `tax_rates`.
 abbrev pub TaxRateIsListed : List TaxRate → CustomerTax → Type 0
-TaxRateIsListed tax_rates x = is_some (find (λ r. r.id == x.tax) tax_rates) ≡ true
-
--- The sum of the rates of the taxes that the customer pays. A tax rate that does not exist counts
--- 0.
-abbrev pub rate_sum_of_payer : List TaxRate → List CustomerTax → ℕ → ℕ
-rate_sum_of_payer tax_rates customer_taxes customer =
-    sum_by (λ x. option_map_or (λ r. r.rate) (find (λ r. r.id == x.tax) tax_rates) 0) (filter (λ x. x.customer == customer) customer_taxes)
+TaxRateIsListed tax_rates x = is_some (tax_rate_with_id_in_list tax_rates x.tax) ≡ true
 
 -- ---- the parts of the invariant: well-formed fields, and unique keys
 
@@ -157,7 +144,7 @@ pub record PartyAuditInvariant (all_brokers : List Broker) (all_customers : List
   pub brokers : AllByRecursion (λ b. is_well_formed_broker b ≡ true) all_brokers
   pub customers : AllByRecursion (λ c. is_well_formed_customer_row c ≡ true) all_customers
   pub accounts : AllByRecursion (λ a. is_well_formed_account a ≡ true) all_accounts
-  pub permissions : AllByRecursion (λ p. is_well_formed_permission p ≡ true) all_permissions
+  pub permissions : AllByRecursion (λ p. has_well_formed_permission_texts p ≡ true) all_permissions
   pub broker_keys : HasDistinctKeys broker_id_key all_brokers
   pub customer_keys : HasDistinctKeys customer_key all_customers
   pub tax_ids : HasDistinctKeys customer_tax_id_key all_customers
@@ -180,7 +167,7 @@ pub record RateAuditInvariant (all_customers : List Customer) (all_charges : Lis
   pub payers : AllByRecursion (TaxCustomerIsListed all_customers) all_taxes
   pub taxes : AllByRecursion (TaxRateIsListed all_tax_rates) all_taxes
   -- The rates of a customer sum to at most the greatest tax rate.
-  pub rates : (customer : ℕ) → rate_sum_of_payer all_tax_rates all_taxes customer ≤ greatest_tax_rate
+  pub rates : (customer : ℕ) → tax_rate_sum_in_lists all_tax_rates all_taxes customer ≤ greatest_tax_rate
 
 -- The part of the audit invariant that concerns securities: well-formed fields, and no last trade
 -- after the last stamp.

@@ -1,5 +1,5 @@
 -- The base that is read from the rows of a database.
-use Rattle.std.specs.Prelude.{ℕ, Bool, false, ◌==◌, List, [], ◌++◌, map, filter, find, Some, is_none, bytes_eq}
+use Rattle.std.specs.Prelude.{ℕ, Bool, ◌==◌, List, [], ◌++◌, map, filter, find, Some, is_none, bytes_eq}
 use Rattle.std.specs.Option.{option_map_or}
 use Rattle.brk_money.specs.Spelling.{Text}
 use Rattle.brk_model.specs.Lists.{sort_by_key}
@@ -7,7 +7,7 @@ use Rattle.brk_model.specs.Records.{Account, Security, StatusChange, Trade, Move
 use Rattle.brk_model.specs.Base.{Base}
 use Rattle.brk_model.specs.Derived.{Posting}
 use Rattle.brk_model.specs.Tables.{Tables, AccountRow, SecurityRow, LastTradeRow, TradeRow, CashRow, MoveRow}
-use Rattle.brk_model.specs.Joins.{history_rows_with_trade_id, trade_row_with_id}
+use Rattle.brk_model.specs.Joins.{history_rows_with_trade_id, trade_row_with_id, is_id_of_trade}
 
 -- The account that a CUSTOMER_ACCOUNT row describes; the balance of the row is not used.
 abbrev pub account_of_row : AccountRow → Account
@@ -38,7 +38,7 @@ postings_of_tables tables = map (posting_of_cash_row tables) tables.cash ++ map 
 
 -- True if the posting `p` belongs to the trade with the id `trade`; false if it belongs to none.
 abbrev pub is_posting_of_trade : ℕ → Posting → Bool
-is_posting_of_trade trade p = option_map_or (λ id. id == trade) p.trade false
+is_posting_of_trade trade p = is_id_of_trade trade p.trade
 
 -- The movement that a CASH_MOVE row without a trade describes.
 abbrev pub movement_of_row : MoveRow → Movement

@@ -52,13 +52,21 @@ empty_base = record {
   last = None;
 }
 
+-- The first broker of the list `brokers` with the id `id`; none if there is no such broker.
+abbrev pub broker_with_id_in_list : List Broker → ℕ → Option Broker
+broker_with_id_in_list brokers id = find (λ b. b.id == id) brokers
+
 -- The first broker of `base` with the id `id`; none if there is no such broker.
 abbrev pub broker_with_id : Base → ℕ → Option Broker
-broker_with_id base id = find (λ b. b.id == id) base.brokers
+broker_with_id base id = broker_with_id_in_list base.brokers id
+
+-- The first customer of the list `customers` with the id `id`; none if there is no such customer.
+abbrev pub customer_with_id_in_list : List Customer → ℕ → Option Customer
+customer_with_id_in_list customers id = find (λ c. c.id == id) customers
 
 -- The first customer of `base` with the id `id`; none if there is no such customer.
 abbrev pub customer_with_id : Base → ℕ → Option Customer
-customer_with_id base id = find (λ c. c.id == id) base.customers
+customer_with_id base id = customer_with_id_in_list base.customers id
 
 -- The first account of the list `accounts` with the id `id`; none if there is no such account.
 abbrev pub account_with_id_in_list : List Account → ℕ → Option Account
@@ -68,13 +76,23 @@ account_with_id_in_list accounts id = find (λ a. a.id == id) accounts
 abbrev pub account_with_id : Base → ℕ → Option Account
 account_with_id base id = account_with_id_in_list base.accounts id
 
+-- The first security of the list `securities` with the symbol `symbol`; none if there is no such
+-- security.
+abbrev pub security_with_symbol_in_list : List Security → Text → Option Security
+security_with_symbol_in_list securities symbol = find (λ s. bytes_eq s.symbol symbol) securities
+
 -- The first security of `base` with the symbol `symbol`; none if there is no such security.
 abbrev pub security_with_symbol : Base → Text → Option Security
-security_with_symbol base symbol = find (λ s. bytes_eq s.symbol symbol) base.securities
+security_with_symbol base symbol = security_with_symbol_in_list base.securities symbol
+
+-- The first tax rate record of the list `tax_rates` with the id `id`; none if there is no such
+-- record.
+abbrev pub tax_rate_with_id_in_list : List TaxRate → ℕ → Option TaxRate
+tax_rate_with_id_in_list tax_rates id = find (λ r. r.id == id) tax_rates
 
 -- The first tax rate record of `base` with the id `id`; none if there is no such record.
 abbrev pub tax_rate_of_id : Base → ℕ → Option TaxRate
-tax_rate_of_id base id = find (λ r. r.id == id) base.tax_rates
+tax_rate_of_id base id = tax_rate_with_id_in_list base.tax_rates id
 
 -- The first trade of `base` with the id `id`; none if there is no such trade.
 abbrev pub trade_with_id : Base → ℕ → Option Trade
@@ -124,20 +142,29 @@ tier_of_account base account = option_map_or (λ c. c.tier) (customer_with_id ba
 abbrev pub exchange_of_security : Base → Text → Text
 exchange_of_security base symbol = option_map_or (λ s. s.exchange) (security_with_symbol base symbol) []
 
+-- The name of the security `symbol` of the list `securities`; empty if there is no such security.
+abbrev pub security_name_in_list : List Security → Text → Text
+security_name_in_list securities symbol = option_map_or (λ s. s.name) (security_with_symbol_in_list securities symbol) []
+
 -- The name of the security `symbol` of `base`; empty if the security does not exist.
 abbrev pub security_name : Base → Text → Text
-security_name base symbol = option_map_or (λ s. s.name) (security_with_symbol base symbol) []
+security_name base symbol = security_name_in_list base.securities symbol
 
 -- The last market price of the security `symbol` of `base`, in cents; 0 if the security does not
 -- exist.
 abbrev pub last_price : Base → Text → ℕ
 last_price base symbol = option_map_or (λ s. s.last_price) (security_with_symbol base symbol) 0
 
+-- The sum of the tax rates that the customer `customer` pays by the lists `tax_rates` and
+-- `customer_taxes`, in hundred-thousandths; a tax whose rate record does not exist counts as 0.
+abbrev pub tax_rate_sum_in_lists : List TaxRate → List CustomerTax → ℕ → ℕ
+tax_rate_sum_in_lists tax_rates customer_taxes customer =
+    sum_by (λ x. option_map_or (λ r. r.rate) (tax_rate_with_id_in_list tax_rates x.tax) 0) (filter (λ x. x.customer == customer) customer_taxes)
+
 -- The sum of the tax rates that the customer `customer` pays, in hundred-thousandths; a tax whose
 -- rate record does not exist counts as 0.
 abbrev pub tax_rate_sum_of_customer : Base → ℕ → ℕ
-tax_rate_sum_of_customer base customer =
-    sum_by (λ x. option_map_or (λ r. r.rate) (tax_rate_of_id base x.tax) 0) (filter (λ x. x.customer == customer) base.customer_taxes)
+tax_rate_sum_of_customer base customer = tax_rate_sum_in_lists base.tax_rates base.customer_taxes customer
 
 -- True if gains are taxable at this tax status: `Withheld` or `Reported`.
 abbrev pub is_taxable_status : TaxStatus → Bool

@@ -3,16 +3,16 @@ use Rattle.std.specs.Prelude.{ℕ, Bool, true, false, not, ◌&&◌, ◌||◌, �
 use Rattle.std.specs.List.{list_any, list_all, range_with_len}
 use Rattle.std.specs.Option.{option_map_or}
 use Rattle.std.specs.Str.{is_utf8}
-use Rattle.brk_money.specs.Spelling.{Text}
+use Rattle.brk_money.specs.Spelling.{Text, is_within_amount_limit}
 use Rattle.brk_money.specs.Moments.{greatest_day, greatest_stamp}
 use Rattle.brk_money.specs.Kinds.{is_same_trade_status}
 use Rattle.brk_money.specs.declared.status.Status.{Status}
 use Rattle.brk_money.specs.declared.status.Status.TheVariants.{Completed}
-use Rattle.brk_model.specs.Limits.{greatest_price, greatest_charge, greatest_commission_rate, greatest_tax_rate, greatest_amount, greatest_id, greatest_cash_row_number, most_accounts_per_customer}
+use Rattle.brk_model.specs.Limits.{greatest_price, greatest_charge, greatest_commission_rate, greatest_tax_rate, greatest_amount, greatest_id, greatest_cash_row_number, most_accounts_per_customer, is_in_range}
 use Rattle.brk_model.specs.Lists.{all_distinct}
 use Rattle.brk_model.specs.Schemas.{Schema}
 use Rattle.brk_model.specs.Records.{Customer, Permission, Charge, Band, TaxRate, CustomerTax, Key, Kept, SettleRule}
-use Rattle.brk_model.specs.Base.{tax_rate_sum_of_customer}
+use Rattle.brk_model.specs.Base.{tax_rate_sum_of_customer, customer_with_id_in_list}
 use Rattle.brk_model.specs.Tables.{Tables, BrokerRow, AccountRow, SecurityRow, LastTradeRow, TradeRow, HistoryRow, RequestRow, HoldingRow, SummaryRow, HoldingHistoryRow, SettlementRow, CashRow, MoveRow}
 use Rattle.brk_model.specs.Derived.{due_day_of_completion_stamp}
 use Rattle.brk_model.specs.Results.{cash_row_name}
@@ -24,27 +24,23 @@ use Rattle.brk_model.specs.Keys.{KeyPart, is_key_less, kept_key, broker_key, cus
 
 -- True if `n` is an id: from 1 to the greatest id.
 abbrev pub is_id : ℕ → Bool
-is_id n = nat_le 1 n && nat_le n greatest_id
+is_id n = is_in_range 1 greatest_id n
 
 -- True if `n` is the number of a cash row: from 1 to the greatest number of a cash row.
 abbrev pub is_cash_row_number : ℕ → Bool
-is_cash_row_number n = nat_le 1 n && nat_le n greatest_cash_row_number
+is_cash_row_number n = is_in_range 1 greatest_cash_row_number n
 
 -- True if the quantity `n` is from 1 to the greatest quantity of the schema `schema`.
 abbrev pub is_quantity_in_schema : Schema → ℕ → Bool
-is_quantity_in_schema schema n = nat_le 1 n && nat_le n schema.greatest_qty
+is_quantity_in_schema schema n = is_in_range 1 schema.greatest_qty n
 
 -- True if the price `n` is from 1 cent to the greatest price.
 abbrev pub is_price : ℕ → Bool
-is_price n = nat_le 1 n && nat_le n greatest_price
+is_price n = is_in_range 1 greatest_price n
 
 -- True if `n` is a customer tier: from 1 to 3.
 abbrev pub is_tier : ℕ → Bool
-is_tier n = nat_le 1 n && nat_le n 3
-
--- True if the absolute value of the amount `z` is at most the greatest amount, in cents.
-abbrev pub is_amount : ℤ → Bool
-is_amount z = nat_le (nat_abs z) greatest_amount
+is_tier n = is_in_range 1 3 n
 
 -- True if the stamp is at most the last stamp `last`; false if `last` is `None`.
 abbrev pub is_up_to_last_stamp : Option ℕ → ℕ → Bool
@@ -54,6 +50,14 @@ is_up_to_last_stamp last stamp = option_map_or (λ l. nat_le stamp l) last false
 -- stamp.
 abbrev pub is_at_most_last_stamp : Tables → ℕ → Bool
 is_at_most_last_stamp tables stamp = is_up_to_last_stamp tables.last stamp
+
+-- True if the last stamp `last` is at most the greatest stamp, or there is none.
+abbrev pub is_last_stamp_in_calendar : Option ℕ → Bool
+is_last_stamp_in_calendar last = option_map_or (λ l. nat_le l greatest_stamp) last true
+
+-- True if the settlement day `rule` is at most the greatest day, or there is none.
+abbrev pub is_settlement_day_in_calendar : SettleRule → Bool
+is_settlement_day_in_calendar rule = option_map_or (λ day. nat_le day greatest_day) rule true
 
 -- True if the tables have a TRADE row with the id `id`.
 abbrev pub has_trade : Tables → ℕ → Bool
@@ -69,7 +73,7 @@ has_security tables symbol = is_some (security_row_with_symbol tables symbol)
 
 -- True if the tables have a CUSTOMER row with the id `id`.
 abbrev pub has_customer : Tables → ℕ → Bool
-has_customer tables id = is_some (find (λ c. c.id == id) tables.customers)
+has_customer tables id = is_some (customer_with_id_in_list tables.customers id)
 
 -- True if the tables have a BROKER row with the id `id`.
 abbrev pub has_broker : Tables → ℕ → Bool
@@ -84,25 +88,50 @@ is_well_formed_key key = is_batch_name key.batch && is_id key.row
 abbrev pub is_well_formed_kept_row : Kept → Bool
 is_well_formed_kept_row k = is_well_formed_key k.key
 
+-- True if the id and the name of a record are well-formed.
+abbrev pub are_well_formed_id_and_name : ℕ → Text → Bool
+are_well_formed_id_and_name id name = is_id id && is_name name
+
 -- True if the id and the name of a row of BROKER are well-formed and its commission total is within
 -- its limit; the trade count is not checked.
 abbrev pub is_well_formed_broker_row : BrokerRow → Bool
-is_well_formed_broker_row b = is_id b.id && is_name b.name && nat_le b.commissions greatest_amount
+is_well_formed_broker_row b = are_well_formed_id_and_name b.id b.name && nat_le b.commissions greatest_amount
 
 -- True if the id, the tier, the tax id and both names of a row of CUSTOMER are well-formed.
 abbrev pub is_well_formed_customer_row : Customer → Bool
-is_well_formed_customer_row c = is_id c.id && is_tier c.tier && is_tax_id c.tax_id && is_name c.last_name && is_name c.first_name
+is_well_formed_customer_row c =
+    is_id c.id
+    && is_tier c.tier
+    && is_tax_id c.tax_id
+    && is_name c.last_name
+    && is_name c.first_name
+
+-- True if the id, the name and the opening balance of an account are well-formed.
+abbrev pub are_well_formed_account_fields : ℕ → Text → ℤ → Bool
+are_well_formed_account_fields id name opening = are_well_formed_id_and_name id name && is_within_amount_limit opening
 
 -- True if the id, the name, the opening balance and the balance of a row of CUSTOMER_ACCOUNT are
 -- well-formed, and its customer and broker exist.
 abbrev pub is_well_formed_account_row : Tables → AccountRow → Bool
 is_well_formed_account_row t a =
-    is_id a.id && has_customer t a.customer && has_broker t a.broker && is_name a.name && is_amount a.opening && is_amount a.balance
+    are_well_formed_account_fields a.id a.name a.opening
+    && is_within_amount_limit a.balance
+    && has_customer t a.customer
+    && has_broker t a.broker
+
+-- True if the ACL, the tax id and both names of a permission are well-formed; whether its account
+-- exists is not checked.
+abbrev pub has_well_formed_permission_texts : Permission → Bool
+has_well_formed_permission_texts p =
+    is_acl p.acl
+    && is_tax_id p.tax_id
+    && is_name p.last_name
+    && is_name p.first_name
 
 -- True if the ACL, the tax id and both names of a row of ACCOUNT_PERMISSION are well-formed, and
 -- its account exists.
 abbrev pub is_well_formed_permission_row : Tables → Permission → Bool
-is_well_formed_permission_row t p = has_account t p.account && is_acl p.acl && is_tax_id p.tax_id && is_name p.last_name && is_name p.first_name
+is_well_formed_permission_row t p = has_well_formed_permission_texts p && has_account t p.account
 
 -- True if the symbol, the name, the exchange and the sector of a security are well-formed.
 abbrev pub are_well_formed_listing_texts : Text → Text → Text → Text → Bool
@@ -111,12 +140,18 @@ are_well_formed_listing_texts symbol name exchange sector = is_symbol symbol && 
 -- True if the symbol, the name, the exchange and the sector of a row of SECURITY are well-formed,
 -- and a LAST_TRADE row of the symbol exists.
 abbrev pub is_well_formed_security_row : Tables → SecurityRow → Bool
-is_well_formed_security_row t s = are_well_formed_listing_texts s.symbol s.name s.exchange s.sector && list_any (λ l. bytes_eq l.symbol s.symbol) t.last_trades
+is_well_formed_security_row t s =
+    are_well_formed_listing_texts s.symbol s.name s.exchange s.sector
+    && list_any (λ l. bytes_eq l.symbol s.symbol) t.last_trades
 
 -- True if the security of a row of LAST_TRADE exists, its stamp is not after the last stamp, and
 -- its price and volume are within their limits.
 abbrev pub is_well_formed_last_trade_row : Tables → LastTradeRow → Bool
-is_well_formed_last_trade_row t l = has_security t l.symbol && is_at_most_last_stamp t l.stamp && is_price l.price && nat_le l.volume greatest_amount
+is_well_formed_last_trade_row t l =
+    has_security t l.symbol
+    && is_at_most_last_stamp t l.stamp
+    && is_price l.price
+    && nat_le l.volume greatest_amount
 
 -- True if the tier and the amount of a row of CHARGE are within their limits.
 abbrev pub is_well_formed_charge_row : Charge → Bool
@@ -125,16 +160,23 @@ is_well_formed_charge_row c = is_tier c.tier && nat_le c.amount greatest_charge
 -- True if the tier and the exchange of the band are well-formed, and both bounds are within the
 -- limits of the schema `schema`.
 abbrev pub has_well_formed_bounds : Schema → Band → Bool
-has_well_formed_bounds schema b = is_tier b.tier && is_exchange b.exchange && is_quantity_in_schema schema b.from_qty && is_quantity_in_schema schema b.to_qty
+has_well_formed_bounds schema b =
+    is_tier b.tier
+    && is_exchange b.exchange
+    && is_quantity_in_schema schema b.from_qty
+    && is_quantity_in_schema schema b.to_qty
 
 -- True if the tier, the exchange, the bounds and the rate of a row of COMMISSION_RATE are
 -- well-formed in the schema `schema`, and its lower bound is at most its upper bound.
 abbrev pub is_well_formed_band_row : Schema → Band → Bool
-is_well_formed_band_row schema b = has_well_formed_bounds schema b && nat_le b.from_qty b.to_qty && nat_le b.rate greatest_commission_rate
+is_well_formed_band_row schema b =
+    has_well_formed_bounds schema b
+    && nat_le b.from_qty b.to_qty
+    && nat_le b.rate greatest_commission_rate
 
 -- True if the id and the name of a row of TAXRATE are well-formed and its rate is within its limit.
 abbrev pub is_well_formed_tax_rate_row : TaxRate → Bool
-is_well_formed_tax_rate_row r = is_id r.id && is_name r.name && nat_le r.rate greatest_tax_rate
+is_well_formed_tax_rate_row r = are_well_formed_id_and_name r.id r.name && nat_le r.rate greatest_tax_rate
 
 -- True if the customer and the tax rate of a row of CUSTOMER_TAXRATE exist.
 abbrev pub is_well_formed_customer_tax_row : Tables → CustomerTax → Bool
@@ -149,13 +191,27 @@ has_price_exactly_if is_done price = if is_done then option_map_or is_price pric
 abbrev pub price_matches_completion : Tables → TradeRow → Bool
 price_matches_completion t row = has_price_exactly_if (list_any (λ h. is_same_trade_status h.status Completed) (history_rows_with_trade_id t row.id)) row.price
 
+-- True if the numbers of a trade are within their limits in the schema `schema`: its id, its
+-- quantity, its bid, its charge, its commission and its tax.
+abbrev pub are_trade_numbers_in_range : Schema → (id qty bid charge commission tax : ℕ) → Bool
+are_trade_numbers_in_range schema id qty bid charge commission tax =
+    is_id id
+    && is_quantity_in_schema schema qty
+    && is_price bid
+    && nat_le charge greatest_charge
+    && nat_le commission greatest_amount
+    && nat_le tax greatest_amount
+
 -- True if the id, the quantity, the bid, the charge, the commission and the tax of a row of TRADE
 -- are within their limits, its stamp is not after the last stamp, its security and account exist,
 -- and its price agrees with its history. The executor is not checked.
 abbrev pub is_well_formed_trade_row : Schema → Tables → TradeRow → Bool
 is_well_formed_trade_row schema t row =
-    is_id row.id && is_at_most_last_stamp t row.stamp && has_security t row.symbol && is_quantity_in_schema schema row.qty && is_price row.bid && has_account t row.account && price_matches_completion t row
-    && nat_le row.charge greatest_charge && nat_le row.commission greatest_amount && nat_le row.tax greatest_amount
+    are_trade_numbers_in_range schema row.id row.qty row.bid row.charge row.commission row.tax
+    && is_at_most_last_stamp t row.stamp
+    && has_security t row.symbol
+    && has_account t row.account
+    && price_matches_completion t row
 
 -- True if the status is not `Completed`, or the due day of a completion with this stamp is within
 -- the calendar.
@@ -165,22 +221,38 @@ is_due_within_calendar rule status stamp = not (is_same_trade_status status Comp
 -- True if the trade of a row of TRADE_HISTORY exists, its stamp is not after the last stamp, and,
 -- for a completion, the due day is within the calendar.
 abbrev pub is_well_formed_history_row : Tables → HistoryRow → Bool
-is_well_formed_history_row t h = has_trade t h.trade && is_at_most_last_stamp t h.stamp && is_due_within_calendar t.rule h.status h.stamp
+is_well_formed_history_row t h =
+    has_trade t h.trade
+    && is_at_most_last_stamp t h.stamp
+    && is_due_within_calendar t.rule h.status h.stamp
 
 -- True if the quantity and the bid of a row of TRADE_REQUEST are within their limits, and its
 -- trade, security and broker exist.
 abbrev pub is_well_formed_request_row : Schema → Tables → RequestRow → Bool
-is_well_formed_request_row schema t r = has_trade t r.trade && has_security t r.symbol && is_quantity_in_schema schema r.qty && is_price r.bid && has_broker t r.broker
+is_well_formed_request_row schema t r =
+    has_trade t r.trade
+    && has_security t r.symbol
+    && is_quantity_in_schema schema r.qty
+    && is_price r.bid
+    && has_broker t r.broker
 
 -- True if the price of a row of HOLDING is within its limit, its stamp is not after the last stamp,
 -- and its trade, account and security exist. The quantity is not checked.
 abbrev pub is_well_formed_holding_row : Tables → HoldingRow → Bool
-is_well_formed_holding_row t h = has_trade t h.trade && has_account t h.account && has_security t h.symbol && is_at_most_last_stamp t h.stamp && is_price h.price
+is_well_formed_holding_row t h =
+    has_trade t h.trade
+    && has_account t h.account
+    && has_security t h.symbol
+    && is_at_most_last_stamp t h.stamp
+    && is_price h.price
 
 -- True if the quantity of a row of HOLDING_SUMMARY is within the limit of the schema `schema`, and
 -- its account and security exist.
 abbrev pub is_well_formed_summary_row : Schema → Tables → SummaryRow → Bool
-is_well_formed_summary_row schema t s = has_account t s.account && has_security t s.symbol && nat_le (nat_abs s.qty) schema.greatest_summary
+is_well_formed_summary_row schema t s =
+    has_account t s.account
+    && has_security t s.symbol
+    && nat_le (nat_abs s.qty) schema.greatest_summary
 
 -- True if both trades of a row of HOLDING_HISTORY exist; the quantities are not checked.
 abbrev pub is_well_formed_holding_history_row : Tables → HoldingHistoryRow → Bool
@@ -197,7 +269,9 @@ is_cash_type_of_trade is_cash word =
 -- and its due day and amount are within their limits.
 abbrev pub is_well_formed_settlement_row : Tables → SettlementRow → Bool
 is_well_formed_settlement_row t s =
-    option_map_or (λ row. is_cash_type_of_trade row.is_cash s.cash_type) (trade_row_with_id t s.trade) false && nat_le s.due_day greatest_day && is_amount s.amount
+    option_map_or (λ row. is_cash_type_of_trade row.is_cash s.cash_type) (trade_row_with_id t s.trade) false
+    && nat_le s.due_day greatest_day
+    && is_within_amount_limit s.amount
 
 -- True if `name` is one of the two names that a cash row of the trade of the TRADE row may have:
 -- with " shares of " or with " Shares of ".
@@ -210,7 +284,10 @@ is_cash_row_name_of_trade t name row =
 -- of that trade may have, its stamp is not after the last stamp, and its amount is within its
 -- limit.
 abbrev pub is_well_formed_cash_row : Tables → CashRow → Bool
-is_well_formed_cash_row t c = option_map_or (is_cash_row_name_of_trade t c.name) (trade_row_with_id t c.trade) false && is_at_most_last_stamp t c.stamp && is_amount c.amount
+is_well_formed_cash_row t c =
+    option_map_or (is_cash_row_name_of_trade t c.name) (trade_row_with_id t c.trade) false
+    && is_at_most_last_stamp t c.stamp
+    && is_within_amount_limit c.amount
 
 -- True if `name` and `amount` are those of a movement: `Deposit` and above 0, or `Withdrawal` and
 -- below 0.
@@ -227,8 +304,11 @@ has_cash_row_name_of_trade t r trade = option_map_or (is_cash_row_name_of_trade 
 -- the name is one of its two; otherwise the name and the amount are those of a movement.
 abbrev pub is_well_formed_move_row : Tables → MoveRow → Bool
 is_well_formed_move_row t r =
-    is_cash_row_number r.id && has_account t r.account && option_map_or (has_cash_row_name_of_trade t r) r.trade (is_movement_name_and_amount r.name r.amount)
-    && is_at_most_last_stamp t r.stamp && is_amount r.amount
+    is_cash_row_number r.id
+    && has_account t r.account
+    && option_map_or (has_cash_row_name_of_trade t r) r.trade (is_movement_name_and_amount r.name r.amount)
+    && is_at_most_last_stamp t r.stamp
+    && is_within_amount_limit r.amount
 
 -- The ids of the trades of the CASH_MOVE rows, in their sequence; a row without a trade adds none.
 abbrev pub trade_ids_of_cash_rows : List MoveRow → List ℕ
@@ -253,7 +333,8 @@ are_equal_number_lists _ _ = false
 -- tax rate.
 abbrev pub is_within_customer_limits : Tables → Customer → Bool
 is_within_customer_limits t c =
-    nat_le (length (filter (λ a. a.customer == c.id) t.accounts)) most_accounts_per_customer && nat_le (tax_rate_sum_of_customer (base_of_tables t) c.id) greatest_tax_rate
+    nat_le (length (filter (λ a. a.customer == c.id) t.accounts)) most_accounts_per_customer
+    && nat_le (tax_rate_sum_of_customer (base_of_tables t) c.id) greatest_tax_rate
 
 -- True if the rows are sorted by `key`, strictly ascending, so that no key occurs twice.
 abbrev pub is_sorted_by_unique_key : {Row : Type 0} → (Row → List KeyPart) → List Row → Bool
@@ -265,11 +346,25 @@ is_sorted_by_unique_key key (a ∷ b ∷ rows) = is_key_less (key a) (key b) && 
 -- occurs twice in a table.
 unfoldable pub tables_are_sorted_by_unique_key : Tables → Bool
 tables_are_sorted_by_unique_key t =
-    is_sorted_by_unique_key kept_key t.kept && is_sorted_by_unique_key broker_key t.brokers && is_sorted_by_unique_key customer_key t.customers && is_sorted_by_unique_key account_key t.accounts
-    && is_sorted_by_unique_key permission_key t.permissions && is_sorted_by_unique_key security_key t.securities && is_sorted_by_unique_key last_trade_key t.last_trades && is_sorted_by_unique_key charge_key t.charges
-    && is_sorted_by_unique_key band_key t.bands && is_sorted_by_unique_key tax_rate_key t.tax_rates && is_sorted_by_unique_key customer_tax_key t.customer_taxes && is_sorted_by_unique_key trade_key t.trades
-    && is_sorted_by_unique_key history_key t.history && is_sorted_by_unique_key request_key t.requests && is_sorted_by_unique_key holding_key t.holdings && is_sorted_by_unique_key summary_key t.summaries
-    && is_sorted_by_unique_key holding_history_key t.holding_history && is_sorted_by_unique_key settlement_key t.settlements && is_sorted_by_unique_key cash_key t.cash
+    is_sorted_by_unique_key kept_key t.kept
+    && is_sorted_by_unique_key broker_key t.brokers
+    && is_sorted_by_unique_key customer_key t.customers
+    && is_sorted_by_unique_key account_key t.accounts
+    && is_sorted_by_unique_key permission_key t.permissions
+    && is_sorted_by_unique_key security_key t.securities
+    && is_sorted_by_unique_key last_trade_key t.last_trades
+    && is_sorted_by_unique_key charge_key t.charges
+    && is_sorted_by_unique_key band_key t.bands
+    && is_sorted_by_unique_key tax_rate_key t.tax_rates
+    && is_sorted_by_unique_key customer_tax_key t.customer_taxes
+    && is_sorted_by_unique_key trade_key t.trades
+    && is_sorted_by_unique_key history_key t.history
+    && is_sorted_by_unique_key request_key t.requests
+    && is_sorted_by_unique_key holding_key t.holdings
+    && is_sorted_by_unique_key summary_key t.summaries
+    && is_sorted_by_unique_key holding_history_key t.holding_history
+    && is_sorted_by_unique_key settlement_key t.settlements
+    && is_sorted_by_unique_key cash_key t.cash
     && is_sorted_by_unique_key move_key t.moves
 
 -- True if no two customers of the list have one tax id.
@@ -286,7 +381,7 @@ has_distinct_tax_ids (c ∷ customers) = not (list_any (λ d. bytes_eq d.tax_id 
 -- the schema lacks have no rows.
 unfoldable pub satisfies_form_condition : Schema → Tables → Bool
 satisfies_form_condition schema t =
-    option_map_or (λ last. nat_le last greatest_stamp) t.last true
+    is_last_stamp_in_calendar t.last
     && tables_are_sorted_by_unique_key t
     && has_distinct_tax_ids t.customers
     && list_all is_well_formed_kept_row t.kept
@@ -309,12 +404,14 @@ satisfies_form_condition schema t =
     && list_all (is_well_formed_settlement_row t) t.settlements
     && list_all (is_well_formed_cash_row t) t.cash
     && list_all (is_well_formed_move_row t) t.moves && all_distinct (trade_ids_of_cash_rows t.moves) && nat_le (length (filter (λ r. is_none r.trade) t.moves)) greatest_id
-    && option_map_or (λ day. nat_le day greatest_day) t.rule true
+    && is_settlement_day_in_calendar t.rule
     && lacks_rows_of_later_schemas schema t
 
 -- True if the texts of K_ROW, K_LINE, T_EXEC_NAME, CT_NAME and CM_NAME are UTF-8. Typed rows always
 -- satisfy this; the bytes of a database need not.
 abbrev pub has_utf8_texts : Tables → Bool
 has_utf8_texts t =
-    list_all (λ k. is_utf8 k.row_text && is_utf8 k.line) t.kept && list_all (λ r. is_utf8 r.executor) t.trades && list_all (λ r. is_utf8 r.name) t.cash
+    list_all (λ k. is_utf8 k.row_text && is_utf8 k.line) t.kept
+    && list_all (λ r. is_utf8 r.executor) t.trades
+    && list_all (λ r. is_utf8 r.name) t.cash
     && list_all (λ r. is_utf8 r.name) t.moves

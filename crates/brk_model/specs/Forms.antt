@@ -1,11 +1,11 @@
 -- The formats of fields. A malformed field is refused; of several refusals the first in the
 -- sequence of the format checks is returned.
-use Rattle.std.specs.Prelude.{ℕ, Bool, not, ◌&&◌, ◌||◌, ◌==◌, nat_le, if◌then◌else◌, List, [], ◌∷◌, length, find, Option, Some, None, Result, Ok, Err, ℤ, pos, negsuc, nat_abs, codes, bytes_eq, chars}
+use Rattle.std.specs.Prelude.{ℕ, Bool, not, ◌&&◌, ◌||◌, ◌==◌, nat_le, if◌then◌else◌, List, [], ◌∷◌, length, find, Option, Some, None, Result, Ok, Err, ℤ, pos, negsuc, codes, bytes_eq, chars}
 use Rattle.std.specs.List.{list_all}
 use Rattle.std.specs.Option.{option_and_then}
 use Rattle.std.specs.Str.{is_utf8}
 use Rattle.std.specs.Char.{is_control, is_ascii_digit, is_ascii_uppercase, is_ascii_alphanumeric}
-use Rattle.brk_money.specs.Spelling.{Text, decimal_number_of_text, cents_of_text, day_of_text}
+use Rattle.brk_money.specs.Spelling.{Text, decimal_number_of_text, cents_of_text, day_of_text, is_within_amount_limit}
 use Rattle.brk_money.specs.Moments.{greatest_day, greatest_stamp}
 use Rattle.brk_money.specs.Kinds.{trade_type_code, tax_status_with_number}
 use Rattle.brk_money.specs.declared.order_type.OrderType.{OrderType}
@@ -15,7 +15,7 @@ use Rattle.brk_money.specs.declared.trade_type.TradeType.TheVariants.{MarketBuy,
 use Rattle.brk_money.specs.declared.tax_status.TaxStatus.{TaxStatus}
 use Rattle.brk_money.specs.declared.refusal.Refusal.{Refusal}
 use Rattle.brk_money.specs.declared.refusal.Refusal.TheVariants.{BadText, BadQty, BadPrice, BadType, TooMany}
-use Rattle.brk_model.specs.Limits.{greatest_qty, greatest_price, greatest_charge, greatest_commission_rate, greatest_tax_rate, greatest_amount, greatest_id}
+use Rattle.brk_model.specs.Limits.{greatest_qty, greatest_price, greatest_charge, greatest_commission_rate, greatest_tax_rate, greatest_amount, greatest_id, is_in_range}
 use Rattle.brk_model.specs.Lists.{all_distinct}
 
 -- The type of the result of reading fields: a value, or the refusal of a malformed field.
@@ -52,7 +52,7 @@ read_valid_text test text = value_if_valid test BadText (Some text)
 -- The number that the text parses as, if it is from `low` to `high`, both included; otherwise the
 -- refusal `refusal`.
 abbrev pub read_number_in_range : ℕ → ℕ → Refusal → Text → ReadResult ℕ
-read_number_in_range low high refusal text = value_if_valid (λ n. nat_le low n && nat_le n high) refusal (decimal_number_of_text text)
+read_number_in_range low high refusal text = value_if_valid (λ n. is_in_range low high n) refusal (decimal_number_of_text text)
 
 -- The id that a text parses as, from 1 to `greatest_id`; otherwise the refusal `BadText`.
 abbrev pub read_id : Text → ReadResult ℕ
@@ -90,7 +90,7 @@ nonnegative_amount None = None
 -- The price of a share that a text parses as, from 1 to `greatest_price` cents; otherwise the
 -- refusal `BadPrice`.
 abbrev pub read_price : Text → ReadResult ℕ
-read_price text = value_if_valid (λ n. nat_le 1 n && nat_le n greatest_price) BadPrice (nonnegative_amount (cents_of_text text))
+read_price text = value_if_valid (λ n. is_in_range 1 greatest_price n) BadPrice (nonnegative_amount (cents_of_text text))
 
 -- The charge that a text parses as, from 0 to `greatest_charge` cents; otherwise the refusal
 -- `BadText`.
@@ -100,7 +100,7 @@ read_charge_amount text = value_if_valid (λ n. nat_le n greatest_charge) BadTex
 -- The amount of a deposit or a withdrawal that a text parses as, from 1 to `greatest_amount` cents;
 -- otherwise the refusal `BadText`.
 abbrev pub read_movement_amount : Text → ReadResult ℕ
-read_movement_amount text = value_if_valid (λ n. nat_le 1 n && nat_le n greatest_amount) BadText (nonnegative_amount (cents_of_text text))
+read_movement_amount text = value_if_valid (λ n. is_in_range 1 greatest_amount n) BadText (nonnegative_amount (cents_of_text text))
 
 -- The day that a text parses as, at most `greatest_day`; otherwise the refusal `BadText`.
 abbrev pub read_day : Text → ReadResult ℕ
@@ -109,15 +109,15 @@ read_day text = value_if_valid (λ day. nat_le day greatest_day) BadText (day_of
 -- The opening balance that a text parses as, in cents, with an absolute value of at most
 -- `greatest_amount`; otherwise the refusal `BadText`.
 abbrev pub read_opening_balance : Text → ReadResult ℤ
-read_opening_balance text = value_if_valid (λ z. nat_le (nat_abs z) greatest_amount) BadText (cents_of_text text)
+read_opening_balance text = value_if_valid (λ z. is_within_amount_limit z) BadText (cents_of_text text)
 
 -- True if the text has 1 to `most` bytes, and each of them passes `test`.
 abbrev pub is_word_up_to_length : ℕ → (ℕ → Bool) → Text → Bool
-is_word_up_to_length most test text = nat_le 1 (length text) && nat_le (length text) most && list_all test text
+is_word_up_to_length most test text = is_in_range 1 most (length text) && list_all test text
 
 -- True if the text is a name or a sector: 1 to 60 bytes of UTF-8 without control characters.
 abbrev pub is_name : Text → Bool
-is_name text = nat_le 1 (length text) && nat_le (length text) 60 && is_utf8 text && list_all (λ c. not (is_control c)) (chars text)
+is_name text = is_in_range 1 60 (length text) && is_utf8 text && list_all (λ c. not (is_control c)) (chars text)
 
 -- The text if it is a name, otherwise the refusal `BadText`.
 abbrev pub read_name : Text → ReadResult Text

@@ -1,9 +1,9 @@
 -- Lookups in the tables by symbol, trade or account, and rows of TRADE sorted by stamp.
-use Rattle.std.specs.Prelude.{ℕ, ◌==◌, List, filter, find, Option, bytes_eq}
+use Rattle.std.specs.Prelude.{ℕ, Bool, false, ◌==◌, List, filter, find, Option, bytes_eq}
 use Rattle.std.specs.Option.{option_map_or}
 use Rattle.brk_money.specs.Spelling.{Text}
 use Rattle.brk_model.specs.Lists.{sort_by, is_pair_less}
-use Rattle.brk_model.specs.Tables.{Tables, AccountRow, SecurityRow, TradeRow, HistoryRow}
+use Rattle.brk_model.specs.Tables.{Tables, AccountRow, SecurityRow, TradeRow, HistoryRow, MoveRow}
 
 -- The price of the LAST_TRADE row of the symbol, in cents; 0 if there is no such row.
 abbrev pub last_price_in_tables : Tables → Text → ℕ
@@ -21,9 +21,17 @@ trade_row_with_id tables id = find (λ row. row.id == id) tables.trades
 abbrev pub account_row_with_id : Tables → ℕ → Option AccountRow
 account_row_with_id tables id = find (λ row. row.id == id) tables.accounts
 
+-- True if the optional id `id` of a trade is `trade`; false if there is none.
+abbrev pub is_id_of_trade : ℕ → Option ℕ → Bool
+is_id_of_trade trade id = option_map_or (λ n. n == trade) id false
+
 -- The TRADE rows of the account `account`, in their sequence.
 abbrev pub trade_rows_of_account : Tables → ℕ → List TradeRow
 trade_rows_of_account tables account = filter (λ row. row.account == account) tables.trades
+
+-- The CASH_MOVE rows of the account `account`, in their sequence.
+abbrev pub move_rows_of_account : Tables → ℕ → List MoveRow
+move_rows_of_account tables account = filter (λ row. row.account == account) tables.moves
 
 -- The TRADE_HISTORY rows of the trade with the id `trade`, in their sequence.
 abbrev pub history_rows_with_trade_id : Tables → ℕ → List HistoryRow

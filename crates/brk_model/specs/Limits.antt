@@ -1,5 +1,5 @@
 -- The limits of quantities, prices, amounts and ids.
-use Rattle.std.specs.Prelude.{ℕ}
+use Rattle.std.specs.Prelude.{ℕ, Bool, ◌&&◌, nat_le}
 use Rattle.brk_money.specs.declared.qty.TheConstants.Qty
 use Rattle.brk_money.specs.declared.price.TheConstants.Price
 use Rattle.brk_money.specs.declared.rate.TheConstants.Rate
@@ -7,6 +7,10 @@ use Rattle.brk_money.specs.declared.tax_rate.TheConstants.TaxRate
 use Rattle.brk_money.specs.declared.cents.TheConstants.Cents
 use Rattle.brk_money.specs.declared.id.TheConstants.Id
 use Rattle.brk_money.specs.declared.move_id.TheConstants.MoveId
+
+-- True if the number `n` is from `least` to `greatest`, both included.
+abbrev pub is_in_range : ℕ → ℕ → ℕ → Bool
+is_in_range least greatest n = nat_le least n && nat_le n greatest
 
 -- The greatest quantity, in shares.
 abbrev pub greatest_qty : ℕ

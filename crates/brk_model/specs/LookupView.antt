@@ -1,15 +1,16 @@
 -- The four lookup views, which have only their name from Trade-Lookup.
-use Rattle.std.specs.Prelude.{ℕ, Bool, false, ◌&&◌, ◌==◌, nat_le, nat_lt, List, [], ◌∷◌, ◌++◌, map, filter, flat_map, take, codes, decimal}
+use Rattle.std.specs.Prelude.{ℕ, Bool, ◌&&◌, ◌==◌, nat_le, nat_lt, List, [], ◌∷◌, ◌++◌, map, filter, flat_map, take, codes, decimal}
 use Rattle.std.specs.List.{list_any}
 use Rattle.std.specs.Option.{option_map_or}
 use Rattle.std.specs.Fmt.{signed_decimal}
 use Rattle.brk_money.specs.Spelling.{Text, cents_text, day_text}
 use Rattle.brk_money.specs.Kinds.{trade_type_code, trade_status_code}
+use Rattle.brk_model.specs.Limits.{is_in_range}
 use Rattle.brk_model.specs.Lists.{sort_by, is_pair_less}
 use Rattle.brk_model.specs.Tables.{Tables, TradeRow, HoldingHistoryRow, SettlementRow, MoveRow}
 use Rattle.brk_model.specs.Rows.{nonnegative_cents_text, cash_or_margin_word, lifo_or_fifo_word}
 use Rattle.brk_model.specs.Queries.{View}
-use Rattle.brk_model.specs.Joins.{trade_row_with_id, trade_rows_of_account, history_rows_with_trade_id, trade_rows_oldest_first}
+use Rattle.brk_model.specs.Joins.{trade_row_with_id, trade_rows_of_account, history_rows_with_trade_id, trade_rows_oldest_first, is_id_of_trade}
 
 -- The record of a settlement: the word `settlement`, cash type, due day and amount.
 abbrev pub settlement_record : SettlementRow → List Text
@@ -30,7 +31,7 @@ trade_record t =
 
 -- True if the CASH_MOVE row belongs to the trade with the id `trade`.
 abbrev pub is_cash_row_of_trade : ℕ → MoveRow → Bool
-is_cash_row_of_trade trade row = option_map_or (λ id. id == trade) row.trade false
+is_cash_row_of_trade trade row = is_id_of_trade trade row.trade
 
 -- The records of the trade of a TRADE row: the trade, its settlement and its cash row if they
 -- exist, and its status changes, sorted by stamp, ascending.
@@ -47,7 +48,7 @@ trade_lookup_view tables test = flat_map (trade_lookup_records tables) (take 20 
 
 -- True if the stamp of the TRADE row is between `first` and `last`, both included.
 abbrev pub row_stamp_is_between : ℕ → ℕ → TradeRow → Bool
-row_stamp_is_between first last t = nat_le first t.stamp && nat_le t.stamp last
+row_stamp_is_between first last t = is_in_range first last t.stamp
 
 -- True if a HOLDING_HISTORY row has the trade `trade` and the lot `lot`: the trade touched the lot.
 abbrev pub trade_touches_lot : Tables → ℕ → ℕ → Bool

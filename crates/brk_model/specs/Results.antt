@@ -2,6 +2,7 @@
 use Rattle.std.specs.Prelude.{ℕ, ◌==◌, if◌then◌else◌, [], ◌∷◌, ◌++◌, Some, unwrap_or, codes, decimal}
 use Rattle.brk_money.specs.Spelling.{Text}
 use Rattle.brk_money.specs.Kinds.{side_of_trade_type, trade_type_name}
+use Rattle.brk_money.specs.declared.trade_type.TradeType.{TradeType}
 use Rattle.brk_money.specs.declared.status.Status.TheVariants.{Completed}
 use Rattle.brk_model.specs.Records.{Trade}
 use Rattle.brk_model.specs.Base.{Base, completed_trades, trade_with_status_change, base_with_updated_trades, security_name}
@@ -19,10 +20,16 @@ deal_of_result stamp price t = record { trade = t.id; side = side_of_trade_type 
 abbrev pub first_cash_type : Trade → Text
 first_cash_type t = if t.is_cash then codes "Cash Account" else codes "Margin"
 
+-- The name of the cash row of a trade with the type `kind` and the quantity `qty` in a security with
+-- the name `security`: the name of the type, a space, the quantity, the text `words`, and
+-- `security`.
+abbrev pub cash_row_name_from_parts : Text → TradeType → ℕ → Text → Text
+cash_row_name_from_parts words kind qty security = trade_type_name kind ++ 32 ∷ decimal qty ++ words ++ security
+
 -- The name of the cash row of the trade `t`: the name of its type, a space, its quantity, the text
 -- `words`, and the name of its security.
 abbrev pub cash_row_name : Text → Base → Trade → Text
-cash_row_name words base t = trade_type_name t.kind ++ 32 ∷ decimal t.qty ++ words ++ security_name base t.symbol
+cash_row_name words base t = cash_row_name_from_parts words t.kind t.qty (security_name base t.symbol)
 
 -- The name of the cash row of the trade `t` at its completion (CM_NAME; CT_NAME in the first
 -- schema); empty if the trade is not a cash trade.

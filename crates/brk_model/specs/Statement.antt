@@ -1,14 +1,15 @@
 -- The text of an account's statement, computed from the tables.
-use Rattle.std.specs.Prelude.{ℕ, ◌-◌, ◌&&◌, ◌||◌, ◌==◌, nat_le, nat_lt, if◌then◌else◌, List, [], ◌∷◌, ◌++◌, map, flat_map, filter, length, replicate, Option, Some, None, Result, Ok, Err, ℤ, ◌+ℤ◌, codes, decimal, bytes_eq}
+use Rattle.std.specs.Prelude.{ℕ, ◌-◌, ◌&&◌, ◌||◌, ◌==◌, nat_lt, if◌then◌else◌, List, [], ◌∷◌, ◌++◌, map, flat_map, filter, length, replicate, Option, Some, None, Result, Ok, Err, ℤ, ◌+ℤ◌, codes, decimal, bytes_eq}
 use Rattle.std.specs.Fmt.{signed_decimal}
 use Rattle.brk_money.specs.Spelling.{Text, cents_text, day_text}
 use Rattle.brk_money.specs.Moments.{day_of}
 use Rattle.brk_money.specs.declared.refusal.Refusal.{Refusal}
 use Rattle.brk_money.specs.declared.refusal.Refusal.TheVariants.{BadText, NoAccount}
+use Rattle.brk_model.specs.Limits.{is_in_range}
 use Rattle.brk_model.specs.Lists.{sort_by, sort_by_key, total_by, is_text_less}
 use Rattle.brk_model.specs.Tables.{Tables, AccountRow, HoldingRow, MoveRow}
 use Rattle.brk_model.specs.Rows.{nonnegative_cents_text}
-use Rattle.brk_model.specs.Joins.{account_row_with_id}
+use Rattle.brk_model.specs.Joins.{account_row_with_id, move_rows_of_account}
 use Rattle.brk_model.specs.PositionView.{asset_total}
 
 -- The text padded with spaces on its right to `places` bytes; unchanged if it is longer.
@@ -26,7 +27,7 @@ amount_line word amount = left_aligned_text 10 word ++ 32 ∷ right_aligned_text
 
 -- The CASH_MOVE rows of the account `account`, sorted by stamp, ascending.
 abbrev pub cash_move_rows_of_account : Tables → ℕ → List MoveRow
-cash_move_rows_of_account tables account = sort_by_key (λ row. row.stamp) (filter (λ row. row.account == account) tables.moves)
+cash_move_rows_of_account tables account = sort_by_key (λ row. row.stamp) (move_rows_of_account tables account)
 
 -- The CASH_MOVE rows of the list whose day is before the day `from`.
 abbrev pub cash_move_rows_before_day : ℕ → List MoveRow → List MoveRow
@@ -34,7 +35,7 @@ cash_move_rows_before_day from rows = filter (λ row. nat_lt (day_of row.stamp) 
 
 -- The CASH_MOVE rows of the list whose day is from `from` to `to`, both included.
 abbrev pub cash_move_rows_within_days : ℕ → ℕ → List MoveRow → List MoveRow
-cash_move_rows_within_days from to rows = filter (λ row. nat_le from (day_of row.stamp) && nat_le (day_of row.stamp) to) rows
+cash_move_rows_within_days from to rows = filter (λ row. is_in_range from to (day_of row.stamp)) rows
 
 -- The sum of the amounts of the CASH_MOVE rows, in cents.
 abbrev pub cash_row_total : List MoveRow → ℤ

@@ -5,7 +5,7 @@ use Rattle.std.specs.Prelude.{ℕ, ◌+◌, Bool, true, false, not, ◌&&◌, �
 use Rattle.std.specs.List.{list_any}
 use Rattle.std.specs.Option.{option_map_or}
 use Rattle.brk_money.specs.Spelling.{Text}
-use Rattle.brk_money.specs.Moments.{day_of, greatest_day, greatest_stamp, stamp_moved_past}
+use Rattle.brk_money.specs.Moments.{day_of, greatest_day, greatest_stamp, unlimited_stamp_after}
 use Rattle.brk_money.specs.Kinds.{is_same_trade_type}
 use Rattle.brk_money.specs.OrderTypes.{trade_type_of_order}
 use Rattle.brk_money.specs.declared.refusal.Refusal.{Refusal}
@@ -34,7 +34,7 @@ first_refusal tests = option_map (λ test. test.1) (find (λ test. test.0) tests
 -- The stamp of a command that is accepted at the clock reading `now`: the greater of `now` and the
 -- last stamp of `base` plus 1, or `now` if there is no last stamp.
 abbrev pub stamp_of_next_command : Base → ℕ → ℕ
-stamp_of_next_command base now = option_map_or (λ last. stamp_moved_past last now) base.last now
+stamp_of_next_command base now = unlimited_stamp_after base.last now
 
 -- The check that refuses with `NoAccount` if no account of `base` has the id `id`.
 abbrev pub account_exists_check : Base → ℕ → RefusalCheck

@@ -1,7 +1,8 @@
 -- The three text updates, which have only their name from Trade-Update: each changes one text
 -- column of trades that were ordered or completed.
-use Rattle.std.specs.Prelude.{ℕ, Bool, ◌&&◌, nat_le, ◌==◌, if◌then◌else◌, List, map, filter, take, codes, bytes_eq}
+use Rattle.std.specs.Prelude.{ℕ, Bool, ◌&&◌, ◌==◌, if◌then◌else◌, List, map, filter, take, codes, bytes_eq}
 use Rattle.brk_money.specs.Spelling.{Text}
+use Rattle.brk_model.specs.Limits.{is_in_range}
 use Rattle.brk_model.specs.Lists.{sort_by, is_pair_less, contains_number, contains_text, replace_text}
 use Rattle.brk_model.specs.Records.{Trade}
 use Rattle.brk_model.specs.Base.{Base, last_status_stamp_of_trade, completed_trades, base_with_updated_trades}
@@ -39,7 +40,7 @@ trades_oldest_first trades = sort_by (λ t u. is_pair_less (last_status_stamp_of
 -- True if the stamp of the last status change of the trade `t` is between `first` and `last`, both
 -- included.
 abbrev pub trade_stamp_is_between : ℕ → ℕ → Trade → Bool
-trade_stamp_is_between first last t = nat_le first (last_status_stamp_of_trade t) && nat_le (last_status_stamp_of_trade t) last
+trade_stamp_is_between first last t = is_in_range first last (last_status_stamp_of_trade t)
 
 -- The ids of the first 20 completed trades of `base`, oldest first, that pass `test` and whose last
 -- status change is between `first` and `last`, both included.

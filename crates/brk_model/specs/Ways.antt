@@ -37,7 +37,9 @@ matches_last_status_change row (m ∷ n ∷ marks) = matches_last_status_change 
 -- ascending stamps, and the row has the status and the stamp of the last one.
 abbrev pub has_valid_status_history : Tables → TradeRow → Bool
 has_valid_status_history t row =
-    is_valid_status_sequence (map (λ m. m.status) (status_changes_of_trade t row.id)) && is_strictly_ascending (map (λ m. m.stamp) (status_changes_of_trade t row.id)) && matches_last_status_change row (status_changes_of_trade t row.id)
+    is_valid_status_sequence (map (λ m. m.status) (status_changes_of_trade t row.id))
+    && is_strictly_ascending (map (λ m. m.stamp) (status_changes_of_trade t row.id))
+    && matches_last_status_change row (status_changes_of_trade t row.id)
 
 -- The stamps of the TRADE_HISTORY rows with the status `Completed`.
 abbrev pub completion_stamps : Tables → List ℕ

@@ -1,18 +1,16 @@
 -- The parts of the audit's condition `Form`.
 use Rattle.std.specs.Prelude.{◌≡◌, true, map, filter, length, nat_le, is_none}
 use Rattle.std.specs.List.{list_all, range_with_len}
-use Rattle.std.specs.Option.{option_map_or}
-use Rattle.brk_money.specs.Moments.{greatest_day, greatest_stamp}
 use Rattle.brk_model.specs.Limits.{greatest_id}
 use Rattle.brk_model.specs.Lists.{all_distinct}
 use Rattle.brk_model.specs.Schemas.{Schema}
 use Rattle.brk_model.specs.Tables.{Tables}
-use Rattle.brk_model.specs.Form.{is_well_formed_kept_row, is_well_formed_broker_row, is_well_formed_customer_row, is_within_customer_limits, is_well_formed_account_row, is_well_formed_permission_row, is_well_formed_security_row, is_well_formed_last_trade_row, is_well_formed_charge_row, is_well_formed_band_row, bands_are_disjoint, is_well_formed_tax_rate_row, is_well_formed_customer_tax_row, is_well_formed_trade_row, are_equal_number_lists, is_well_formed_history_row, is_well_formed_request_row, is_well_formed_holding_row, is_well_formed_summary_row, is_well_formed_holding_history_row, is_well_formed_settlement_row, is_well_formed_cash_row, is_well_formed_move_row, trade_ids_of_cash_rows, lacks_rows_of_later_schemas, tables_are_sorted_by_unique_key, has_distinct_tax_ids, is_sorted_by_unique_key}
+use Rattle.brk_model.specs.Form.{is_well_formed_kept_row, is_well_formed_broker_row, is_well_formed_customer_row, is_within_customer_limits, is_well_formed_account_row, is_well_formed_permission_row, is_well_formed_security_row, is_well_formed_last_trade_row, is_well_formed_charge_row, is_well_formed_band_row, bands_are_disjoint, is_well_formed_tax_rate_row, is_well_formed_customer_tax_row, is_well_formed_trade_row, are_equal_number_lists, is_well_formed_history_row, is_well_formed_request_row, is_well_formed_holding_row, is_well_formed_summary_row, is_well_formed_holding_history_row, is_well_formed_settlement_row, is_well_formed_cash_row, is_well_formed_move_row, trade_ids_of_cash_rows, lacks_rows_of_later_schemas, tables_are_sorted_by_unique_key, has_distinct_tax_ids, is_sorted_by_unique_key, is_last_stamp_in_calendar, is_settlement_day_in_calendar}
 use Rattle.brk_model.specs.Keys.{kept_key, broker_key, customer_key, account_key, permission_key, security_key, last_trade_key, charge_key, band_key, tax_rate_key, customer_tax_key, trade_key, history_key, request_key, holding_key, summary_key, holding_history_key, settlement_key, cash_key, move_key}
 
 -- The tables satisfy every part of the audit's condition `Form`, by the limits of `schema`.
 pub record SatisfiesFormParts (schema : Schema) (t : Tables) : Type 0 where
-  pub clock : option_map_or (λ last. nat_le last greatest_stamp) t.last true ≡ true
+  pub clock : is_last_stamp_in_calendar t.last ≡ true
   pub keys : tables_are_sorted_by_unique_key t ≡ true
   pub tax_ids : has_distinct_tax_ids t.customers ≡ true
   pub kept : list_all is_well_formed_kept_row t.kept ≡ true
@@ -40,7 +38,7 @@ pub record SatisfiesFormParts (schema : Schema) (t : Tables) : Type 0 where
   pub moves : list_all (is_well_formed_move_row t) t.moves ≡ true
   pub own_moves : all_distinct (trade_ids_of_cash_rows t.moves) ≡ true
   pub counted : nat_le (length (filter (λ r. is_none r.trade) t.moves)) greatest_id ≡ true
-  pub rule : option_map_or (λ day. nat_le day greatest_day) t.rule true ≡ true
+  pub rule : is_settlement_day_in_calendar t.rule ≡ true
   pub fits : lacks_rows_of_later_schemas schema t ≡ true
 
 -- Every table that has a key is sorted by it, strictly ascending. DESK and SETTLE_RULE have none.

@@ -1,6 +1,6 @@
 -- The canonical text of a number, an amount and a day. A text parses as a value if it is the
 -- value's canonical text.
-use Rattle.std.specs.Prelude.{ℕ, suc, ◌+◌, ◌-◌, ◌*◌, ◌/◌, ◌%◌, ◌≤◌, if◌then◌else◌, List, [], ◌∷◌, ◌++◌, fold, filter, length, take, drop, replicate, ◌==◌, Option, Some, None, ℤ, pos, negsuc, neg_ℤ, nat_le, nat_abs, decimal, bytes_eq, slice_index}
+use Rattle.std.specs.Prelude.{ℕ, suc, ◌+◌, ◌-◌, ◌*◌, ◌/◌, ◌%◌, ◌≤◌, if◌then◌else◌, List, [], ◌∷◌, ◌++◌, fold, filter, length, take, drop, replicate, ◌==◌, Option, Some, None, ℤ, pos, negsuc, neg_ℤ, nat_le, nat_abs, decimal, bytes_eq, slice_index, Bool}
 use Rattle.std.specs.Char.{is_ascii_digit}
 use Rattle.brk_money.specs.declared.cents.TheConstants.Cents
 use Rattle.brk_money.specs.Moments.{Civil, civil_date_of_day, day_of_civil_date}
@@ -27,7 +27,12 @@ abbrev pub number_within_limit : ℕ → Option ℕ → Option ℕ
 number_within_limit limit None = None
 number_within_limit limit (Some n) = if nat_le n limit then Some n else None
 
--- The absolute value of the amount, in cents, is at most `Cents.GREATEST`.
+-- True if the absolute value of the amount `z`, in cents, is at most `Cents.GREATEST`.
+abbrev pub is_within_amount_limit : ℤ → Bool
+is_within_amount_limit z = nat_le (nat_abs z) Cents.GREATEST
+
+-- The absolute value of the amount, in cents, is at most `Cents.GREATEST`, as a statement. It holds
+-- if and only if `is_within_amount_limit` is true.
 abbrev pub IsWithinAmountLimit : ℤ → Type 0
 IsWithinAmountLimit (pos n) = n ≤ Cents.GREATEST
 IsWithinAmountLimit (negsuc n) = suc n ≤ Cents.GREATEST
@@ -81,7 +86,7 @@ day_of_text text = value_if_canonical day_text (day_of_civil_date (civil_date_of
 -- The amount if there is one and its absolute value is at most `Cents.GREATEST`, otherwise none.
 abbrev pub amount_within_limit : Option ℤ → Option ℤ
 amount_within_limit None = None
-amount_within_limit (Some z) = if nat_le (nat_abs z) Cents.GREATEST then Some z else None
+amount_within_limit (Some z) = if is_within_amount_limit z then Some z else None
 
 -- The number that results from reading the digits of a list after the number `n`.
 abbrev pub number_with_more_digits : ℕ → List ℕ → ℕ

@@ -1,12 +1,12 @@
 -- Text updates: their checks, and the plan of an accepted one.
-use Rattle.std.specs.Prelude.{◌≡◌, ℕ, Bool, is_none, if◌then◌else◌, List, [], ◌∷◌, ◌++◌, length, map, Option, Some, codes, decimal, string_bytes}
-use Rattle.brk_money.specs.Kinds.{trade_type_name}
+use Rattle.std.specs.Prelude.{◌≡◌, ℕ, Bool, is_none, if◌then◌else◌, List, [], ◌∷◌, ◌++◌, length, map, Option, Some, codes, string_bytes}
 use Rattle.brk_money.specs.Moments.{stamp_after}
 use Rattle.brk_money.specs.Spelling.{Text}
 use Rattle.brk_money.specs.declared.refusal.Refusal.{Refusal}
 use Rattle.brk_money.specs.declared.refusal.Refusal.TheVariants.{NoAccount, NoSecurity, NoTrade}
 use Rattle.brk_money.specs.declared.trade_type.TradeType.{TradeType}
 use Rattle.brk_model.specs.Lists.{contains_text}
+use Rattle.brk_model.specs.Results.{cash_row_name_from_parts}
 use Rattle.brk_model.specs.Tables.{Tables}
 use Rattle.brk_model.specs.Tests.{RefusalCheck}
 use Rattle.brk_model.specs.Updates.{updated_executor_name, alternate_word}
@@ -29,16 +29,11 @@ abbrev pub other_cash_type_text : Bool → Text → Text
 other_cash_type_text is_cash word =
     if is_cash then alternate_word (codes "Cash Account") (codes "Cash") word else alternate_word (codes "Margin Account") (codes "Margin") word
 
--- The cash text of a trade: the name of its type, its quantity, `words`, and `security`, the name
--- of its security.
-abbrev pub cash_text_with_words : Text → TradeType → ℕ → Text → Text
-cash_text_with_words words kind qty security = trade_type_name kind ++ 32 ∷ decimal qty ++ words ++ security
-
 -- The new cash text of a trade whose present one is `name`. Its words are " Shares of " if `name`
 -- contains " shares of ", and otherwise " shares of ".
 abbrev pub toggled_cash_text : TradeType → ℕ → Text → Text → Text
 toggled_cash_text kind qty security name =
-    if contains_text (codes " shares of ") name then cash_text_with_words (codes " Shares of ") kind qty security else cash_text_with_words (codes " shares of ") kind qty security
+    if contains_text (codes " shares of ") name then cash_row_name_from_parts (codes " Shares of ") kind qty security else cash_row_name_from_parts (codes " shares of ") kind qty security
 
 -- The new cash text of the trade of `p`, where `security` is the name of its security. Its words
 -- are " Shares of " if the present text contains " shares of ", and otherwise " shares of ".

@@ -2,6 +2,7 @@
 
 ghost use Rattle.std.specs.Prelude.{◌≡◌, ◌≤◌, ◌∷◌, ◌++◌, IfOk, OnOk, codes, decimal, length, string_bytes};
 ghost use Rattle.brk_model.specs.Lists.{contains_text, replace_text};
+ghost use Rattle.brk_model.specs.Results.{cash_row_name_from_parts};
 ghost use Rattle.brk_model.specs.Updates as definition;
 ghost use Rattle.brk_changes.specs.Rows.{cash_type_text};
 ghost use Rattle.brk_plans.specs.Update as spec;
@@ -82,7 +83,7 @@ fn format_cash_text(
     words: &str,
     security: &Name,
 ) -> Result<String, AllocError>
-    ensures { IfOk result (λ text. string_bytes text ≡ spec.cash_text_with_words words.now paid.now.kind paid.now.qty security.now) }
+    ensures { IfOk result (λ text. string_bytes text ≡ cash_row_name_from_parts words.now paid.now.kind paid.now.qty security.now) }
 {
     let mut text = String::from_str(alloc, paid.kind.name())?;
     append_quantity_and_words(&mut text, paid.qty, words)?;

@@ -145,7 +145,10 @@ module _ {S : Type 0} (g : Ghosts S) (old new : Held S) (result : Result (Unit {
 pub passing_books_held : {S : Type 0} (g : Ghosts S) (store : Held S) (t : Tables) → HoldsRows g store t → PassesAudit third_schema t → IsTrue (has_utf8_texts t) → Represents g store (base_of_tables t)
 passing_books_held g store t holds passes texts =
     let e = passing_tables third_schema t passes in
-    record { rows = subst (HoldsRows g store) (sym e) holds; books = passing_books third_schema t passes; sound = passing_sound t passes; texts = subst (λ u. IsTrue (has_utf8_texts u)) (sym e) texts }
+    record {
+      rows = subst (HoldsRows g store) (sym e) holds;
+      consistent = record { books = passing_books third_schema t passes; sound = passing_sound t passes; texts = subst (λ u. IsTrue (has_utf8_texts u)) (sym e) texts };
+    }
 
 pub adopted_books : {S : Type 0} (g : Ghosts S) (old new : Held S) → AdoptPost g old new (Ok tt) → StoreNamesImplyDefinitions g old → (base : Base) × Represents g new base
 adopted_books g old new is defined = let a = is.adopted defined in (base_of_tables a.0, passing_books_held g new a.0 a.1 a.2 a.3)

@@ -159,12 +159,16 @@ pub record AdoptPost {S : Type 0} (g : Ghosts S) (old new : Held S) (result : Re
   -- schema 3, which writes nothing.
   pub audited : StoreNamesImplyDefinitions g old → StoreHasThirdDesk g old → AuditPost g old new result
 
--- The store represents `base`: it holds the tables of `base`, and `base` satisfies the books
--- invariant and the audit invariant and has texts in UTF-8. The clause on the rows is vacuous if
--- the disk assumption fails, or once the store is closed: the store then represents every base that
--- satisfies the other clauses.
-pub record Represents {S : Type 0} (g : Ghosts S) (store : Held S) (base : Base) : Type 0 where
-  pub rows : HoldsRows g store (sheets base)
+-- The base satisfies the books invariant and the audit invariant, and its texts are UTF-8.
+pub record IsConsistent (base : Base) : Type 0 where
   pub books : BooksInvariant base
   pub sound : AuditInvariant base
   pub texts : IsTrue (has_utf8_texts (sheets base))
+
+-- The abstraction relation: the store holds the tables of `base`, and `base` is consistent. The
+-- clause on the rows is vacuous if the disk assumption fails, or once the store is closed; then the
+-- store represents every consistent base.
+pub record Represents {S : Type 0} (g : Ghosts S) (store : Held S) (base : Base) : Type 0 where
+  pub rows : HoldsRows g store (sheets base)
+  pub consistent : IsConsistent base
+  pub open consistent use *

@@ -2,11 +2,12 @@
 -- closure, one at a time. `brk_store/specs/Holds.antt` explains the terms of the clauses. A clause
 -- with the premise `HasCleanDisk` for the new state, and the promise on crashes in `survives`, are
 -- vacuous if the disk assumption fails after the call.
-use Rattle.std.specs.Prelude.{◌≡◌, ℕ, ◌&&◌, List, ◌++◌, filter, nat_le, Result, Ok, Err, OnOk, IfErr, IsTrue}
+use Rattle.std.specs.Prelude.{◌≡◌, ℕ, List, ◌++◌, filter, Result, Ok, Err, OnOk, IfErr, IsTrue}
 use Rattle.sqlite_trees.specs.declared.store.Store.{Ghosts}
 use Rattle.sqlite.specs.Held.{Held, state}
 use Rattle.sqlite.specs.State.{HasCleanDisk, Survives}
 use Rattle.brk_money.specs.declared.fault.Fault.{Fault}
+use Rattle.brk_model.specs.Limits.{is_in_range}
 use Rattle.brk_model.specs.Lists.{sort_by_key}
 use Rattle.brk_model.specs.Statement.{cash_move_rows_of_account}
 use Rattle.brk_model.specs.Tables.{Tables, MoveRow, TradeRow}
@@ -21,7 +22,7 @@ use Rattle.brk_store.specs.Holds.{HoldsRows, WasOpenAndIsUnchanged}
 -- The cash rows of `account` whose stamps are from `from` to `to`, both included, sorted by stamp,
 -- ascending.
 abbrev pub cash_rows_in_span : ℕ → ℕ → ℕ → Tables → List MoveRow
-cash_rows_in_span account from to t = filter (λ r. nat_le from r.stamp && nat_le r.stamp to) (cash_move_rows_of_account t account)
+cash_rows_in_span account from to t = filter (λ r. is_in_range from to r.stamp) (cash_move_rows_of_account t account)
 
 -- The completed trades of all accounts, sorted by the stamp of completion, ascending.
 abbrev pub completed_trades_by_stamp : Tables → List TradeRow

@@ -5,11 +5,12 @@ use Rattle.std.specs.List.{list_all, list_any}
 use Rattle.std.specs.Option.{option_map_or}
 use Rattle.std.specs.Str.{is_utf8}
 use Rattle.std.proofs.lemmas.Bool.{and_parts, eq-eqb}
+use Rattle.brk_money.specs.Spelling.{is_within_amount_limit}
 use Rattle.brk_money.specs.Moments.{greatest_day, greatest_stamp}
-use Rattle.brk_model.specs.Limits.{greatest_tax_rate}
-use Rattle.brk_model.specs.Forms.{is_name, is_tax_id, is_symbol, is_exchange, is_batch_name}
+use Rattle.brk_model.specs.Limits.{greatest_tax_rate, greatest_charge, greatest_amount}
+use Rattle.brk_model.specs.Forms.{is_name, is_tax_id, is_symbol, is_exchange, is_batch_name, is_acl}
 use Rattle.brk_model.specs.Joins.{trade_row_with_id}
-use Rattle.brk_model.specs.Form.{is_id, is_tier, is_price, is_cash_type_of_trade, is_cash_row_name_of_trade, satisfies_form_condition, is_well_formed_kept_row, is_well_formed_broker_row, is_well_formed_customer_row, is_well_formed_account_row, is_well_formed_permission_row, is_well_formed_security_row, is_well_formed_last_trade_row, is_well_formed_charge_row, is_well_formed_band_row, is_well_formed_tax_rate_row, is_well_formed_customer_tax_row, is_well_formed_trade_row, is_well_formed_history_row, is_well_formed_request_row, is_well_formed_holding_row, is_well_formed_summary_row, is_well_formed_holding_history_row, is_well_formed_settlement_row, is_well_formed_cash_row, is_well_formed_move_row, has_cash_row_name_of_trade, is_movement_name_and_amount, is_cash_row_number, has_account, is_at_most_last_stamp, is_amount, has_utf8_texts}
+use Rattle.brk_model.specs.Form.{is_id, is_tier, is_price, is_cash_type_of_trade, is_cash_row_name_of_trade, satisfies_form_condition, is_well_formed_kept_row, is_well_formed_broker_row, is_well_formed_customer_row, is_well_formed_account_row, is_well_formed_permission_row, is_well_formed_security_row, is_well_formed_last_trade_row, is_well_formed_charge_row, is_well_formed_band_row, is_well_formed_tax_rate_row, is_well_formed_customer_tax_row, is_well_formed_trade_row, is_well_formed_history_row, is_well_formed_request_row, is_well_formed_holding_row, is_well_formed_summary_row, is_well_formed_holding_history_row, is_well_formed_settlement_row, is_well_formed_cash_row, is_well_formed_move_row, has_cash_row_name_of_trade, is_movement_name_and_amount, is_cash_row_number, has_account, is_at_most_last_stamp, has_utf8_texts, has_customer, has_broker, is_quantity_in_schema, has_security, price_matches_completion}
 use Rattle.brk_model.specs.Schemas.{Schema, third_schema}
 use Rattle.brk_model.specs.Tables.{Tables, MoveRow}
 use Rattle.brk_model_theorems.specs.FormParts.{SatisfiesFormParts}
@@ -61,10 +62,10 @@ module _ (schema : Schema) (narrow : schema.greatest_qty ≤ third_schema.greate
 
   accounts_formed : list_all (passes_all_cell_checks account_column_cell_checks) (map account_cells t.accounts) ≡ true
   accounts_formed = each_formed account_column_cell_checks account_cells (is_well_formed_account_row t)
-      (λ a h. let q = parts6 _ _ _ _ _ _ h in both q.0 (both (customer_id schema t p a.customer q.1) (both (broker_id schema t p a.broker q.2) (both q.3 (both (tax_status_formed a.tax_status) (both q.4 (both q.5 refl))))))) t.accounts p.accounts
+      (λ a h. let q = parts6 (is_id a.id) (is_name a.name) (is_within_amount_limit a.opening) (is_within_amount_limit a.balance) (has_customer t a.customer) (has_broker t a.broker) h in both q.0 (both (customer_id schema t p a.customer q.4) (both (broker_id schema t p a.broker q.5) (both q.1 (both (tax_status_formed a.tax_status) (both q.2 (both q.3 refl))))))) t.accounts p.accounts
 
   permissions_formed : list_all (passes_all_cell_checks permission_column_cell_checks) (map permission_cells t.permissions) ≡ true
-  permissions_formed = each_formed permission_column_cell_checks permission_cells (is_well_formed_permission_row t) (λ a h. let q = parts5 _ _ _ _ _ h in both (account_id schema t p a.account q.0) (both q.2 (both q.1 (both q.3 (both q.4 refl))))) t.permissions p.permissions
+  permissions_formed = each_formed permission_column_cell_checks permission_cells (is_well_formed_permission_row t) (λ a h. let q = parts5 (is_acl a.acl) (is_tax_id a.tax_id) (is_name a.last_name) (is_name a.first_name) (has_account t a.account) h in both (account_id schema t p a.account q.4) (both q.1 (both q.0 (both q.2 (both q.3 refl))))) t.permissions p.permissions
 
   securities_formed : list_all (passes_all_cell_checks security_column_cell_checks) (map security_cells t.securities) ≡ true
   securities_formed = each_formed security_column_cell_checks security_cells (is_well_formed_security_row t) (λ s h. let q = parts5 (is_symbol s.symbol) (is_name s.name) (is_exchange s.exchange) (is_name s.sector) (list_any (λ l. bytes_eq l.symbol s.symbol) t.last_trades) h in both q.0 (both q.1 (both q.2 (both q.3 refl)))) t.securities p.securities
@@ -88,9 +89,10 @@ module _ (schema : Schema) (narrow : schema.greatest_qty ≤ third_schema.greate
   trades_formed texts = each_formed trade_column_cell_checks trade_cells (λ r. is_well_formed_trade_row schema t r && is_utf8 r.executor)
       (λ r h.
       let both_parts = and_parts (is_well_formed_trade_row schema t r) _ h in
-      let q = parts10 _ _ _ _ _ _ _ _ _ _ both_parts.0 in
-      both q.0 (both (stamp_of schema t p r.stamp q.1) (both (status_formed r.status) (both (type_formed r.kind) (both (flag_formed r.is_cash) (both (symbol_of schema t p r.symbol q.2) (both (wider schema narrow r.qty q.3) (both q.4 (both (account_id schema t p r.account q.5)
-      (both both_parts.1 (both (price_formed _ r.price q.6) (both q.7 (both q.8 (both q.9 (both (flag_formed r.is_lifo) refl)))))))))))))))
+      let q = parts10 (is_id r.id) (is_quantity_in_schema schema r.qty) (is_price r.bid) (nat_le r.charge greatest_charge) (nat_le r.commission greatest_amount) (nat_le r.tax greatest_amount)
+      (is_at_most_last_stamp t r.stamp) (has_security t r.symbol) (has_account t r.account) (price_matches_completion t r) both_parts.0 in
+      both q.0 (both (stamp_of schema t p r.stamp q.6) (both (status_formed r.status) (both (type_formed r.kind) (both (flag_formed r.is_cash) (both (symbol_of schema t p r.symbol q.7) (both (wider schema narrow r.qty q.1) (both q.2 (both (account_id schema t p r.account q.8)
+      (both both_parts.1 (both (price_formed _ r.price q.9) (both q.3 (both q.4 (both q.5 (both (flag_formed r.is_lifo) refl)))))))))))))))
       t.trades (all_both (is_well_formed_trade_row schema t) _ t.trades p.trades texts)
 
   history_formed : list_all (passes_all_cell_checks history_column_cell_checks) (map history_cells t.history) ≡ true
@@ -127,7 +129,7 @@ module _ (schema : Schema) (narrow : schema.greatest_qty ≤ third_schema.greate
   moves_formed : list_all (λ r. is_utf8 r.name) t.moves ≡ true → list_all (passes_all_cell_checks move_column_cell_checks) (map move_cells t.moves) ≡ true
   moves_formed texts = each_formed move_column_cell_checks move_cells (λ r. is_well_formed_move_row t r && is_utf8 r.name)
       (λ r h. let a = and_parts (is_well_formed_move_row t r) _ h in
-      let q = parts5 (is_cash_row_number r.id) (has_account t r.account) (option_map_or (has_cash_row_name_of_trade t r) r.trade (is_movement_name_and_amount r.name r.amount)) (is_at_most_last_stamp t r.stamp) (is_amount r.amount) a.0 in
+      let q = parts5 (is_cash_row_number r.id) (has_account t r.account) (option_map_or (has_cash_row_name_of_trade t r) r.trade (is_movement_name_and_amount r.name r.amount)) (is_at_most_last_stamp t r.stamp) (is_within_amount_limit r.amount) a.0 in
       both q.0 (both (account_id schema t p r.account q.1) (both (cash_of_formed r r.trade q.2) (both (stamp_of schema t p r.stamp q.3) (both q.4 (both a.1 refl)))))) t.moves (all_both (is_well_formed_move_row t) _ t.moves p.moves texts)
 
 pub tables_formed : (schema : Schema) → schema.greatest_qty ≤ third_schema.greatest_qty → (t : Tables) (raw : RawSheets) → ((w : Which) → raw_rows_of_table raw w ≡ map (encode w) (rows_in_schema schema w t)) → satisfies_form_condition schema t ≡ true → has_utf8_texts t ≡ true → are_raw_sheets_well_formed schema raw ≡ true

@@ -5,12 +5,13 @@ use Rattle.std.specs.Str.{is_utf8}
 use Rattle.sqlite_value.specs.declared.value.Value.{Value}
 use Rattle.sqlite_value.specs.declared.value.Value.TheVariants.{Null, Int, Text as Words}
 use Rattle.sqlite_value.specs.Order.{Row}
+use Rattle.brk_money.specs.Spelling.{is_within_amount_limit}
 use Rattle.brk_money.specs.Kinds.{trade_status_code, tax_status_with_number}
 use Rattle.brk_money.specs.Moments.{greatest_day, greatest_stamp}
 use Rattle.brk_money.specs.declared.status.Status.{Status}
 use Rattle.brk_money.specs.declared.status.Status.TheVariants.{Completed, Active, Submitted, Pending, Canceled}
 use Rattle.brk_model.specs.Limits.{greatest_amount, greatest_charge, greatest_commission_rate, greatest_tax_rate}
-use Rattle.brk_model.specs.Form.{is_id, is_cash_row_number, is_quantity_in_schema, is_price, is_tier, is_amount}
+use Rattle.brk_model.specs.Form.{is_id, is_cash_row_number, is_quantity_in_schema, is_price, is_tier}
 use Rattle.brk_model.specs.Schemas.{Schema, third_schema}
 use Rattle.brk_model.specs.Forms.{is_name, is_tax_id, is_symbol, is_exchange, is_acl, is_batch_name, trade_type_with_code}
 use Rattle.brk_changes.specs.Rows.{cash_type_text}
@@ -37,7 +38,7 @@ is_integer_cell _ = false
 
 -- True if the value is an INTEGER within the limits of an amount of cents, of either sign.
 abbrev pub is_cents_cell : Value → Bool
-is_cents_cell (Int n) = is_amount n
+is_cents_cell (Int n) = is_within_amount_limit n
 is_cents_cell _ = false
 
 -- True if the value is a TEXT that passes the check `form`.

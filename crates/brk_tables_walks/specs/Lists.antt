@@ -1,5 +1,6 @@
 -- The rows of each walk, in order. The sort key ends with the key of the row, so it is unique.
-use Rattle.std.specs.Prelude.{ℕ, Bool, ◌==◌, ◌&&◌, nat_le, List, [], ◌∷◌, filter}
+use Rattle.std.specs.Prelude.{ℕ, Bool, ◌==◌, ◌&&◌, List, [], ◌∷◌, filter}
+use Rattle.brk_model.specs.Limits.{is_in_range}
 use Rattle.brk_model.specs.Keys.{KeyPart, number, word, rows_sorted_by_key}
 use Rattle.brk_model.specs.Tables.{Tables, HoldingRow, MoveRow, TradeRow}
 use Rattle.brk_money.specs.Kinds.{is_same_trade_status}
@@ -20,7 +21,7 @@ cash_sort_key r = number r.stamp ∷ number r.id ∷ []
 
 -- True if the cash row is of `account` and its stamp is from `from` to `to`, both included.
 abbrev pub is_cash_between : ℕ → ℕ → ℕ → MoveRow → Bool
-is_cash_between account from to row = (row.account == account) && (nat_le from row.stamp && nat_le row.stamp to)
+is_cash_between account from to row = (row.account == account) && is_in_range from to row.stamp
 
 -- The cash rows of `account` with stamps from `from` to `to`, both included, sorted by stamp and
 -- then by number, ascending.

@@ -11,10 +11,11 @@ use Rattle.brk_lots.specs.declared.closing.Closing.{Closing}
 use Rattle.brk_lots.specs.declared.lot.Lot.{Lot}
 use Rattle.brk_lots.specs.declared.lot.Touch.{Touch}
 use Rattle.brk_model.specs.Lists.{is_zero}
+use Rattle.brk_model.specs.Results.{cash_row_name_from_parts}
 use Rattle.brk_model.specs.Shares.{touches_of_existing_lots}
 use Rattle.brk_model.specs.Tables as tables
 use Rattle.brk_model.specs.Tests.{first_refusal}
-use Rattle.brk_money.specs.Kinds.{side_of_trade_type, trade_type_name}
+use Rattle.brk_money.specs.Kinds.{side_of_trade_type}
 use Rattle.brk_money.specs.Moments.{stamp_after}
 use Rattle.brk_money.specs.Spelling.{Text}
 use Rattle.brk_money.specs.declared.refusal.Refusal.{Refusal}
@@ -73,7 +74,7 @@ quantity_in_cash_text qty = 32 ∷ decimal qty ++ codes " shares of "
 -- The cash text of the trade `t`: the name of its type, its quantity, " shares of " and the name of
 -- its security.
 abbrev pub cash_text_of_trade : TradeRow → Text → Text
-cash_text_of_trade t security = trade_type_name t.kind ++ 32 ∷ decimal t.qty ++ codes " shares of " ++ security
+cash_text_of_trade t security = cash_row_name_from_parts (codes " shares of ") t.kind t.qty security
 
 -- The CASH_MOVE row of the completed trade, with the next id, or none if it is a margin trade.
 abbrev pub cash_row_of_result : ResultFound → ResultNumbers → Option tables.MoveRow

@@ -2,7 +2,7 @@
 use Rattle.std.proofs.Common.{◌≡◌, ◌≤◌, ℕ, ◌+◌, true, not, [], ◌∷◌, ◌++◌, refl, sym, ◌∙◌, ap, arith, Option, Some, None}
 use Rattle.std.specs.Prelude.{nat_le, nat_lt, is_none, unwrap_or, SomeIff, Ok, Err}
 use Rattle.std.proofs.lemmas.Bool.Decides.{nat_tests}
-use Rattle.brk_money.specs.Moments.{greatest_stamp, stamp_after}
+use Rattle.brk_money.specs.Moments.{greatest_stamp, stamp_after, unlimited_stamp_after}
 use Rattle.brk_money.specs.declared.refusal.Refusal.{Refusal}
 use Rattle.brk_money.specs.declared.refusal.Refusal.TheVariants.{BadQty, NoAccount, NoCustomer, NoBroker, NoTax, Overlap, TaxSum, Range, ClockEnd}
 use Rattle.brk_money.specs.declared.refusal.Limit.TheVariants as limit
@@ -29,7 +29,7 @@ use Rattle.brk_book_theorems.specs.Steps.{base_after_command, PreservesBooksInva
 use Rattle.brk_trade_theorems.specs.Plans.{PlanReferencePrecondition, PlanImplementsCommand}
 use Rattle.brk_book_theorems.proofs.Reading.{is_none-map, reads_has_broker, reads_has_customer, reads_same_customer, reads_tax_id, reads_has_account, reads_count, reads_last}
 use Rattle.brk_book_theorems.proofs.TermReading.{reads_has_permission, reads_has_security, reads_has_charge, reads_overlap, reads_has_tax_rate, reads_pays_tax, reads_rate, reads_rates, map-or}
-use Rattle.brk_book_theorems.proofs.Stamps.{stamp_left, stamp_is, moved_past}
+use Rattle.brk_book_theorems.proofs.Stamps.{stamp_left, stamp_is}
 use Rattle.brk_book_theorems.proofs.Steps.{step_broker, step_customer, step_account, step_permission, step_security, step_charge, step_band, step_tax_rate, step_customer_tax}
 use Rattle.brk_book_theorems.proofs.Keepers.{books_broker, books_customer, books_account, books_permission, books_security, books_charge, books_band, books_tax_rate, books_customer_tax}
 
@@ -137,7 +137,7 @@ pub plan_does : (base : Base) (r : Reference) (found : ReferenceFacts) (last : O
 unfolding step
 plan_does base r found last now plan k p =
     let e : refusal_of_command base now (command_adding_record r) ≡ None = sym (refusal_read base r found last now k) ∙ p.accepted in
-    let s : p.stamp ≡ stamp_of_next_command base now = stamp_is last now p.stamp p.stamped ∙ ap (λ o. moved_past o now) (k.last_read ∙ reads_last base) in
+    let s : p.stamp ≡ stamp_of_next_command base now = stamp_is last now p.stamp p.stamped ∙ ap (λ o. unlimited_stamp_after o now) (k.last_read ∙ reads_last base) in
     record {
       steps = ap (λ o. value_unless_refused o (reply_to_command base (stamp_of_next_command base now) (command_adding_record r), base_after_command base now (command_adding_record r))) e
           ∙ ap (λ reply. Ok (reply, base_after_command base now (command_adding_record r)))

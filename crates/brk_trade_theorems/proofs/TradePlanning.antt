@@ -3,7 +3,7 @@ use Rattle.std.proofs.Common.{◌≡◌, ◌≤◌, ℕ, true, false, not, List,
 use Rattle.std.specs.Prelude.{is_some, is_none, nat_lt, option_map, Ok, Err}
 use Rattle.std.specs.Option.{option_map_or}
 use Rattle.std.specs.List.{list_any}
-use Rattle.brk_money.specs.Moments.{greatest_stamp, stamp_after}
+use Rattle.brk_money.specs.Moments.{greatest_stamp, stamp_after, unlimited_stamp_after}
 use Rattle.brk_money.specs.Kinds.{is_same_trade_status}
 use Rattle.brk_money.specs.declared.refusal.Refusal.{Refusal}
 use Rattle.brk_money.specs.declared.refusal.Refusal.TheVariants.{NoTrade, NoSecurity, WrongStatus, Range, ClockEnd, TooEarly}
@@ -30,7 +30,7 @@ use Rattle.brk_book_theorems.specs.Ticks.{exceeds_symbol_volume_limit, is_tick_o
 use Rattle.brk_book_theorems.proofs.Same.{All-map, any-none}
 use Rattle.brk_book_theorems.proofs.Reading.{is_none-map, reads_last}
 use Rattle.brk_book_theorems.proofs.TermReading.{reads_last_trade}
-use Rattle.brk_book_theorems.proofs.Stamps.{moved_past, stamp_is}
+use Rattle.brk_book_theorems.proofs.Stamps.{stamp_is}
 use Rattle.brk_book_theorems.proofs.Tested.{not_not}
 use Rattle.brk_trade_theorems.proofs.Planning.{clock_read}
 use Rattle.brk_book_theorems.proofs.TradeReading.{reads_trade}
@@ -47,7 +47,7 @@ refused_step base now command refusal e = ap (λ o. value_unless_refused o (repl
 
 -- the stamp after the last one that was read is the next stamp
 pub stamp_read : (base : Base) (last : Option ℕ) (now stamp : ℕ) → last ≡ (sheets base).last → stamp_after last now ≡ Some stamp → stamp ≡ stamp_of_next_command base now
-stamp_read base last now stamp l e = stamp_is last now stamp e ∙ ap (λ o. moved_past o now) (l ∙ reads_last base)
+stamp_read base last now stamp l e = stamp_is last now stamp e ∙ ap (λ o. unlimited_stamp_after o now) (l ∙ reads_last base)
 
 -- an accepted command is done by a change that leads to its rows
 pub is_done : (base : Base) (now : ℕ) (command : Command) (stamp : ℕ) (reply : Reply) (change : ℕ → Tables → Tables) → BooksInvariant base → refusal_of_command base now command ≡ None

@@ -41,13 +41,18 @@ pub record EstimateFactsMatchTables (t : Tables) (order : Order) (found : OrderF
   pub last_price : PassesOrderChecks 1 found → found.last_price ≡ last_price_of_symbol t order.symbol
   -- The executor is checked by the customer's names and the account's permission for the executor's
   -- tax id.
-  pub is_permitted : PassesOrderChecks 2 found → CustomerOfAccountSatisfies t order.account (λ c. found.is_permitted ≡ permitted c (permission_for_tax_id t order.account order.executor.tax_id) (abstract_executor order.executor))
+  pub is_permitted : PassesOrderChecks 2 found
+      → CustomerOfAccountSatisfies t order.account (λ c.
+      found.is_permitted ≡ permitted c (permission_for_tax_id t order.account order.executor.tax_id) (abstract_executor order.executor))
   -- The charge is that of the customer's tier.
-  pub charge : PassesOrderChecks 3 found → CustomerOfAccountSatisfies t order.account (λ c. found.charge ≡ charge_of_type_and_tier t (trade_type_of_order order.order_type) c.tier)
+  pub charge : PassesOrderChecks 3 found
+      → CustomerOfAccountSatisfies t order.account (λ c.
+      found.charge ≡ charge_of_type_and_tier t (trade_type_of_order order.order_type) c.tier)
   -- The rate is that of the band of the quantity, by the customer's tier and the security's
   -- exchange.
   pub rate : PassesOrderChecks 4 found
-      → CustomerOfAccountSatisfies t order.account (λ c. IfSome (security_row_with_symbol t order.symbol) (λ s. found.rate ≡ option_map (λ b. b.rate) (band_of_quantity t c.tier (trade_type_of_order order.order_type) s.exchange order.qty)))
+      → CustomerOfAccountSatisfies t order.account (λ c. IfSome (security_row_with_symbol t order.symbol) (λ s.
+      found.rate ≡ option_map (λ b. b.rate) (band_of_quantity t c.tier (trade_type_of_order order.order_type) s.exchange order.qty)))
   -- The rates are the sum of those that the customer pays.
   pub rates : PassesOrderChecks 5 found → IfSome (account_row_with_id t order.account) (λ a. found.rates ≡ rate_sum_of_customer t a.customer)
   -- The assets are the balance plus the market value of the holdings.
