@@ -1,4 +1,5 @@
-//! Explains a trade or an account of a desk: writes the derivation of its amounts.
+//! Explains a trade, an account, a holding or a broker of a desk: writes the derivation of its
+//! amounts.
 #![tactic(auto)]
 
 pub mod explaining;

@@ -1,14 +1,15 @@
-//! The parts of the explanation of an account over which the desk walks. None of them changes the
-//! desk.
+//! The parts of the explanations of an account and of a broker over which the desk walks. None of
+//! them changes the desk.
 
 ghost use Rattle.std.specs.Prelude.{◌≡◌, length};
-ghost use Rattle.brk_explain.specs.Sections.{WritesCountedLines, account_cash_lines, account_lot_lines};
+ghost use Rattle.brk_explain.specs.Sections.{WritesCountedLines, account_cash_lines, broker_trade_lines, account_lot_lines};
 ghost use Rattle.brk_explain_model.specs.AccountLines.{account_cash_rows_by_stamp};
+ghost use Rattle.brk_explain_model.specs.BrokerLines.{completed_trades_of_broker};
 ghost use Rattle.brk_model.specs.Statement.{lot_rows_of_account};
 ghost use Rattle.brk_report.specs.Stated.{PreservesDesk, HoldsForStoredTables};
 ghost use Rattle.brk_report.specs.Stops.{fault_of_walk_error};
 
-use crate::visitors::{LotRows, PostedRows};
+use crate::visitors::{CommissionRows, LotRows, PostedRows};
 use brk_desk::{Desk, WalkError};
 use brk_money::{Cents, Id, Stamp, Wide};
 use brk_report_lines::LinesFault;
@@ -70,5 +71,28 @@ pub(crate) fn write_open_lot_lines<W: Write, S: Alter>(
     match desk.visit_lots(account, &mut rows) {
         Ok(()) => Ok(rows.count),
         Err(stop) => Err(fault_from_walk_error(stop)),
+    }
+}
+
+/// Writes a line for each completed trade of a broker's accounts, with the running total of the
+/// commissions. Returns the number of trades. Fails with `Desk` or `Write`.
+pub(crate) fn write_trade_commission_lines<W: Write, S: Alter>(
+    alloc: Global,
+    desk: &mut Desk<S>,
+    broker: Id,
+    writer: &mut W,
+) -> Result<u64, LinesFault>
+    ensures keeps { PreservesDesk S.Store desk.old desk.new }
+    ensures written { HoldsForStoredTables S.Store desk.old desk.new (λ t. WritesCountedLines (broker_trade_lines t broker) (length (completed_trades_of_broker t broker)) (W.contents writer.old) (W.contents writer.new) result) }
+{
+    let mut rows = CommissionRows {
+        alloc,
+        writer,
+        total: Wide::new(0),
+        count: 0,
+    };
+    match desk.visit_completed_trades(alloc, broker, &mut rows) {
+        Ok(()) => Ok(rows.count),
+        Err(ended) => Err(fault_from_walk_error(ended)),
     }
 }

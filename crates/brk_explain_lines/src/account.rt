@@ -10,14 +10,11 @@ ghost use Rattle.brk_money.specs.declared.fault.Fault.TheVariants.{Memory};
 ghost use Rattle.brk_ref.specs.Records.{abstract_account_row};
 ghost use Rattle.brk_report_lines.specs.Written.{line_with_line_feed};
 
-use crate::facts::{
-    put_labeled_amount_line, put_labeled_number_line, put_labeled_text_line, put_number,
-    put_text_line,
-};
-use crate::moments::format_timestamp;
-use crate::starts::put_amount_column;
-use crate::sums::add_amounts;
 use brk_changes::{HoldingRow, MoveRow};
+use brk_explain_columns::{
+    add_amounts, format_timestamp, put_amount_column, put_labeled_amount_line,
+    put_labeled_number_line, put_labeled_text_line, put_number, put_text_line,
+};
 use brk_explain_rows::Held;
 use brk_money::{Cents, Fault, Id, Price, Wide, write_cents};
 use brk_ref::AccountRow;

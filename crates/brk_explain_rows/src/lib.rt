@@ -2,9 +2,13 @@
 #![tactic(auto)]
 
 pub mod account_story;
+pub mod broker_story;
 pub mod closing;
+pub mod holding_story;
 pub mod story;
 
 pub use account_story::{AccountStory, Held};
+pub use broker_story::BrokerStory;
 pub use closing::Closing;
+pub use holding_story::{HoldingStory, LotStep, LotStory};
 pub use story::{OrderStory, ResultStory, TradeStory};
