@@ -13,7 +13,7 @@ use Rattle.brk_model.specs.Joins.{account_row_with_id, last_price_in_tables, tra
 use Rattle.brk_model.specs.Statement.{text_of_lines, lot_rows_of_account}
 use Rattle.brk_model.specs.Tables.{AccountRow, BrokerRow, SecurityRow, Tables}
 use Rattle.brk_ref.specs.Records.{abstract_account_row, abstract_broker_row, abstract_security_row}
-use Rattle.brk_explain_model.specs.AccountLines.{Held, holding_and_total_lines, account_total_lines, account_explanation_lines, account_header_lines, balance_header_lines, priced_holdings_of_account, holding_line, open_lot_line, account_cash_rows_by_stamp, cash_posting_lines}
+use Rattle.brk_explain_model.specs.AccountLines.{PricedHolding, holding_and_total_lines, account_total_lines, account_explanation_lines, account_header_lines, balance_header_lines, priced_holdings_of_account, holding_line, open_lot_line, account_cash_rows_by_stamp, cash_posting_lines}
 use Rattle.brk_explain_model.specs.BrokerLines.{accounts_with_broker, broker_total_lines, broker_explanation_lines, broker_row_with_id, broker_story_lines, broker_header_lines, trade_commission_lines, completed_trades_of_broker}
 use Rattle.brk_explain_model.specs.Explain.{AccountOf, BrokerOf, HoldingOf, TradeOf, explanation}
 use Rattle.brk_explain_model.specs.HoldingLines.{holding_explanation_lines, holding_story_lines, holding_header_lines}
@@ -65,11 +65,11 @@ unfolding explanation account_explanation_lines
 account_told t account story h =
     let a = abstract_account_row story.account in
     let id : a.id ≡ account = eqb-true a.id account (passes_found (λ (r : AccountRow). r.id == account) t.accounts a h.0) in
-    let lines : ℕ → List Held → List Text =
+    let lines : ℕ → List PricedHolding → List Text =
     λ n held.
     account_header_lines a ++ cash_posting_lines a.opening (account_cash_rows_by_stamp t n) ++ balance_header_lines a ++ map open_lot_line (lot_rows_of_account t n) ++ holding_and_total_lines a held (length (account_cash_rows_by_stamp t n)) (length (lot_rows_of_account t n)) in
     rw h.0
-    (ap (λ (n : ℕ). Ok (lines n (priced_holdings_of_account t n))) id ∙ ap (λ (held : List Held). Ok (lines account held)) (sym h.1)
+    (ap (λ (n : ℕ). Ok (lines n (priced_holdings_of_account t n))) id ∙ ap (λ (held : List PricedHolding). Ok (lines account held)) (sym h.1)
     ∙ ap (λ (l : List Text). Ok l)
     (five_parts (account_header_lines a) (cash_posting_lines a.opening (account_cash_rows_by_stamp t account)) (balance_header_lines a) (map open_lot_line (lot_rows_of_account t account))
     (holding_and_total_lines a (map abstract_priced_holding story.held.items) (length (account_cash_rows_by_stamp t account)) (length (lot_rows_of_account t account)))))
@@ -86,7 +86,7 @@ pub balance_first : (a : AccountRow) → HasFirst (balance_header_lines a)
 unfolding balance_header_lines
 balance_first a = (_, _, refl)
 
-pub bottom_first : (a : AccountRow) (held : List Held) (cash lots : ℕ) → HasFirst (holding_and_total_lines a held cash lots)
+pub bottom_first : (a : AccountRow) (held : List PricedHolding) (cash lots : ℕ) → HasFirst (holding_and_total_lines a held cash lots)
 unfolding account_total_lines
 bottom_first a held cash lots = first_behind (map holding_line held) _ (_, _, refl)
 

@@ -5,7 +5,7 @@ ghost use Rattle.brk_explain_model.specs.Explain.{TradeOf, AccountOf, HoldingOf,
 ghost use Rattle.brk_report.specs.Stated.{PreservesDesk, HoldsForStoredTables};
 ghost use Rattle.brk_report_lines.specs.Written.{WritesLines};
 
-use crate::parse::Explain;
+use crate::parse::ExplainRequest;
 use crate::sections::{
     write_cash_posting_lines, write_open_lot_lines, write_trade_commission_lines,
 };
@@ -23,7 +23,7 @@ use std::alloc::Global;
 use std::io::Write;
 
 // Writes the explanation of a trade. Fails with `Refused` (`NoTrade`) if it does not exist, or as
-// `explain` does. The open database is unchanged.
+// `write_explanation` does. The open database is unchanged.
 fn write_trade_explanation<W: Write, S: Alter>(
     alloc: Global,
     desk: &mut Desk<S>,
@@ -68,7 +68,7 @@ fn write_account_lines<W: Write, S: Alter>(
 }
 
 // Writes the explanation of an account. Fails with `Refused` (`NoAccount`) if it does not exist, or
-// as `explain` does. The open database is unchanged.
+// as `write_explanation` does. The open database is unchanged.
 fn write_account_explanation<W: Write, S: Alter>(
     alloc: Global,
     desk: &mut Desk<S>,
@@ -90,8 +90,8 @@ fn write_account_explanation<W: Write, S: Alter>(
 }
 
 // Writes the explanation of the holding of an account in a security. Fails with `Refused`
-// (`NoAccount` or `NoSecurity`) if the account or the security does not exist, or as `explain`
-// does. The open database is unchanged.
+// (`NoAccount` or `NoSecurity`) if the account or the security does not exist, or as
+// `write_explanation` does. The open database is unchanged.
 fn write_holding_explanation<W: Write, S: Alter>(
     alloc: Global,
     desk: &mut Desk<S>,
@@ -135,7 +135,7 @@ fn write_broker_lines<W: Write, S: Alter>(
 }
 
 // Writes the explanation of a broker. Fails with `Refused` (`NoBroker`) if it does not exist, or as
-// `explain` does. The open database is unchanged.
+// `write_explanation` does. The open database is unchanged.
 fn write_broker_explanation<W: Write, S: Alter>(
     alloc: Global,
     desk: &mut Desk<S>,
@@ -169,17 +169,17 @@ fn write_broker_explanation<W: Write, S: Alter>(
 pub fn write_explanation<W: Write, S: Alter>(
     alloc: Global,
     desk: &mut Desk<S>,
-    what: &Explain,
+    what: &ExplainRequest,
     writer: &mut W,
 ) -> Result<(), ReportFault>
     ensures explained { WriteLinesPost S.Store desk.old desk.new (λ t. explanation t (abstract_explain_request what.now)) (W.contents writer.old) (W.contents writer.new) result }
 {
     match what {
-        Explain::Trade(trade) => write_trade_explanation(alloc, desk, *trade, writer),
-        Explain::Account(account) => write_account_explanation(alloc, desk, *account, writer),
-        Explain::Holding { account, symbol } => {
+        ExplainRequest::Trade(trade) => write_trade_explanation(alloc, desk, *trade, writer),
+        ExplainRequest::Account(account) => write_account_explanation(alloc, desk, *account, writer),
+        ExplainRequest::Holding { account, symbol } => {
             write_holding_explanation(alloc, desk, *account, symbol, writer)
         }
-        Explain::Broker(broker) => write_broker_explanation(alloc, desk, *broker, writer),
+        ExplainRequest::Broker(broker) => write_broker_explanation(alloc, desk, *broker, writer),
     }
 }

@@ -9,4 +9,4 @@ pub mod visitors;
 
 pub use brk_report_lines::ReportFault;
 pub use explaining::write_explanation;
-pub use parse::{Explain, parse_explain_request};
+pub use parse::{ExplainRequest, parse_explain_request};

@@ -9,9 +9,9 @@ use brk_money::{Id, Planned, Refusal};
 use brk_ref::{Symbol, parse_id};
 use std::alloc::Global;
 
-/// What is to be explained.
+/// A request for an explanation: of a trade, an account, a holding or a broker.
 #[derive(Drop)]
-pub enum Explain {
+pub enum ExplainRequest {
     /// The trade with this id.
     Trade(Id),
     /// The account with this id.
@@ -36,38 +36,38 @@ fn parse_single_id(words: &[&[u8]]) -> Result<Id, Refusal>
 }
 
 // Parses the words after `trade`: the id of a trade. Refuses any others with `BadText`.
-fn parse_trade_request(words: &[&[u8]]) -> Result<Explain, Refusal>
+fn parse_trade_request(words: &[&[u8]]) -> Result<ExplainRequest, Refusal>
     ensures { ParsesAs abstract_explain_request result (read_and_wrap model.TradeOf model.read_single_id (texts_of_fields words.now)) }
 {
     match parse_single_id(words) {
-        Ok(id) => Ok(Explain::Trade(id)),
+        Ok(id) => Ok(ExplainRequest::Trade(id)),
         Err(refusal) => Err(refusal),
     }
 }
 
 // Parses the words after `account`: the id of an account. Refuses any others with `BadText`.
-fn parse_account_request(words: &[&[u8]]) -> Result<Explain, Refusal>
+fn parse_account_request(words: &[&[u8]]) -> Result<ExplainRequest, Refusal>
     ensures { ParsesAs abstract_explain_request result (read_and_wrap model.AccountOf model.read_single_id (texts_of_fields words.now)) }
 {
     match parse_single_id(words) {
-        Ok(id) => Ok(Explain::Account(id)),
+        Ok(id) => Ok(ExplainRequest::Account(id)),
         Err(refusal) => Err(refusal),
     }
 }
 
 // Parses the words after `broker`: the id of a broker. Refuses any others with `BadText`.
-fn parse_broker_request(words: &[&[u8]]) -> Result<Explain, Refusal>
+fn parse_broker_request(words: &[&[u8]]) -> Result<ExplainRequest, Refusal>
     ensures { ParsesAs abstract_explain_request result (read_and_wrap model.BrokerOf model.read_single_id (texts_of_fields words.now)) }
 {
     match parse_single_id(words) {
-        Ok(id) => Ok(Explain::Broker(id)),
+        Ok(id) => Ok(ExplainRequest::Broker(id)),
         Err(refusal) => Err(refusal),
     }
 }
 
 // Parses the words after `holding`: the id of an account and a symbol. Refuses any others with
 // `BadText`. Fails with `Memory` only.
-fn parse_holding_request(alloc: Global, words: &[&[u8]]) -> Planned<Explain>
+fn parse_holding_request(alloc: Global, words: &[&[u8]]) -> Planned<ExplainRequest>
     ensures read { IfOk result (λ read. ParsesAs abstract_explain_request read (model.read_holding_request (texts_of_fields words.now))) }
     ensures fault { OnErr result (result ≡ Err Memory) }
 {
@@ -80,13 +80,13 @@ fn parse_holding_request(alloc: Global, words: &[&[u8]]) -> Planned<Explain>
     let Some(symbol) = Symbol::parse(alloc, symbol)? else {
         return Ok(Err(Refusal::BadText));
     };
-    Ok(Ok(Explain::Holding { account, symbol }))
+    Ok(Ok(ExplainRequest::Holding { account, symbol }))
 }
 
 // Parses the words after `form`, or refuses an unknown form with `BadText`. Fails with `Memory`
 // only.
 #[tactic(auto, unfolding(brk_explain_model::specs::Explain::read_explain_request))]
-fn parse_request_form(alloc: Global, form: &[u8], words: &[&[u8]]) -> Planned<Explain>
+fn parse_request_form(alloc: Global, form: &[u8], words: &[&[u8]]) -> Planned<ExplainRequest>
     ensures read { IfOk result (λ read. ParsesAs abstract_explain_request read (model.read_explain_request (form.now ∷ texts_of_fields words.now))) }
     ensures fault { OnErr result (result ≡ Err Memory) }
 {
@@ -109,7 +109,7 @@ fn parse_request_form(alloc: Global, form: &[u8], words: &[&[u8]]) -> Planned<Ex
 /// `broker ID`. Refuses an unknown form, a wrong number of words, a malformed id or a malformed
 /// symbol with `BadText`. Fails with `Memory` only.
 #[tactic(auto, unfolding(brk_explain_model::specs::Explain::read_explain_request))]
-pub fn parse_explain_request(alloc: Global, words: &[&[u8]]) -> Planned<Explain>
+pub fn parse_explain_request(alloc: Global, words: &[&[u8]]) -> Planned<ExplainRequest>
     ensures read { IfOk result (λ read. ParsesAs abstract_explain_request read (model.read_explain_request (texts_of_fields words.now))) }
     ensures fault { OnErr result (result ≡ Err Memory) }
 {

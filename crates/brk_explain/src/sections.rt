@@ -9,7 +9,7 @@ ghost use Rattle.brk_model.specs.Statement.{lot_rows_of_account};
 ghost use Rattle.brk_report.specs.Stated.{PreservesDesk, HoldsForStoredTables};
 ghost use Rattle.brk_report.specs.Stops.{fault_of_walk_error};
 
-use crate::visitors::{CommissionRows, LotRows, PostedRows};
+use crate::visitors::{TradeCommissionWriter, OpenLotWriter, CashPostingWriter};
 use brk_desk::{Desk, WalkError};
 use brk_money::{Cents, Id, Stamp, Wide};
 use brk_report_lines::LinesFault;
@@ -39,7 +39,7 @@ pub(crate) fn write_cash_posting_lines<W: Write, S: Alter>(
     ensures keeps { PreservesDesk S.Store desk.old desk.new }
     ensures written { HoldsForStoredTables S.Store desk.old desk.new (λ t. WritesCountedLines (account_cash_lines t account opening) (length (account_cash_rows_by_stamp t account)) (W.contents writer.old) (W.contents writer.new) result) }
 {
-    let mut rows = PostedRows {
+    let mut rows = CashPostingWriter {
         alloc,
         writer,
         balance: Wide::from(opening),
@@ -63,7 +63,7 @@ pub(crate) fn write_open_lot_lines<W: Write, S: Alter>(
     ensures keeps { PreservesDesk S.Store desk.old desk.new }
     ensures written { HoldsForStoredTables S.Store desk.old desk.new (λ t. WritesCountedLines (account_lot_lines t account) (length (lot_rows_of_account t account)) (W.contents writer.old) (W.contents writer.new) result) }
 {
-    let mut rows = LotRows {
+    let mut rows = OpenLotWriter {
         alloc,
         writer,
         count: 0,
@@ -85,7 +85,7 @@ pub(crate) fn write_trade_commission_lines<W: Write, S: Alter>(
     ensures keeps { PreservesDesk S.Store desk.old desk.new }
     ensures written { HoldsForStoredTables S.Store desk.old desk.new (λ t. WritesCountedLines (broker_trade_lines t broker) (length (completed_trades_of_broker t broker)) (W.contents writer.old) (W.contents writer.new) result) }
 {
-    let mut rows = CommissionRows {
+    let mut rows = TradeCommissionWriter {
         alloc,
         writer,
         total: Wide::new(0),

@@ -37,14 +37,14 @@ fn total_plus_commission(total: Wide, commission: Amount) -> Result<Wide, LinesF
 
 /// A visitor that writes a row for each cash row, with the balance after it, and counts the rows.
 #[derive(Drop)]
-pub struct PostedRows<'a, W> {
+pub struct CashPostingWriter<'a, W> {
     pub alloc: Global,
     pub writer: &'a mut W,
     pub balance: Wide,
     pub count: u64,
 }
 
-impl<W: Write> Visitor<MoveRow, LinesFault> for PostedRows<'_, W> {
+impl<W: Write> Visitor<MoveRow, LinesFault> for CashPostingWriter<'_, W> {
     ghost use Rattle.std.specs.Prelude.{◌≡◌, ◌+◌, ◌+ℤ◌, [], ◌∷◌, refl};
     ghost use Rattle.std.proofs.Common.{◌∙◌};
     ghost use Rattle.std.specs.Io.KnownBytes.{Appends};
@@ -80,13 +80,13 @@ impl<W: Write> Visitor<MoveRow, LinesFault> for PostedRows<'_, W> {
 
 /// A visitor that writes a row for each lot, and counts the lots.
 #[derive(Drop)]
-pub struct LotRows<'a, W> {
+pub struct OpenLotWriter<'a, W> {
     pub alloc: Global,
     pub writer: &'a mut W,
     pub count: u64,
 }
 
-impl<W: Write> Visitor<HoldingRow, LinesFault> for LotRows<'_, W> {
+impl<W: Write> Visitor<HoldingRow, LinesFault> for OpenLotWriter<'_, W> {
     ghost use Rattle.std.specs.Prelude.{◌≡◌, ◌+◌, [], ◌∷◌, refl};
     ghost use Rattle.std.proofs.Common.{◌∙◌};
     ghost use Rattle.std.specs.Io.KnownBytes.{Appends};
@@ -121,14 +121,14 @@ impl<W: Write> Visitor<HoldingRow, LinesFault> for LotRows<'_, W> {
 /// A visitor that writes a row for each trade, with the running total of the commissions, and
 /// counts the trades.
 #[derive(Drop)]
-pub struct CommissionRows<'a, W> {
+pub struct TradeCommissionWriter<'a, W> {
     pub alloc: Global,
     pub writer: &'a mut W,
     pub total: Wide,
     pub count: u64,
 }
 
-impl<W: Write> Visitor<TradeRow, LinesFault> for CommissionRows<'_, W> {
+impl<W: Write> Visitor<TradeRow, LinesFault> for TradeCommissionWriter<'_, W> {
     ghost use Rattle.std.specs.Prelude.{◌≡◌, ◌+◌, ◌+ℤ◌, [], ◌∷◌, pos, refl};
     ghost use Rattle.std.proofs.Common.{◌∙◌};
     ghost use Rattle.std.specs.Io.KnownBytes.{Appends};

@@ -13,11 +13,11 @@ use Rattle.brk_model.specs.Tables.{HoldingHistoryRow, Tables, TradeRow}
 use Rattle.brk_explain_model.specs.Holdings as model
 use Rattle.brk_explain_model.specs.Holdings.{recorded_lot_change, later_changes_of_lot, lot_with_later_changes, quantity_opened_by_trade}
 use Rattle.brk_explain_model.specs.Trades.{opened_lot_row, completion_price_or_zero}
-use Rattle.brk_explain_rows.specs.Stories.{abstract_lot_step, abstract_lot_story}
-use Rattle.brk_explain_rows.specs.declared.holding_story.LotStep.{LotStep}
+use Rattle.brk_explain_rows.specs.Stories.{abstract_priced_lot_change, abstract_lot_story}
+use Rattle.brk_explain_rows.specs.declared.holding_story.PricedLotChange.{PricedLotChange}
 use Rattle.brk_explain_rows.specs.declared.holding_story.LotStory.{LotStory}
-use Rattle.brk_explain_reads.specs.HoldingParts.{AreLotStepsByKey, lot_if_opened, lot_opened_by_trade}
-use Rattle.brk_explain_reads.specs.declared.steps.LotSteps.{LotSteps}
+use Rattle.brk_explain_reads.specs.HoldingParts.{AreLotChangesByTradeId, lot_if_opened, lot_opened_by_trade}
+use Rattle.brk_explain_reads.specs.declared.lot_changes.OpeningAndLaterChanges.{OpeningAndLaterChanges}
 use Rattle.brk_explain_reads.proofs.Each.{filter_both, find_both, find_same, found_passes, map_map}
 
 -- a change whose trade was found with its price
@@ -38,10 +38,10 @@ and_turn false true = refl
 and_turn false false = refl
 
 -- the changes that were found, from all those of the lot
-pub steps_known : (t : Tables) (lot : ℕ) (changes later : List LotChange) (all : LotSteps) → map rows.abstract_lot_change_row changes ≡ filter (λ r. r.lot == lot) t.holding_history
+pub steps_known : (t : Tables) (lot : ℕ) (changes later : List LotChange) (all : OpeningAndLaterChanges) → map rows.abstract_lot_change_row changes ≡ filter (λ r. r.lot == lot) t.holding_history
     → map rows.abstract_lot_change_row later ≡ filter (λ r. not (r.trade == lot)) (map rows.abstract_lot_change_row changes)
     → option_map rows.abstract_lot_change_row all.opening ≡ find (λ r. r.trade == lot) (map rows.abstract_lot_change_row changes)
-    → map abstract_lot_step all.steps.items ≡ map (λ c. recorded_lot_change t (rows.abstract_lot_change_row c)) later → AreLotStepsByKey t lot all
+    → map abstract_priced_lot_change all.later_changes.items ≡ map (λ c. recorded_lot_change t (rows.abstract_lot_change_row c)) later → AreLotChangesByTradeId t lot all
 steps_known t lot changes later all whole apart own made = (
   own ∙ ap (find (λ (r : HoldingHistoryRow). r.trade == lot)) whole
       ∙ sym (find_both (λ (r : HoldingHistoryRow). r.lot == lot) (λ (r : HoldingHistoryRow). r.trade == lot) t.holding_history)
@@ -63,14 +63,14 @@ number_is m n e = grind (arith, nat_tests)
 
 -- the lot of a trade that was found
 pub lot_known : (t : Tables) (trade : ℕ) (opening : LotChange) (row : code.TradeRow) (lot : LotStory) → Some (rows.abstract_lot_change_row opening) ≡ opened_lot_row t trade
-    → trade_row_with_id t trade ≡ Some (abstract_trade_row row) → lot.trade ≡ row → lot.opened ≡ opening.after → map abstract_lot_step lot.changes.items ≡ later_changes_of_lot t trade
+    → trade_row_with_id t trade ≡ Some (abstract_trade_row row) → lot.trade ≡ row → lot.opened ≡ opening.after → map abstract_priced_lot_change lot.changes.items ≡ later_changes_of_lot t trade
     → Some (abstract_lot_story lot) ≡ lot_opened_by_trade t trade
 lot_known t trade opening row lot own found same opened changes =
     let u = abstract_trade_row row in
     let is : u.id ≡ trade = number_is u.id trade (found_passes (λ (r : TradeRow). r.id == trade) t.trades u found) in
     let amount : opening.after ≡ quantity_opened_by_trade t u.id = ap (λ o. option_map_or (λ (r : HoldingHistoryRow). r.after) o (pos 0)) own ∙ ap (quantity_opened_by_trade t) (sym is) in
-    let steps : map abstract_lot_step lot.changes.items ≡ later_changes_of_lot t u.id = changes ∙ ap (later_changes_of_lot t) (sym is) in
-    let story : abstract_lot_story lot ≡ lot_with_later_changes t u = λ i. record { trade = abstract_trade_row (same i); opened = (opened ∙ amount) i; changes = steps i } in
+    let later_changes : map abstract_priced_lot_change lot.changes.items ≡ later_changes_of_lot t u.id = changes ∙ ap (later_changes_of_lot t) (sym is) in
+    let story : abstract_lot_story lot ≡ lot_with_later_changes t u = λ i. record { trade = abstract_trade_row (same i); opened = (opened ∙ amount) i; changes = later_changes i } in
     ap Some story
     ∙ (λ i. lot_if_opened (own i) (option_map (lot_with_later_changes t) (sym found i)))
 

@@ -1,4 +1,4 @@
-//! What the explanation of a broker reads, and the walk over the trades of its accounts.
+//! The facts that the explanation of a broker reads, and the walk over the trades of its accounts.
 
 ghost use Rattle.std.specs.Prelude.{◌≡◌, ◌==◌, IfErr};
 ghost use Rattle.std.specs.List.{list_any};
@@ -47,12 +47,12 @@ fn has_account(accounts: &[Id], account: Id) -> bool
 
 /// A visitor that passes the trades of some accounts to another visitor, and skips all others.
 #[derive(Drop)]
-pub struct OfAccounts<'a, V> {
+pub struct AccountFilter<'a, V> {
     pub accounts: Vec<Id>,
     pub visitor: &'a mut V,
 }
 
-impl<E, V: Visitor<TradeRow, E>> Visitor<TradeRow, E> for OfAccounts<'_, V> {
+impl<E, V: Visitor<TradeRow, E>> Visitor<TradeRow, E> for AccountFilter<'_, V> {
     ghost use Rattle.std.specs.Prelude.{◌≡◌, ◌==◌, refl, true};
     ghost use Rattle.std.specs.List.{list_any};
     ghost use Rattle.std.proofs.Common.{◌∙◌};
@@ -101,6 +101,6 @@ pub fn visit_completed_trades<S: Alter, E, V: Visitor<TradeRow, E>>(
         Ok(accounts) => accounts,
         Err(fault) => return Err(WalkError::Failed(fault)),
     };
-    let mut under = OfAccounts { accounts, visitor };
-    store.visit_completed_trades::<E, OfAccounts<'_, V>>(&mut under)
+    let mut under = AccountFilter { accounts, visitor };
+    store.visit_completed_trades::<E, AccountFilter<'_, V>>(&mut under)
 }

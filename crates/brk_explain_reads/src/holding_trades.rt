@@ -8,9 +8,9 @@ ghost use Rattle.brk_money.specs.declared.fault.Fault.TheVariants.{Memory};
 ghost use Rattle.brk_store.specs.Holds.{ReadPost};
 
 use crate::known::read_existing_trade;
-use crate::steps::{LotSteps, read_lot_steps};
+use crate::lot_changes::{OpeningAndLaterChanges, read_lot_changes_by_completion};
 use brk_changes::{LotChange, TradeRow};
-use brk_explain_rows::{LotStep, LotStory};
+use brk_explain_rows::{PricedLotChange, LotStory};
 use brk_money::{Fault, Id};
 use brk_ref::Symbol;
 use brk_store::Store;
@@ -19,7 +19,7 @@ use std::alloc::Global;
 
 /// A trade, and the lot that it opened.
 #[derive(Drop)]
-pub struct Traded {
+pub struct TradeAndLot {
     pub trade: TradeRow,
     /// The lot, or `None` if the trade opened none.
     pub lot: Option<LotStory>,
@@ -27,15 +27,15 @@ pub struct Traded {
 
 /// The completed trades of a holding, and the lots that they opened.
 #[derive(Drop)]
-pub struct HeldTrades {
+pub struct TradesAndLots {
     /// The trades, in the order of completion.
     pub done: Vec<TradeRow>,
     /// The lots, in the order of opening.
     pub lots: Vec<LotStory>,
 }
 
-// Returns the lot that a trade opened by this change, with its later changes.
-fn lot_with(trade: TradeRow, opening: &LotChange, changes: Vec<LotStep>) -> LotStory
+// Returns the lot that `trade` opened with the change `opening`, and its later changes.
+fn lot_story_of_opening(trade: TradeRow, opening: &LotChange, changes: Vec<PricedLotChange>) -> LotStory
     ensures { result ≡ record { trade = trade; opened = opening.now.after; changes = changes } }
 {
     LotStory {
@@ -56,13 +56,13 @@ fn read_lot_of_trade<S: Alter>(
     ensures read { ReadPost S.Store store.old store.new result (λ lot t. option_map abstract_lot_story lot ≡ lot_opened_by_trade t trade) }
     ensures fault { IfErr result IsCallFault }
 {
-    let all = read_lot_steps(alloc, store, trade)?;
-    let LotSteps { opening, steps } = all;
+    let all = read_lot_changes_by_completion(alloc, store, trade)?;
+    let OpeningAndLaterChanges { opening, later_changes } = all;
     let Some(first) = opening else {
         return Ok(None);
     };
     let row = read_existing_trade(store, trade)?;
-    Ok(Some(lot_with(row, &first, steps)))
+    Ok(Some(lot_story_of_opening(row, &first, later_changes)))
 }
 
 // Returns a trade and the lot that it opened. Fails with `Memory` or `Store`; with `Store` also if
@@ -71,13 +71,13 @@ fn read_trade_and_lot<S: Alter>(
     alloc: Global,
     store: &mut Store<S>,
     trade: Id,
-) -> Result<Traded, Fault>
+) -> Result<TradeAndLot, Fault>
     ensures read { ReadPost S.Store store.old store.new result (λ one t. IsTradeWithLot t trade one) }
     ensures fault { IfErr result IsCallFault }
 {
     let row = read_existing_trade(store, trade)?;
     let lot = read_lot_of_trade(alloc, store, trade)?;
-    Ok(Traded { trade: row, lot })
+    Ok(TradeAndLot { trade: row, lot })
 }
 
 // Appends a lot, if there is one. Fails with `Memory` only.
@@ -99,7 +99,7 @@ pub(crate) fn read_trades_and_lots_of_holding<S: Alter>(
     store: &mut Store<S>,
     account: Id,
     symbol: &Symbol,
-) -> Result<HeldTrades, Fault>
+) -> Result<TradesAndLots, Fault>
     ensures read { ReadPost S.Store store.old store.new result (λ held t. AreTradesAndLotsOfHolding t account symbol.now held) }
     ensures fault { IfErr result IsCallFault }
 {
@@ -111,5 +111,5 @@ pub(crate) fn read_trades_and_lots_of_holding<S: Alter>(
         done.push(one.trade)?;
         push_lot_if_any(&mut lots, one.lot)?;
     }
-    Ok(HeldTrades { done, lots })
+    Ok(TradesAndLots { done, lots })
 }

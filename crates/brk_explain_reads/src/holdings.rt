@@ -1,4 +1,4 @@
-//! What the explanation of a holding reads.
+//! The facts that the explanation of a holding reads.
 
 ghost use Rattle.std.specs.Prelude.{◌≡◌, IfErr, option_map, pos};
 ghost use Rattle.std.specs.Option.{option_map_or};
@@ -9,7 +9,7 @@ ghost use Rattle.brk_model.specs.Joins.{last_price_in_tables};
 ghost use Rattle.brk_model.specs.Run.{IsCallFault};
 ghost use Rattle.brk_store.specs.Holds.{ReadPost};
 
-use crate::holding_trades::{HeldTrades, read_trades_and_lots_of_holding};
+use crate::holding_trades::{TradesAndLots, read_trades_and_lots_of_holding};
 use brk_changes::SummaryRow;
 use brk_explain_rows::HoldingStory;
 use brk_money::{Fault, Id, Planned, Price, Refusal};
@@ -20,13 +20,13 @@ use std::alloc::Global;
 
 /// The number of shares that an account holds, and the last price of their security.
 #[derive(Clone, Copy)]
-pub struct HeldShares {
+pub struct QuantityAndPrice {
     pub shares: i64,
     pub price: Price,
 }
 
 // Returns the quantity of a holding summary, or 0 if there is none.
-fn quantity_of(summary: Option<SummaryRow>) -> i64
+fn quantity_of_summary_or_zero(summary: Option<SummaryRow>) -> i64
     ensures { result ≡ option_map_or (λ r. r.qty) (option_map abstract_summary_row summary) (pos 0) }
 {
     match summary {
@@ -35,11 +35,11 @@ fn quantity_of(summary: Option<SummaryRow>) -> i64
     }
 }
 
-// Returns a quantity with a price.
-fn shares_with(shares: i64, price: Price) -> HeldShares
+// Returns a number of shares and the last price of their security.
+fn quantity_and_price(shares: i64, price: Price) -> QuantityAndPrice
     ensures { result ≡ record { shares = shares; price = price } }
 {
-    HeldShares { shares, price }
+    QuantityAndPrice { shares, price }
 }
 
 // Returns the last price of a security. Fails with `Memory` or `Store`; with `Store` also if it has
@@ -60,21 +60,22 @@ fn read_quantity_and_price<S: Alter>(
     store: &mut Store<S>,
     account: Id,
     symbol: &Symbol,
-) -> Result<HeldShares, Fault>
+) -> Result<QuantityAndPrice, Fault>
     ensures read { ReadPost S.Store store.old store.new result (λ held t. AreQuantityAndPrice t account symbol.now held) }
     ensures fault { IfErr result IsCallFault }
 {
     let summary = store.summary_of(account, symbol)?;
     let price = read_last_price(store, symbol)?;
-    Ok(shares_with(quantity_of(summary), price))
+    Ok(quantity_and_price(quantity_of_summary_or_zero(summary), price))
 }
 
-// Returns the parts of a story as one.
-fn story_with(
+// Returns the facts of a holding from its account, its security, its trades and lots (`held`), and
+// its quantity and last price (`now`).
+fn holding_story_of_parts(
     account: AccountRow,
     security: Security,
-    held: HeldTrades,
-    now: HeldShares,
+    held: TradesAndLots,
+    now: QuantityAndPrice,
 ) -> HoldingStory
     ensures { result ≡ record { account = account; security = security; done = held.done; lots = held.lots; shares = now.shares; price = now.price } }
 {
@@ -88,8 +89,9 @@ fn story_with(
     }
 }
 
-/// Returns what the explanation of the holding of an account in a security reads. Refuses with
-/// `NoAccount` if the account does not exist, and with `NoSecurity` if only the security does not.
+/// Returns the facts that the explanation of the holding of an account in a security reads. Refuses
+/// with `NoAccount` if the account does not exist, and with `NoSecurity` if only the security does
+/// not.
 ///
 /// Fails with `Memory` or `Store` only; with `Store` also if the security has no last price, or if
 /// a row does not exist that another row names. The open database is unchanged, whatever the
@@ -111,5 +113,5 @@ pub fn read_holding_story<S: Alter>(
     };
     let held = read_trades_and_lots_of_holding(alloc, store, account, symbol)?;
     let now = read_quantity_and_price(store, account, symbol)?;
-    Ok(Ok(story_with(row, security, held, now)))
+    Ok(Ok(holding_story_of_parts(row, security, held, now)))
 }

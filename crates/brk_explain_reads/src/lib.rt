@@ -1,4 +1,4 @@
-//! Reads for explanations: what the tables have of a trade, an account, a holding and a broker.
+//! Reads for explanations: the facts of a trade, an account, a holding and a broker in the tables.
 #![tactic(auto)]
 
 pub mod accounts;
@@ -7,12 +7,12 @@ mod cash;
 mod holding_trades;
 pub mod holdings;
 mod known;
+mod lot_changes;
 mod lots;
 mod ordering;
 mod orders;
 mod results;
 mod settled;
-mod steps;
 mod terms;
 pub mod trades;
 

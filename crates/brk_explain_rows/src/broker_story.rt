@@ -1,6 +1,6 @@
 use brk_ref::BrokerRow;
 
-/// What the explanation of a broker reads beside the trades over which it walks.
+/// The facts that the explanation of a broker reads beside the trades over which it walks.
 #[derive(Drop)]
 pub struct BrokerStory {
     pub broker: BrokerRow,

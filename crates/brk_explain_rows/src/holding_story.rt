@@ -4,7 +4,7 @@ use brk_ref::{AccountRow, Security};
 
 /// A change of a lot by a later trade. The quantities are below 0 if the lot was sold short.
 #[derive(Clone, Copy)]
-pub struct LotStep {
+pub struct PricedLotChange {
     /// The trade that changed the lot.
     pub trade: Id,
     /// The stamp at which that trade was completed.
@@ -23,10 +23,10 @@ pub struct LotStory {
     /// The number of shares that it opened, below 0 if it sold short.
     pub opened: i64,
     /// The changes of the lot by later trades, in the order of their completion.
-    pub changes: Vec<LotStep>,
+    pub changes: Vec<PricedLotChange>,
 }
 
-/// What the explanation of the holding of an account in a security reads.
+/// The facts that the explanation of the holding of an account in a security reads.
 #[derive(Drop)]
 pub struct HoldingStory {
     pub account: AccountRow,

@@ -2,7 +2,7 @@
 
 ghost use Rattle.std.specs.Prelude.{◌≡◌, ◌++◌, IfErr, OnOk, flat_map, map};
 ghost use Rattle.brk_explain_model.specs.HoldingLines as lines;
-ghost use Rattle.brk_explain_rows.specs.Stories.{abstract_lot_step, abstract_lot_story};
+ghost use Rattle.brk_explain_rows.specs.Stories.{abstract_priced_lot_change, abstract_lot_story};
 ghost use Rattle.brk_model.specs.Run.{IsCallFault};
 ghost use Rattle.brk_model.specs.Statement.{text_of_lines};
 ghost use Rattle.brk_report_lines.specs.Written.{line_with_line_feed};
@@ -16,7 +16,7 @@ use brk_explain_columns::{
     format_timestamp, put_leading_row_columns, put_shares_column, put_value_column,
     value_of_shares_at_price,
 };
-use brk_explain_rows::{LotStep, LotStory};
+use brk_explain_rows::{PricedLotChange, LotStory};
 use brk_money::{Fault, Price};
 use std::alloc::Global;
 
@@ -43,9 +43,9 @@ fn put_lot_change_line(
     alloc: Global,
     out: &mut Vec<u8>,
     price: Price,
-    change: &LotStep,
+    change: &PricedLotChange,
 ) -> Result<(), Fault>
-    ensures ok { OnOk result (out.new.items ≡ out.old.items ++ line_with_line_feed (lines.lot_change_line price (abstract_lot_step change.now))) }
+    ensures ok { OnOk result (out.new.items ≡ out.old.items ++ line_with_line_feed (lines.lot_change_line price (abstract_priced_lot_change change.now))) }
     ensures fault { IfErr result IsCallFault }
 {
     let moment = format_timestamp(alloc, change.stamp)?;
@@ -71,9 +71,9 @@ fn put_lot_change_lines(
     alloc: Global,
     out: &mut Vec<u8>,
     price: Price,
-    changes: &[LotStep],
+    changes: &[PricedLotChange],
 ) -> Result<(), Fault>
-    ensures ok { OnOk result (out.new.items ≡ out.old.items ++ text_of_lines (lines.lot_change_lines price (map abstract_lot_step changes.now))) }
+    ensures ok { OnOk result (out.new.items ≡ out.old.items ++ text_of_lines (lines.lot_change_lines price (map abstract_priced_lot_change changes.now))) }
     ensures fault { IfErr result IsCallFault }
 {
     for change in changes {

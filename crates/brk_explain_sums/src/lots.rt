@@ -3,43 +3,43 @@
 
 ghost use Rattle.std.specs.Prelude.{◌≡◌, ◌+◌, ◌-ℤ◌, IfErr, IfOk, if◌then◌else◌, length, map, not, pos};
 ghost use Rattle.brk_explain_model.specs.Holdings as holdings;
-ghost use Rattle.brk_explain_rows.specs.Stories.{abstract_lot_step, abstract_lot_story};
+ghost use Rattle.brk_explain_rows.specs.Stories.{abstract_priced_lot_change, abstract_lot_story};
 ghost use Rattle.brk_explain_sums.specs.HoldingStories.{quantity_after_changes};
 ghost use Rattle.brk_model.specs.Lists.{is_zero, total_by};
 ghost use Rattle.brk_model.specs.Run.{IsCallFault};
 
 use crate::trades::completion_price_of_trade;
 use brk_explain_columns::{add_amounts, value_of_shares_at_price};
-use brk_explain_rows::{LotStep, LotStory};
+use brk_explain_rows::{PricedLotChange, LotStory};
 use brk_money::{Fault, Price, Wide};
 
 /// Returns the quantity of a lot after a change minus the quantity before it: below 0 if shares of
 /// a long lot were closed.
-pub(crate) fn quantity_increase_of_change(change: &LotStep) -> i128
-    ensures { result ≡ (abstract_lot_step change.now).after -ℤ (abstract_lot_step change.now).before }
+pub(crate) fn quantity_increase_of_change(change: &PricedLotChange) -> i128
+    ensures { result ≡ (abstract_priced_lot_change change.now).after -ℤ (abstract_priced_lot_change change.now).before }
 {
     i128::from(change.after) - i128::from(change.before)
 }
 
 // Returns the quantity of a lot before a change minus the quantity after it: below 0 if shares of a
 // short lot were closed.
-fn quantity_decrease_of_change(change: &LotStep) -> i128
-    ensures { result ≡ (abstract_lot_step change.now).before -ℤ (abstract_lot_step change.now).after }
+fn quantity_decrease_of_change(change: &PricedLotChange) -> i128
+    ensures { result ≡ (abstract_priced_lot_change change.now).before -ℤ (abstract_priced_lot_change change.now).after }
 {
     i128::from(change.before) - i128::from(change.after)
 }
 
 // Returns the price of a change minus the price at which the lot was opened, in cents.
-fn price_increase_of_change(price: Price, change: &LotStep) -> i128
-    ensures { result ≡ pos (abstract_lot_step change.now).price -ℤ pos price }
+fn price_increase_of_change(price: Price, change: &PricedLotChange) -> i128
+    ensures { result ≡ pos (abstract_priced_lot_change change.now).price -ℤ pos price }
 {
     i128::from(change.price.get()) - i128::from(price.get())
 }
 
 /// Returns the realised gain of a change of a lot that was opened at `price`. Fails with `Store` if
 /// it does not fit.
-pub(crate) fn realised_gain_of_change(price: Price, change: &LotStep) -> Result<Wide, Fault>
-    ensures gain { IfOk result (λ gain. gain ≡ holdings.realised_gain_of_change price (abstract_lot_step change.now)) }
+pub(crate) fn realised_gain_of_change(price: Price, change: &PricedLotChange) -> Result<Wide, Fault>
+    ensures gain { IfOk result (λ gain. gain ≡ holdings.realised_gain_of_change price (abstract_priced_lot_change change.now)) }
     ensures fault { IfErr result IsCallFault }
 {
     match quantity_decrease_of_change(change).checked_mul(price_increase_of_change(price, change)) {
@@ -49,8 +49,8 @@ pub(crate) fn realised_gain_of_change(price: Price, change: &LotStep) -> Result<
 }
 
 // Returns the quantity after the last change, or `opened` if there is none.
-fn quantity_after_changes(opened: i64, changes: &[LotStep]) -> i64
-    ensures { result ≡ quantity_after_changes opened (map abstract_lot_step changes.now) }
+fn quantity_after_changes(opened: i64, changes: &[PricedLotChange]) -> i64
+    ensures { result ≡ quantity_after_changes opened (map abstract_priced_lot_change changes.now) }
 {
     let mut left = opened;
     for change in changes {
@@ -78,8 +78,8 @@ pub(crate) fn remaining_cost_of_lot(lot: &LotStory) -> Result<Wide, Fault>
 
 // Returns the sum of the realised gains of changes of a lot that was opened at `price`. Fails with
 // `Store` if a value does not fit.
-fn realised_gain_of_changes(price: Price, changes: &[LotStep]) -> Result<Wide, Fault>
-    ensures total { IfOk result (λ total. total ≡ total_by (holdings.realised_gain_of_change price) (map abstract_lot_step changes.now)) }
+fn realised_gain_of_changes(price: Price, changes: &[PricedLotChange]) -> Result<Wide, Fault>
+    ensures total { IfOk result (λ total. total ≡ total_by (holdings.realised_gain_of_change price) (map abstract_priced_lot_change changes.now)) }
     ensures fault { IfErr result IsCallFault }
 {
     let mut total = Wide::new(0);
@@ -159,8 +159,8 @@ pub(crate) fn count_of_open_lots(lots: &[LotStory]) -> Result<u64, Fault>
 }
 
 // Returns the number of changes.
-fn count_of_changes(changes: &[LotStep]) -> u64
-    ensures { result ≡ length (map abstract_lot_step changes.now) }
+fn count_of_changes(changes: &[PricedLotChange]) -> u64
+    ensures { result ≡ length (map abstract_priced_lot_change changes.now) }
 {
     changes.len() as u64
 }

@@ -5,7 +5,7 @@ use Rattle.brk_changes.specs.declared.trade_row.TradeRow as trade
 use Rattle.brk_model.specs.Tables.{AccountRow, Tables, TradeRow}
 use Rattle.brk_explain_model.specs.BrokerLines.{broker_of_account_or_zero, completed_trades_of_broker}
 use Rattle.brk_store.specs.Walked.{WalkPost, completed_trades_by_stamp}
-use Rattle.brk_explain_reads.specs.declared.brokers.OfAccounts.{OfAccounts}
+use Rattle.brk_explain_reads.specs.declared.brokers.AccountFilter.{AccountFilter}
 use Rattle.brk_explain_reads.proofs.Skipped.{accounts_known, trades_picked, walk_none, walk_on}
 use Rattle.brk_explain_reads.proofs.brokers.visit_completed_trades.Goals as goal
 
@@ -19,7 +19,7 @@ returns-clause-walked g c =
     let broker = c.args.broker in
     let accounts = c.in-Ok.accounts in
     let on = walk_on g.S.Store c.args.store.now c.accounts_of_broker.new.self c.visit_completed_trades.new.self abstract_trade_row completed_trades_by_stamp (λ t. completed_trades_of_broker t broker)
-    (λ (v : OfAccounts g.row.V.Denot). v.visitor.now) (λ v. v.accounts) (λ all (r : trade.TradeRow). list_any (λ i. i == r.account) all.items) g.V.Visitor.takes g.V.Visitor.stops _ c.visit_completed_trades.new.visitor
+    (λ (v : AccountFilter g.row.V.Denot). v.visitor.now) (λ v. v.accounts) (λ all (r : trade.TradeRow). list_any (λ i. i == r.account) all.items) g.V.Visitor.takes g.V.Visitor.stops _ c.visit_completed_trades.new.visitor
     c.visit_completed_trades.result c.visit_completed_trades.ensures.walked
     accounts (λ all (t : Tables). all.items ≡ map (λ (a : AccountRow). a.id) (filter (λ (a : AccountRow). a.broker == broker) t.accounts)) (rw c.in-Ok.is at c.accounts_of_broker.ensures.read)
     (λ t (u : TradeRow). broker_of_account_or_zero t u.account == broker)

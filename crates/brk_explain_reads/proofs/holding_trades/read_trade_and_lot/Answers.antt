@@ -5,7 +5,7 @@ use Rattle.brk_model.specs.Joins.{trade_row_with_id}
 use Rattle.brk_model.specs.Tables.{Tables}
 use Rattle.brk_explain_rows.specs.Stories.{abstract_lot_story}
 use Rattle.brk_explain_reads.specs.HoldingParts.{IsTradeWithLot, lot_opened_by_trade}
-use Rattle.brk_explain_reads.specs.declared.holding_trades.Traded.{Traded}
+use Rattle.brk_explain_reads.specs.declared.holding_trades.TradeAndLot.{TradeAndLot}
 use Rattle.brk_explain_reads.proofs.Reading.{read_both}
 use Rattle.brk_explain_reads.proofs.holding_trades.read_trade_and_lot.Goals as goal
 
@@ -14,7 +14,7 @@ returns-clause-read g c =
     let trade = c.args.trade in
     let row = c.in_ok-row.row in
     let lot = c.in_ok-lot.lot in
-    let one : Traded = record { trade = row; lot = lot } in
+    let one : TradeAndLot = record { trade = row; lot = lot } in
     read_both g.S.Store c.args.store.now c.read_existing_trade.new.store c.read_lot_of_trade.new.store {H = Fault} row lot one
     (λ row (t : Tables). trade_row_with_id t trade ≡ Some (abstract_trade_row row)) (λ lot (t : Tables). option_map abstract_lot_story lot ≡ lot_opened_by_trade t trade)
     (λ one (t : Tables). IsTradeWithLot t trade one)

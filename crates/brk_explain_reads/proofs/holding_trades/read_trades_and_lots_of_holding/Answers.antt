@@ -13,7 +13,7 @@ use Rattle.brk_explain_model.specs.Holdings as model
 use Rattle.brk_explain_rows.specs.Stories.{abstract_lot_story}
 use Rattle.brk_explain_rows.specs.declared.holding_story.LotStory.{LotStory}
 use Rattle.brk_explain_reads.specs.HoldingParts.{AreTradesAndLotsOfHolding, IsTradeWithLot, lot_opened_by_trade}
-use Rattle.brk_explain_reads.specs.declared.holding_trades.HeldTrades.{HeldTrades}
+use Rattle.brk_explain_reads.specs.declared.holding_trades.TradesAndLots.{TradesAndLots}
 use Rattle.brk_explain_reads.proofs.ById.{done_known, flat_one, held_ids, lots_known}
 use Rattle.brk_explain_reads.proofs.Each.{first_more, map_map, one_more}
 use Rattle.brk_explain_reads.proofs.Reading.{read_both}
@@ -63,7 +63,7 @@ returns-clause-read g c =
     let symbol = c.args.symbol.now in
     let ids = c.deref-id-items.result.now in
     let i = c.loop-id.id-index in
-    let held : HeldTrades = record { done = c.loop-id.done; lots = c.loop-id.lots } in
+    let held : TradesAndLots = record { done = c.loop-id.done; lots = c.loop-id.lots } in
     let all = take_all i ids c.loop-id-test.false in
     retold_of g.S.Store c.args.store.now c.loop-id.store tt held
     (λ _. FirstTrades account symbol ids held.done.items held.lots.items i)

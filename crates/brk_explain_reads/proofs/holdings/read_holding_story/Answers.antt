@@ -49,11 +49,11 @@ returns-clause-read g c =
     let security = c.in-Some-2.security in
     let held = c.in_ok-held.held in
     let now = c.in_ok-now.now in
-    read_both g.S.Store old c.read_trades_and_lots_of_holding.new.store c.read_quantity_and_price.new.store {H = Fault} held now (Ok c.story_with.result)
+    read_both g.S.Store old c.read_trades_and_lots_of_holding.new.store c.read_quantity_and_price.new.store {H = Fault} held now (Ok c.holding_story_of_parts.result)
     (λ held (t : Tables). AreParties account symbol row security t × AreTradesAndLotsOfHolding t account symbol held)
     (λ now (t : Tables). AreQuantityAndPrice t account symbol now)
     (IsStoryOfHolding account symbol)
-    (λ t k e. subst (λ (s : HoldingStory). IsStoryOfHolding account symbol (Ok s) t) (sym c.story_with.ensures) (sym k.0.0, sym k.0.1, k.1.0, k.1.1, e.0, e.1))
+    (λ t k e. subst (λ (s : HoldingStory). IsStoryOfHolding account symbol (Ok s) t) (sym c.holding_story_of_parts.ensures) (sym k.0.0, sym k.0.1, k.1.0, k.1.1, e.0, e.1))
     (read_both g.S.Store old c.security.new.self c.read_trades_and_lots_of_holding.new.store {H = Fault} (Some security) held held
     (λ o (t : Tables). AreParties account symbol row security t) (λ held (t : Tables). AreTradesAndLotsOfHolding t account symbol held)
     (λ held (t : Tables). AreParties account symbol row security t × AreTradesAndLotsOfHolding t account symbol held)

@@ -3,7 +3,7 @@ use Rattle.std.specs.Prelude.{flat_map}
 use Rattle.std.proofs.lemmas.Grind.{flat_map-append}
 use Rattle.std.proofs.lemmas.List.{length-append}
 use Rattle.brk_explain_model.specs.Holdings.{LotChange, LotStory, count_of_lot_changes}
-use Rattle.brk_explain_rows.specs.Stories.{abstract_lot_step, abstract_lot_story}
+use Rattle.brk_explain_rows.specs.Stories.{abstract_priced_lot_change, abstract_lot_story}
 use Rattle.brk_explain_columns.proofs.Items.{map_one_more}
 use Rattle.brk_explain_sums.proofs.lots.count_of_lot_changes.Goals as goal
 
@@ -17,6 +17,6 @@ loop-lot-preserved c =
     let lots = c.args.lots.now in
     let i = c.loop-lot.lot-index in
     let lot = c.lot-item.result in
-    let some : c.count_of_changes.result ≡ length (abstract_lot_story lot).changes = c.count_of_changes.ensures ∙ ap (λ xs. length (map abstract_lot_step xs)) c.deref.ensures.value in
+    let some : c.count_of_changes.result ≡ length (abstract_lot_story lot).changes = c.count_of_changes.ensures ∙ ap (λ xs. length (map abstract_priced_lot_change xs)) c.deref.ensures.value in
     c.in_ok-count.ensures.sum ∙ (λ k. c.loop-lot.invariant k + some k) ∙ sym (count_more (map abstract_lot_story (take i lots)) (abstract_lot_story lot))
     ∙ ap count_of_lot_changes (sym (map_one_more abstract_lot_story lots i lot c.lot-item.is c.loop-lot-test.true))

@@ -1,5 +1,5 @@
 use Rattle.std.proofs.Common.{◌≡◌, ◌∙◌, ap, map, of_z, rules, sym, take, to_z, w64}
-use Rattle.brk_explain_rows.specs.Stories.{abstract_lot_step}
+use Rattle.brk_explain_rows.specs.Stories.{abstract_priced_lot_change}
 use Rattle.brk_explain_sums.specs.HoldingStories.{quantity_after_changes}
 use Rattle.brk_explain_columns.proofs.Items.{map_one_more}
 use Rattle.brk_explain_sums.proofs.Left.{after_last}
@@ -12,5 +12,5 @@ loop-change-preserved c =
     let change = c.change-item.result in
     let opened = to_z w64 (of_z w64 c.args.opened) in
     let same : to_z w64 (of_z w64 change.after) ≡ change.after = search rules in
-    same ∙ sym (after_last opened (map abstract_lot_step (take i changes)) (abstract_lot_step change))
-    ∙ ap (quantity_after_changes opened) (sym (map_one_more abstract_lot_step changes i change c.change-item.is c.loop-change-test.true))
+    same ∙ sym (after_last opened (map abstract_priced_lot_change (take i changes)) (abstract_priced_lot_change change))
+    ∙ ap (quantity_after_changes opened) (sym (map_one_more abstract_priced_lot_change changes i change c.change-item.is c.loop-change-test.true))

@@ -1,6 +1,6 @@
 use Rattle.std.proofs.Common.{◌∙◌, ◌+ℤ◌, ap, map, sym, take}
 use Rattle.brk_explain_model.specs.Holdings.{realised_gain_of_change}
-use Rattle.brk_explain_rows.specs.Stories.{abstract_lot_step}
+use Rattle.brk_explain_rows.specs.Stories.{abstract_priced_lot_change}
 use Rattle.brk_model.specs.Lists.{total_by}
 use Rattle.brk_explain_columns.proofs.Items.{map_one_more}
 use Rattle.brk_explain_columns.proofs.Totals.{total_by-more, total_by-none}
@@ -15,5 +15,5 @@ loop-change-preserved c =
     let i = c.loop-change.change-index in
     let change = c.change-item.result in
     let gain_of = realised_gain_of_change c.args.price in
-    c.in_ok-total.ensures.sum ∙ (λ k. c.loop-change.invariant k +ℤ c.in_ok-gain.ensures.gain k) ∙ sym (total_by-more gain_of (map abstract_lot_step (take i changes)) (abstract_lot_step change))
-    ∙ ap (total_by gain_of) (sym (map_one_more abstract_lot_step changes i change c.change-item.is c.loop-change-test.true))
+    c.in_ok-total.ensures.sum ∙ (λ k. c.loop-change.invariant k +ℤ c.in_ok-gain.ensures.gain k) ∙ sym (total_by-more gain_of (map abstract_priced_lot_change (take i changes)) (abstract_priced_lot_change change))
+    ∙ ap (total_by gain_of) (sym (map_one_more abstract_priced_lot_change changes i change c.change-item.is c.loop-change-test.true))

@@ -3,8 +3,8 @@
 ghost use Rattle.std.specs.Prelude.{◌≡◌, ◌==◌, ◌++◌, ◌∷◌, [], Err, IfErr, IfOk, OnErr, OnOk, filter, find, map, not, option_map};
 ghost use Rattle.brk_changes.specs.Rows.{abstract_lot_change_row};
 ghost use Rattle.brk_explain_model.specs.Holdings as model;
-ghost use Rattle.brk_explain_reads.specs.HoldingParts.{AreLotStepsByCompletion, AreLotStepsByKey};
-ghost use Rattle.brk_explain_rows.specs.Stories.{abstract_lot_step};
+ghost use Rattle.brk_explain_reads.specs.HoldingParts.{AreLotChangesByCompletion, AreLotChangesByTradeId};
+ghost use Rattle.brk_explain_rows.specs.Stories.{abstract_priced_lot_change};
 ghost use Rattle.brk_model.specs.Lists.{sort_by_key};
 ghost use Rattle.brk_model.specs.Run.{IsCallFault};
 ghost use Rattle.brk_money.specs.declared.fault.Fault.TheVariants.{Memory};
@@ -13,7 +13,7 @@ ghost use Rattle.brk_store.specs.Holds.{ReadPost};
 use crate::known::read_existing_trade;
 use crate::ordering::sort_by_age;
 use brk_changes::LotChange;
-use brk_explain_rows::LotStep;
+use brk_explain_rows::PricedLotChange;
 use brk_money::{Fault, Id, Price, Stamp};
 use brk_store::Store;
 use sqlite::Alter;
@@ -21,11 +21,11 @@ use std::alloc::Global;
 
 /// The changes of a lot.
 #[derive(Drop)]
-pub struct LotSteps {
+pub struct OpeningAndLaterChanges {
     /// The change with which its trade opened it, or `None` if the trade opened no lot.
     pub opening: Option<LotChange>,
     /// The changes by later trades.
-    pub steps: Vec<LotStep>,
+    pub later_changes: Vec<PricedLotChange>,
 }
 
 // Returns true if `change` is by the trade that opened `lot`.
@@ -82,10 +82,10 @@ fn changes_by_later_trades(
 }
 
 // Returns the change of a lot by a trade that was completed at this stamp and price.
-fn lot_step_of_change(change: &LotChange, stamp: Stamp, price: Price) -> LotStep
+fn priced_lot_change(change: &LotChange, stamp: Stamp, price: Price) -> PricedLotChange
     ensures { result ≡ record { trade = change.now.trade; stamp = stamp; price = price; before = change.now.before; after = change.now.after } }
 {
-    LotStep {
+    PricedLotChange {
         trade: change.trade,
         stamp,
         price,
@@ -96,63 +96,63 @@ fn lot_step_of_change(change: &LotChange, stamp: Stamp, price: Price) -> LotStep
 
 // Returns a change of a lot with the stamp and the price of its trade. Fails with `Memory` or
 // `Store`; with `Store` also if the trade does not exist or has no price.
-fn read_lot_step<S: Alter>(store: &mut Store<S>, change: &LotChange) -> Result<LotStep, Fault>
-    ensures read { ReadPost S.Store store.old store.new result (λ step t. abstract_lot_step step ≡ model.recorded_lot_change t (abstract_lot_change_row change.now)) }
+fn read_priced_lot_change<S: Alter>(store: &mut Store<S>, change: &LotChange) -> Result<PricedLotChange, Fault>
+    ensures read { ReadPost S.Store store.old store.new result (λ priced_change t. abstract_priced_lot_change priced_change ≡ model.recorded_lot_change t (abstract_lot_change_row change.now)) }
     ensures fault { IfErr result IsCallFault }
 {
     let trade = read_existing_trade(store, change.trade)?;
     let Some(price) = trade.price else {
         return Err(Fault::Store);
     };
-    Ok(lot_step_of_change(change, trade.stamp, price))
+    Ok(priced_lot_change(change, trade.stamp, price))
 }
 
 // Returns the change with which a lot was opened, and its changes by later trades, sorted by trade,
 // ascending. Fails with `Memory` or `Store`; with `Store` also if a later trade does not exist or
 // has no price.
-fn read_lot_steps_by_key<S: Alter>(
+fn read_lot_changes_by_trade_id<S: Alter>(
     alloc: Global,
     store: &mut Store<S>,
     lot: Id,
-) -> Result<LotSteps, Fault>
-    ensures read { ReadPost S.Store store.old store.new result (λ all t. AreLotStepsByKey t lot all) }
+) -> Result<OpeningAndLaterChanges, Fault>
+    ensures read { ReadPost S.Store store.old store.new result (λ all t. AreLotChangesByTradeId t lot all) }
     ensures fault { IfErr result IsCallFault }
 {
     let changes = store.lot_changes_of_lot(alloc, lot)?;
     let opening = opening_change_of_lot(&changes, lot);
     let later = changes_by_later_trades(alloc, &changes, lot)?;
-    let mut steps = Vec::new(alloc);
+    let mut later_changes = Vec::new(alloc);
     for change in &later {
-        let step = read_lot_step(store, change)?;
-        steps.push(step)?;
+        let priced_change = read_priced_lot_change(store, change)?;
+        later_changes.push(priced_change)?;
     }
-    Ok(LotSteps { opening, steps })
+    Ok(OpeningAndLaterChanges { opening, later_changes })
 }
 
 // Returns the changes sorted by the stamps of their trades, ascending. Fails with `Memory` only.
-fn sort_steps_by_stamp(alloc: Global, steps: Vec<LotStep>) -> Result<Vec<LotStep>, Fault>
-    ensures order { IfOk result (λ all. map abstract_lot_step all.items ≡ sort_by_key (λ c. c.stamp) (map abstract_lot_step steps.items)) }
+fn sort_changes_by_stamp(alloc: Global, later_changes: Vec<PricedLotChange>) -> Result<Vec<PricedLotChange>, Fault>
+    ensures order { IfOk result (λ all. map abstract_priced_lot_change all.items ≡ sort_by_key (λ c. c.stamp) (map abstract_priced_lot_change later_changes.items)) }
     ensures fault { OnErr result (result ≡ Err Memory) }
 {
-    let sorted = sort_by_age(alloc, steps)?;
+    let sorted = sort_by_age(alloc, later_changes)?;
     Ok(sorted)
 }
 
 /// Returns the change with which a lot was opened, and its changes by later trades, sorted by the
 /// stamp of completion, ascending. Fails with `Memory` or `Store`; with `Store` also if a later
 /// trade does not exist or has no price.
-pub(crate) fn read_lot_steps<S: Alter>(
+pub(crate) fn read_lot_changes_by_completion<S: Alter>(
     alloc: Global,
     store: &mut Store<S>,
     lot: Id,
-) -> Result<LotSteps, Fault>
-    ensures read { ReadPost S.Store store.old store.new result (λ all t. AreLotStepsByCompletion t lot all) }
+) -> Result<OpeningAndLaterChanges, Fault>
+    ensures read { ReadPost S.Store store.old store.new result (λ all t. AreLotChangesByCompletion t lot all) }
     ensures fault { IfErr result IsCallFault }
 {
-    let all = read_lot_steps_by_key(alloc, store, lot)?;
-    let steps = sort_steps_by_stamp(alloc, all.steps)?;
-    Ok(LotSteps {
+    let all = read_lot_changes_by_trade_id(alloc, store, lot)?;
+    let later_changes = sort_changes_by_stamp(alloc, all.later_changes)?;
+    Ok(OpeningAndLaterChanges {
         opening: all.opening,
-        steps,
+        later_changes,
     })
 }

@@ -1,7 +1,7 @@
 use Rattle.std.proofs.Common.{◌≡◌, ◌∙◌, ◌==◌, ap, refl, sym}
 use Rattle.std.specs.List.{list_any}
 use Rattle.brk_explain_reads.proofs.Skipped.{if_err_more, on_ok_more, takes_passed, takes_skipped}
-use Rattle.brk_explain_reads.proofs.brokers.OfAccountsVisitorTradeRow.visit.Goals as goal
+use Rattle.brk_explain_reads.proofs.brokers.AccountFilterVisitorTradeRow.visit.Goals as goal
 
 pub returns-then-has_account-clause-takes : goal.returns-then-has_account-clause-takes
 returns-then-has_account-clause-takes g c =

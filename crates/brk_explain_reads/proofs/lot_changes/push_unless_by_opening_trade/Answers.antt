@@ -2,7 +2,7 @@ use Rattle.std.proofs.Common.{◌∙◌, ◌==◌, ap, map, not, sym}
 use Rattle.brk_changes.specs.Rows.{abstract_lot_change_row}
 use Rattle.brk_model.specs.Tables.{HoldingHistoryRow}
 use Rattle.brk_explain_reads.proofs.Each.{added_none, added_one}
-use Rattle.brk_explain_reads.proofs.steps.push_unless_by_opening_trade.Goals as goal
+use Rattle.brk_explain_reads.proofs.lot_changes.push_unless_by_opening_trade.Goals as goal
 
 pub returns-then-is_change_by_opening_trade-clause-added : goal.returns-then-is_change_by_opening_trade-clause-added
 returns-then-is_change_by_opening_trade-clause-added c =

@@ -6,7 +6,7 @@ use Rattle.brk_report.proofs.Handing.{nothing_yet, on_err, wants}
 use Rattle.brk_report_lines.specs.Written.{FailsWithinLines}
 use Rattle.brk_report_lines.specs.declared.fault.LinesFault.TheVariants.{Desk}
 use Rattle.brk_report_lines.proofs.Composed.{appends_none}
-use Rattle.brk_explain.proofs.visitors.PostedRowsVisitorMoveRowLinesFault.visit.Goals as goal
+use Rattle.brk_explain.proofs.visitors.CashPostingWriterVisitorMoveRowLinesFault.visit.Goals as goal
 
 pub returns-in_err-balance-clause-stops : goal.returns-in_err-balance-clause-stops
 returns-in_err-balance-clause-stops g c =

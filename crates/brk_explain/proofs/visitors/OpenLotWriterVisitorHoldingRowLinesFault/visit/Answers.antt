@@ -4,7 +4,7 @@ use Rattle.brk_explain_model.specs.AccountLines.{open_lot_line}
 use Rattle.brk_report.proofs.Handing.{on_err, wants}
 use Rattle.brk_report_lines.specs.Written.{FailsWithinLines}
 use Rattle.brk_report_lines.proofs.Composed.{appends_none}
-use Rattle.brk_explain.proofs.visitors.LotRowsVisitorHoldingRowLinesFault.visit.Goals as goal
+use Rattle.brk_explain.proofs.visitors.OpenLotWriterVisitorHoldingRowLinesFault.visit.Goals as goal
 
 pub returns-in_default-clause-stops : goal.returns-in_default-clause-stops
 returns-in_default-clause-stops g c = (inr refl, ([], open_lot_line (abstract_holding_row c.args.item.now), [], refl, appends_none _))

@@ -6,28 +6,28 @@ use Rattle.brk_changes.specs.declared.lot_change.LotChange.{LotChange}
 use Rattle.brk_model.specs.Tables.{HoldingHistoryRow, Tables}
 use Rattle.brk_store.proofs.Retelling.{retold}
 use Rattle.brk_explain_model.specs.Holdings.{recorded_lot_change}
-use Rattle.brk_explain_rows.specs.Stories.{abstract_lot_step}
-use Rattle.brk_explain_rows.specs.declared.holding_story.LotStep.{LotStep}
-use Rattle.brk_explain_reads.specs.HoldingParts.{AreLotStepsByKey}
-use Rattle.brk_explain_reads.specs.declared.steps.LotSteps.{LotSteps}
+use Rattle.brk_explain_rows.specs.Stories.{abstract_priced_lot_change}
+use Rattle.brk_explain_rows.specs.declared.holding_story.PricedLotChange.{PricedLotChange}
+use Rattle.brk_explain_reads.specs.HoldingParts.{AreLotChangesByTradeId}
+use Rattle.brk_explain_reads.specs.declared.lot_changes.OpeningAndLaterChanges.{OpeningAndLaterChanges}
 use Rattle.brk_explain_reads.proofs.Changes.{steps_known}
 use Rattle.brk_explain_reads.proofs.Each.{one_more}
 use Rattle.brk_explain_reads.proofs.Reading.{read_both}
-use Rattle.brk_explain_reads.proofs.steps.read_lot_steps_by_key.Goals as goal
+use Rattle.brk_explain_reads.proofs.lot_changes.read_lot_changes_by_trade_id.Goals as goal
 
--- the changes of a lot, and the steps that the first of the later ones record
-abbrev FirstSteps : ℕ → List LotChange → List LotChange → List LotStep → ℕ → Tables → Type 0
-FirstSteps lot changes later steps i t =
+-- the changes of a lot, and the first of the later ones with their prices
+abbrev FirstChanges : ℕ → List LotChange → List LotChange → List PricedLotChange → ℕ → Tables → Type 0
+FirstChanges lot changes later later_changes i t =
     (map rows.abstract_lot_change_row changes ≡ filter (λ (r : HoldingHistoryRow). r.lot == lot) t.holding_history)
-    × (map abstract_lot_step steps ≡ map (λ h. recorded_lot_change t (rows.abstract_lot_change_row h)) (take i later))
+    × (map abstract_priced_lot_change later_changes ≡ map (λ h. recorded_lot_change t (rows.abstract_lot_change_row h)) (take i later))
 
 pub loop-change-init : goal.loop-change-init
 loop-change-init g c =
     let changes = c.in_ok-changes.changes in
     retold g.S.Store c.args.store.now c.lot_changes_of_lot.new.self changes tt
     (λ all (t : Tables). map rows.abstract_lot_change_row all.items ≡ filter (λ (r : HoldingHistoryRow). r.lot == c.args.lot) t.holding_history)
-    (λ _. FirstSteps c.args.lot changes.items c.deref-change-items.result.now c.new-steps.result.items 0)
-    (λ t e. (e, ap (map abstract_lot_step) c.new-steps.ensures.items))
+    (λ _. FirstChanges c.args.lot changes.items c.deref-change-items.result.now c.new-later_changes.result.items 0)
+    (λ t e. (e, ap (map abstract_priced_lot_change) c.new-later_changes.ensures.items))
     c.in_ok-changes.ensures.read
 
 pub loop-change-preserved : goal.loop-change-preserved
@@ -36,26 +36,26 @@ loop-change-preserved g c =
     let later = c.deref-change-items.result.now in
     let i = c.loop-change.change-index in
     let change = c.change-item.result in
-    let before = c.loop-change.steps.items in
-    let step = c.in_ok-step.step in
+    let before = c.loop-change.later_changes.items in
+    let priced_change = c.in_ok-priced_change.priced_change in
     rw c.in_ok-push.ensures.items
-    (read_both g.S.Store c.args.store.now c.loop-change.store c.read_lot_step.new.store {H = Fault} tt step tt
-    (λ _. FirstSteps c.args.lot changes later before i)
-    (λ step (t : Tables). abstract_lot_step step ≡ recorded_lot_change t (rows.abstract_lot_change_row change))
-    (λ _. FirstSteps c.args.lot changes later (before ++ step ∷ []) (i + 1))
-    (λ t p e. (p.0, one_more abstract_lot_step (λ h. recorded_lot_change t (rows.abstract_lot_change_row h)) before later i step change c.loop-change-test.true c.change-item.is e p.1))
-    c.loop-change.invariant c.in_ok-step.ensures.read)
+    (read_both g.S.Store c.args.store.now c.loop-change.store c.read_priced_lot_change.new.store {H = Fault} tt priced_change tt
+    (λ _. FirstChanges c.args.lot changes later before i)
+    (λ priced_change (t : Tables). abstract_priced_lot_change priced_change ≡ recorded_lot_change t (rows.abstract_lot_change_row change))
+    (λ _. FirstChanges c.args.lot changes later (before ++ priced_change ∷ []) (i + 1))
+    (λ t p e. (p.0, one_more abstract_priced_lot_change (λ h. recorded_lot_change t (rows.abstract_lot_change_row h)) before later i priced_change change c.loop-change-test.true c.change-item.is e p.1))
+    c.loop-change.invariant c.in_ok-priced_change.ensures.read)
 
 pub returns-clause-read : goal.returns-clause-read
 returns-clause-read g c =
     let changes = c.in_ok-changes.changes.items in
     let later = c.deref-change-items.result.now in
-    let steps = c.loop-change.steps in
+    let later_changes = c.loop-change.later_changes in
     let i = c.loop-change.change-index in
-    let all : LotSteps = record { opening = c.opening_change_of_lot-opening.result; steps = steps } in
+    let all : OpeningAndLaterChanges = record { opening = c.opening_change_of_lot-opening.result; later_changes = later_changes } in
     retold g.S.Store c.args.store.now c.loop-change.store tt all
-    (λ _. FirstSteps c.args.lot changes later steps.items i)
-    (λ all (t : Tables). AreLotStepsByKey t c.args.lot all)
+    (λ _. FirstChanges c.args.lot changes later later_changes.items i)
+    (λ all (t : Tables). AreLotChangesByTradeId t c.args.lot all)
     (λ t p. steps_known t c.args.lot changes later all p.0
     (ap (map rows.abstract_lot_change_row) c.deref-change-items.ensures.value ∙ c.in_ok-later.ensures.later
     ∙ ap (λ hs. filter (λ (r : HoldingHistoryRow). not (r.trade == c.args.lot)) (map rows.abstract_lot_change_row hs)) c.deref-2.ensures.value)
