@@ -34,4 +34,5 @@ Example:
 
 /// Ends the help of `brk explain`.
 pub const EXPLAIN: &str = "Example:
-  brk explain --db desk.db trade 3";
+  brk explain --db desk.db trade 3
+  brk explain --db desk.db holding 100 ABC";

@@ -128,9 +128,11 @@ fn explain_command<'a>(alloc: Global) -> Result<Command<'a>, AllocError> {
     let words = Arg::new(alloc, "words")
         .value_name("WORD")
         .num_args(0..)
-        .help("What is explained: trade ID, or account ID");
+        .help(
+            "What is explained: trade ID, account ID, holding ACCOUNT SYMBOL, or broker ID; write -- before a symbol that begins with a hyphen",
+        );
     Command::new(alloc, "explain")
-        .about("Prints how the amounts of a trade or of an account come about")
+        .about("Prints how the amounts of a trade, an account, a holding or a broker come about")
         .after_help(notes::EXPLAIN)
         .arg(required_file_argument(alloc))?
         .arg(words)

@@ -150,12 +150,13 @@ fn execute_explain_command(
     for word in words.split(' ') {
         asked.push(word.as_bytes())?;
     }
-    let what = match parse_explain_request(&asked) {
-        Ok(what) => what,
-        Err(refusal) => return append_refusal_line(out, refusal),
+    let what = match parse_explain_request(alloc, &asked) {
+        Ok(Ok(what)) => what,
+        Ok(Err(refusal)) => return append_refusal_line(out, refusal),
+        Err(_) => return append_output_line(out, "! fault"),
     };
     let mut lines = Vec::new(alloc);
-    let ended = write_explanation(alloc, desk, what, &mut lines);
+    let ended = write_explanation(alloc, desk, &what, &mut lines);
     append_written_bytes(out, &lines)?;
     match ended {
         Ok(()) => Ok(()),

@@ -1,14 +1,17 @@
 use crate::asking::answer_query;
 use crate::call::{Call, Outcome};
-use brk_changes::{HoldingRow, MoveRow};
+use brk_changes::{HoldingRow, MoveRow, TradeRow};
 use brk_commands::Command;
 use brk_commit::{Answer, book};
-use brk_explain_reads::{read_account_story, read_trade_story};
-use brk_explain_rows::{AccountStory, TradeStory};
+use brk_explain_reads::{
+    read_account_story, read_broker_story, read_holding_story, read_trade_story,
+    visit_completed_trades,
+};
+use brk_explain_rows::{AccountStory, BrokerStory, HoldingStory, TradeStory};
 use brk_lots::Lot;
 use brk_money::{Fault, Id, Planned, Stamp};
 use brk_queries::{Head, read_head_of_account};
-use brk_ref::Key;
+use brk_ref::{Key, Symbol};
 use brk_store::{Store, Visitor, WalkError};
 use brk_view::{Query, View};
 use sqlite::Alter;
@@ -51,9 +54,10 @@ impl<S: Alter> Desk<S> {
     ghost use Rattle.brk_money.specs.declared.fault.Fault.TheVariants.{Damaged, Memory};
     ghost use Rattle.brk_view.specs.Queries.{abstract_query};
     ghost use Rattle.std.specs.Fn.{CalledAt};
-    ghost use Rattle.brk_changes.specs.Rows.{abstract_holding_row, abstract_move_row};
+    ghost use Rattle.brk_changes.specs.Rows.{abstract_holding_row, abstract_move_row, abstract_trade_row};
     ghost use Rattle.brk_queries.specs.Heads.{IsHeadOfAccount};
-    ghost use Rattle.brk_explain_rows.specs.Stories.{IsStoryOfAccount, IsStoryOfTrade};
+    ghost use Rattle.brk_explain_model.specs.BrokerLines.{completed_trades_of_broker};
+    ghost use Rattle.brk_explain_rows.specs.Stories.{IsStoryOfAccount, IsStoryOfBroker, IsStoryOfHolding, IsStoryOfTrade};
     ghost use Rattle.brk_model.specs.Run.{IsCallFault};
     ghost use Rattle.brk_model.specs.Statement.{lot_rows_of_account};
     ghost use Rattle.brk_store.specs.Calling.{IsCallWithLot};
@@ -215,6 +219,61 @@ impl<S: Alter> Desk<S> {
         ensures fault { IfErr result IsCallFault }
     {
         read_account_story(alloc, &mut self.store, account)
+    }
+
+    /// Returns the rows and totals that the explanation of the holding of an account in a security
+    /// needs. Refuses with `NoAccount` if the account does not exist, and with `NoSecurity` if the
+    /// account exists and the security does not.
+    ///
+    /// Fails with `Memory` or `Store` only; with `Store` also if the security has no last price, or
+    /// if a row names another row that does not exist. The open database is unchanged, whatever the
+    /// result.
+    ///
+    /// A crash exposes only states that a crash before the call could expose.
+    pub fn holding_story(
+        &mut self,
+        alloc: Global,
+        account: Id,
+        symbol: &Symbol,
+    ) -> Planned<HoldingStory>
+        ensures read { ReadPost S.Store self.old self.new result (IsStoryOfHolding account symbol.now) }
+        ensures fault { IfErr result IsCallFault }
+    {
+        read_holding_story(alloc, &mut self.store, account, symbol)
+    }
+
+    /// Returns the row of a broker and the number of its accounts, or `None` if the broker does not
+    /// exist.
+    ///
+    /// Fails with `Memory` or `Store` only. The open database is unchanged, whatever the result.
+    ///
+    /// A crash exposes only states that a crash before the call could expose.
+    pub fn broker_story(&mut self, alloc: Global, broker: Id) -> Result<Option<BrokerStory>, Fault>
+        ensures read { ReadPost S.Store self.old self.new result (IsStoryOfBroker broker) }
+        ensures fault { IfErr result IsCallFault }
+    {
+        read_broker_story(alloc, &mut self.store, broker)
+    }
+
+    /// Passes the completed trades of a broker's accounts to a visitor, sorted by the stamp of
+    /// completion, ascending. Returns `Ok` only after the visitor has taken the last trade.
+    ///
+    /// Fails with `Cause` and the visitor's error, or with `Failed` and the fault `Memory` or
+    /// `Store` after a prefix of the trades. The open database is unchanged, whatever the result.
+    ///
+    /// A crash exposes only states that a crash before the call could expose.
+    pub fn visit_completed_trades<E, V: Visitor<TradeRow, E>>(
+        &mut self,
+        alloc: Global,
+        broker: Id,
+        visitor: &mut V,
+    ) -> Result<(), WalkError<E>>
+        requires ready { V.ready visitor.old }
+        ensures ready { V.ready visitor.new }
+        ensures leads { V.leads visitor.old visitor.new }
+        ensures walked { WalkPost S.Store self.old self.new abstract_trade_row (λ t. completed_trades_of_broker t broker) V.takes V.stops visitor.old visitor.new result }
+    {
+        visit_completed_trades::<S, E, V>(alloc, &mut self.store, broker, visitor)
     }
 
     /// Passes the cash rows of an account with stamps from `from` to `to`, both included, to a

@@ -20,21 +20,12 @@ use Rattle.brk_report_lines.specs.declared.fault.LinesFault.{LinesFault}
 use Rattle.brk_report_lines.specs.declared.fault.LinesFault.TheVariants.{Desk, Write}
 use Rattle.brk_report_lines.proofs.Composed.{appends_none, breaks_before, breaks_behind}
 use Rattle.brk_report.specs.Stops.{fault_of_walk_error}
+use Rattle.brk_explain_columns.proofs.RunningRows.{rows_parts, total_after}
 
 -- a part that may end with any line is one that may have all its lines written
 weaker : (lines : List Text) (a b : Option Text) (e : LinesFault) → FailsWithinLines lines a b e → FailsWithinFirstLines lines a b e
 weaker lines a b (Desk f) h = (h.0, (h.1.0, h.1.1 ∷ h.1.2, h.1.3, h.1.4))
 weaker lines a b Write h = h
-
--- the total of all elements
-abbrev pub total_after : {M : Type 0} → (M → ℤ) → ℤ → List M → ℤ
-total_after f from [] = from
-total_after f from (m ∷ ms) = total_after f (from +ℤ f m) ms
-
--- rows behind rows
-rows_parts : {M : Type 0} (f : M → ℤ) (line : M → ℤ → Text) (from : ℤ) (xs ys : List M) → lines_with_running_total f line from (xs ++ ys) ≡ lines_with_running_total f line from xs ++ lines_with_running_total f line (total_after f from xs) ys
-rows_parts f line from [] ys = refl
-rows_parts f line from (x ∷ xs) ys = ap (λ (l : List Text). line x (from +ℤ f x) ∷ l) (rows_parts f line (from +ℤ f x) xs ys)
 
 module _ {S X M V : Type 0} (g : Ghosts S) (old new : Held S) (of : X → M) (list : Tables → List M) (takes : V → X → V → Type 0) (stops : V → X → LinesFault → V → Type 0) (before after : V)
     (t : Tables) (clean : HasCleanDisk (state g new)) (holds : HoldsRows g old t) (result : Result (Unit {0}) (WalkError LinesFault)) (walked : WalkPost g old new of list takes stops before after result)

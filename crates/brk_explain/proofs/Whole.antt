@@ -1,27 +1,35 @@
 -- The lines that were read are those of the explanation.
-use Rattle.std.proofs.Common.{◌≡◌, ◌∙◌, ℕ, ◌==◌, Bool, true, false, List, [], ◌∷◌, ◌++◌, Option, Some, None, Result, Ok, Err, find, length, map, refl, sym, ap, inr}
+use Rattle.std.proofs.Common.{◌≡◌, ◌∙◌, ℕ, ◌==◌, Bool, true, false, List, [], ◌∷◌, ◌++◌, Option, Some, None, Result, Ok, Err, find, length, map, refl, sym, ap, inl, inr}
+use Rattle.std.specs.Prelude.{bytes_eq}
 use Rattle.std.specs.Io.KnownBytes.{Appends}
 use Rattle.std.proofs.lemmas.Bool.{eqb-true}
 use Rattle.std.proofs.lemmas.List.{append_assoc}
+use Rattle.std.proofs.lemmas.Slice.Eq.{bytes_eq-Decides}
 use Rattle.brk_money.specs.Spelling.{Text}
 use Rattle.brk_money.specs.declared.fault.Fault.{Fault}
 use Rattle.brk_money.specs.declared.refusal.Refusal.{Refusal}
-use Rattle.brk_money.specs.declared.refusal.Refusal.TheVariants.{NoAccount, NoTrade}
-use Rattle.brk_model.specs.Joins.{account_row_with_id, trade_row_with_id}
+use Rattle.brk_money.specs.declared.refusal.Refusal.TheVariants.{NoAccount, NoBroker, NoTrade}
+use Rattle.brk_model.specs.Joins.{account_row_with_id, last_price_in_tables, trade_row_with_id}
 use Rattle.brk_model.specs.Statement.{text_of_lines, lot_rows_of_account}
-use Rattle.brk_model.specs.Tables.{AccountRow, Tables}
-use Rattle.brk_ref.specs.Records.{abstract_account_row}
-use Rattle.brk_explain_model.specs.AccountLines.{Held, holding_and_total_lines, account_total_lines, account_explanation_lines, account_header_lines, balance_header_lines, priced_holdings_of_account, holding_line, open_lot_line, account_cash_rows_by_stamp, cash_posting_lines}
-use Rattle.brk_explain_model.specs.Explain.{AccountOf, TradeOf, explanation}
+use Rattle.brk_model.specs.Tables.{AccountRow, BrokerRow, SecurityRow, Tables}
+use Rattle.brk_ref.specs.Records.{abstract_account_row, abstract_broker_row, abstract_security_row}
+use Rattle.brk_explain_model.specs.AccountLines.{PricedHolding, holding_and_total_lines, account_total_lines, account_explanation_lines, account_header_lines, balance_header_lines, priced_holdings_of_account, holding_line, open_lot_line, account_cash_rows_by_stamp, cash_posting_lines}
+use Rattle.brk_explain_model.specs.BrokerLines.{accounts_with_broker, broker_total_lines, broker_explanation_lines, broker_row_with_id, broker_story_lines, broker_header_lines, trade_commission_lines, completed_trades_of_broker}
+use Rattle.brk_explain_model.specs.Explain.{AccountOf, BrokerOf, HoldingOf, TradeOf, explanation}
+use Rattle.brk_explain_model.specs.HoldingLines.{holding_explanation_lines, holding_story_lines, holding_header_lines}
+use Rattle.brk_explain_model.specs.Holdings.{completed_trades_in_symbol, lots_opened_in_symbol, summary_quantity_in_symbol}
 use Rattle.brk_explain_model.specs.TradeLines.{order_and_status_lines, title_and_party_lines, trade_explanation_lines}
 use Rattle.brk_explain_model.specs.Trades.{TradeStory}
-use Rattle.brk_explain_rows.specs.Stories.{IsStoryOfAccount, IsStoryOfTrade, abstract_priced_holding, abstract_trade_story}
+use Rattle.brk_explain_rows.specs.Stories.{IsStoryOfAccount, IsStoryOfBroker, IsStoryOfHolding, IsStoryOfTrade, abstract_priced_holding, abstract_trade_story}
 use Rattle.brk_explain_rows.specs.declared.account_story.AccountStory as account_story
+use Rattle.brk_explain_rows.specs.declared.broker_story.BrokerStory as broker_story
+use Rattle.brk_explain_rows.specs.declared.holding_story.HoldingStory as holding_story
 use Rattle.brk_explain_rows.specs.declared.story.TradeStory as trade_story
 use Rattle.brk_report_lines.specs.Written.{FailsWithinLines}
 use Rattle.brk_report_lines.specs.declared.fault.LinesFault.TheVariants.{Desk, Write}
 use Rattle.brk_report_lines.specs.declared.fault.ReportFault.TheVariants as report
-use Rattle.brk_explain.specs.Sections.{all_account_lines}
+use Rattle.brk_explain_sums.specs.HoldingStories.{lines_of_holding_story}
+use Rattle.brk_explain.specs.Sections.{all_broker_lines, all_account_lines}
 use Rattle.brk_explain.specs.Told.{WritesLinesOrRefuses}
 use Rattle.brk_explain.proofs.Some.{HasFirst, first_behind}
 
@@ -57,11 +65,11 @@ unfolding explanation account_explanation_lines
 account_told t account story h =
     let a = abstract_account_row story.account in
     let id : a.id ≡ account = eqb-true a.id account (passes_found (λ (r : AccountRow). r.id == account) t.accounts a h.0) in
-    let lines : ℕ → List Held → List Text =
+    let lines : ℕ → List PricedHolding → List Text =
     λ n held.
     account_header_lines a ++ cash_posting_lines a.opening (account_cash_rows_by_stamp t n) ++ balance_header_lines a ++ map open_lot_line (lot_rows_of_account t n) ++ holding_and_total_lines a held (length (account_cash_rows_by_stamp t n)) (length (lot_rows_of_account t n)) in
     rw h.0
-    (ap (λ (n : ℕ). Ok (lines n (priced_holdings_of_account t n))) id ∙ ap (λ (held : List Held). Ok (lines account held)) (sym h.1)
+    (ap (λ (n : ℕ). Ok (lines n (priced_holdings_of_account t n))) id ∙ ap (λ (held : List PricedHolding). Ok (lines account held)) (sym h.1)
     ∙ ap (λ (l : List Text). Ok l)
     (five_parts (account_header_lines a) (cash_posting_lines a.opening (account_cash_rows_by_stamp t account)) (balance_header_lines a) (map open_lot_line (lot_rows_of_account t account))
     (holding_and_total_lines a (map abstract_priced_holding story.held.items) (length (account_cash_rows_by_stamp t account)) (length (lot_rows_of_account t account)))))
@@ -78,9 +86,57 @@ pub balance_first : (a : AccountRow) → HasFirst (balance_header_lines a)
 unfolding balance_header_lines
 balance_first a = (_, _, refl)
 
-pub bottom_first : (a : AccountRow) (held : List Held) (cash lots : ℕ) → HasFirst (holding_and_total_lines a held cash lots)
+pub bottom_first : (a : AccountRow) (held : List PricedHolding) (cash lots : ℕ) → HasFirst (holding_and_total_lines a held cash lots)
 unfolding account_total_lines
 bottom_first a held cash lots = first_behind (map holding_line held) _ (_, _, refl)
+
+-- ---- a holding
+
+pub holding_told : (t : Tables) (account : ℕ) (symbol : Text) (story : holding_story.HoldingStory) → IsStoryOfHolding account symbol (Ok story) t
+    → explanation t (HoldingOf account symbol) ≡ Ok (lines_of_holding_story story)
+unfolding explanation holding_explanation_lines
+holding_told t account symbol story h =
+    let a = abstract_account_row story.account in
+    let s = abstract_security_row story.security in
+    let id : a.id ≡ account = eqb-true a.id account (passes_found (λ (r : AccountRow). r.id == account) t.accounts a h.0) in
+    let named : s.symbol ≡ symbol = (bytes_eq-Decides s.symbol symbol).0 (passes_found (λ (r : SecurityRow). bytes_eq r.symbol symbol) t.securities s h.1) in
+    let lines : ℕ → Text → List Text = λ n x. holding_story_lines a s (completed_trades_in_symbol t n x) (lots_opened_in_symbol t n x) (summary_quantity_in_symbol t n x) (last_price_in_tables t x) in
+    rw (h.0, h.1)
+    (ap (λ (n : ℕ). Ok (lines n s.symbol)) id ∙ ap (λ (x : Text). Ok (lines account x)) named
+    ∙ (λ i. Ok (holding_story_lines a s (sym h.2 i) (sym h.3 i) (sym h.4 i) (sym h.5 i))))
+
+pub no_holding : (t : Tables) (account : ℕ) (symbol : Text) (refusal : Refusal) → IsStoryOfHolding account symbol (Err refusal) t → explanation t (HoldingOf account symbol) ≡ Err refusal
+unfolding explanation
+no_holding t account symbol refusal (inl h) = rw (h.0, h.1) refl
+no_holding t account symbol refusal (inr h) = rw (h.1, h.2, h.3) refl
+
+pub holding_first : (story : holding_story.HoldingStory) → HasFirst (lines_of_holding_story story)
+unfolding holding_story_lines holding_header_lines
+holding_first story = (_, _, refl)
+
+-- ---- a broker
+
+pub broker_told : (t : Tables) (broker : ℕ) (story : broker_story.BrokerStory) → IsStoryOfBroker broker (Some story) t → explanation t (BrokerOf broker) ≡ Ok (all_broker_lines t broker story)
+unfolding explanation broker_explanation_lines broker_story_lines
+broker_told t broker story h =
+    let b = abstract_broker_row story.broker in
+    let done = completed_trades_of_broker t broker in
+    let id : b.id ≡ broker = eqb-true b.id broker (passes_found (λ (r : BrokerRow). r.id == broker) t.brokers b h.0) in
+    rw h.0
+    (ap (λ (n : ℕ). Ok (broker_story_lines b (length (accounts_with_broker t n)) (completed_trades_of_broker t n))) id ∙ ap (λ (n : ℕ). Ok (broker_story_lines b n done)) (sym h.1)
+    ∙ ap (λ (l : List Text). Ok l) (append_assoc (broker_header_lines b) (trade_commission_lines done) (broker_total_lines b story.accounts (length done))))
+
+pub no_broker : (t : Tables) (broker : ℕ) → broker_row_with_id t broker ≡ None → explanation t (BrokerOf broker) ≡ Err NoBroker
+unfolding explanation
+no_broker t broker none = rw none refl
+
+pub broker_top_first : (b : BrokerRow) → HasFirst (broker_header_lines b)
+unfolding broker_header_lines
+broker_top_first b = (_, _, refl)
+
+pub broker_end_first : (b : BrokerRow) (accounts trades : ℕ) → HasFirst (broker_total_lines b accounts trades)
+unfolding broker_total_lines
+broker_end_first b accounts trades = (_, _, refl)
 
 -- ---- what was written
 

@@ -1,13 +1,15 @@
--- The parts of the explanation of an account.
+-- The parts of the explanations of an account and of a broker.
 use Rattle.std.specs.Prelude.{◌≡◌, ℕ, ℤ, List, ◌++◌, Option, Result, Ok, Err, length, map}
 use Rattle.std.specs.Io.KnownBytes.{Appends}
 use Rattle.brk_money.specs.Spelling.{Text}
 use Rattle.brk_model.specs.Statement.{text_of_lines, lot_rows_of_account}
 use Rattle.brk_model.specs.Tables.{Tables}
-use Rattle.brk_ref.specs.Records.{abstract_account_row}
+use Rattle.brk_ref.specs.Records.{abstract_account_row, abstract_broker_row}
 use Rattle.brk_explain_model.specs.AccountLines.{holding_and_total_lines, account_header_lines, balance_header_lines, open_lot_line, account_cash_rows_by_stamp, cash_posting_lines}
+use Rattle.brk_explain_model.specs.BrokerLines.{broker_total_lines, broker_header_lines, trade_commission_lines, completed_trades_of_broker}
 use Rattle.brk_explain_rows.specs.Stories.{abstract_priced_holding}
 use Rattle.brk_explain_rows.specs.declared.account_story.AccountStory.{AccountStory}
+use Rattle.brk_explain_rows.specs.declared.broker_story.BrokerStory.{BrokerStory}
 use Rattle.brk_report_lines.specs.Written.{FailsWithinFirstLines}
 use Rattle.brk_report_lines.specs.declared.fault.LinesFault.{LinesFault}
 
@@ -35,3 +37,14 @@ all_account_lines t account story =
     ++ (balance_header_lines (abstract_account_row story.account)
     ++ (account_lot_lines t account
     ++ holding_and_total_lines (abstract_account_row story.account) (map abstract_priced_holding story.held.items) (length (account_cash_rows_by_stamp t account)) (length (lot_rows_of_account t account)))))
+
+-- The lines of the completed trades of the accounts of `broker`, each with the running total of the
+-- commissions.
+abbrev pub broker_trade_lines : Tables → ℕ → List Text
+broker_trade_lines t broker = trade_commission_lines (completed_trades_of_broker t broker)
+
+-- All lines of the explanation of `broker`, whose row and number of accounts are those of `story`;
+-- its completed trades are those of the tables `t`.
+abbrev pub all_broker_lines : Tables → ℕ → BrokerStory → List Text
+all_broker_lines t broker story =
+    broker_header_lines (abstract_broker_row story.broker) ++ (broker_trade_lines t broker ++ broker_total_lines (abstract_broker_row story.broker) story.accounts (length (completed_trades_of_broker t broker)))

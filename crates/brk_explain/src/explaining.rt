@@ -1,25 +1,29 @@
 ghost use Rattle.brk_explain.specs.Requests.{abstract_explain_request};
-ghost use Rattle.brk_explain.specs.Sections.{all_account_lines};
+ghost use Rattle.brk_explain.specs.Sections.{all_broker_lines, all_account_lines};
 ghost use Rattle.brk_explain.specs.Told.{WriteLinesPost};
-ghost use Rattle.brk_explain_model.specs.Explain.{TradeOf, AccountOf, explanation};
+ghost use Rattle.brk_explain_model.specs.Explain.{TradeOf, AccountOf, HoldingOf, BrokerOf, explanation};
 ghost use Rattle.brk_report.specs.Stated.{PreservesDesk, HoldsForStoredTables};
 ghost use Rattle.brk_report_lines.specs.Written.{WritesLines};
 
-use crate::parse::Explain;
-use crate::sections::{write_cash_posting_lines, write_open_lot_lines};
+use crate::parse::ExplainRequest;
+use crate::sections::{
+    write_cash_posting_lines, write_open_lot_lines, write_trade_commission_lines,
+};
 use brk_desk::Desk;
 use brk_explain_lines::{
     account_header_text, balance_header_text, holding_and_total_text, trade_explanation_text,
 };
-use brk_explain_rows::AccountStory;
+use brk_explain_rows::{AccountStory, BrokerStory};
+use brk_explain_sums::{broker_header_text, broker_total_text, holding_explanation_text};
 use brk_money::{Id, Refusal};
+use brk_ref::Symbol;
 use brk_report_lines::{LinesFault, ReportFault, write_lines};
 use sqlite::Alter;
 use std::alloc::Global;
 use std::io::Write;
 
 // Writes the explanation of a trade. Fails with `Refused` (`NoTrade`) if it does not exist, or as
-// `explain` does. The open database is unchanged.
+// `write_explanation` does. The open database is unchanged.
 fn write_trade_explanation<W: Write, S: Alter>(
     alloc: Global,
     desk: &mut Desk<S>,
@@ -64,7 +68,7 @@ fn write_account_lines<W: Write, S: Alter>(
 }
 
 // Writes the explanation of an account. Fails with `Refused` (`NoAccount`) if it does not exist, or
-// as `explain` does. The open database is unchanged.
+// as `write_explanation` does. The open database is unchanged.
 fn write_account_explanation<W: Write, S: Alter>(
     alloc: Global,
     desk: &mut Desk<S>,
@@ -85,25 +89,97 @@ fn write_account_explanation<W: Write, S: Alter>(
     }
 }
 
-/// Writes the explanation of a trade or of an account of the desk. The open database is unchanged,
-/// whatever the result.
+// Writes the explanation of the holding of an account in a security. Fails with `Refused`
+// (`NoAccount` or `NoSecurity`) if the account or the security does not exist, or as
+// `write_explanation` does. The open database is unchanged.
+fn write_holding_explanation<W: Write, S: Alter>(
+    alloc: Global,
+    desk: &mut Desk<S>,
+    account: Id,
+    symbol: &Symbol,
+    writer: &mut W,
+) -> Result<(), ReportFault>
+    ensures told { WriteLinesPost S.Store desk.old desk.new (λ t. explanation t (HoldingOf account symbol.now)) (W.contents writer.old) (W.contents writer.new) result }
+{
+    let story = match desk.holding_story(alloc, account, symbol) {
+        Ok(Ok(story)) => story,
+        Ok(Err(refusal)) => return Err(ReportFault::Refused(refusal)),
+        Err(fault) => return Err(ReportFault::Desk(fault)),
+    };
+    match write_lines(writer, holding_explanation_text(alloc, &story)) {
+        Ok(()) => Ok(()),
+        Err(LinesFault::Desk(fault)) => Err(ReportFault::Desk(fault)),
+        Err(LinesFault::Write) => Err(ReportFault::Write),
+    }
+}
+
+// Writes all lines of the explanation of a broker. Fails with `Desk` or `Write`. The open database
+// is unchanged.
+fn write_broker_lines<W: Write, S: Alter>(
+    alloc: Global,
+    desk: &mut Desk<S>,
+    broker: Id,
+    story: &BrokerStory,
+    writer: &mut W,
+) -> Result<(), LinesFault>
+    ensures keeps { PreservesDesk S.Store desk.old desk.new }
+    ensures written { HoldsForStoredTables S.Store desk.old desk.new (λ t. WritesLines (all_broker_lines t broker story.now) (W.contents writer.old) (W.contents writer.new) result) }
+{
+    let row = &story.broker;
+    write_lines(writer, broker_header_text(alloc, row))?;
+    let trades = write_trade_commission_lines(alloc, desk, broker, writer)?;
+    write_lines(
+        writer,
+        broker_total_text(alloc, row, story.accounts, trades),
+    )
+}
+
+// Writes the explanation of a broker. Fails with `Refused` (`NoBroker`) if it does not exist, or as
+// `write_explanation` does. The open database is unchanged.
+fn write_broker_explanation<W: Write, S: Alter>(
+    alloc: Global,
+    desk: &mut Desk<S>,
+    broker: Id,
+    writer: &mut W,
+) -> Result<(), ReportFault>
+    ensures told { WriteLinesPost S.Store desk.old desk.new (λ t. explanation t (BrokerOf broker)) (W.contents writer.old) (W.contents writer.new) result }
+{
+    let story = match desk.broker_story(alloc, broker) {
+        Ok(Some(story)) => story,
+        Ok(None) => return Err(ReportFault::Refused(Refusal::NoBroker)),
+        Err(fault) => return Err(ReportFault::Desk(fault)),
+    };
+    match write_broker_lines(alloc, desk, broker, &story, writer) {
+        Ok(()) => Ok(()),
+        Err(LinesFault::Desk(fault)) => Err(ReportFault::Desk(fault)),
+        Err(LinesFault::Write) => Err(ReportFault::Write),
+    }
+}
+
+/// Writes the explanation of a trade, of an account, of a holding or of a broker of the desk. The
+/// open database is unchanged, whatever the result.
 ///
-/// Fails with `Refused` 5 if the trade does not exist, or with `Refused` 1 if the account does not;
-/// nothing is then written. After `Desk` only whole lines are written, from the first on and never
-/// the last one. After `Write` whole lines are written, from the first on, and a part of the next
-/// one.
+/// Fails with `Refused` 5 if the trade does not exist, with `Refused` 1 if the account does not,
+/// also if the holding of an account is explained, then with `Refused` 4 if the security does not,
+/// and with `Refused` 3 if the broker does not; nothing is then written. After `Desk` only whole
+/// lines are written, from the first on and never the last one. After `Write` whole lines are
+/// written, from the first on, and a part of the next one.
 ///
-/// A crash exposes only states that were possible before the call.
+/// A crash exposes only states that a crash before the call could expose.
 pub fn write_explanation<W: Write, S: Alter>(
     alloc: Global,
     desk: &mut Desk<S>,
-    what: Explain,
+    what: &ExplainRequest,
     writer: &mut W,
 ) -> Result<(), ReportFault>
-    ensures explained { WriteLinesPost S.Store desk.old desk.new (λ t. explanation t (abstract_explain_request what)) (W.contents writer.old) (W.contents writer.new) result }
+    ensures explained { WriteLinesPost S.Store desk.old desk.new (λ t. explanation t (abstract_explain_request what.now)) (W.contents writer.old) (W.contents writer.new) result }
 {
     match what {
-        Explain::Trade(trade) => write_trade_explanation(alloc, desk, trade, writer),
-        Explain::Account(account) => write_account_explanation(alloc, desk, account, writer),
+        ExplainRequest::Trade(trade) => write_trade_explanation(alloc, desk, *trade, writer),
+        ExplainRequest::Account(account) => write_account_explanation(alloc, desk, *account, writer),
+        ExplainRequest::Holding { account, symbol } => {
+            write_holding_explanation(alloc, desk, *account, symbol, writer)
+        }
+        ExplainRequest::Broker(broker) => write_broker_explanation(alloc, desk, *broker, writer),
     }
 }

@@ -1,4 +1,5 @@
-//! Explains a trade or an account of a desk: writes the derivation of its amounts.
+//! Explains a trade, an account, a holding or a broker of a desk: writes the derivation of its
+//! amounts.
 #![tactic(auto)]
 
 pub mod explaining;
@@ -8,4 +9,4 @@ pub mod visitors;
 
 pub use brk_report_lines::ReportFault;
 pub use explaining::write_explanation;
-pub use parse::{Explain, parse_explain_request};
+pub use parse::{ExplainRequest, parse_explain_request};

@@ -1,14 +1,15 @@
-//! The parts of the explanation of an account over which the desk walks. None of them changes the
-//! desk.
+//! The parts of the explanations of an account and of a broker over which the desk walks. None of
+//! them changes the desk.
 
 ghost use Rattle.std.specs.Prelude.{◌≡◌, length};
-ghost use Rattle.brk_explain.specs.Sections.{WritesCountedLines, account_cash_lines, account_lot_lines};
+ghost use Rattle.brk_explain.specs.Sections.{WritesCountedLines, account_cash_lines, broker_trade_lines, account_lot_lines};
 ghost use Rattle.brk_explain_model.specs.AccountLines.{account_cash_rows_by_stamp};
+ghost use Rattle.brk_explain_model.specs.BrokerLines.{completed_trades_of_broker};
 ghost use Rattle.brk_model.specs.Statement.{lot_rows_of_account};
 ghost use Rattle.brk_report.specs.Stated.{PreservesDesk, HoldsForStoredTables};
 ghost use Rattle.brk_report.specs.Stops.{fault_of_walk_error};
 
-use crate::visitors::{LotRows, PostedRows};
+use crate::visitors::{TradeCommissionWriter, OpenLotWriter, CashPostingWriter};
 use brk_desk::{Desk, WalkError};
 use brk_money::{Cents, Id, Stamp, Wide};
 use brk_report_lines::LinesFault;
@@ -38,7 +39,7 @@ pub(crate) fn write_cash_posting_lines<W: Write, S: Alter>(
     ensures keeps { PreservesDesk S.Store desk.old desk.new }
     ensures written { HoldsForStoredTables S.Store desk.old desk.new (λ t. WritesCountedLines (account_cash_lines t account opening) (length (account_cash_rows_by_stamp t account)) (W.contents writer.old) (W.contents writer.new) result) }
 {
-    let mut rows = PostedRows {
+    let mut rows = CashPostingWriter {
         alloc,
         writer,
         balance: Wide::from(opening),
@@ -62,7 +63,7 @@ pub(crate) fn write_open_lot_lines<W: Write, S: Alter>(
     ensures keeps { PreservesDesk S.Store desk.old desk.new }
     ensures written { HoldsForStoredTables S.Store desk.old desk.new (λ t. WritesCountedLines (account_lot_lines t account) (length (lot_rows_of_account t account)) (W.contents writer.old) (W.contents writer.new) result) }
 {
-    let mut rows = LotRows {
+    let mut rows = OpenLotWriter {
         alloc,
         writer,
         count: 0,
@@ -70,5 +71,28 @@ pub(crate) fn write_open_lot_lines<W: Write, S: Alter>(
     match desk.visit_lots(account, &mut rows) {
         Ok(()) => Ok(rows.count),
         Err(stop) => Err(fault_from_walk_error(stop)),
+    }
+}
+
+/// Writes a line for each completed trade of a broker's accounts, with the running total of the
+/// commissions. Returns the number of trades. Fails with `Desk` or `Write`.
+pub(crate) fn write_trade_commission_lines<W: Write, S: Alter>(
+    alloc: Global,
+    desk: &mut Desk<S>,
+    broker: Id,
+    writer: &mut W,
+) -> Result<u64, LinesFault>
+    ensures keeps { PreservesDesk S.Store desk.old desk.new }
+    ensures written { HoldsForStoredTables S.Store desk.old desk.new (λ t. WritesCountedLines (broker_trade_lines t broker) (length (completed_trades_of_broker t broker)) (W.contents writer.old) (W.contents writer.new) result) }
+{
+    let mut rows = TradeCommissionWriter {
+        alloc,
+        writer,
+        total: Wide::new(0),
+        count: 0,
+    };
+    match desk.visit_completed_trades(alloc, broker, &mut rows) {
+        Ok(()) => Ok(rows.count),
+        Err(ended) => Err(fault_from_walk_error(ended)),
     }
 }

@@ -1,13 +1,14 @@
 //! Visitors that write a row for each record, and count the records.
 
-ghost use Rattle.std.specs.Prelude.{◌≡◌, ◌+ℤ◌, Err, IfOk, OnErr};
+ghost use Rattle.std.specs.Prelude.{◌≡◌, ◌+ℤ◌, Err, IfOk, OnErr, pos};
 ghost use Rattle.brk_money.specs.declared.fault.Fault.TheVariants as fault;
 ghost use Rattle.brk_report_lines.specs.declared.fault.LinesFault.TheVariants.{Desk};
 
-use brk_changes::{HoldingRow, MoveRow};
+use brk_changes::{HoldingRow, MoveRow, TradeRow};
 use brk_desk::Visitor;
 use brk_explain_lines::{cash_posting_text, open_lot_text};
-use brk_money::{Cents, Fault, Wide};
+use brk_explain_sums::trade_commission_text;
+use brk_money::{Amount, Cents, Fault, Wide};
 use brk_report_lines::{LinesFault, write_line};
 use std::alloc::Global;
 use std::io::Write;
@@ -23,16 +24,27 @@ fn total_plus_amount(total: Wide, amount: Cents) -> Result<Wide, LinesFault>
     }
 }
 
+// Returns `total` plus a commission. Fails with `Desk(Store)` if the sum does not fit.
+fn total_plus_commission(total: Wide, commission: Amount) -> Result<Wide, LinesFault>
+    ensures sum { IfOk result (λ sum. sum ≡ total +ℤ pos commission) }
+    ensures fault { OnErr result (result ≡ Err (Desk fault.Store)) }
+{
+    match total.get().checked_add(i128::from(commission.get())) {
+        Some(sum) => Ok(Wide::new(sum)),
+        None => Err(LinesFault::Desk(Fault::Store)),
+    }
+}
+
 /// A visitor that writes a row for each cash row, with the balance after it, and counts the rows.
 #[derive(Drop)]
-pub struct PostedRows<'a, W> {
+pub struct CashPostingWriter<'a, W> {
     pub alloc: Global,
     pub writer: &'a mut W,
     pub balance: Wide,
     pub count: u64,
 }
 
-impl<W: Write> Visitor<MoveRow, LinesFault> for PostedRows<'_, W> {
+impl<W: Write> Visitor<MoveRow, LinesFault> for CashPostingWriter<'_, W> {
     ghost use Rattle.std.specs.Prelude.{◌≡◌, ◌+◌, ◌+ℤ◌, [], ◌∷◌, refl};
     ghost use Rattle.std.proofs.Common.{◌∙◌};
     ghost use Rattle.std.specs.Io.KnownBytes.{Appends};
@@ -68,13 +80,13 @@ impl<W: Write> Visitor<MoveRow, LinesFault> for PostedRows<'_, W> {
 
 /// A visitor that writes a row for each lot, and counts the lots.
 #[derive(Drop)]
-pub struct LotRows<'a, W> {
+pub struct OpenLotWriter<'a, W> {
     pub alloc: Global,
     pub writer: &'a mut W,
     pub count: u64,
 }
 
-impl<W: Write> Visitor<HoldingRow, LinesFault> for LotRows<'_, W> {
+impl<W: Write> Visitor<HoldingRow, LinesFault> for OpenLotWriter<'_, W> {
     ghost use Rattle.std.specs.Prelude.{◌≡◌, ◌+◌, [], ◌∷◌, refl};
     ghost use Rattle.std.proofs.Common.{◌∙◌};
     ghost use Rattle.std.specs.Io.KnownBytes.{Appends};
@@ -97,6 +109,50 @@ impl<W: Write> Visitor<HoldingRow, LinesFault> for LotRows<'_, W> {
             return Err(LinesFault::Desk(Fault::Store));
         };
         write_line(self.writer, open_lot_text(self.alloc, item))?;
+        self.count = count;
+        Ok(())
+    }
+
+    ghost reflexive = { λ _. refl };
+
+    ghost transitive = { λ _ _ _ a b. b ∙ a };
+}
+
+/// A visitor that writes a row for each trade, with the running total of the commissions, and
+/// counts the trades.
+#[derive(Drop)]
+pub struct TradeCommissionWriter<'a, W> {
+    pub alloc: Global,
+    pub writer: &'a mut W,
+    pub total: Wide,
+    pub count: u64,
+}
+
+impl<W: Write> Visitor<TradeRow, LinesFault> for TradeCommissionWriter<'_, W> {
+    ghost use Rattle.std.specs.Prelude.{◌≡◌, ◌+◌, ◌+ℤ◌, [], ◌∷◌, pos, refl};
+    ghost use Rattle.std.proofs.Common.{◌∙◌};
+    ghost use Rattle.std.specs.Io.KnownBytes.{Appends};
+    ghost use Rattle.brk_changes.specs.Rows.{abstract_trade_row};
+    ghost use Rattle.brk_explain_model.specs.BrokerLines.{trade_commission_line};
+    ghost use Rattle.brk_report_lines.specs.Written.{FailsWithinLines, line_with_line_feed};
+
+    ghost ready = { λ _. Unit {0} };
+
+    ghost leads = { λ p q. q.writer.ghost_name ≡ p.writer.ghost_name };
+
+    ghost takes = { λ p r q. (q.total ≡ p.total +ℤ pos r.commission) × (q.count ≡ p.count + 1) × Appends (W.contents p.writer.now) (W.contents q.writer.now) (line_with_line_feed (trade_commission_line (abstract_trade_row r) (p.total +ℤ pos r.commission))) };
+
+    ghost stops = { λ p r e q. FailsWithinLines (trade_commission_line (abstract_trade_row r) (p.total +ℤ pos r.commission) ∷ []) (W.contents p.writer.now) (W.contents q.writer.now) e };
+
+    /// Writes the line of the trade with the running total of the commissions, and counts it. Fails
+    /// with `Desk` or `Write`; the total and the count are then unchanged.
+    fn visit(&mut self, item: &TradeRow) -> Result<(), LinesFault> {
+        let total = total_plus_commission(self.total, item.commission)?;
+        let Some(count) = self.count.checked_add(1) else {
+            return Err(LinesFault::Desk(Fault::Store));
+        };
+        write_line(self.writer, trade_commission_text(self.alloc, item, total))?;
+        self.total = total;
         self.count = count;
         Ok(())
     }

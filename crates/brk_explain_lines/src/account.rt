@@ -10,15 +10,12 @@ ghost use Rattle.brk_money.specs.declared.fault.Fault.TheVariants.{Memory};
 ghost use Rattle.brk_ref.specs.Records.{abstract_account_row};
 ghost use Rattle.brk_report_lines.specs.Written.{line_with_line_feed};
 
-use crate::facts::{
-    put_labeled_amount_line, put_labeled_number_line, put_labeled_text_line, put_number,
-    put_text_line,
-};
-use crate::moments::format_timestamp;
-use crate::starts::put_amount_column;
-use crate::sums::add_amounts;
 use brk_changes::{HoldingRow, MoveRow};
-use brk_explain_rows::Held;
+use brk_explain_columns::{
+    add_amounts, format_timestamp, put_amount_column, put_labeled_amount_line,
+    put_labeled_number_line, put_labeled_text_line, put_number, put_text_line,
+};
+use brk_explain_rows::PricedHolding;
 use brk_money::{Cents, Fault, Id, Price, Wide, write_cents};
 use brk_ref::AccountRow;
 use brk_report_lines::{lot_line, put_left_aligned, put_right_aligned};
@@ -120,7 +117,7 @@ pub fn open_lot_text(alloc: Global, row: &HoldingRow) -> Result<Vec<u8>, Fault>
 }
 
 // Returns the market value of a holding, in cents. Fails with `Store` if it does not fit.
-fn market_value_of_holding(held: &Held) -> Result<Wide, Fault>
+fn market_value_of_holding(held: &PricedHolding) -> Result<Wide, Fault>
     ensures worth { IfOk result (λ worth. worth ≡ lines.market_value_of_holding (abstract_priced_holding held.now)) }
     ensures fault { IfErr result IsCallFault }
 {
@@ -132,7 +129,7 @@ fn market_value_of_holding(held: &Held) -> Result<Wide, Fault>
 
 /// Returns the sum of the market values of holdings, in cents. Fails with `Store` if it does not
 /// fit.
-fn market_value_of_holdings(all: &[Held]) -> Result<Wide, Fault>
+fn market_value_of_holdings(all: &[PricedHolding]) -> Result<Wide, Fault>
     ensures total { IfOk result (λ total. total ≡ lines.market_value_of_holdings (map abstract_priced_holding all.now)) }
     ensures fault { IfErr result IsCallFault }
 {
@@ -182,7 +179,7 @@ fn put_quantity_and_price(
 
 // Appends the line of a holding. Fails with `Memory` or `Store`.
 #[tactic(auto, unfolding(brk_explain_model::specs::AccountLines::holding_line))]
-fn put_holding_line(alloc: Global, out: &mut Vec<u8>, held: &Held) -> Result<(), Fault>
+fn put_holding_line(alloc: Global, out: &mut Vec<u8>, held: &PricedHolding) -> Result<(), Fault>
     ensures ok { OnOk result (out.new.items ≡ out.old.items ++ line_with_line_feed (lines.holding_line (abstract_priced_holding held.now))) }
     ensures fault { IfErr result IsCallFault }
 {
@@ -195,7 +192,7 @@ fn put_holding_line(alloc: Global, out: &mut Vec<u8>, held: &Held) -> Result<(),
 }
 
 // Appends a line for each holding. Fails with `Memory` or `Store`.
-fn put_holding_lines(alloc: Global, out: &mut Vec<u8>, all: &[Held]) -> Result<(), Fault>
+fn put_holding_lines(alloc: Global, out: &mut Vec<u8>, all: &[PricedHolding]) -> Result<(), Fault>
     ensures ok { OnOk result (out.new.items ≡ out.old.items ++ text_of_lines (map lines.holding_line (map abstract_priced_holding all.now))) }
     ensures fault { IfErr result IsCallFault }
 {
@@ -253,7 +250,7 @@ fn put_account_total_lines(
 pub fn holding_and_total_text(
     alloc: Global,
     row: &AccountRow,
-    held: &[Held],
+    held: &[PricedHolding],
     cash: u64,
     lots: u64,
 ) -> Result<Vec<u8>, Fault>

@@ -9,11 +9,11 @@ ghost use Rattle.brk_model.specs.Statement.{text_of_lines};
 ghost use Rattle.brk_money.specs.declared.fault.Fault.TheVariants.{Memory};
 ghost use Rattle.brk_report_lines.specs.Written.{line_with_line_feed};
 
-use crate::facts::{
-    put_labeled_amount_line, put_labeled_number, put_labeled_value_line, put_number,
-};
-use crate::sums::{add_amounts, balance_change_of_trade};
+use crate::sums::balance_change_of_trade;
 use brk_changes::MoveRow;
+use brk_explain_columns::{
+    add_amounts, put_labeled_amount_line, put_labeled_number, put_labeled_value_line, put_number,
+};
 use brk_explain_rows::{OrderStory, ResultStory};
 use brk_money::{Fault, Wide};
 use std::alloc::Global;

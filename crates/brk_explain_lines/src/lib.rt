@@ -3,12 +3,9 @@
 
 pub mod account;
 mod balance_lines;
-mod facts;
 mod lots_lines;
-pub mod moments;
 mod order_lines;
 mod settlement_lines;
-mod starts;
 mod sums;
 mod tax_lines;
 pub mod trade;

@@ -10,14 +10,15 @@ ghost use Rattle.brk_model.specs.Statement.{text_of_lines};
 ghost use Rattle.brk_money.specs.declared.fault.Fault.TheVariants.{Memory};
 ghost use Rattle.brk_report_lines.specs.Written.{line_with_line_feed};
 
-use crate::facts::{put_labeled_amount_line, put_labeled_number_line, put_text_line};
-use crate::moments::format_timestamp;
-use crate::starts::{put_leading_row_columns, put_shares_column, put_value_column};
 use crate::sums::{
     buy_value_of_closing, buy_value_of_closings, realised_gain_of_closings, sell_value_of_closing,
     sell_value_of_closings, shares_of_closing, total_closed_shares, wide_amount_of_cents,
 };
 use brk_changes::{LotChange, TradeRow};
+use brk_explain_columns::{
+    format_timestamp, put_labeled_amount_line, put_labeled_number_line, put_leading_row_columns,
+    put_shares_column, put_text_line, put_value_column,
+};
 use brk_explain_rows::{Closing, OrderStory, ResultStory};
 use brk_money::{Fault, Price, Side, Wide};
 use std::alloc::Global;

@@ -9,12 +9,11 @@ ghost use Rattle.brk_model.specs.Statement.{text_of_lines};
 ghost use Rattle.brk_money.specs.declared.fault.Fault.TheVariants.{Memory};
 ghost use Rattle.brk_report_lines.specs.Written.{line_with_line_feed};
 
-use crate::facts::{
-    put_labeled_amount_line, put_labeled_number, put_labeled_number_line, put_labeled_text,
-    put_labeled_text_line, put_number,
-};
-use crate::moments::format_timestamp;
 use brk_changes::HistoryRow;
+use brk_explain_columns::{
+    format_timestamp, put_labeled_amount_line, put_labeled_number, put_labeled_number_line,
+    put_labeled_text, put_labeled_text_line, put_number,
+};
 use brk_explain_rows::OrderStory;
 use brk_money::{Fault, Wide};
 use brk_report_lines::put_left_aligned;

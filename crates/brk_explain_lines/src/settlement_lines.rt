@@ -8,9 +8,11 @@ ghost use Rattle.brk_model.specs.Statement.{text_of_lines};
 ghost use Rattle.brk_money.specs.Spelling.{day_text};
 ghost use Rattle.brk_money.specs.declared.fault.Fault.TheVariants.{Memory};
 
-use crate::facts::{put_labeled_amount_line, put_labeled_number_line, put_labeled_text_line};
 use crate::sums::{negated_charge, negated_commission, negated_withheld_tax, signed_trade_value};
 use brk_changes::settlement_days;
+use brk_explain_columns::{
+    put_labeled_amount_line, put_labeled_number_line, put_labeled_text_line,
+};
 use brk_explain_rows::{OrderStory, ResultStory};
 use brk_money::{Day, Fault, Wide, day_of, write_day};
 use std::alloc::Global;

@@ -1,7 +1,7 @@
 //! The amounts of a completed trade. A sum that does not fit is the fault `Store`: no row of a
 //! store that passed its audit leads to one.
 
-ghost use Rattle.std.specs.Prelude.{◌≡◌, ◌+ℤ◌, ◌-ℤ◌, IfErr, IfOk, map, neg_ℤ, pos, if◌then◌else◌};
+ghost use Rattle.std.specs.Prelude.{◌≡◌, IfErr, IfOk, map, neg_ℤ, pos, if◌then◌else◌};
 ghost use Rattle.brk_explain_model.specs.Trades as trades;
 ghost use Rattle.brk_explain_rows.specs.Stories.{abstract_closing, abstract_order_story, abstract_result_story};
 ghost use Rattle.brk_model.specs.Base as base;
@@ -9,6 +9,7 @@ ghost use Rattle.brk_model.specs.Run.{IsCallFault};
 ghost use Rattle.brk_money.specs.Amounts as amounts;
 ghost use Rattle.brk_ref.specs.Records.{abstract_tax_rate};
 
+use brk_explain_columns::subtract_amounts;
 use brk_explain_rows::{Closing, OrderStory, ResultStory};
 use brk_money::{Amount, Cents, Fault, Price, Side, TaxRate, TaxStatus, Wide, commission, tax};
 use brk_ref::{Tax, tax_sum};
@@ -104,28 +105,6 @@ pub(crate) fn sell_value_of_closings(
         total = sum;
     }
     wide_amount_of_cents(total)
-}
-
-/// Returns the sum of two amounts. Fails with `Store` if it does not fit.
-pub(crate) fn add_amounts(one: Wide, other: Wide) -> Result<Wide, Fault>
-    ensures sum { IfOk result (λ sum. sum ≡ one +ℤ other) }
-    ensures fault { IfErr result IsCallFault }
-{
-    match one.get().checked_add(other.get()) {
-        Some(sum) => Ok(Wide::new(sum)),
-        None => Err(Fault::Store),
-    }
-}
-
-/// Returns the difference of two amounts. Fails with `Store` if it does not fit.
-pub(crate) fn subtract_amounts(one: Wide, other: Wide) -> Result<Wide, Fault>
-    ensures difference { IfOk result (λ difference. difference ≡ one -ℤ other) }
-    ensures fault { IfErr result IsCallFault }
-{
-    match one.get().checked_sub(other.get()) {
-        Some(difference) => Ok(Wide::new(difference)),
-        None => Err(Fault::Store),
-    }
 }
 
 /// Returns the realised gain of closings by a trade on a side at a price: the sum of their sell

@@ -9,11 +9,11 @@ ghost use Rattle.brk_money.specs.declared.fault.Fault.TheVariants.{Memory};
 ghost use Rattle.brk_ref.specs.Records.{abstract_band, abstract_tax_rate};
 ghost use Rattle.brk_report_lines.specs.Written.{line_with_line_feed};
 
-use crate::facts::{
+use crate::sums::{commission_in_current_band, sum_of_tax_rates, tax_at_current_rates};
+use brk_explain_columns::{
     put_labeled_amount_line, put_labeled_number, put_labeled_number_line, put_labeled_value_line,
     put_number,
 };
-use crate::sums::{commission_in_current_band, sum_of_tax_rates, tax_at_current_rates};
 use brk_explain_rows::{OrderStory, ResultStory};
 use brk_money::{Amount, Fault, Wide};
 use brk_ref::{Band, Tax};

@@ -9,7 +9,7 @@ ghost use Rattle.brk_model.specs.Statement.{text_of_lines};
 ghost use Rattle.brk_money.specs.declared.fault.Fault.TheVariants.{Memory};
 ghost use Rattle.brk_report_lines.specs.Written.{line_with_line_feed};
 
-use crate::facts::{
+use brk_explain_columns::{
     put_labeled_amount, put_labeled_amount_line, put_labeled_number_line, put_labeled_text_line,
     put_number,
 };

@@ -56,17 +56,17 @@ unfoldable pub open_lot_line : HoldingRow → Text
 open_lot_line row = left_aligned_text 6 (codes "Lot") ++ 32 ∷ lot_line row
 
 -- A holding summary (a row of HOLDING_SUMMARY), and the last price of its symbol, in cents.
-pub record Held : Type 0 where
+pub record PricedHolding : Type 0 where
   pub summary : SummaryRow
   pub price : ℕ
 
 -- The market value of the holding `held`, in cents: its quantity times the last price, below 0 if
 -- the shares were sold short.
-abbrev pub market_value_of_holding : Held → ℤ
+abbrev pub market_value_of_holding : PricedHolding → ℤ
 market_value_of_holding held = held.summary.qty *ℤ pos held.price
 
 -- The sum of the market values of the holdings `all`, in cents.
-abbrev pub market_value_of_holdings : List Held → ℤ
+abbrev pub market_value_of_holdings : List PricedHolding → ℤ
 market_value_of_holdings all = total_by market_value_of_holding all
 
 -- The first columns of the line of a holding: the word `Held`, `symbol`, and an empty column of 13
@@ -79,17 +79,17 @@ unfoldable pub quantity_and_price_columns : ℤ → ℕ → Text
 quantity_and_price_columns qty price = 32 ∷ right_aligned_text 11 (signed_decimal qty) ++ 32 ∷ right_aligned_text 10 (nonnegative_cents_text price)
 
 -- The line of the holding `held`: its symbol, quantity, last price and market value.
-unfoldable pub holding_line : Held → Text
+unfoldable pub holding_line : PricedHolding → Text
 holding_line held = holding_line_start held.summary.symbol ++ quantity_and_price_columns held.summary.qty held.price ++ amount_column (market_value_of_holding held)
 
 -- The holding summary `row` with the last price of its symbol in `tables`, or with price 0 if the
 -- symbol has none.
-abbrev pub priced_holding : Tables → SummaryRow → Held
+abbrev pub priced_holding : Tables → SummaryRow → PricedHolding
 priced_holding tables row = record { summary = row; price = last_price_in_tables tables row.symbol }
 
 -- The holding summaries of `account`, in the order of the table HOLDING_SUMMARY, each with the last
 -- price of its symbol.
-abbrev pub priced_holdings_of_account : Tables → ℕ → List Held
+abbrev pub priced_holdings_of_account : Tables → ℕ → List PricedHolding
 priced_holdings_of_account tables account = map (priced_holding tables) (filter (λ row. row.account == account) tables.summaries)
 
 -- The last line of the explanation of an account: the numbers of its cash rows (`cash`), lots and
@@ -108,7 +108,7 @@ account_total_lines balance holdings cash lots symbols =
 
 -- The lines of the holdings `held` of the account `a`, and the last lines. `cash` and `lots` are
 -- the numbers of its cash rows and lots.
-abbrev pub holding_and_total_lines : AccountRow → List Held → ℕ → ℕ → List Text
+abbrev pub holding_and_total_lines : AccountRow → List PricedHolding → ℕ → ℕ → List Text
 holding_and_total_lines a held cash lots = map holding_line held ++ account_total_lines a.balance (market_value_of_holdings held) cash lots (length held)
 
 -- All lines of the explanation of the account `a`: the first lines, its cash rows, balance, lots

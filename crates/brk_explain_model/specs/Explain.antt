@@ -1,20 +1,25 @@
--- What can be explained, how it is asked for, and the explanation.
+-- The requests for explanations, their words, and the explanation of each.
 use Rattle.std.specs.Prelude.{ℕ, List, [], ◌∷◌, Option, Some, None, Result, Ok, Err, codes}
 use Rattle.brk_money.specs.Spelling.{Text}
 use Rattle.brk_money.specs.declared.refusal.Refusal.{Refusal}
-use Rattle.brk_money.specs.declared.refusal.Refusal.TheVariants.{BadText, NoAccount, NoTrade}
-use Rattle.brk_model.specs.Forms.{ReadResult, read_id}
+use Rattle.brk_money.specs.declared.refusal.Refusal.TheVariants.{BadText, NoAccount, NoBroker, NoSecurity, NoTrade}
+use Rattle.brk_model.specs.Forms.{ReadResult, ◌⊛◌, read_id, read_symbol}
 use Rattle.brk_model.specs.Parse.{NamedParser, parse_by_first_field, read_and_wrap}
-use Rattle.brk_model.specs.Tables.{Tables}
-use Rattle.brk_model.specs.Joins.{account_row_with_id, trade_row_with_id}
+use Rattle.brk_model.specs.Tables.{Tables, AccountRow}
+use Rattle.brk_model.specs.Joins.{account_row_with_id, security_row_with_symbol, trade_row_with_id}
 use Rattle.brk_explain_model.specs.Trades.{details_of_trade}
 use Rattle.brk_explain_model.specs.TradeLines.{trade_explanation_lines}
 use Rattle.brk_explain_model.specs.AccountLines.{account_explanation_lines}
+use Rattle.brk_explain_model.specs.HoldingLines.{holding_explanation_lines}
+use Rattle.brk_explain_model.specs.BrokerLines.{broker_row_with_id, broker_explanation_lines}
 
--- What is to be explained: a trade or an account.
-pub data Explain : Type 0 where
-  TradeOf : (trade : ℕ) → Explain
-  AccountOf : (account : ℕ) → Explain
+-- A request for an explanation: of a trade, of an account, of the holding of an account in a
+-- symbol, or of a broker.
+pub data ExplainRequest : Type 0 where
+  TradeOf : (trade : ℕ) → ExplainRequest
+  AccountOf : (account : ℕ) → ExplainRequest
+  HoldingOf : (account : ℕ) → (symbol : Text) → ExplainRequest
+  BrokerOf : (broker : ℕ) → ExplainRequest
 
 -- The id that the only word parses as, or `BadText` if there is not exactly one word or if it is
 -- malformed.
@@ -22,12 +27,23 @@ abbrev pub read_single_id : List Text → ReadResult ℕ
 read_single_id (id ∷ []) = read_id id
 read_single_id _ = Err BadText
 
--- The forms, with their words.
-abbrev pub explain_request_readers : List (NamedParser Explain)
-explain_request_readers = (codes "trade", read_and_wrap TradeOf read_single_id) ∷ (codes "account", read_and_wrap AccountOf read_single_id) ∷ []
+-- The request for a holding that exactly two words parse as, the id of an account and a symbol, or
+-- `BadText` if there are not exactly two words or if one is malformed.
+abbrev pub read_holding_request : List Text → ReadResult ExplainRequest
+read_holding_request (account ∷ symbol ∷ []) = Ok (λ a s. HoldingOf a s) ⊛ read_id account ⊛ read_symbol symbol
+read_holding_request _ = Err BadText
 
--- The object that `words` ask to explain, or `BadText` if they are malformed.
-unfoldable pub read_explain_request : List Text → ReadResult Explain
+-- The parsers of the four forms of a request, each with the first word of its form.
+abbrev pub explain_request_readers : List (NamedParser ExplainRequest)
+explain_request_readers =
+    (codes "trade", read_and_wrap TradeOf read_single_id)
+    ∷ (codes "account", read_and_wrap AccountOf read_single_id)
+    ∷ (codes "holding", read_holding_request)
+    ∷ (codes "broker", read_and_wrap BrokerOf read_single_id)
+    ∷ []
+
+-- The request that `words` parse as, or `BadText` if they are malformed.
+unfoldable pub read_explain_request : List Text → ReadResult ExplainRequest
 read_explain_request words = parse_by_first_field explain_request_readers words
 
 -- The lines of the row, or `refusal` if there is no row.
@@ -35,8 +51,17 @@ abbrev pub lines_or_refusal : {Row : Type 0} → Refusal → (Row → List Text)
 lines_or_refusal refusal lines None = Err refusal
 lines_or_refusal refusal lines (Some row) = Ok (lines row)
 
--- The lines of an explanation. It is refused with `NoTrade` or `NoAccount` if there is no such
--- trade or account.
-unfoldable pub explanation : Tables → Explain → Result (List Text) Refusal
+-- The lines of the explanation of the holding of an account in the security `symbol`. They are
+-- refused with `NoAccount` if there is no account, otherwise with `NoSecurity` if there is no such
+-- security.
+abbrev pub holding_lines_or_refusal : Tables → Text → Option AccountRow → Result (List Text) Refusal
+holding_lines_or_refusal tables symbol None = Err NoAccount
+holding_lines_or_refusal tables symbol (Some a) = lines_or_refusal NoSecurity (holding_explanation_lines tables a) (security_row_with_symbol tables symbol)
+
+-- The lines of an explanation. It is refused with `NoTrade`, `NoAccount`, `NoSecurity` or
+-- `NoBroker` if there is no such trade, account, security or broker.
+unfoldable pub explanation : Tables → ExplainRequest → Result (List Text) Refusal
 explanation tables (TradeOf trade) = lines_or_refusal NoTrade (λ u. trade_explanation_lines (details_of_trade tables u)) (trade_row_with_id tables trade)
 explanation tables (AccountOf account) = lines_or_refusal NoAccount (account_explanation_lines tables) (account_row_with_id tables account)
+explanation tables (HoldingOf account symbol) = holding_lines_or_refusal tables symbol (account_row_with_id tables account)
+explanation tables (BrokerOf broker) = lines_or_refusal NoBroker (broker_explanation_lines tables) (broker_row_with_id tables broker)

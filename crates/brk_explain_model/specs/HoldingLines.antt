@@ -10,11 +10,15 @@ use Rattle.brk_explain_model.specs.Trades.{completion_price_or_zero}
 use Rattle.brk_explain_model.specs.Holdings.{LotChange, LotStory, realised_gain_of_change, count_of_lot_changes, remaining_cost_of_lot, remaining_cost_of_lots, completed_trades_in_symbol, realised_gain_of_lots, remaining_quantity_of_lot, lots_opened_in_symbol, lots_not_fully_closed, total_purchase_value, total_sale_value, signed_qty, signed_value, summary_quantity_in_symbol}
 use Rattle.std.specs.Fmt.{signed_decimal}
 
+-- The title of the explanation of the holding of `account` in the security `symbol`.
+abbrev pub holding_title : ℕ → Text → Text
+holding_title account symbol = codes "Holding of account " ++ decimal account ++ codes " in " ++ symbol ++ codes ", times in UTC"
+
 -- The first lines of the explanation of the holding of the account `a` in the security `s`: the
 -- title, their names, and the column headings of the trades.
-abbrev pub holding_header_lines : AccountRow → SecurityRow → List Text
+unfoldable pub holding_header_lines : AccountRow → SecurityRow → List Text
 holding_header_lines a s =
-    (codes "Holding of account " ++ decimal a.id ++ codes " in " ++ s.symbol ++ codes ", times in UTC")
+    holding_title a.id s.symbol
     ∷ labeled_text (codes "Account name") a.name
     ∷ labeled_text (codes "Security") s.name
     ∷ codes "#      completed                       trade      shares      price            value        held type"
@@ -23,7 +27,7 @@ holding_header_lines a s =
 -- The line of the completed trade `u`: the word `Trade`, its timestamp, id, signed quantity, price
 -- and signed value, `held`, and the code of its type. `held` is the quantity of the holding after
 -- it.
-abbrev pub holding_trade_line : TradeRow → ℤ → Text
+unfoldable pub holding_trade_line : TradeRow → ℤ → Text
 holding_trade_line u held =
     leading_row_columns (codes "Trade") (timestamp_text u.stamp) u.id (signed_qty u) (completion_price_or_zero u) ++ value_column (signed_value u) ++ shares_column held ++ 32 ∷ trade_type_code u.kind
 
@@ -33,50 +37,75 @@ lot_columns_header = codes "#      opened or changed               trade      sh
 
 -- The line of the opening of `lot`: the word `Lot`, the timestamp and the id of the trade that
 -- opened it, the opened quantity, the price, and their product.
-abbrev pub lot_opening_line : LotStory → Text
+unfoldable pub lot_opening_line : LotStory → Text
 lot_opening_line lot =
     leading_row_columns (codes "Lot") (timestamp_text lot.trade.stamp) lot.trade.id lot.opened (completion_price_or_zero lot.trade) ++ value_column (lot.opened *ℤ pos (completion_price_or_zero lot.trade))
 
 -- The line of the change `c` of a lot that was opened at `price`: the word `Change`, the timestamp
 -- and the id of the trade, the change of the quantity, the price of the trade, the realised gain,
 -- and the quantity of the lot after it.
-abbrev pub lot_change_line : ℕ → LotChange → Text
+unfoldable pub lot_change_line : ℕ → LotChange → Text
 lot_change_line price c =
     leading_row_columns (codes "Change") (timestamp_text c.stamp) c.trade (c.after -ℤ c.before) c.price ++ value_column (realised_gain_of_change price c) ++ shares_column c.after
 
 -- The line of the remaining shares of `lot`: the word `Left`, the id of the trade that opened it,
 -- the remaining quantity, the price, and their product.
-abbrev pub lot_remainder_line : LotStory → Text
+unfoldable pub lot_remainder_line : LotStory → Text
 lot_remainder_line lot = leading_row_columns (codes "Left") blank_timestamp_text lot.trade.id (remaining_quantity_of_lot lot) (completion_price_or_zero lot.trade) ++ value_column (remaining_cost_of_lot lot)
 
+-- A line for each of the later `changes` of a lot that was opened at `price`.
+abbrev pub lot_change_lines : ℕ → List LotChange → List Text
+lot_change_lines price changes = map (lot_change_line price) changes
+
 -- The lines of `lot`: its opening, each later change, and its remaining shares.
-abbrev pub lot_history_lines : LotStory → List Text
-lot_history_lines lot = lot_opening_line lot ∷ map (lot_change_line (completion_price_or_zero lot.trade)) lot.changes ++ lot_remainder_line lot ∷ []
+unfoldable pub lot_history_lines : LotStory → List Text
+lot_history_lines lot = lot_opening_line lot ∷ lot_change_lines (completion_price_or_zero lot.trade) lot.changes ++ lot_remainder_line lot ∷ []
+
+-- The lines of the total purchases `bought`, the total sales `sold`, the realised gain `gain` and
+-- the cost basis `cost` of a holding, in cents.
+unfoldable pub purchase_sale_and_cost_lines : ℤ → ℤ → ℤ → ℤ → List Text
+purchase_sale_and_cost_lines bought sold gain cost =
+    labeled_amount (codes "Purchases") bought ∷ labeled_amount (codes "Sales") sold ∷ labeled_amount (codes "Realised gain") gain ∷ labeled_amount (codes "Cost basis") cost ∷ []
+
+-- The lines of the quantity `shares` of a holding, of the last price `price`, of the market value,
+-- which is their product, and of the unrealised gain, which is the market value minus the cost
+-- basis `cost`.
+unfoldable pub holding_value_lines : ℤ → ℕ → ℤ → List Text
+holding_value_lines shares price cost =
+    labeled_value (codes "Shares") (signed_decimal shares)
+    ∷ labeled_amount (codes "Last price") (pos price)
+    ∷ labeled_amount (codes "Worth") (shares *ℤ pos price)
+    ∷ labeled_amount (codes "Unrealised gain") (shares *ℤ pos price -ℤ cost)
+    ∷ []
+
+-- The last line of the explanation of a holding: the numbers of its trades, of its lots, of its
+-- lots that are not fully closed, and of the later changes of its lots.
+abbrev pub holding_counts_line : ℕ → ℕ → ℕ → ℕ → Text
+holding_counts_line trades lots open_count changes =
+    codes "Trades " ++ decimal trades ++ codes ", lots " ++ decimal lots ++ codes ", open lots " ++ decimal open_count ++ codes ", changes " ++ decimal changes
 
 -- The last lines of the explanation of a holding, from its completed trades `done`, its `lots`, its
 -- quantity `shares` and the last price `price`: the total purchases and sales, the realised gain,
 -- the cost basis, the shares, the last price, the market value, the unrealised gain, and the
 -- counts.
-abbrev pub holding_total_lines : List TradeRow → List LotStory → ℤ → ℕ → List Text
+unfoldable pub holding_total_lines : List TradeRow → List LotStory → ℤ → ℕ → List Text
 holding_total_lines done lots shares price =
-    labeled_amount (codes "Purchases") (total_purchase_value done)
-    ∷ labeled_amount (codes "Sales") (total_sale_value done)
-    ∷ labeled_amount (codes "Realised gain") (realised_gain_of_lots lots)
-    ∷ labeled_amount (codes "Cost basis") (remaining_cost_of_lots lots)
-    ∷ labeled_value (codes "Shares") (signed_decimal shares)
-    ∷ labeled_amount (codes "Last price") (pos price)
-    ∷ labeled_amount (codes "Worth") (shares *ℤ pos price)
-    ∷ labeled_amount (codes "Unrealised gain") (shares *ℤ pos price -ℤ remaining_cost_of_lots lots)
-    ∷ (codes "Trades " ++ decimal (length done) ++ codes ", lots " ++ decimal (length lots) ++ codes ", open lots " ++ decimal (length (lots_not_fully_closed lots))
-    ++ codes ", changes " ++ decimal (count_of_lot_changes lots))
+    purchase_sale_and_cost_lines (total_purchase_value done) (total_sale_value done) (realised_gain_of_lots lots) (remaining_cost_of_lots lots)
+    ++ holding_value_lines shares price (remaining_cost_of_lots lots)
+    ++ holding_counts_line (length done) (length lots) (length (lots_not_fully_closed lots)) (count_of_lot_changes lots)
     ∷ []
+
+-- A line for each of the completed trades `done`, with the quantity of the holding after it.
+abbrev pub holding_trade_lines : List TradeRow → List Text
+holding_trade_lines done = lines_with_running_total signed_qty holding_trade_line (pos 0) done
+
+-- All lines of the explanation of the holding of the account `a` in the security `s`, from its
+-- completed trades `done`, its `lots`, its quantity `shares` and the last price `price`.
+unfoldable pub holding_story_lines : AccountRow → SecurityRow → List TradeRow → List LotStory → ℤ → ℕ → List Text
+holding_story_lines a s done lots shares price = holding_header_lines a s ++ holding_trade_lines done ++ lot_columns_header ∷ flat_map lot_history_lines lots ++ holding_total_lines done lots shares price
 
 -- All lines of the explanation of the holding of the account `a` in the security `s`: the first
 -- lines, its completed trades, its lots with their changes, and the last lines.
 unfoldable pub holding_explanation_lines : Tables → AccountRow → SecurityRow → List Text
 holding_explanation_lines tables a s =
-    holding_header_lines a s
-    ++ lines_with_running_total signed_qty holding_trade_line (pos 0) (completed_trades_in_symbol tables a.id s.symbol)
-    ++ lot_columns_header
-    ∷ flat_map lot_history_lines (lots_opened_in_symbol tables a.id s.symbol)
-    ++ holding_total_lines (completed_trades_in_symbol tables a.id s.symbol) (lots_opened_in_symbol tables a.id s.symbol) (summary_quantity_in_symbol tables a.id s.symbol) (last_price_in_tables tables s.symbol)
+    holding_story_lines a s (completed_trades_in_symbol tables a.id s.symbol) (lots_opened_in_symbol tables a.id s.symbol) (summary_quantity_in_symbol tables a.id s.symbol) (last_price_in_tables tables s.symbol)

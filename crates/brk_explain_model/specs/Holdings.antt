@@ -1,4 +1,5 @@
--- What the explanation of a holding reads from the tables, and the amounts that follow from it.
+-- The facts that the explanation of a holding reads from the tables, and the amounts that follow
+-- from them.
 use Rattle.std.specs.Prelude.{ℕ, Bool, not, ◌&&◌, ◌==◌, List, map, filter, find, flat_map, length, None, is_some, unwrap_or, ℤ, pos, ◌-ℤ◌, ◌*ℤ◌, int_lt, bytes_eq}
 use Rattle.std.specs.List.{last_or}
 use Rattle.std.specs.Option.{option_map_or}

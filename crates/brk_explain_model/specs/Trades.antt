@@ -1,5 +1,5 @@
--- What the explanation of a trade reads from the tables, and the amounts that follow from it. The
--- tables are read in the order of their keys.
+-- The facts that the explanation of a trade reads from the tables, and the amounts that follow from
+-- them. The tables are read in the order of their keys.
 use Rattle.std.specs.Prelude.{ℕ, ◌*◌, Bool, not, ◌&&◌, ◌==◌, nat_le, nat_lt, if◌then◌else◌, List, [], map, filter, find, flat_map, reverse, sum_by, length, Option, Some, None, unwrap_or, option_to_list, ℤ, pos, nat_abs, ◌+ℤ◌, ◌-ℤ◌, bytes_eq}
 use Rattle.std.specs.Option.{option_map, option_map_or}
 use Rattle.brk_money.specs.Spelling.{Text}
@@ -20,7 +20,7 @@ use Rattle.brk_model.specs.Joins.{account_row_with_id, history_rows_with_trade_i
 use Rattle.brk_model.specs.LookupView.{is_cash_row_of_trade}
 use Rattle.brk_model.specs.Statement.{cash_move_rows_of_account, cash_row_total}
 
--- ---- what is read
+-- ---- facts
 
 -- A trade as ordered, with the name, the parties, the tax status and the opening balance of its
 -- account, the name of its security, and its status changes, the oldest first.
@@ -106,8 +106,8 @@ abbrev pub recorded_closing : Tables → HoldingHistoryRow → Closing
 recorded_closing tables row = record { lot = row.lot; stamp = trade_stamp_or_zero tables row.lot; price = trade_price_or_zero tables row.lot; before = row.before; after = row.after }
 
 -- The list `xs`, reversed if `is_lifo`.
-abbrev pub reversed_if : {X : Type 0} → Bool → List X → List X
-reversed_if is_lifo xs = if is_lifo then reverse xs else xs
+abbrev pub reversed_if_lifo : {X : Type 0} → Bool → List X → List X
+reversed_if_lifo is_lifo xs = if is_lifo then reverse xs else xs
 
 -- True if `row` records a change by `trade` of a lot that another trade opened.
 abbrev pub is_closing_by : ℕ → HoldingHistoryRow → Bool
@@ -117,7 +117,7 @@ is_closing_by trade row = (row.trade == trade) && not (row.lot == trade)
 -- the trade closes the newest lots first, and otherwise ascending.
 abbrev pub closings_of_trade : Tables → TradeRow → List Closing
 closings_of_trade tables u =
-    reversed_if u.is_lifo (sort_by_key (λ c. c.stamp) (map (recorded_closing tables) (filter (is_closing_by u.id) tables.holding_history)))
+    reversed_if_lifo u.is_lifo (sort_by_key (λ c. c.stamp) (map (recorded_closing tables) (filter (is_closing_by u.id) tables.holding_history)))
 
 -- The HOLDING_HISTORY row of the lot that `trade` opened, or none if it opened no lot.
 abbrev pub opened_lot_row : Tables → ℕ → Option HoldingHistoryRow
@@ -178,7 +178,7 @@ result_details_of_trade tables u = record {
 unfoldable pub details_of_trade : Tables → TradeRow → TradeStory
 details_of_trade tables u = record { order = order_details_of_trade tables u; result = if has_completed_status u then Some (result_details_of_trade tables u) else None }
 
--- ---- what follows
+-- ---- amounts
 
 -- The number of shares that the closing `c` closed.
 abbrev pub shares_of_closing : Closing → ℕ

@@ -58,6 +58,19 @@ pub find_same : {X : Type 0} (p q : X → Bool) → ((x : X) → p x ≡ q x) �
 find_same p q h [] = refl
 find_same p q h (x ∷ xs) = λ i. cond (h x i) (Some x) (find_same p q h xs i)
 
+pub filter_same : {X : Type 0} (p q : X → Bool) → ((x : X) → p x ≡ q x) → (xs : List X) → filter p xs ≡ filter q xs
+filter_same p q h [] = refl
+filter_same p q h (x ∷ xs) = λ i. cond (h x i) (x ∷ filter_same p q h xs i) (filter_same p q h xs i)
+
+-- what was found passes
+pub found_passes : {X : Type 0} (p : X → Bool) (xs : List X) (x : X) → find p xs ≡ Some x → p x ≡ true
+found_passes p [] x e = absurd (let f = e in cc)
+found_passes p (y ∷ ys) x e = go (found_passes p ys x) (p y) refl
+  where
+    go : (find p ys ≡ Some x → p x ≡ true) → (b : Bool) → p y ≡ b → p x ≡ true
+    go more true k = let same : Some y ≡ Some x = rw k at e in let is : y ≡ x = cc in sym (ap p is) ∙ k
+    go more false k = more (rw k at e)
+
 -- ---- from the last one on
 
 pub none_made : {X Y Z : Type 0} (f : X → Z) (shown : Y → Z) (all : List X) (made : List Y) → made ≡ [] → map f all ++ map shown (reverse made) ≡ map f all

@@ -5,3 +5,6 @@ pub mod Walked
 pub mod LotParts
 pub mod TermParts
 pub mod StoryParts
+pub mod Changes
+pub mod ById
+pub mod Skipped

@@ -14,8 +14,8 @@ use Rattle.brk_explain_rows.specs.declared.story.ResultStory.{ResultStory}
 use Rattle.brk_explain_reads.specs.Found.{AreTradeLotsInClosingOrder, AreTaxRatesAndBand, IsCashSumBeforeStamp, IsOrderOfTrade, IsSettlementOfTrade}
 use Rattle.brk_explain_reads.specs.declared.cash.CashSum.{CashSum}
 use Rattle.brk_explain_reads.specs.declared.lots.TradeLots.{TradeLots}
-use Rattle.brk_explain_reads.specs.declared.settled.Settled.{Settled}
-use Rattle.brk_explain_reads.specs.declared.terms.Terms.{Terms}
+use Rattle.brk_explain_reads.specs.declared.settled.SettlementAndCash.{SettlementAndCash}
+use Rattle.brk_explain_reads.specs.declared.terms.TaxRatesAndBand.{TaxRatesAndBand}
 
 -- the order
 pub order_known : (t : Tables) (row : trade.TradeRow) (order : OrderStory) → IsOrderOfTrade row order t → abstract_order_story order ≡ order_details_of_trade t (abstract_trade_row row)
@@ -31,7 +31,7 @@ order_known t row order k = λ i. record {
 }
 
 -- the parts of a result as one
-abbrev pub result_with : ℕ → TradeLots → Terms → Settled → CashSum → ResultStory
+abbrev pub result_with : ℕ → TradeLots → TaxRatesAndBand → SettlementAndCash → CashSum → ResultStory
 result_with price lots terms settled cash = record {
   price = price;
   closings = lots.closings;
@@ -45,7 +45,7 @@ result_with price lots terms settled cash = record {
   rule = settled.rule;
 }
 
-module _ (t : Tables) (order : OrderStory) (price : ℕ) (lots : TradeLots) (terms : Terms) (settled : Settled) (cash : CashSum) where
+module _ (t : Tables) (order : OrderStory) (price : ℕ) (lots : TradeLots) (terms : TaxRatesAndBand) (settled : SettlementAndCash) (cash : CashSum) where
   abbrev u : TradeRow
   u = abstract_trade_row order.trade
 

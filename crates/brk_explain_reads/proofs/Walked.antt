@@ -15,7 +15,7 @@ use Rattle.brk_store.specs.Walked.{WalkPost, cash_rows_in_span}
 use Rattle.brk_tables_walks.specs.declared.walking.WalkError.{WalkError}
 use Rattle.brk_explain_reads.specs.Earlier.{AddsEarlierCashRow}
 use Rattle.brk_explain_reads.specs.Found.{IsCashSumBeforeStamp, cash_rows_before_stamp}
-use Rattle.brk_explain_reads.specs.declared.cash.Earlier.{Earlier}
+use Rattle.brk_explain_reads.specs.declared.cash.EarlierCashSum.{EarlierCashSum}
 use lib.IntN.{+ℤ_assoc, +ℤ_idr, +ℤ_idl}
 
 -- ---- a walk is a read
@@ -48,10 +48,10 @@ abbrev earlier_rows : ℕ → List MoveRow → List MoveRow
 earlier_rows until rows = filter (λ r. nat_lt r.stamp until) rows
 
 -- the sum has these rows more
-abbrev AddsRows : Earlier → List MoveRow → Earlier → Type 0
+abbrev AddsRows : EarlierCashSum → List MoveRow → EarlierCashSum → Type 0
 AddsRows p rows q = (q.sum.rows ≡ p.sum.rows + length rows) × (q.sum.total ≡ p.sum.total +ℤ cash_row_total rows)
 
-one_added : (p : Earlier) (x : move.MoveRow) (mid : Earlier) (rest : List MoveRow) (q : Earlier) → AddsEarlierCashRow p x mid → AddsRows mid (earlier_rows p.until rest) q
+one_added : (p : EarlierCashSum) (x : move.MoveRow) (mid : EarlierCashSum) (rest : List MoveRow) (q : EarlierCashSum) → AddsEarlierCashRow p x mid → AddsRows mid (earlier_rows p.until rest) q
     → (b : Bool) → nat_lt x.stamp p.until ≡ b → AddsRows p (earlier_rows p.until (abstract_move_row x ∷ rest)) q
 unfolding total_by
 one_added p x mid rest q taken more true e =
@@ -63,9 +63,9 @@ one_added p x mid rest q taken more false e =
     let total : mid.sum.total ≡ p.sum.total = rw e at taken.2 in
     rw e (omega (arith, more.0, count), more.1 ∙ ap (λ z. z +ℤ cash_row_total (earlier_rows p.until rest)) total)
 
-all_added : (p : Earlier) (xs : List move.MoveRow) (q : Earlier) → FoldsTo AddsEarlierCashRow p xs q → AddsRows p (earlier_rows p.until (map abstract_move_row xs)) q
+all_added : (p : EarlierCashSum) (xs : List move.MoveRow) (q : EarlierCashSum) → FoldsTo AddsEarlierCashRow p xs q → AddsRows p (earlier_rows p.until (map abstract_move_row xs)) q
 unfolding total_by
-all_added p [] q h = (omega (arith, ap (λ (v : Earlier). v.sum.rows) h), sym (ap (λ (v : Earlier). v.sum.total) h) ∙ sym (+ℤ_idr p.sum.total))
+all_added p [] q h = (omega (arith, ap (λ (v : EarlierCashSum). v.sum.rows) h), sym (ap (λ (v : EarlierCashSum). v.sum.total) h) ∙ sym (+ℤ_idr p.sum.total))
 all_added p (x ∷ xs) q h =
     one_added p x h.0 (map abstract_move_row xs) q h.1 (subst (λ until. AddsRows h.0 (earlier_rows until (map abstract_move_row xs)) q) h.1.0 (all_added h.0 xs q h.2)) (nat_lt x.stamp p.until) refl
 
@@ -84,7 +84,7 @@ within : (start until stamp : ℕ) → start ≡ 0 → nat_lt stamp until ≡ tr
 within start until stamp none before = grind (arith, nat_tests)
 
 -- the rows of a walk up to the stamp
-pub earlier_told : (t : Tables) (account start until : ℕ) (p q : Earlier) (taken : List move.MoveRow) → start ≡ 0 → p.until ≡ until → p.sum.rows ≡ 0 → p.sum.total ≡ pos 0 → FoldsTo AddsEarlierCashRow p taken q
+pub earlier_told : (t : Tables) (account start until : ℕ) (p q : EarlierCashSum) (taken : List move.MoveRow) → start ≡ 0 → p.until ≡ until → p.sum.rows ≡ 0 → p.sum.total ≡ pos 0 → FoldsTo AddsEarlierCashRow p taken q
     → map abstract_move_row taken ≡ cash_rows_in_span account start until t → IsCashSumBeforeStamp t account until q.sum
 earlier_told t account start until p q taken none at count total folds all =
     let same : earlier_rows p.until (map abstract_move_row taken) ≡ cash_rows_before_stamp t account until =

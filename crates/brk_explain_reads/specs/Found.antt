@@ -1,4 +1,4 @@
--- What was read for an explanation, part by part.
+-- The parts of the facts that the explanation of a trade reads.
 use Rattle.std.specs.Prelude.{◌≡◌, ℕ, ◌==◌, List, filter, find, length, map, nat_lt, Some, option_map}
 use Rattle.brk_changes.specs.Rows.{abstract_history_row, abstract_lot_change_row, abstract_move_row, abstract_settlement_row, abstract_trade_row}
 use Rattle.brk_changes.specs.declared.trade_row.TradeRow as trade
@@ -13,8 +13,8 @@ use Rattle.brk_model.specs.Tables.{MoveRow, Tables, TradeRow}
 use Rattle.brk_ref.specs.Records.{abstract_account_row, abstract_band, abstract_security_row, abstract_tax_rate}
 use Rattle.brk_explain_reads.specs.declared.cash.CashSum.{CashSum}
 use Rattle.brk_explain_reads.specs.declared.lots.TradeLots.{TradeLots}
-use Rattle.brk_explain_reads.specs.declared.settled.Settled.{Settled}
-use Rattle.brk_explain_reads.specs.declared.terms.Terms.{Terms}
+use Rattle.brk_explain_reads.specs.declared.settled.SettlementAndCash.{SettlementAndCash}
+use Rattle.brk_explain_reads.specs.declared.terms.TaxRatesAndBand.{TaxRatesAndBand}
 
 -- The cash rows of `account` with stamps before `until`, sorted by stamp, ascending.
 abbrev pub cash_rows_before_stamp : Tables → ℕ → ℕ → List MoveRow
@@ -46,14 +46,14 @@ pub record IsOrderOfTrade (row : trade.TradeRow) (order : OrderStory) (t : Table
 
 -- `terms` has the tax rates of the customer of the order's account, and the commission band of its
 -- trade for this customer and its security, as the tables `t` have them now.
-abbrev pub AreTaxRatesAndBand : Tables → OrderStory → Terms → Type 0
+abbrev pub AreTaxRatesAndBand : Tables → OrderStory → TaxRatesAndBand → Type 0
 AreTaxRatesAndBand t order terms =
     (map abstract_tax_rate terms.rates.items ≡ tax_rates_of_customer t order.account.account.customer)
     × (option_map abstract_band terms.band ≡ band_for_customer_and_security t (abstract_trade_row order.trade) (find (λ c. c.id == order.account.account.customer) t.customers) (Some (abstract_security_row order.security)))
 
 -- `settled` has the SETTLEMENT row of `trade` (a row of zeros if there is none), its cash row, if
 -- any, and the settlement day of the tables `t`, if any.
-abbrev pub IsSettlementOfTrade : Tables → ℕ → Settled → Type 0
+abbrev pub IsSettlementOfTrade : Tables → ℕ → SettlementAndCash → Type 0
 IsSettlementOfTrade t trade settled =
     (abstract_settlement_row settled.settlement ≡ settlement_of_trade_or_zeros t trade) × (option_map abstract_move_row settled.cash ≡ find (is_cash_row_of_trade trade) t.moves) × (settled.rule ≡ t.rule)
 

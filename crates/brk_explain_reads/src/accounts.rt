@@ -1,4 +1,4 @@
-//! What the explanation of an account reads besides the rows over which it walks.
+//! The facts that the explanation of an account reads beside the rows over which it walks.
 
 ghost use Rattle.std.specs.Prelude.{◌≡◌, IfErr, map};
 ghost use Rattle.brk_changes.specs.Rows.{abstract_summary_row};
@@ -8,7 +8,7 @@ ghost use Rattle.brk_model.specs.Run.{IsCallFault};
 ghost use Rattle.brk_store.specs.Holds.{ReadPost};
 
 use brk_changes::SummaryRow;
-use brk_explain_rows::{AccountStory, Held};
+use brk_explain_rows::{AccountStory, PricedHolding};
 use brk_money::{Fault, Id};
 use brk_store::Store;
 use sqlite::Alter;
@@ -16,12 +16,12 @@ use std::alloc::Global;
 
 // Returns a holding summary with the last price of its symbol. Fails with `Memory` or `Store`; with
 // `Store` also if the symbol has no last price.
-fn read_priced_holding<S: Alter>(store: &mut Store<S>, summary: SummaryRow) -> Result<Held, Fault>
+fn read_priced_holding<S: Alter>(store: &mut Store<S>, summary: SummaryRow) -> Result<PricedHolding, Fault>
     ensures read { ReadPost S.Store store.old store.new result (λ held t. abstract_priced_holding held ≡ priced_holding t (abstract_summary_row summary)) }
     ensures fault { IfErr result IsCallFault }
 {
     match store.last_trade(&summary.symbol)? {
-        Some(last) => Ok(Held {
+        Some(last) => Ok(PricedHolding {
             summary,
             price: last.price,
         }),
@@ -35,7 +35,7 @@ fn read_priced_holdings<S: Alter>(
     alloc: Global,
     store: &mut Store<S>,
     account: Id,
-) -> Result<Vec<Held>, Fault>
+) -> Result<Vec<PricedHolding>, Fault>
     ensures read { ReadPost S.Store store.old store.new result (λ held t. map abstract_priced_holding held.items ≡ priced_holdings_of_account t account) }
     ensures fault { IfErr result IsCallFault }
 {

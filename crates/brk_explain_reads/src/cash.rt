@@ -38,12 +38,12 @@ fn sum_with_cash_row(sum: &CashSum, amount: Cents) -> Result<CashSum, Fault>
 
 /// A visitor that counts the cash rows before a stamp, and adds up their amounts.
 #[derive(Drop)]
-pub struct Earlier {
+pub struct EarlierCashSum {
     pub until: Stamp,
     pub sum: CashSum,
 }
 
-impl Visitor<MoveRow, Fault> for Earlier {
+impl Visitor<MoveRow, Fault> for EarlierCashSum {
     ghost use Rattle.std.specs.Prelude.{◌≡◌};
     ghost use Rattle.brk_explain_reads.specs.Earlier.{AddsEarlierCashRow};
     ghost use Rattle.brk_money.specs.declared.fault.Fault.TheVariants.{Store};
@@ -70,7 +70,7 @@ impl Visitor<MoveRow, Fault> for Earlier {
     ghost transitive = { λ _ _ _ _ _. tt };
 }
 
-// Returns the fault of a walk that failed: `Memory` if the desk failed with it, otherwise `Store`.
+// Returns the fault `Memory` or `Store` for a walk that failed.
 fn fault_of_failed_walk(stop: WalkError<Fault>) -> Fault
     ensures { IsCallFault result }
 {
@@ -90,14 +90,14 @@ pub(crate) fn read_cash_sum_before<S: Alter>(
     ensures read { ReadPost S.Store store.old store.new result (λ sum t. IsCashSumBeforeStamp t account until sum) }
     ensures fault { IfErr result IsCallFault }
 {
-    let mut earlier = Earlier {
+    let mut earlier = EarlierCashSum {
         until,
         sum: CashSum {
             rows: 0,
             total: Wide::new(0),
         },
     };
-    match store.visit_cash::<Fault, Earlier>(account, Stamp::nearest(0), until, &mut earlier) {
+    match store.visit_cash::<Fault, EarlierCashSum>(account, Stamp::nearest(0), until, &mut earlier) {
         Ok(()) => Ok(earlier.sum),
         Err(stop) => Err(fault_of_failed_walk(stop)),
     }

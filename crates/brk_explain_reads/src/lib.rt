@@ -1,9 +1,13 @@
-//! Reads for explanations: what the tables have of a trade, and of an account.
+//! Reads for explanations: the facts of a trade, an account, a holding and a broker in the tables.
 #![tactic(auto)]
 
 pub mod accounts;
+pub mod brokers;
 mod cash;
+mod holding_trades;
+pub mod holdings;
 mod known;
+mod lot_changes;
 mod lots;
 mod ordering;
 mod orders;
@@ -13,4 +17,6 @@ mod terms;
 pub mod trades;
 
 pub use accounts::read_account_story;
+pub use brokers::{read_broker_story, visit_completed_trades};
+pub use holdings::read_holding_story;
 pub use trades::read_trade_story;

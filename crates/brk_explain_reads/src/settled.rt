@@ -13,7 +13,7 @@ use sqlite::Alter;
 
 /// The settlement and the cash row of a trade, and the settlement day.
 #[derive(Drop)]
-pub struct Settled {
+pub struct SettlementAndCash {
     pub settlement: SettlementRow,
     /// The cash row of the trade, or `None` if it has none.
     pub cash: Option<MoveRow>,
@@ -26,14 +26,14 @@ pub struct Settled {
 pub(crate) fn read_settlement_of_trade<S: Alter>(
     store: &mut Store<S>,
     trade: Id,
-) -> Result<Settled, Fault>
+) -> Result<SettlementAndCash, Fault>
     ensures read { ReadPost S.Store store.old store.new result (λ settled t. IsSettlementOfTrade t trade settled) }
     ensures fault { IfErr result IsCallFault }
 {
     let settlement = read_existing_settlement(store, trade)?;
     let cash = store.cash_row(trade)?;
     let rule = store.settlement_day()?;
-    Ok(Settled {
+    Ok(SettlementAndCash {
         settlement,
         cash,
         rule,

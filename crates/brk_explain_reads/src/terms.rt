@@ -18,7 +18,7 @@ use std::alloc::Global;
 
 /// The tax rates of the customer of a trade, and the commission band of its quantity.
 #[derive(Drop)]
-pub struct Terms {
+pub struct TaxRatesAndBand {
     pub rates: Vec<Tax>,
     pub band: Option<Band>,
 }
@@ -93,7 +93,7 @@ pub(crate) fn read_tax_rates_and_band<S: Alter>(
     alloc: Global,
     store: &mut Store<S>,
     order: &OrderStory,
-) -> Result<Terms, Fault>
+) -> Result<TaxRatesAndBand, Fault>
     ensures read { ReadPost S.Store store.old store.new result (λ terms t. AreTaxRatesAndBand t order.now terms) }
     ensures fault { IfErr result IsCallFault }
 {
@@ -101,5 +101,5 @@ pub(crate) fn read_tax_rates_and_band<S: Alter>(
     let customer = read_existing_customer(store, id)?;
     let rates = read_tax_rates_of_customer(alloc, store, id)?;
     let band = read_band_for_tier(alloc, store, order, customer.tier)?;
-    Ok(Terms { rates, band })
+    Ok(TaxRatesAndBand { rates, band })
 }

@@ -1,4 +1,4 @@
-//! What the explanation of a trade reads.
+//! The facts that the explanation of a trade reads.
 
 ghost use Rattle.std.specs.Prelude.{◌≡◌, IfErr};
 ghost use Rattle.brk_explain_rows.specs.Stories.{IsStoryOfTrade};

@@ -1,14 +1,23 @@
 -- The abstract value of each typed row of an explanation.
-use Rattle.std.specs.Prelude.{◌≡◌, ℕ, map, option_map, Option, Some, None}
+use Rattle.std.specs.Prelude.{◌≡◌, ◌⊎◌, ◌==◌, ℕ, find, length, map, option_map, Option, Some, None, Result, Ok, Err}
 use Rattle.brk_changes.specs.Rows.{abstract_history_row, abstract_lot_change_row, abstract_move_row, abstract_settlement_row, abstract_summary_row, abstract_trade_row}
-use Rattle.brk_ref.specs.Records.{abstract_account_row, abstract_band, abstract_tax_rate}
-use Rattle.brk_model.specs.Joins.{account_row_with_id, trade_row_with_id}
-use Rattle.brk_model.specs.Tables.{Tables, TradeRow}
-use Rattle.brk_explain_model.specs.AccountLines.{Held, priced_holdings_of_account}
+use Rattle.brk_ref.specs.Records.{abstract_account_row, abstract_band, abstract_broker_row, abstract_security_row, abstract_tax_rate}
+use Rattle.brk_money.specs.Spelling.{Text}
+use Rattle.brk_money.specs.declared.refusal.Refusal.{Refusal}
+use Rattle.brk_money.specs.declared.refusal.Refusal.TheVariants.{NoAccount, NoSecurity}
+use Rattle.brk_model.specs.Joins.{account_row_with_id, last_price_in_tables, security_row_with_symbol, trade_row_with_id}
+use Rattle.brk_model.specs.Tables.{AccountRow, Tables, TradeRow}
+use Rattle.brk_explain_model.specs.AccountLines.{PricedHolding, priced_holdings_of_account}
+use Rattle.brk_explain_model.specs.BrokerLines.{accounts_with_broker}
+use Rattle.brk_explain_model.specs.Holdings.{LotChange, LotStory, completed_trades_in_symbol, lots_opened_in_symbol, summary_quantity_in_symbol}
 use Rattle.brk_explain_model.specs.Trades.{Closing, OrderStory, ResultStory, TradeStory, details_of_trade}
 use Rattle.brk_explain_rows.specs.declared.account_story.AccountStory as account_story
-use Rattle.brk_explain_rows.specs.declared.account_story.Held as held
+use Rattle.brk_explain_rows.specs.declared.account_story.PricedHolding as held
+use Rattle.brk_explain_rows.specs.declared.broker_story.BrokerStory as broker_story
 use Rattle.brk_explain_rows.specs.declared.closing.Closing as closing
+use Rattle.brk_explain_rows.specs.declared.holding_story.HoldingStory as holding_story
+use Rattle.brk_explain_rows.specs.declared.holding_story.PricedLotChange as priced_lot_change
+use Rattle.brk_explain_rows.specs.declared.holding_story.LotStory as lot_story
 use Rattle.brk_explain_rows.specs.declared.story.OrderStory as order_story
 use Rattle.brk_explain_rows.specs.declared.story.ResultStory as result_story
 use Rattle.brk_explain_rows.specs.declared.story.TradeStory as trade_story
@@ -56,7 +65,7 @@ IsStoryOfTrade trade None t = trade_row_with_id t trade ≡ None
 IsStoryOfTrade trade (Some s) t = (u : TradeRow) × (trade_row_with_id t trade ≡ Some u) × (abstract_trade_story s ≡ details_of_trade t u)
 
 -- The model's holding summary with its last price, with the values of the typed holding `h`.
-abbrev pub abstract_priced_holding : held.Held → Held
+abbrev pub abstract_priced_holding : held.PricedHolding → PricedHolding
 abstract_priced_holding h = record { summary = abstract_summary_row h.summary; price = h.price }
 
 -- The facts `s` are the row of `account` in the tables `t` and its holding summaries with their
@@ -64,3 +73,29 @@ abstract_priced_holding h = record { summary = abstract_summary_row h.summary; p
 abbrev pub IsStoryOfAccount : ℕ → Option account_story.AccountStory → Tables → Type 0
 IsStoryOfAccount account None t = account_row_with_id t account ≡ None
 IsStoryOfAccount account (Some s) t = (account_row_with_id t account ≡ Some (abstract_account_row s.account)) × (map abstract_priced_holding s.held.items ≡ priced_holdings_of_account t account)
+
+-- The model's later change of a lot with the values of the typed change `c`.
+abbrev pub abstract_priced_lot_change : priced_lot_change.PricedLotChange → LotChange
+abstract_priced_lot_change c = record { trade = c.trade; stamp = c.stamp; price = c.price; before = c.before; after = c.after }
+
+-- The model's lot, with its later changes, with the values of the typed lot `l`.
+abbrev pub abstract_lot_story : lot_story.LotStory → LotStory
+abstract_lot_story l = record { trade = abstract_trade_row l.trade; opened = l.opened; changes = map abstract_priced_lot_change l.changes.items }
+
+-- The facts `s` are those that the explanation of the holding of `account` in the security `symbol`
+-- reads from the tables `t`. A refusal is `NoAccount` if the account does not exist, and
+-- `NoSecurity` if the account exists and the security does not.
+abbrev pub IsStoryOfHolding : ℕ → Text → Result holding_story.HoldingStory Refusal → Tables → Type 0
+IsStoryOfHolding account symbol (Err refusal) t =
+    ((account_row_with_id t account ≡ None) × (refusal ≡ NoAccount))
+    ⊎ ((a : AccountRow) × (account_row_with_id t account ≡ Some a) × (security_row_with_symbol t symbol ≡ None) × (refusal ≡ NoSecurity))
+IsStoryOfHolding account symbol (Ok s) t =
+    (account_row_with_id t account ≡ Some (abstract_account_row s.account)) × (security_row_with_symbol t symbol ≡ Some (abstract_security_row s.security))
+    × (map abstract_trade_row s.done.items ≡ completed_trades_in_symbol t account symbol) × (map abstract_lot_story s.lots.items ≡ lots_opened_in_symbol t account symbol)
+    × (s.shares ≡ summary_quantity_in_symbol t account symbol) × (s.price ≡ last_price_in_tables t symbol)
+
+-- The facts `s` are the row of `broker` in the tables `t` and the number of its accounts. They are
+-- `None` exactly if the broker does not exist.
+abbrev pub IsStoryOfBroker : ℕ → Option broker_story.BrokerStory → Tables → Type 0
+IsStoryOfBroker broker None t = find (λ b. b.id == broker) t.brokers ≡ None
+IsStoryOfBroker broker (Some s) t = (find (λ b. b.id == broker) t.brokers ≡ Some (abstract_broker_row s.broker)) × (s.accounts ≡ length (accounts_with_broker t broker))

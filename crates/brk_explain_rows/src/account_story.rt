@@ -4,7 +4,7 @@ use brk_ref::AccountRow;
 
 /// A holding summary, with the last price of its symbol.
 #[derive(Drop)]
-pub struct Held {
+pub struct PricedHolding {
     pub summary: SummaryRow,
     pub price: Price,
 }
@@ -14,5 +14,5 @@ pub struct Held {
 pub struct AccountStory {
     pub account: AccountRow,
     /// Its holding summaries, by symbol.
-    pub held: Vec<Held>,
+    pub held: Vec<PricedHolding>,
 }

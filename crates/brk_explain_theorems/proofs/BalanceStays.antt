@@ -24,7 +24,7 @@ use Rattle.brk_book_theorems.proofs.RunKeeping.{books_command, run_books}
 use Rattle.brk_book_theorems.proofs.ResultRows.{moment_then, status_then}
 use Rattle.brk_book_theorems.proofs.Same.{All-filter, All-map, All-mapped, find-All, find-more, total_by-same}
 use Rattle.brk_book_theorems.proofs.SumReading.{total-map}
-use Rattle.brk_explain_theorems.specs.Balances.{PreservesPrintedBalanceAfter, balance_up_to, postings_up_to}
+use Rattle.brk_explain_theorems.specs.Balances.{PreservesPrintedBalanceAfter, balance_at_stamp, postings_up_to_stamp}
 use Rattle.brk_explain_theorems.proofs.BalanceSums.{balances_as_told}
 use Rattle.brk_explain_theorems.proofs.Kept.{Keeps, core, done_by, keeps_run, moved_by}
 use Rattle.brk_explain_theorems.proofs.SameTrade.{found_then, id_of, same_trade}
@@ -32,7 +32,7 @@ use Rattle.brk_explain_theorems.proofs.SameTrade.{found_then, id_of, same_trade}
 -- ---- postings by a stamp
 
 by_stamp : (s : ℕ) (accounts : List Account) (done : List Trade) (ms : List Movement)
-    → postings_up_to s (postings accounts done ms) ≡ postings accounts (filter (λ t. nat_le (last_status_stamp_of_trade t) s) done) (filter (λ m. nat_le m.stamp s) ms)
+    → postings_up_to_stamp s (postings accounts done ms) ≡ postings accounts (filter (λ t. nat_le (last_status_stamp_of_trade t) s) done) (filter (λ m. nat_le m.stamp s) ms)
 by_stamp s accounts done ms =
     filter-append L (map P (cash_trades done)) (map posting_of_movement ms)
     ∙ (λ i. (filter-map L P (cash_trades done) ∙ ap (map P) (filter-swap (λ t. nat_le (last_status_stamp_of_trade t) s) (λ t. t.is_cash) done)) i ++ filter-map L posting_of_movement ms i)
@@ -75,7 +75,7 @@ with_more accounts more account ts h =
 -- ---- the balance by a stamp
 
 balance_is : (base : Base) (s account : ℕ)
-    → balance_up_to base s account
+    → balance_at_stamp base s account
     ≡ opening_balance_in_accounts base.accounts account +ℤ (paid_to base.accounts account (done_by base s) +ℤ total_by (λ p. p.amount) (postings_to_account (map posting_of_movement (moved_by base s)) account))
 balance_is base s account =
     ap (λ ps. balance_of_account base.accounts ps account) (by_stamp s base.accounts (completed_trades base) base.movements)
@@ -88,7 +88,7 @@ known_by base s books =
     All-mapped (λ t. is_some (account_with_id_in_list base.accounts t.account) ≡ true) core (filter (λ t. nat_le (last_status_stamp_of_trade t) s) (completed_trades base))
     (All-filter (λ t. is_some (account_with_id_in_list base.accounts t.account) ≡ true) (λ t. nat_le (last_status_stamp_of_trade t) s) (completed_trades base) (known_completed base books))
 
-pub balance_kept : (s : ℕ) (base later : Base) (account : ℕ) → BooksInvariant base → is_some (account_with_id base account) ≡ true → Keeps s base later → balance_up_to later s account ≡ balance_up_to base s account
+pub balance_kept : (s : ℕ) (base later : Base) (account : ℕ) → BooksInvariant base → is_some (account_with_id base account) ≡ true → Keeps s base later → balance_at_stamp later s account ≡ balance_at_stamp base s account
 balance_kept s base later account books h k =
     balance_is later s account
     ∙ (λ i. option_map_or (λ a. a.opening) (opening i) (pos 0) +ℤ (paid i +ℤ total_by (λ p. p.amount) (postings_to_account (map posting_of_movement (k.moved i)) account)))
@@ -105,7 +105,7 @@ balance_kept s base later account books h k =
 is_by : (m n : ℕ) → m ≤ n → nat_le m n ≡ true
 is_by m n h = grind (arith, nat_tests)
 
-pub all_by : (base : Base) (s account : ℕ) → BooksInvariant base → base.last ≡ Some s → balance_up_to base s account ≡ balance_of_account base.accounts (postings_of_base base) account
+pub all_by : (base : Base) (s account : ℕ) → BooksInvariant base → base.last ≡ Some s → balance_at_stamp base s account ≡ balance_of_account base.accounts (postings_of_base base) account
 all_by base s account books e =
     ap (λ ps. balance_of_account base.accounts ps account)
     (by_stamp s base.accounts (completed_trades base) base.movements
@@ -122,7 +122,7 @@ all_by base s account books e =
 pub stays_after : (base : Base) (now id price : ℕ) (t : Trade) → BooksInvariant base → trade_with_id base id ≡ Some t → refusal_of_command base now (CompleteTrade id price) ≡ None → PreservesPrintedBalanceAfter base now id price
 stays_after base now id price t books e accepted calls outcomes later u run found =
     (balances_as_told later u next (ap (trade_with_id later) (id_of later id u found) ∙ found) done).after
-    ∙ ap (λ (n : ℕ). balance_up_to later n u.account) moment
+    ∙ ap (λ (n : ℕ). balance_at_stamp later n u.account) moment
     ∙ balance_kept stamp mid later u.account books_mid known keeps
     ∙ all_by mid stamp u.account books_mid refl
   where

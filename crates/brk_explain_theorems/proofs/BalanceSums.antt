@@ -27,7 +27,7 @@ use Rattle.brk_book_theorems.proofs.Postings.{postings_none, postings_one, total
 use Rattle.brk_book_theorems.proofs.Reading.{find-map, reads_account}
 use Rattle.brk_book_theorems.proofs.Same.{All-append, All-filter, All-mapped, filter-none, filter-same}
 use Rattle.brk_book_theorems.proofs.SumReading.{balance_sums, total-map}
-use Rattle.brk_explain_theorems.specs.Balances.{PrintedBalancesMatchBase, printed_balance_before, last_number_or_default, postings_before, postings_up_to}
+use Rattle.brk_explain_theorems.specs.Balances.{PrintedBalancesMatchBase, printed_balance_before, last_number_or_default, postings_before_stamp, postings_up_to_stamp}
 use Rattle.brk_explain_theorems.proofs.Among.{Among, among}
 use Rattle.brk_explain_theorems.proofs.Sorting.{find_first, first, total_sorted}
 
@@ -204,7 +204,7 @@ either_sum {X = X} f p q (x ∷ xs) h = by_test (p x) (q x) refl refl (either_su
     by_test false false e g ih = ih
 
 until_parts : (stamp account : ℕ) (ps : List Posting)
-    → total_by (λ p. p.amount) (filter (is_to account) (postings_up_to stamp ps))
+    → total_by (λ p. p.amount) (filter (is_to account) (postings_up_to_stamp stamp ps))
     ≡ total_by (λ p. p.amount) (filter (λ p. nat_lt p.stamp stamp) (filter (is_to account) ps)) +ℤ total_by (λ p. p.amount) (filter (λ p. p.stamp == stamp) (filter (is_to account) ps))
 until_parts stamp account ps =
     ap (total_by (λ p. p.amount)) (filter-swap (is_to account) (λ p. nat_le p.stamp stamp) ps ∙ filter-same (λ p. nat_le p.stamp stamp) (λ p. nat_lt p.stamp stamp || (p.stamp == stamp)) (filter (is_to account) ps) (each (filter (is_to account) ps)))
@@ -220,7 +220,7 @@ pub balances_as_told : (base : Base) (t : Trade) → BooksInvariant base → tra
 unfolding balance_of_account
 balances_as_told base t books e c = record {
   before = before;
-  after = (λ i. before i +ℤ moved_is base t a i) ∙ +ℤ_assoc (opening_balance_in_accounts base.accounts t.account) (total_by (λ p. p.amount) (filter (is_to t.account) (postings_before (last_status_stamp_of_trade t) ps))) (cond t.is_cash (settlement_amount base.accounts t) (pos 0))
+  after = (λ i. before i +ℤ moved_is base t a i) ∙ +ℤ_assoc (opening_balance_in_accounts base.accounts t.account) (total_by (λ p. p.amount) (filter (is_to t.account) (postings_before_stamp (last_status_stamp_of_trade t) ps))) (cond t.is_cash (settlement_amount base.accounts t) (pos 0))
       ∙ ap (λ z. opening_balance_in_accounts base.accounts t.account +ℤ z) ((λ i. ap (total_by (λ p. p.amount)) (filter-swap (is_to t.account) (λ p. nat_lt p.stamp (last_status_stamp_of_trade t)) ps) i +ℤ sym (own_sum base t a) i)
       ∙ sym (until_parts (last_status_stamp_of_trade t) t.account ps));
 }
@@ -231,5 +231,5 @@ balances_as_told base t books e c = record {
     a : Among base t
     a = among base t books e c
 
-    before : printed_balance_before (sheets base) t ≡ balance_of_account base.accounts (postings_before (last_status_stamp_of_trade t) ps) t.account
+    before : printed_balance_before (sheets base) t ≡ balance_of_account base.accounts (postings_before_stamp (last_status_stamp_of_trade t) ps) t.account
     before = λ i. opening_is base t.account i +ℤ (cash_sum base t.account (λ n. nat_lt n (last_status_stamp_of_trade t)) ∙ ap (total_by (λ p. p.amount)) (filter-swap (λ p. nat_lt p.stamp (last_status_stamp_of_trade t)) (is_to t.account) ps)) i

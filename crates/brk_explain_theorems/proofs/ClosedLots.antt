@@ -16,7 +16,7 @@ use Rattle.brk_lots.specs.Walks.{closed_share_count, touches_of_first_shares}
 use Rattle.brk_lots.specs.declared.lot.Touch.{Touch}
 use Rattle.brk_lots.proofs.Ends.{reverse_first, walk_of}
 use Rattle.brk_lots.proofs.Upon.{rows_are}
-use Rattle.brk_explain_model.specs.Trades.{Closing, recorded_closing, closings_of_trade, reversed_if, is_closing_by, trade_stamp_or_zero}
+use Rattle.brk_explain_model.specs.Trades.{Closing, recorded_closing, closings_of_trade, reversed_if_lifo, is_closing_by, trade_stamp_or_zero}
 use Rattle.brk_book_theorems.specs.Books.{BooksInvariant, HasDistinctStatusStamps}
 use Rattle.brk_book_theorems.proofs.Bools.{numbers_back}
 use Rattle.brk_book_theorems.proofs.Completing.{is_here, of_here}
@@ -156,7 +156,7 @@ map_reverse {X = X} {Y = Y} f (x ∷ xs) =
     map_last [] = refl
     map_last (y ∷ ys) = ap (λ zs. f y ∷ zs) (map_last ys)
 
-end_map : {X Y : Type 0} (lifo : Bool) (f : X → Y) (xs : List X) → reversed_if lifo (map f xs) ≡ map f (lots_spec.list_in_closing_order lifo xs)
+end_map : {X Y : Type 0} (lifo : Bool) (f : X → Y) (xs : List X) → reversed_if_lifo lifo (map f xs) ≡ map f (lots_spec.list_in_closing_order lifo xs)
 end_map true f xs = sym (map_reverse f xs)
 end_map false f xs = refl
 
@@ -171,7 +171,7 @@ taken_by t front = closed_share_count (deal_of_trade t).side (deal_of_trade t).q
 pub closings_are : (base : Base) (t : Trade) (front back : List Trade) → IsPlaced base t front back
     → closings_of_trade (sheets base) (trade_row t) ≡ map (closing_at (sheets base) t.id) (touches_of_first_shares (taken_by t front) (lots_spec.list_in_closing_order t.is_lifo (lots_by front)))
 closings_are base t front back k =
-    ap (reversed_if t.is_lifo) (sort_map (λ (c : Closing). c.stamp) (recorded_closing T) (filter (is_closing_by t.id) T.holding_history)
+    ap (reversed_if_lifo t.is_lifo) (sort_map (λ (c : Closing). c.stamp) (recorded_closing T) (filter (is_closing_by t.id) T.holding_history)
     ∙ ap (map (recorded_closing T)) (rows_sorted base t front back k ∙ rows_touched t front first (front_precedes front t back o)))
     ∙ end_map t.is_lifo (recorded_closing T) (map (holding_history_row t.id) (touches_of_existing_lots (deal_of_trade t) us))
     ∙ ap (map (recorded_closing T)) (lots_map t.is_lifo (holding_history_row t.id) (touches_of_existing_lots (deal_of_trade t) us)

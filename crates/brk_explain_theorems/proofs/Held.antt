@@ -31,7 +31,7 @@ use Rattle.brk_book_theorems.proofs.Runs.{AreRuns, lot_other, lot_own, no_lot, r
 use Rattle.brk_book_theorems.proofs.Same.{NonePass, All-map, All-of, filter-none}
 use Rattle.brk_book_theorems.proofs.Tested.{All-back}
 use Rattle.brk_book_theorems.proofs.Touching.{Without, unchanged, without_of}
-use Rattle.brk_explain_theorems.specs.Before.{trades_completed_before, shares_before_trade}
+use Rattle.brk_explain_theorems.specs.Before.{trades_completed_before_stamp, shares_before_trade}
 use Rattle.brk_explain_theorems.proofs.Sorting.{Split, by_one_way, by_splits, split_sort}
 
 -- ---- where a trade stands in its position
@@ -91,7 +91,7 @@ not_itself : (n : ℕ) → nat_lt n n ≡ false
 not_itself n = grind (arith, nat_tests)
 
 pub held_before : (base : Base) (t : Trade) (front back : List Trade) → trades_held base t.account t.symbol ≡ front ++ t ∷ back → InOrder (front ++ t ∷ back)
-    → sort_by_key last_status_stamp_of_trade (trades_of_position (trades_completed_before base (last_status_stamp_of_trade t)) t.account t.symbol) ≡ front
+    → sort_by_key last_status_stamp_of_trade (trades_of_position (trades_completed_before_stamp base (last_status_stamp_of_trade t)) t.account t.symbol) ≡ front
 held_before base t front back e o =
     ap (sort_by_key last_status_stamp_of_trade) (ap (filter S) (filter-swap A E (completed_trades base)) ∙ filter-swap S E (trades_of_account (completed_trades base) t.account))
     ∙ sort_filter (λ u v. nat_lt (last_status_stamp_of_trade u) (last_status_stamp_of_trade v)) E (trades_of_position (completed_trades base) t.account t.symbol) (by_splits last_status_stamp_of_trade) (by_one_way last_status_stamp_of_trade)

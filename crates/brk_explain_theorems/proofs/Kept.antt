@@ -18,7 +18,7 @@ use Rattle.brk_model.specs.Run.{Call, Outcome, Run}
 use Rattle.brk_model.specs.Step.{base_after_command_unstamped}
 use Rattle.brk_model.specs.Tests.{stamp_of_next_command, refusal_of_command, checks_of_command}
 use Rattle.brk_model.specs.Updates.{updated_cash_row_name, updated_cash_type, updated_executor_name, selected_ids_of_account, selected_ids_of_symbol}
-use Rattle.brk_explain_theorems.specs.Before.{trades_completed_before}
+use Rattle.brk_explain_theorems.specs.Before.{trades_completed_before_stamp}
 use Rattle.brk_book_theorems.specs.Books.{BooksInvariant}
 use Rattle.brk_book_theorems.specs.Steps.{base_after_command}
 use Rattle.brk_book_theorems.proofs.Completions.{completed_ticks, completed_unseen, named_waits}
@@ -291,7 +291,7 @@ implied {X = X} p q (x ∷ xs) h = by_test (q x) (p x) refl refl (implied p q xs
 below : (m n : ℕ) → nat_lt m n ≡ true → nat_le m n ≡ true
 below m n e = grind (arith, nat_tests)
 
-pub before_core : (base : Base) (s : ℕ) → map core (trades_completed_before base s) ≡ filter (λ t. nat_lt (last_status_stamp_of_trade t) s) (done_by base s)
+pub before_core : (base : Base) (s : ℕ) → map core (trades_completed_before_stamp base s) ≡ filter (λ t. nat_lt (last_status_stamp_of_trade t) s) (done_by base s)
 before_core base s =
     ap (map core) (sym (implied (λ t. nat_lt (last_status_stamp_of_trade t) s) (λ t. nat_le (last_status_stamp_of_trade t) s) (completed_trades base) (λ t e. below (last_status_stamp_of_trade t) s e)))
     ∙ sym (filter-map (λ t. nat_lt (last_status_stamp_of_trade t) s) core (filter (λ t. nat_le (last_status_stamp_of_trade t) s) (completed_trades base)))

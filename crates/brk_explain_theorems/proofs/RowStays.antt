@@ -13,7 +13,7 @@ use Rattle.brk_model.specs.Records.{Account, Movement, Trade}
 use Rattle.brk_model.specs.Sheets.{sheets, tables_sorted_by_key}
 use Rattle.brk_model.specs.Statement.{cash_move_rows_of_account}
 use Rattle.brk_model.specs.Tables.{MoveRow, move_row, numbered_move_rows, tables_of_base_in_schema}
-use Rattle.brk_explain_theorems.specs.Before.{trades_completed_before}
+use Rattle.brk_explain_theorems.specs.Before.{trades_completed_before_stamp}
 use Rattle.brk_book_theorems.proofs.LotReading.{filter-map, filter-swap}
 use Rattle.brk_book_theorems.proofs.MoveReading.{rows_posted, stamp_one_way, stamp_splits, turn_filter}
 use Rattle.brk_book_theorems.proofs.Order.{Sorted, append_nil, sort_filter, sorted_sort}
@@ -69,7 +69,7 @@ count_is : (base : Base) (s : ℕ) (q : ℕ → Bool)
     ≡ length (filter (λ t. q t.account) (cash_trades (filter (λ t. nat_lt (last_status_stamp_of_trade t) s) (done_by base s)))) + length (filter (λ m. q m.account) (filter (λ m. nat_lt m.stamp s) (moved_by base s)))
 count_is base s q =
     ap (λ ps. length (filter (λ p. q p.account) ps)) (before_are base.accounts s (completed_trades base) base.movements)
-    ∙ count_of base.accounts q (trades_completed_before base s) (filter (λ m. nat_lt m.stamp s) base.movements)
+    ∙ count_of base.accounts q (trades_completed_before_stamp base s) (filter (λ m. nat_lt m.stamp s) base.movements)
     ∙ (λ i. length (filter (λ t. q t.account) (cash_trades (before_core base s i))) + length (filter (λ m. q m.account) (moved_before base s i)))
 
 -- they stay as many

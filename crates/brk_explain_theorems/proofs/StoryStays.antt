@@ -32,9 +32,9 @@ use Rattle.brk_book_theorems.proofs.Places.{FoundAt, filter-all, find-at}
 use Rattle.brk_book_theorems.proofs.RunKeeping.{run_books}
 use Rattle.brk_book_theorems.proofs.Same.{NonePass, All-map, All-mapped, All-of, filter-none, find-All, flat_map-append, flat_map-empty}
 use Rattle.brk_book_theorems.proofs.Tested.{All-back, All-front}
-use Rattle.brk_explain_theorems.specs.Before.{trades_completed_before}
-use Rattle.brk_explain_theorems.specs.Balances.{printed_balance_after, balance_up_to, printed_balance_before}
-use Rattle.brk_explain_theorems.specs.Closings.{result_story_in}
+use Rattle.brk_explain_theorems.specs.Before.{trades_completed_before_stamp}
+use Rattle.brk_explain_theorems.specs.Balances.{printed_balance_after, balance_at_stamp, printed_balance_before}
+use Rattle.brk_explain_theorems.specs.Closings.{result_story_of_trade}
 use Rattle.brk_explain_theorems.specs.Stays.{PrintsSameFigures}
 use Rattle.brk_explain_theorems.proofs.Among.{Among, among, ids_around}
 use Rattle.brk_explain_theorems.proofs.Amounts.{of_holder, settlement_is}
@@ -132,7 +132,7 @@ front_is : (base : Base) (t : Trade) (front back : List Trade) → IsPlaced base
     → map core front ≡ sort_by_key last_status_stamp_of_trade (trades_of_position (filter (λ u. nat_lt (last_status_stamp_of_trade u) (last_status_stamp_of_trade t)) (done_by base (last_status_stamp_of_trade t))) t.account t.symbol)
 front_is base t front back k =
     ap (map core) (sym (held_before base t front back k.stands (placed_order base t front back k)))
-    ∙ position_core (trades_completed_before base (last_status_stamp_of_trade t)) t.account t.symbol
+    ∙ position_core (trades_completed_before_stamp base (last_status_stamp_of_trade t)) t.account t.symbol
     ∙ ap (λ ts. sort_by_key last_status_stamp_of_trade (trades_of_position ts t.account t.symbol)) (before_core base (last_status_stamp_of_trade t))
 
 -- ---- its status changes
@@ -199,7 +199,7 @@ stays_by base later t u books next k e c f = record {
   moved = moves;
   number = number_kept base later t u a a' same k;
   rows = rows_same;
-  before = taken_off (printed_balance_before (sheets later) u) (printed_balance_before (sheets base) t) (balance_change_of_trade (result_story_in later u)) (balance_change_of_trade (result_story_in base t)) balances moves;
+  before = taken_off (printed_balance_before (sheets later) u) (printed_balance_before (sheets base) t) (balance_change_of_trade (result_story_of_trade later u)) (balance_change_of_trade (result_story_of_trade base t)) balances moves;
   after = balances;
 }
   where
@@ -270,15 +270,15 @@ stays_by base later t u books next k e c f = record {
     days : due_day later.rule u ≡ due_day base.rule t
     days = ap (due_day later.rule) same ∙ find-All (λ v. due_day later.rule v ≡ due_day base.rule v) (λ v. v.id == t.id) (done_by base (last_status_stamp_of_trade t)) (core t) k.due (in_done base t books e c)
 
-    moves : balance_change_of_trade (result_story_in later u) ≡ balance_change_of_trade (result_story_in base t)
+    moves : balance_change_of_trade (result_story_of_trade later u) ≡ balance_change_of_trade (result_story_of_trade base t)
     moves = moved_is later u a' ∙ (λ i. cond (same i).is_cash (amounts i) (pos 0)) ∙ sym (moved_is base t a)
 
     balances : printed_balance_after (sheets later) u ≡ printed_balance_after (sheets base) t
     balances =
-        (balances_as_told later u next found done).after ∙ (λ i. balance_up_to later (moment i) (same i).account)
+        (balances_as_told later u next found done).after ∙ (λ i. balance_at_stamp later (moment i) (same i).account)
         ∙ balance_kept (last_status_stamp_of_trade t) base later t.account books known k ∙ sym (balances_as_told base t books e c).after
 
-    rows_same : (result_story_in later u).cash_rows ≡ (result_story_in base t).cash_rows
+    rows_same : (result_story_of_trade later u).cash_rows ≡ (result_story_of_trade base t).cash_rows
     rows_same =
         rows_counted later u.account (last_status_stamp_of_trade u)
         ∙ (λ i. length (filter (λ p. p.account == (same i).account) (filter (λ p. nat_lt p.stamp (moment i)) (postings_of_base later))))

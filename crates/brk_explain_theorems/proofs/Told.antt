@@ -20,8 +20,8 @@ use Rattle.brk_book_theorems.proofs.ResultKeeping.{Found, all_before, found_at, 
 use Rattle.brk_book_theorems.proofs.ResultRows.{deal_then, done_now, done_then, moment_then, status_then}
 use Rattle.brk_book_theorems.proofs.RunKeeping.{books_command}
 use Rattle.brk_book_theorems.proofs.Same.{All-map}
-use Rattle.brk_explain_theorems.specs.Before.{trades_completed_before, shares_before_trade}
-use Rattle.brk_explain_theorems.specs.Balances.{balance_up_to}
+use Rattle.brk_explain_theorems.specs.Before.{trades_completed_before_stamp, shares_before_trade}
+use Rattle.brk_explain_theorems.specs.Balances.{balance_at_stamp}
 use Rattle.brk_explain_theorems.specs.Closings.{PrintedClosingsMatchDeal}
 use Rattle.brk_explain_theorems.specs.Equations.{PrintedSettlementMatchesBase}
 use Rattle.brk_explain_theorems.specs.Told.{PrintsReplyFigures}
@@ -48,7 +48,7 @@ unfolding base_after_command_unstamped
 then_is base now id price t e = ap (λ o. record (option_map_or (base_after_result base (stamp_of_next_command base now) price) o base) { last = Some (stamp_of_next_command base now) }) e
 
 before_result : (base : Base) (now id price : ℕ) (t : Trade) → BooksInvariant base → trade_with_id base id ≡ Some t → refusal_of_command base now (CompleteTrade id price) ≡ None
-    → trades_completed_before (then_of base now price t) (last_status_stamp_of_trade (completed_trade base (stamp_of_next_command base now) price t)) ≡ completed_trades base
+    → trades_completed_before_stamp (then_of base now price t) (last_status_stamp_of_trade (completed_trade base (stamp_of_next_command base now) price t)) ≡ completed_trades base
 before_result base now id price t books e accepted =
     ap (λ (n : ℕ). filter (λ v. nat_lt (last_status_stamp_of_trade v) n) (completed_trades (base_after_result base stamp price t))) (moment_then base stamp price t)
     ∙ ap (filter E) (done_then base stamp price t f.front f.back f.result)
@@ -86,7 +86,7 @@ tells base now id price t books e accepted = record {
   due = settled.day;
   bought = closed.bought ∙ (λ i. buy_value (deal_then base stamp price t i) (shares i));
   sold = closed.sold ∙ (λ i. sell_value (deal_then base stamp price t i) (shares i));
-  balance = (balances_as_told mid u next found done).after ∙ ap (λ (n : ℕ). balance_up_to mid n u.account) (moment_then base stamp price t) ∙ all_by mid stamp u.account next refl;
+  balance = (balances_as_told mid u next found done).after ∙ ap (λ (n : ℕ). balance_at_stamp mid n u.account) (moment_then base stamp price t) ∙ all_by mid stamp u.account next refl;
 }
   where
     stamp : ℕ

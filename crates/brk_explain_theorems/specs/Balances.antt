@@ -16,16 +16,16 @@ use Rattle.brk_explain_model.specs.Running.{running_totals}
 use Rattle.brk_explain_model.specs.Trades.{balance_after_trade, balance_before_trade, order_details_of_trade, result_details_of_trade}
 
 -- The postings whose stamp is before `stamp`.
-abbrev pub postings_before : ℕ → List Posting → List Posting
-postings_before stamp posted = filter (λ p. nat_lt p.stamp stamp) posted
+abbrev pub postings_before_stamp : ℕ → List Posting → List Posting
+postings_before_stamp stamp posted = filter (λ p. nat_lt p.stamp stamp) posted
 
 -- The postings whose stamp is at most `stamp`.
-abbrev pub postings_up_to : ℕ → List Posting → List Posting
-postings_up_to stamp posted = filter (λ p. nat_le p.stamp stamp) posted
+abbrev pub postings_up_to_stamp : ℕ → List Posting → List Posting
+postings_up_to_stamp stamp posted = filter (λ p. nat_le p.stamp stamp) posted
 
 -- The balance of the account by the postings of the base whose stamp is at most `stamp`.
-abbrev pub balance_up_to : Base → ℕ → ℕ → ℤ
-balance_up_to base stamp account = balance_of_account base.accounts (postings_up_to stamp (postings_of_base base)) account
+abbrev pub balance_at_stamp : Base → ℕ → ℕ → ℤ
+balance_at_stamp base stamp account = balance_of_account base.accounts (postings_up_to_stamp stamp (postings_of_base base)) account
 
 -- The last number of the list, or `from` if the list is empty.
 abbrev pub last_number_or_default : ℤ → List ℤ → ℤ
@@ -49,8 +49,8 @@ last_printed_balance tables a = last_number_or_default a.opening (running_totals
 -- The printed balance before the trade is its account's balance by the postings before its
 -- completion. The printed balance after it also counts the postings at the stamp of its completion.
 pub record PrintedBalancesMatchBase (base : Base) (t : Trade) : Type 0 where
-  pub before : printed_balance_before (sheets base) t ≡ balance_of_account base.accounts (postings_before (last_status_stamp_of_trade t) (postings_of_base base)) t.account
-  pub after : printed_balance_after (sheets base) t ≡ balance_up_to base (last_status_stamp_of_trade t) t.account
+  pub before : printed_balance_before (sheets base) t ≡ balance_of_account base.accounts (postings_before_stamp (last_status_stamp_of_trade t) (postings_of_base base)) t.account
+  pub after : printed_balance_after (sheets base) t ≡ balance_at_stamp base (last_status_stamp_of_trade t) t.account
 
 -- After the result of the trade `id` from `base` and any run that follows it, the printed balance
 -- after the trade is the balance of its account in the base right after that result.

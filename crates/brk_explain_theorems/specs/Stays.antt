@@ -6,31 +6,31 @@ use Rattle.brk_model.specs.Sheets.{sheets}
 use Rattle.brk_model.specs.Tables.{trade_row}
 use Rattle.brk_explain_model.specs.Trades.{balance_change_of_trade}
 use Rattle.brk_explain_theorems.specs.Balances.{printed_balance_after, printed_balance_before}
-use Rattle.brk_explain_theorems.specs.Closings.{result_story_in}
-use Rattle.brk_explain_theorems.specs.Equations.{order_story_in}
+use Rattle.brk_explain_theorems.specs.Closings.{result_story_of_trade}
+use Rattle.brk_explain_theorems.specs.Equations.{order_story_of_trade}
 
 -- The explanation of the trade `u` of the base `later` prints the figures that the explanation of
 -- the trade `t` of `base` prints. The executor's name may differ.
 pub record PrintsSameFigures (base later : Base) (t u : Trade) : Type 0 where
   -- All columns of the row of TRADE but the executor's name.
   pub row : record (trade_row u) { executor = [] } ≡ record (trade_row t) { executor = [] }
-  pub customer : (order_story_in later u).customer ≡ (order_story_in base t).customer
-  pub broker : (order_story_in later u).broker ≡ (order_story_in base t).broker
-  pub tax_status : (order_story_in later u).tax_status ≡ (order_story_in base t).tax_status
-  pub opening : (order_story_in later u).opening ≡ (order_story_in base t).opening
+  pub customer : (order_story_of_trade later u).customer ≡ (order_story_of_trade base t).customer
+  pub broker : (order_story_of_trade later u).broker ≡ (order_story_of_trade base t).broker
+  pub tax_status : (order_story_of_trade later u).tax_status ≡ (order_story_of_trade base t).tax_status
+  pub opening : (order_story_of_trade later u).opening ≡ (order_story_of_trade base t).opening
   -- The status changes.
-  pub statuses : (order_story_in later u).statuses ≡ (order_story_in base t).statuses
+  pub statuses : (order_story_of_trade later u).statuses ≡ (order_story_of_trade base t).statuses
   -- The lots that it closed, and its own lot: so BUY, SELL, Realised gain and the shares.
-  pub price : (result_story_in later u).price ≡ (result_story_in base t).price
-  pub closings : (result_story_in later u).closings ≡ (result_story_in base t).closings
-  pub own_lot : (result_story_in later u).own_lot ≡ (result_story_in base t).own_lot
+  pub price : (result_story_of_trade later u).price ≡ (result_story_of_trade base t).price
+  pub closings : (result_story_of_trade later u).closings ≡ (result_story_of_trade base t).closings
+  pub own_lot : (result_story_of_trade later u).own_lot ≡ (result_story_of_trade base t).own_lot
   -- The settlement, its due day, and the cash that it moved.
-  pub settlement : (result_story_in later u).settlement.amount ≡ (result_story_in base t).settlement.amount
-  pub due : (result_story_in later u).settlement.due_day ≡ (result_story_in base t).settlement.due_day
-  pub moved : balance_change_of_trade (result_story_in later u) ≡ balance_change_of_trade (result_story_in base t)
+  pub settlement : (result_story_of_trade later u).settlement.amount ≡ (result_story_of_trade base t).settlement.amount
+  pub due : (result_story_of_trade later u).settlement.due_day ≡ (result_story_of_trade base t).settlement.due_day
+  pub moved : balance_change_of_trade (result_story_of_trade later u) ≡ balance_change_of_trade (result_story_of_trade base t)
   -- The number of its cash row, and of the account's cash rows before it.
-  pub number : option_map (λ row. row.id) (result_story_in later u).cash ≡ option_map (λ row. row.id) (result_story_in base t).cash
-  pub rows : (result_story_in later u).cash_rows ≡ (result_story_in base t).cash_rows
+  pub number : option_map (λ row. row.id) (result_story_of_trade later u).cash ≡ option_map (λ row. row.id) (result_story_of_trade base t).cash
+  pub rows : (result_story_of_trade later u).cash_rows ≡ (result_story_of_trade base t).cash_rows
   -- The balances before and after it.
   pub before : printed_balance_before (sheets later) u ≡ printed_balance_before (sheets base) t
   pub after : printed_balance_after (sheets later) u ≡ printed_balance_after (sheets base) t

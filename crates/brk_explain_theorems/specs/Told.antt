@@ -7,16 +7,16 @@ use Rattle.brk_model.specs.Commands.{Completion}
 use Rattle.brk_model.specs.Sheets.{sheets}
 use Rattle.brk_explain_model.specs.Trades.{buy_value_of_closings, sell_value_of_closings}
 use Rattle.brk_explain_theorems.specs.Balances.{printed_balance_after}
-use Rattle.brk_explain_theorems.specs.Closings.{result_story_in}
-use Rattle.brk_explain_theorems.specs.Equations.{order_story_in}
+use Rattle.brk_explain_theorems.specs.Closings.{result_story_of_trade}
+use Rattle.brk_explain_theorems.specs.Equations.{order_story_of_trade}
 
 -- The explanation of the trade `t`, computed from the tables of the base, prints the figures of the
 -- completion `c`: commission, tax, settlement amount, due day, buy value, sell value and balance.
 pub record PrintsReplyFigures (base : Base) (t : Trade) (c : Completion) : Type 0 where
-  pub commission : (order_story_in base t).trade.commission ≡ c.commission
-  pub tax : (order_story_in base t).trade.tax ≡ c.tax
-  pub settlement : (result_story_in base t).settlement.amount ≡ c.amount
-  pub due : (result_story_in base t).settlement.due_day ≡ c.due_day
-  pub bought : buy_value_of_closings (side_of_trade_type t.kind) (completion_price t) (result_story_in base t).closings ≡ c.buy_value
-  pub sold : sell_value_of_closings (side_of_trade_type t.kind) (completion_price t) (result_story_in base t).closings ≡ c.sell_value
+  pub commission : (order_story_of_trade base t).trade.commission ≡ c.commission
+  pub tax : (order_story_of_trade base t).trade.tax ≡ c.tax
+  pub settlement : (result_story_of_trade base t).settlement.amount ≡ c.amount
+  pub due : (result_story_of_trade base t).settlement.due_day ≡ c.due_day
+  pub bought : buy_value_of_closings (side_of_trade_type t.kind) (completion_price t) (result_story_of_trade base t).closings ≡ c.buy_value
+  pub sold : sell_value_of_closings (side_of_trade_type t.kind) (completion_price t) (result_story_of_trade base t).closings ≡ c.sell_value
   pub balance : printed_balance_after (sheets base) t ≡ c.balance

@@ -18,11 +18,12 @@ pub(crate) fn execute_explain_job<S: Alter, W: Write>(
     let Ok(words) = bytes_of_arguments(alloc, words) else {
         return Ending::Open(Fault::Memory);
     };
-    let what = match parse_explain_request(&words) {
-        Ok(what) => what,
-        Err(refusal) => return Ending::Report(ReportFault::Refused(refusal)),
+    let what = match parse_explain_request(alloc, &words) {
+        Ok(Ok(what)) => what,
+        Ok(Err(refusal)) => return Ending::Report(ReportFault::Refused(refusal)),
+        Err(fault) => return Ending::Open(fault),
     };
-    match write_explanation(alloc, desk, what, output) {
+    match write_explanation(alloc, desk, &what, output) {
         Ok(()) => Ending::Done,
         Err(fault) => Ending::Report(fault),
     }

@@ -91,7 +91,7 @@ fn format_parsed_arguments(alloc: Global, words: &[&str]) -> Result<String, Fail
 }
 
 // Arguments, and the text of their job: a file or `-`, milliseconds or -1, days since 1970-01-01.
-const JOBS: [(&[&str], &str); 16] = [
+const JOBS: [(&[&str], &str); 17] = [
     (&["batch"], "batch - -1"),
     (&["batch", "--db", "a b.db"], "batch a b.db -1"),
     (&["batch", "--at", "0"], "batch - 0"),
@@ -154,6 +154,10 @@ const JOBS: [(&[&str], &str); 16] = [
         "explain a.db trade 3",
     ),
     (&["explain", "--db", "a.db", "--", "-x"], "explain a.db -x"),
+    (
+        &["explain", "--db", "a.db", "--", "holding", "1", "-X"],
+        "explain a.db holding 1 -X",
+    ),
     (&["audit", "--db", "a.db"], "audit a.db"),
     (&["serve", "--port", "1"], "serve 1 - -1 1"),
     (
@@ -428,7 +432,7 @@ const HELP: &str = "A brokerage back office\n\nUsage: brk <COMMAND>\n\nCommands:
     \x20 batch      Reads a batch from standard input and writes a line for each row\n\
     \x20 statement  Prints the statement of an account: its cash, day by day, and its lots\n\
     \x20 ask        Prints a view of a desk: a CSV row for each record\n\
-    \x20 explain    Prints how the amounts of a trade or of an account come about\n\
+    \x20 explain    Prints how the amounts of a trade, an account, a holding or a broker come about\n\
     \x20 audit      Recomputes every derived table of a desk, and prints ok if all are right\n\
     \x20 serve      Serves the desk over HTTP, one stream after the other\n\
     \x20 help       Print this message or the help of the given subcommand(s)\n\nOptions:\n\

@@ -9,7 +9,7 @@ use Rattle.brk_report_lines.specs.Written.{FailsWithinFirstLines}
 use Rattle.brk_store.specs.Walked.{cash_rows_in_span}
 use Rattle.brk_report.proofs.Days.{rows_within}
 use Rattle.brk_explain.specs.Sections.{account_cash_lines}
-use Rattle.brk_explain.specs.declared.visitors.PostedRows.{PostedRows}
+use Rattle.brk_explain.specs.declared.visitors.CashPostingWriter.{CashPostingWriter}
 use Rattle.brk_explain.proofs.Walked.{rows_all, rows_first}
 use Rattle.brk_explain.proofs.sections.write_cash_posting_lines.Goals as goal
 
@@ -17,7 +17,7 @@ pub returns-in-Ok-clause-written : goal.returns-in-Ok-clause-written
 returns-in-Ok-clause-written g c = λ clean t holds.
     let list = cash_rows_in_span c.args.account c.nearest.result c.nearest-last.result in
     let days = rows_within t c.args.account 0 greatest_day c.nearest.result c.nearest-last.result (search rules) (search rules) in
-    let w = rows_all g.S.Store _ _ abstract_move_row list _ _ _ _ t clean holds c.visit_cash.result c.visit_cash.ensures.walked (λ row. row.amount) cash_posting_line (λ (v : PostedRows g.row.W.Denot). g.W.Write.contents v.writer.now) (λ v. v.count) (λ v. v.balance)
+    let w = rows_all g.S.Store _ _ abstract_move_row list _ _ _ _ t clean holds c.visit_cash.result c.visit_cash.ensures.walked (λ row. row.amount) cash_posting_line (λ (v : CashPostingWriter g.row.W.Denot). g.W.Write.contents v.writer.now) (λ v. v.count) (λ v. v.balance)
     (λ p x q h. (h.2, h.1, h.0)) (λ p x e q h. h) c.in-Ok.field-0 c.in-Ok.is refl in
     let rows = subst (λ (rows : List tables.MoveRow).
     Appends (g.W.Write.contents c.args.writer.now) (g.W.Write.contents c.visit_cash.new.visitor.writer.now) (text_of_lines (cash_posting_lines c.from.result rows)) × (c.visit_cash.new.visitor.count ≡ length rows)) days w in
@@ -28,7 +28,7 @@ pub returns-in-Err-clause-written : goal.returns-in-Err-clause-written
 returns-in-Err-clause-written g c = λ clean t holds.
     let list = cash_rows_in_span c.args.account c.nearest.result c.nearest-last.result in
     let days = rows_within t c.args.account 0 greatest_day c.nearest.result c.nearest-last.result (search rules) (search rules) in
-    let w = rows_first g.S.Store _ _ abstract_move_row list _ _ _ _ t clean holds c.visit_cash.result c.visit_cash.ensures.walked (λ row. row.amount) cash_posting_line (λ (v : PostedRows g.row.W.Denot). g.W.Write.contents v.writer.now) (λ v. v.count) (λ v. v.balance)
+    let w = rows_first g.S.Store _ _ abstract_move_row list _ _ _ _ t clean holds c.visit_cash.result c.visit_cash.ensures.walked (λ row. row.amount) cash_posting_line (λ (v : CashPostingWriter g.row.W.Denot). g.W.Write.contents v.writer.now) (λ v. v.count) (λ v. v.balance)
     (λ p x q h. (h.2, h.1, h.0)) (λ p x e q h. h) c.in-Err.stop c.in-Err.is in
     let rows = subst (λ (rows : List tables.MoveRow). FailsWithinFirstLines (cash_posting_lines c.from.result rows) (g.W.Write.contents c.args.writer.now) (g.W.Write.contents c.visit_cash.new.visitor.writer.now) c.fault_from_walk_error.result) days
     (subst (λ e. FailsWithinFirstLines (cash_posting_lines c.from.result (list t)) (g.W.Write.contents c.args.writer.now) (g.W.Write.contents c.visit_cash.new.visitor.writer.now) e) (sym c.fault_from_walk_error.ensures) w) in

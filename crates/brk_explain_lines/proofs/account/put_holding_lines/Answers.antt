@@ -6,7 +6,7 @@ use Rattle.brk_explain_rows.specs.Stories.{abstract_priced_holding}
 use Rattle.brk_model.specs.Statement.{text_of_lines}
 use Rattle.brk_money.specs.Spelling.{Text}
 use Rattle.brk_report_lines.specs.Written.{line_with_line_feed}
-use Rattle.brk_explain_lines.proofs.Chains.{last, more}
+use Rattle.brk_explain_columns.proofs.Chains.{last, more}
 use Rattle.brk_explain_lines.proofs.account.put_holding_lines.Goals as goal
 
 pub loop-held-preserved : goal.loop-held-preserved

@@ -5,7 +5,7 @@ use Rattle.brk_explain_model.specs.Trades.{balance_after_trade, balance_before_t
 use Rattle.brk_explain_rows.specs.Stories.{abstract_order_story, abstract_result_story}
 use Rattle.brk_model.specs.Statement.{text_of_lines}
 use Rattle.brk_report_lines.specs.Written.{line_with_line_feed}
-use Rattle.brk_explain_lines.proofs.Chains.{last, more}
+use Rattle.brk_explain_columns.proofs.Chains.{last, more}
 use Rattle.brk_explain_lines.proofs.balance_lines.put_balance_lines.Goals as goal
 
 pub returns-clause-ok : goal.returns-clause-ok

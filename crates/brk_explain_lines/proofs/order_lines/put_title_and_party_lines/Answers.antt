@@ -4,7 +4,7 @@ use Rattle.brk_explain_model.specs.TradeLines.{trade_account_line, title_and_par
 use Rattle.brk_explain_rows.specs.Stories.{abstract_order_story}
 use Rattle.brk_model.specs.Statement.{text_of_lines}
 use Rattle.brk_report_lines.specs.Written.{line_with_line_feed}
-use Rattle.brk_explain_lines.proofs.Chains.{last, more}
+use Rattle.brk_explain_columns.proofs.Chains.{last, more}
 use Rattle.brk_explain_lines.proofs.order_lines.put_title_and_party_lines.Goals as goal
 
 pub returns-clause-ok : goal.returns-clause-ok

@@ -3,7 +3,7 @@ use Rattle.brk_explain_model.specs.Texts.{labeled_amount, labeled_text}
 use Rattle.brk_explain_model.specs.TradeLines.{trade_settlement_lines}
 use Rattle.brk_model.specs.Statement.{text_of_lines}
 use Rattle.brk_report_lines.specs.Written.{line_with_line_feed}
-use Rattle.brk_explain_lines.proofs.Chains.{last, more}
+use Rattle.brk_explain_columns.proofs.Chains.{last, more}
 use Rattle.brk_explain_lines.proofs.settlement_lines.put_settlement_lines.Goals as goal
 
 pub returns-clause-ok : goal.returns-clause-ok

@@ -7,14 +7,14 @@ use Rattle.brk_ref.specs.Records.{abstract_last_trade_row}
 use Rattle.brk_store.proofs.Retelling.{retold}
 use Rattle.brk_explain_model.specs.AccountLines.{priced_holding}
 use Rattle.brk_explain_rows.specs.Stories.{abstract_priced_holding}
-use Rattle.brk_explain_rows.specs.declared.account_story.Held.{Held}
+use Rattle.brk_explain_rows.specs.declared.account_story.PricedHolding.{PricedHolding}
 use Rattle.brk_explain_reads.proofs.accounts.read_priced_holding.Goals as goal
 
 pub returns-in-Some-clause-read : goal.returns-in-Some-clause-read
 returns-in-Some-clause-read g c =
     let summary = c.args.summary in
     let last = c.in-Some.last in
-    let held : Held = record { summary = summary; price = last.price } in
+    let held : PricedHolding = record { summary = summary; price = last.price } in
     retold g.S.Store c.args.store.now c.last_trade.new.self (Some last) held
     (λ o (t : Tables). option_map abstract_last_trade_row o ≡ find (λ (r : LastTradeRow). bytes_eq r.symbol summary.symbol) t.last_trades)
     (λ held (t : Tables). abstract_priced_holding held ≡ priced_holding t (abstract_summary_row summary))

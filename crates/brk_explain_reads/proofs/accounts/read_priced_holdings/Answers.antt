@@ -6,13 +6,13 @@ use Rattle.brk_model.specs.Tables.{SummaryRow, Tables}
 use Rattle.brk_store.proofs.Retelling.{retold}
 use Rattle.brk_explain_model.specs.AccountLines.{priced_holding, priced_holdings_of_account}
 use Rattle.brk_explain_rows.specs.Stories.{abstract_priced_holding}
-use Rattle.brk_explain_rows.specs.declared.account_story.Held.{Held}
+use Rattle.brk_explain_rows.specs.declared.account_story.PricedHolding.{PricedHolding}
 use Rattle.brk_explain_reads.proofs.Each.{all_made, map_map, none_made, popped}
 use Rattle.brk_explain_reads.proofs.Reading.{read_both}
 use Rattle.brk_explain_reads.proofs.accounts.read_priced_holdings.Goals as goal
 
 -- summaries that are left, and those after them with their prices, are an account's
-abbrev AreHeld : ℕ → List row.SummaryRow → List Held → Tables → Type 0
+abbrev AreHeld : ℕ → List row.SummaryRow → List PricedHolding → Tables → Type 0
 AreHeld account rest held t = map (λ r. priced_holding t (abstract_summary_row r)) rest ++ map abstract_priced_holding (reverse held) ≡ priced_holdings_of_account t account
 
 pub loop-summary-init : goal.loop-summary-init

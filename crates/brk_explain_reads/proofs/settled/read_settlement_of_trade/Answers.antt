@@ -6,7 +6,7 @@ use Rattle.brk_model.specs.LookupView.{is_cash_row_of_trade}
 use Rattle.brk_model.specs.Tables.{SettlementRow, Tables}
 use Rattle.brk_explain_model.specs.Trades.{zero_settlement_row}
 use Rattle.brk_explain_reads.specs.Found.{IsSettlementOfTrade}
-use Rattle.brk_explain_reads.specs.declared.settled.Settled.{Settled}
+use Rattle.brk_explain_reads.specs.declared.settled.SettlementAndCash.{SettlementAndCash}
 use Rattle.brk_explain_reads.proofs.Reading.{read_both}
 use Rattle.brk_explain_reads.proofs.settled.read_settlement_of_trade.Goals as goal
 
@@ -17,7 +17,7 @@ returns-clause-read g c =
     let settlement = c.in_ok-settlement.settlement in
     let cash = c.in_ok-cash.cash in
     let rule = c.in_ok-rule.rule in
-    let settled : Settled = record { settlement = settlement; cash = cash; rule = rule } in
+    let settled : SettlementAndCash = record { settlement = settlement; cash = cash; rule = rule } in
     read_both g.S.Store old c.cash_row.new.self c.settlement_day.new.self {H = Fault} cash rule settled
     (λ cash (t : Tables). (find (λ (s : SettlementRow). s.trade == trade) t.settlements ≡ Some (abstract_settlement_row settlement)) × (option_map abstract_move_row cash ≡ find (is_cash_row_of_trade trade) t.moves))
     (λ rule (t : Tables). rule ≡ t.rule)

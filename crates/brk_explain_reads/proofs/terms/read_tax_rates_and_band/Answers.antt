@@ -6,7 +6,7 @@ use Rattle.brk_model.specs.Tables.{Tables}
 use Rattle.brk_ref.specs.Records.{abstract_band, abstract_customer, abstract_security_row, abstract_tax_rate}
 use Rattle.brk_explain_model.specs.Trades.{band_for_customer_and_security, band_for_tier_and_exchange, tax_rates_of_customer}
 use Rattle.brk_explain_reads.specs.Found.{AreTaxRatesAndBand}
-use Rattle.brk_explain_reads.specs.declared.terms.Terms.{Terms}
+use Rattle.brk_explain_reads.specs.declared.terms.TaxRatesAndBand.{TaxRatesAndBand}
 use Rattle.brk_explain_reads.proofs.Reading.{read_both}
 use Rattle.brk_explain_reads.proofs.terms.read_tax_rates_and_band.Goals as goal
 
@@ -19,7 +19,7 @@ returns-clause-read g c =
     let customer = c.in_ok-customer.customer in
     let rates = c.in_ok-rates.rates in
     let band = c.in_ok-band.band in
-    let terms : Terms = record { rates = rates; band = band } in
+    let terms : TaxRatesAndBand = record { rates = rates; band = band } in
     read_both g.S.Store old c.read_tax_rates_of_customer.new.store c.read_band_for_tier.new.store {H = Fault} rates band terms
     (λ rates (t : Tables). (find (λ (r : Customer). r.id == id) t.customers ≡ Some (abstract_customer customer)) × (map abstract_tax_rate rates.items ≡ tax_rates_of_customer t id))
     (λ band (t : Tables). option_map abstract_band band ≡ band_for_tier_and_exchange t u customer.tier order.security.exchange)

@@ -1,0 +1,5 @@
+pub mod Chains
+pub mod Items
+pub mod Padded
+pub mod RunningRows
+pub mod Totals

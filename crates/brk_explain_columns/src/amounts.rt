@@ -1,0 +1,41 @@
+//! Sums, differences and products of amounts. A result that does not fit is the fault `Store`: no
+//! row of a store that passed its audit leads to one.
+
+ghost use Rattle.std.specs.Prelude.{◌≡◌, ◌*ℤ◌, ◌+ℤ◌, ◌-ℤ◌, IfErr, IfOk, pos};
+ghost use Rattle.brk_model.specs.Run.{IsCallFault};
+
+use brk_money::{Fault, Price, Wide};
+
+/// Returns the sum of two amounts. Fails with `Store` if it does not fit.
+pub fn add_amounts(one: Wide, other: Wide) -> Result<Wide, Fault>
+    ensures sum { IfOk result (λ sum. sum ≡ one +ℤ other) }
+    ensures fault { IfErr result IsCallFault }
+{
+    match one.get().checked_add(other.get()) {
+        Some(sum) => Ok(Wide::new(sum)),
+        None => Err(Fault::Store),
+    }
+}
+
+/// Returns the difference of two amounts. Fails with `Store` if it does not fit.
+pub fn subtract_amounts(one: Wide, other: Wide) -> Result<Wide, Fault>
+    ensures difference { IfOk result (λ difference. difference ≡ one -ℤ other) }
+    ensures fault { IfErr result IsCallFault }
+{
+    match one.get().checked_sub(other.get()) {
+        Some(difference) => Ok(Wide::new(difference)),
+        None => Err(Fault::Store),
+    }
+}
+
+/// Returns the product of a number of shares and a price, in cents. Fails with `Store` if it does
+/// not fit.
+pub fn value_of_shares_at_price(shares: i64, price: Price) -> Result<Wide, Fault>
+    ensures value { IfOk result (λ value. value ≡ shares *ℤ pos price) }
+    ensures fault { IfErr result IsCallFault }
+{
+    match i128::from(shares).checked_mul(i128::from(price.get())) {
+        Some(value) => Ok(Wide::new(value)),
+        None => Err(Fault::Store),
+    }
+}

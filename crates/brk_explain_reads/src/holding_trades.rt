@@ -1,0 +1,115 @@
+//! The completed trades of a holding, and the lots that they opened.
+
+ghost use Rattle.std.specs.Prelude.{◌≡◌, ◌++◌, Err, IfErr, OnErr, OnOk, map, option_map, option_to_list};
+ghost use Rattle.brk_explain_reads.specs.HoldingParts.{AreTradesAndLotsOfHolding, IsTradeWithLot, lot_opened_by_trade};
+ghost use Rattle.brk_explain_rows.specs.Stories.{abstract_lot_story};
+ghost use Rattle.brk_model.specs.Run.{IsCallFault};
+ghost use Rattle.brk_money.specs.declared.fault.Fault.TheVariants.{Memory};
+ghost use Rattle.brk_store.specs.Holds.{ReadPost};
+
+use crate::known::read_existing_trade;
+use crate::lot_changes::{OpeningAndLaterChanges, read_lot_changes_by_completion};
+use brk_changes::{LotChange, TradeRow};
+use brk_explain_rows::{PricedLotChange, LotStory};
+use brk_money::{Fault, Id};
+use brk_ref::Symbol;
+use brk_store::Store;
+use sqlite::Alter;
+use std::alloc::Global;
+
+/// A trade, and the lot that it opened.
+#[derive(Drop)]
+pub struct TradeAndLot {
+    pub trade: TradeRow,
+    /// The lot, or `None` if the trade opened none.
+    pub lot: Option<LotStory>,
+}
+
+/// The completed trades of a holding, and the lots that they opened.
+#[derive(Drop)]
+pub struct TradesAndLots {
+    /// The trades, in the order of completion.
+    pub done: Vec<TradeRow>,
+    /// The lots, in the order of opening.
+    pub lots: Vec<LotStory>,
+}
+
+// Returns the lot that `trade` opened with the change `opening`, and its later changes.
+fn lot_story_of_opening(trade: TradeRow, opening: &LotChange, changes: Vec<PricedLotChange>) -> LotStory
+    ensures { result ≡ record { trade = trade; opened = opening.now.after; changes = changes } }
+{
+    LotStory {
+        trade,
+        opened: opening.after,
+        changes,
+    }
+}
+
+// Returns the lot that a trade opened, with its later changes, or `None` if it opened none. Fails
+// with `Memory` or `Store`; with `Store` also if the trade or a trade that changed the lot does not
+// exist, or if the latter has no price.
+fn read_lot_of_trade<S: Alter>(
+    alloc: Global,
+    store: &mut Store<S>,
+    trade: Id,
+) -> Result<Option<LotStory>, Fault>
+    ensures read { ReadPost S.Store store.old store.new result (λ lot t. option_map abstract_lot_story lot ≡ lot_opened_by_trade t trade) }
+    ensures fault { IfErr result IsCallFault }
+{
+    let all = read_lot_changes_by_completion(alloc, store, trade)?;
+    let OpeningAndLaterChanges { opening, later_changes } = all;
+    let Some(first) = opening else {
+        return Ok(None);
+    };
+    let row = read_existing_trade(store, trade)?;
+    Ok(Some(lot_story_of_opening(row, &first, later_changes)))
+}
+
+// Returns a trade and the lot that it opened. Fails with `Memory` or `Store`; with `Store` also if
+// the trade or a trade that changed the lot does not exist, or if the latter has no price.
+fn read_trade_and_lot<S: Alter>(
+    alloc: Global,
+    store: &mut Store<S>,
+    trade: Id,
+) -> Result<TradeAndLot, Fault>
+    ensures read { ReadPost S.Store store.old store.new result (λ one t. IsTradeWithLot t trade one) }
+    ensures fault { IfErr result IsCallFault }
+{
+    let row = read_existing_trade(store, trade)?;
+    let lot = read_lot_of_trade(alloc, store, trade)?;
+    Ok(TradeAndLot { trade: row, lot })
+}
+
+// Appends a lot, if there is one. Fails with `Memory` only.
+fn push_lot_if_any(lots: &mut Vec<LotStory>, lot: Option<LotStory>) -> Result<(), Fault>
+    ensures added { OnOk result (map abstract_lot_story lots.new.items ≡ map abstract_lot_story lots.old.items ++ option_to_list (option_map abstract_lot_story lot)) }
+    ensures fault { OnErr result (result ≡ Err Memory) }
+{
+    if let Some(lot) = lot {
+        lots.push(lot)?;
+    }
+    Ok(())
+}
+
+/// Returns the completed trades of an account in a security, the oldest first, and the lots that
+/// they opened. Fails with `Memory` or `Store`; with `Store` also if a trade that changed a lot
+/// does not exist or has no price.
+pub(crate) fn read_trades_and_lots_of_holding<S: Alter>(
+    alloc: Global,
+    store: &mut Store<S>,
+    account: Id,
+    symbol: &Symbol,
+) -> Result<TradesAndLots, Fault>
+    ensures read { ReadPost S.Store store.old store.new result (λ held t. AreTradesAndLotsOfHolding t account symbol.now held) }
+    ensures fault { IfErr result IsCallFault }
+{
+    let ids = store.completed_trades_of_holding(alloc, account, symbol)?;
+    let mut done = Vec::new(alloc);
+    let mut lots = Vec::new(alloc);
+    for id in &ids {
+        let one = read_trade_and_lot(alloc, store, *id)?;
+        done.push(one.trade)?;
+        push_lot_if_any(&mut lots, one.lot)?;
+    }
+    Ok(TradesAndLots { done, lots })
+}

@@ -1,0 +1,117 @@
+//! The facts that the explanation of a holding reads.
+
+ghost use Rattle.std.specs.Prelude.{◌≡◌, IfErr, option_map, pos};
+ghost use Rattle.std.specs.Option.{option_map_or};
+ghost use Rattle.brk_changes.specs.Rows.{abstract_summary_row};
+ghost use Rattle.brk_explain_reads.specs.HoldingParts.{AreQuantityAndPrice};
+ghost use Rattle.brk_explain_rows.specs.Stories.{IsStoryOfHolding};
+ghost use Rattle.brk_model.specs.Joins.{last_price_in_tables};
+ghost use Rattle.brk_model.specs.Run.{IsCallFault};
+ghost use Rattle.brk_store.specs.Holds.{ReadPost};
+
+use crate::holding_trades::{TradesAndLots, read_trades_and_lots_of_holding};
+use brk_changes::SummaryRow;
+use brk_explain_rows::HoldingStory;
+use brk_money::{Fault, Id, Planned, Price, Refusal};
+use brk_ref::{AccountRow, Security, Symbol};
+use brk_store::Store;
+use sqlite::Alter;
+use std::alloc::Global;
+
+/// The number of shares that an account holds, and the last price of their security.
+#[derive(Clone, Copy)]
+pub struct QuantityAndPrice {
+    pub shares: i64,
+    pub price: Price,
+}
+
+// Returns the quantity of a holding summary, or 0 if there is none.
+fn quantity_of_summary_or_zero(summary: Option<SummaryRow>) -> i64
+    ensures { result ≡ option_map_or (λ r. r.qty) (option_map abstract_summary_row summary) (pos 0) }
+{
+    match summary {
+        Some(row) => row.qty,
+        None => 0,
+    }
+}
+
+// Returns a number of shares and the last price of their security.
+fn quantity_and_price(shares: i64, price: Price) -> QuantityAndPrice
+    ensures { result ≡ record { shares = shares; price = price } }
+{
+    QuantityAndPrice { shares, price }
+}
+
+// Returns the last price of a security. Fails with `Memory` or `Store`; with `Store` also if it has
+// none.
+fn read_last_price<S: Alter>(store: &mut Store<S>, symbol: &Symbol) -> Result<Price, Fault>
+    ensures read { ReadPost S.Store store.old store.new result (λ price t. price ≡ last_price_in_tables t symbol.now) }
+    ensures fault { IfErr result IsCallFault }
+{
+    match store.last_trade(symbol)? {
+        Some(last) => Ok(last.price),
+        None => Err(Fault::Store),
+    }
+}
+
+// Returns the quantity that an account holds of a security, and the last price. Fails with `Memory`
+// or `Store`; with `Store` also if the security has no last price.
+fn read_quantity_and_price<S: Alter>(
+    store: &mut Store<S>,
+    account: Id,
+    symbol: &Symbol,
+) -> Result<QuantityAndPrice, Fault>
+    ensures read { ReadPost S.Store store.old store.new result (λ held t. AreQuantityAndPrice t account symbol.now held) }
+    ensures fault { IfErr result IsCallFault }
+{
+    let summary = store.summary_of(account, symbol)?;
+    let price = read_last_price(store, symbol)?;
+    Ok(quantity_and_price(quantity_of_summary_or_zero(summary), price))
+}
+
+// Returns the facts of a holding from its account, its security, its trades and lots (`held`), and
+// its quantity and last price (`now`).
+fn holding_story_of_parts(
+    account: AccountRow,
+    security: Security,
+    held: TradesAndLots,
+    now: QuantityAndPrice,
+) -> HoldingStory
+    ensures { result ≡ record { account = account; security = security; done = held.done; lots = held.lots; shares = now.shares; price = now.price } }
+{
+    HoldingStory {
+        account,
+        security,
+        done: held.done,
+        lots: held.lots,
+        shares: now.shares,
+        price: now.price,
+    }
+}
+
+/// Returns the facts that the explanation of the holding of an account in a security reads. Refuses
+/// with `NoAccount` if the account does not exist, and with `NoSecurity` if only the security does
+/// not.
+///
+/// Fails with `Memory` or `Store` only; with `Store` also if the security has no last price, or if
+/// a row does not exist that another row names. The open database is unchanged, whatever the
+/// result.
+pub fn read_holding_story<S: Alter>(
+    alloc: Global,
+    store: &mut Store<S>,
+    account: Id,
+    symbol: &Symbol,
+) -> Planned<HoldingStory>
+    ensures read { ReadPost S.Store store.old store.new result (IsStoryOfHolding account symbol.now) }
+    ensures fault { IfErr result IsCallFault }
+{
+    let Some(row) = store.account(account)? else {
+        return Ok(Err(Refusal::NoAccount));
+    };
+    let Some(security) = store.security(symbol)? else {
+        return Ok(Err(Refusal::NoSecurity));
+    };
+    let held = read_trades_and_lots_of_holding(alloc, store, account, symbol)?;
+    let now = read_quantity_and_price(store, account, symbol)?;
+    Ok(Ok(holding_story_of_parts(row, security, held, now)))
+}

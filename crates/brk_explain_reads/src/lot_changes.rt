@@ -1,0 +1,158 @@
+//! The changes of a lot by later trades, and the change with which it was opened.
+
+ghost use Rattle.std.specs.Prelude.{◌≡◌, ◌==◌, ◌++◌, ◌∷◌, [], Err, IfErr, IfOk, OnErr, OnOk, filter, find, map, not, option_map};
+ghost use Rattle.brk_changes.specs.Rows.{abstract_lot_change_row};
+ghost use Rattle.brk_explain_model.specs.Holdings as model;
+ghost use Rattle.brk_explain_reads.specs.HoldingParts.{AreLotChangesByCompletion, AreLotChangesByTradeId};
+ghost use Rattle.brk_explain_rows.specs.Stories.{abstract_priced_lot_change};
+ghost use Rattle.brk_model.specs.Lists.{sort_by_key};
+ghost use Rattle.brk_model.specs.Run.{IsCallFault};
+ghost use Rattle.brk_money.specs.declared.fault.Fault.TheVariants.{Memory};
+ghost use Rattle.brk_store.specs.Holds.{ReadPost};
+
+use crate::known::read_existing_trade;
+use crate::ordering::sort_by_age;
+use brk_changes::LotChange;
+use brk_explain_rows::PricedLotChange;
+use brk_money::{Fault, Id, Price, Stamp};
+use brk_store::Store;
+use sqlite::Alter;
+use std::alloc::Global;
+
+/// The changes of a lot.
+#[derive(Drop)]
+pub struct OpeningAndLaterChanges {
+    /// The change with which its trade opened it, or `None` if the trade opened no lot.
+    pub opening: Option<LotChange>,
+    /// The changes by later trades.
+    pub later_changes: Vec<PricedLotChange>,
+}
+
+// Returns true if `change` is by the trade that opened `lot`.
+fn is_change_by_opening_trade(change: &LotChange, lot: Id) -> bool
+    ensures { result ≡ (change.now.trade == lot) }
+{
+    change.trade == lot
+}
+
+// Returns the first of `changes` that is by the trade that opened `lot`, or `None` if none is.
+fn opening_change_of_lot(changes: &[LotChange], lot: Id) -> Option<LotChange>
+    ensures { option_map abstract_lot_change_row result ≡ find (λ h. h.trade == lot) (map abstract_lot_change_row changes.now) }
+{
+    for change in changes {
+        if is_change_by_opening_trade(change, lot) {
+            return Some(*change);
+        }
+    }
+    None
+}
+
+// Appends `change` to `later` unless it is by the trade that opened `lot`. Fails with `Memory`
+// only.
+fn push_unless_by_opening_trade(
+    later: &mut Vec<LotChange>,
+    change: &LotChange,
+    lot: Id,
+) -> Result<(), Fault>
+    ensures added { OnOk result (map abstract_lot_change_row later.new.items ≡ map abstract_lot_change_row later.old.items ++ filter (λ h. not (h.trade == lot)) (abstract_lot_change_row change.now ∷ [])) }
+    ensures fault { OnErr result (result ≡ Err Memory) }
+{
+    if is_change_by_opening_trade(change, lot) {
+        return Ok(());
+    }
+    later.push(*change)?;
+    Ok(())
+}
+
+// Returns those of `changes` that are by trades that did not open `lot`, in the same sequence.
+// Fails with `Memory` only.
+fn changes_by_later_trades(
+    alloc: Global,
+    changes: &[LotChange],
+    lot: Id,
+) -> Result<Vec<LotChange>, Fault>
+    ensures later { IfOk result (λ later. map abstract_lot_change_row later.items ≡ filter (λ h. not (h.trade == lot)) (map abstract_lot_change_row changes.now)) }
+    ensures fault { OnErr result (result ≡ Err Memory) }
+{
+    let mut later = Vec::new(alloc);
+    for change in changes {
+        push_unless_by_opening_trade(&mut later, change, lot)?;
+    }
+    Ok(later)
+}
+
+// Returns the change of a lot by a trade that was completed at this stamp and price.
+fn priced_lot_change(change: &LotChange, stamp: Stamp, price: Price) -> PricedLotChange
+    ensures { result ≡ record { trade = change.now.trade; stamp = stamp; price = price; before = change.now.before; after = change.now.after } }
+{
+    PricedLotChange {
+        trade: change.trade,
+        stamp,
+        price,
+        before: change.before,
+        after: change.after,
+    }
+}
+
+// Returns a change of a lot with the stamp and the price of its trade. Fails with `Memory` or
+// `Store`; with `Store` also if the trade does not exist or has no price.
+fn read_priced_lot_change<S: Alter>(store: &mut Store<S>, change: &LotChange) -> Result<PricedLotChange, Fault>
+    ensures read { ReadPost S.Store store.old store.new result (λ priced_change t. abstract_priced_lot_change priced_change ≡ model.recorded_lot_change t (abstract_lot_change_row change.now)) }
+    ensures fault { IfErr result IsCallFault }
+{
+    let trade = read_existing_trade(store, change.trade)?;
+    let Some(price) = trade.price else {
+        return Err(Fault::Store);
+    };
+    Ok(priced_lot_change(change, trade.stamp, price))
+}
+
+// Returns the change with which a lot was opened, and its changes by later trades, sorted by trade,
+// ascending. Fails with `Memory` or `Store`; with `Store` also if a later trade does not exist or
+// has no price.
+fn read_lot_changes_by_trade_id<S: Alter>(
+    alloc: Global,
+    store: &mut Store<S>,
+    lot: Id,
+) -> Result<OpeningAndLaterChanges, Fault>
+    ensures read { ReadPost S.Store store.old store.new result (λ all t. AreLotChangesByTradeId t lot all) }
+    ensures fault { IfErr result IsCallFault }
+{
+    let changes = store.lot_changes_of_lot(alloc, lot)?;
+    let opening = opening_change_of_lot(&changes, lot);
+    let later = changes_by_later_trades(alloc, &changes, lot)?;
+    let mut later_changes = Vec::new(alloc);
+    for change in &later {
+        let priced_change = read_priced_lot_change(store, change)?;
+        later_changes.push(priced_change)?;
+    }
+    Ok(OpeningAndLaterChanges { opening, later_changes })
+}
+
+// Returns the changes sorted by the stamps of their trades, ascending. Fails with `Memory` only.
+fn sort_changes_by_stamp(alloc: Global, later_changes: Vec<PricedLotChange>) -> Result<Vec<PricedLotChange>, Fault>
+    ensures order { IfOk result (λ all. map abstract_priced_lot_change all.items ≡ sort_by_key (λ c. c.stamp) (map abstract_priced_lot_change later_changes.items)) }
+    ensures fault { OnErr result (result ≡ Err Memory) }
+{
+    let sorted = sort_by_age(alloc, later_changes)?;
+    Ok(sorted)
+}
+
+/// Returns the change with which a lot was opened, and its changes by later trades, sorted by the
+/// stamp of completion, ascending. Fails with `Memory` or `Store`; with `Store` also if a later
+/// trade does not exist or has no price.
+pub(crate) fn read_lot_changes_by_completion<S: Alter>(
+    alloc: Global,
+    store: &mut Store<S>,
+    lot: Id,
+) -> Result<OpeningAndLaterChanges, Fault>
+    ensures read { ReadPost S.Store store.old store.new result (λ all t. AreLotChangesByCompletion t lot all) }
+    ensures fault { IfErr result IsCallFault }
+{
+    let all = read_lot_changes_by_trade_id(alloc, store, lot)?;
+    let later_changes = sort_changes_by_stamp(alloc, all.later_changes)?;
+    Ok(OpeningAndLaterChanges {
+        opening: all.opening,
+        later_changes,
+    })
+}

@@ -1,0 +1,96 @@
+//! The text of the explanation of a holding.
+
+ghost use Rattle.std.specs.Prelude.{◌≡◌, ◌++◌, Err, IfErr, IfOk, OnErr, OnOk};
+ghost use Rattle.brk_explain_model.specs.HoldingLines as lines;
+ghost use Rattle.brk_explain_sums.specs.HoldingStories.{lines_of_holding_story};
+ghost use Rattle.brk_model.specs.Run.{IsCallFault};
+ghost use Rattle.brk_model.specs.Statement.{text_of_lines};
+ghost use Rattle.brk_money.specs.declared.fault.Fault.TheVariants.{Memory};
+ghost use Rattle.brk_ref.specs.Records.{abstract_account_row, abstract_security_row};
+ghost use Rattle.brk_report_lines.specs.Written.{line_with_line_feed};
+
+use crate::holding_totals::put_holding_total_lines;
+use crate::lot_rows::put_all_lot_history_lines;
+use crate::trade_rows::put_holding_trade_lines;
+use brk_explain_columns::{put_labeled_text_line, put_number, put_text_line};
+use brk_explain_rows::HoldingStory;
+use brk_money::{Fault, Id};
+use brk_ref::{AccountRow, Security};
+use std::alloc::Global;
+
+// Appends the title of the explanation of a holding. Fails with `Memory` only.
+fn put_holding_title_line(out: &mut Vec<u8>, account: Id, symbol: &[u8]) -> Result<(), Fault>
+    ensures ok { OnOk result (out.new.items ≡ out.old.items ++ line_with_line_feed (lines.holding_title account symbol.now)) }
+    ensures fault { OnErr result (result ≡ Err Memory) }
+{
+    out.extend_from_slice(b"Holding of account ")?;
+    put_number(out, account.get())?;
+    out.extend_from_slice(b" in ")?;
+    out.extend_from_slice(symbol)?;
+    out.extend_from_slice(b", times in UTC")?;
+    out.push(b'\n')?;
+    Ok(())
+}
+
+// Appends the title, the names of the account and of the security, and the column headings of the
+// trades. Fails with `Memory` only.
+#[tactic(auto, unfolding(brk_explain_model::specs::HoldingLines::holding_header_lines))]
+fn put_holding_header_lines(
+    out: &mut Vec<u8>,
+    row: &AccountRow,
+    security: &Security,
+) -> Result<(), Fault>
+    ensures ok { OnOk result (out.new.items ≡ out.old.items ++ text_of_lines (lines.holding_header_lines (abstract_account_row row.now) (abstract_security_row security.now))) }
+    ensures fault { OnErr result (result ≡ Err Memory) }
+{
+    let account = &row.account;
+    put_holding_title_line(out, account.id, security.symbol.as_str().as_bytes())?;
+    put_labeled_text_line(out, "Account name", account.name.as_str().as_bytes())?;
+    put_labeled_text_line(out, "Security", security.name.as_str().as_bytes())?;
+    put_text_line(
+        out,
+        b"#      completed                       trade      shares      price            value        held type",
+    )?;
+    Ok(())
+}
+
+// Appends the column headings of the lots. Fails with `Memory` only.
+fn put_lot_columns_header(out: &mut Vec<u8>) -> Result<(), Fault>
+    ensures ok { OnOk result (out.new.items ≡ out.old.items ++ line_with_line_feed lines.lot_columns_header) }
+    ensures fault { OnErr result (result ≡ Err Memory) }
+{
+    put_text_line(
+        out,
+        b"#      opened or changed               trade      shares      price     cost or gain        left",
+    )
+}
+
+// Appends all lines of the explanation of a holding. Fails with `Memory` or `Store`.
+#[tactic(auto, unfolding(brk_explain_model::specs::HoldingLines::holding_story_lines))]
+fn put_holding_story_lines(
+    alloc: Global,
+    out: &mut Vec<u8>,
+    story: &HoldingStory,
+) -> Result<(), Fault>
+    ensures ok { OnOk result (out.new.items ≡ out.old.items ++ text_of_lines (lines_of_holding_story story.now)) }
+    ensures fault { IfErr result IsCallFault }
+{
+    let done = story.done.as_slice();
+    let lots = story.lots.as_slice();
+    put_holding_header_lines(out, &story.account, &story.security)?;
+    put_holding_trade_lines(alloc, out, done)?;
+    put_lot_columns_header(out)?;
+    put_all_lot_history_lines(alloc, out, lots)?;
+    put_holding_total_lines(alloc, out, done, lots, story.shares, story.price)?;
+    Ok(())
+}
+
+/// Returns the text of the explanation of a holding. Fails with `Memory` or `Store`.
+pub fn holding_explanation_text(alloc: Global, story: &HoldingStory) -> Result<Vec<u8>, Fault>
+    ensures text { IfOk result (λ text. text.items ≡ text_of_lines (lines_of_holding_story story.now)) }
+    ensures fault { IfErr result IsCallFault }
+{
+    let mut text = Vec::new(alloc);
+    put_holding_story_lines(alloc, &mut text, story)?;
+    Ok(text)
+}

@@ -1,0 +1,116 @@
+//! The totals of a holding, and the last line of its explanation.
+
+ghost use Rattle.std.specs.Prelude.{◌≡◌, ◌++◌, Err, IfErr, OnErr, OnOk, map};
+ghost use Rattle.brk_changes.specs.Rows.{abstract_trade_row};
+ghost use Rattle.brk_explain_model.specs.HoldingLines as lines;
+ghost use Rattle.brk_explain_rows.specs.Stories.{abstract_lot_story};
+ghost use Rattle.brk_model.specs.Run.{IsCallFault};
+ghost use Rattle.brk_model.specs.Statement.{text_of_lines};
+ghost use Rattle.brk_money.specs.declared.fault.Fault.TheVariants.{Memory};
+ghost use Rattle.brk_report_lines.specs.Written.{line_with_line_feed};
+
+use crate::lots::{
+    count_of_lot_changes, count_of_open_lots, realised_gain_of_lots, remaining_cost_of_lots,
+};
+use crate::trades::{total_purchase_value, total_sale_value};
+use brk_changes::TradeRow;
+use brk_explain_columns::{
+    put_labeled_amount_line, put_labeled_integer_line, put_number, subtract_amounts,
+    value_of_shares_at_price,
+};
+use brk_explain_rows::LotStory;
+use brk_money::{Fault, Price, Wide};
+use std::alloc::Global;
+
+// Appends the lines of the total purchases, the total sales, the realised gain and the cost basis.
+// Fails with `Memory` only.
+#[tactic(auto, unfolding(brk_explain_model::specs::HoldingLines::purchase_sale_and_cost_lines))]
+fn put_purchase_sale_and_cost_lines(
+    alloc: Global,
+    out: &mut Vec<u8>,
+    bought: Wide,
+    sold: Wide,
+    gain: Wide,
+    cost: Wide,
+) -> Result<(), Fault>
+    ensures ok { OnOk result (out.new.items ≡ out.old.items ++ text_of_lines (lines.purchase_sale_and_cost_lines bought sold gain cost)) }
+    ensures fault { OnErr result (result ≡ Err Memory) }
+{
+    put_labeled_amount_line(alloc, out, "Purchases", bought)?;
+    put_labeled_amount_line(alloc, out, "Sales", sold)?;
+    put_labeled_amount_line(alloc, out, "Realised gain", gain)?;
+    put_labeled_amount_line(alloc, out, "Cost basis", cost)?;
+    Ok(())
+}
+
+// Appends the lines of the quantity, the last price, the market value and the unrealised gain.
+// Fails with `Memory` or `Store`.
+#[tactic(auto, unfolding(brk_explain_model::specs::HoldingLines::holding_value_lines))]
+fn put_holding_value_lines(
+    alloc: Global,
+    out: &mut Vec<u8>,
+    shares: i64,
+    price: Price,
+    cost: Wide,
+) -> Result<(), Fault>
+    ensures ok { OnOk result (out.new.items ≡ out.old.items ++ text_of_lines (lines.holding_value_lines shares price cost)) }
+    ensures fault { IfErr result IsCallFault }
+{
+    let worth = value_of_shares_at_price(shares, price)?;
+    let gain = subtract_amounts(worth, cost)?;
+    put_labeled_integer_line(out, "Shares", shares)?;
+    put_labeled_amount_line(alloc, out, "Last price", Wide::from(price))?;
+    put_labeled_amount_line(alloc, out, "Worth", worth)?;
+    put_labeled_amount_line(alloc, out, "Unrealised gain", gain)?;
+    Ok(())
+}
+
+// Appends the last line: the numbers of trades, of lots, of lots that are not fully closed, and of
+// later changes. Fails with `Memory` only.
+fn put_holding_counts_line(
+    out: &mut Vec<u8>,
+    trades: usize,
+    lots: usize,
+    open_lots: u64,
+    changes: u64,
+) -> Result<(), Fault>
+    ensures ok { OnOk result (out.new.items ≡ out.old.items ++ line_with_line_feed (lines.holding_counts_line trades lots open_lots changes)) }
+    ensures fault { OnErr result (result ≡ Err Memory) }
+{
+    out.extend_from_slice(b"Trades ")?;
+    put_number(out, trades as u64)?;
+    out.extend_from_slice(b", lots ")?;
+    put_number(out, lots as u64)?;
+    out.extend_from_slice(b", open lots ")?;
+    put_number(out, open_lots)?;
+    out.extend_from_slice(b", changes ")?;
+    put_number(out, changes)?;
+    out.push(b'\n')?;
+    Ok(())
+}
+
+/// Appends the last lines of the explanation of a holding: the totals, the market value of the
+/// quantity `shares`, and the counts. Fails with `Memory` or `Store`.
+#[tactic(auto, unfolding(brk_explain_model::specs::HoldingLines::holding_total_lines))]
+pub(crate) fn put_holding_total_lines(
+    alloc: Global,
+    out: &mut Vec<u8>,
+    done: &[TradeRow],
+    lots: &[LotStory],
+    shares: i64,
+    price: Price,
+) -> Result<(), Fault>
+    ensures ok { OnOk result (out.new.items ≡ out.old.items ++ text_of_lines (lines.holding_total_lines (map abstract_trade_row done.now) (map abstract_lot_story lots.now) shares price)) }
+    ensures fault { IfErr result IsCallFault }
+{
+    let bought = total_purchase_value(done)?;
+    let sold = total_sale_value(done)?;
+    let gain = realised_gain_of_lots(lots)?;
+    let cost = remaining_cost_of_lots(lots)?;
+    let open_lots = count_of_open_lots(lots)?;
+    let changes = count_of_lot_changes(lots)?;
+    put_purchase_sale_and_cost_lines(alloc, out, bought, sold, gain, cost)?;
+    put_holding_value_lines(alloc, out, shares, price, cost)?;
+    put_holding_counts_line(out, done.len(), lots.len(), open_lots, changes)?;
+    Ok(())
+}

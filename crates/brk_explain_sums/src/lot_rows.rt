@@ -1,0 +1,133 @@
+//! The lines of the lots of a holding. The functions fail with `Memory` or `Store`.
+
+ghost use Rattle.std.specs.Prelude.{◌≡◌, ◌++◌, IfErr, OnOk, flat_map, map};
+ghost use Rattle.brk_explain_model.specs.HoldingLines as lines;
+ghost use Rattle.brk_explain_rows.specs.Stories.{abstract_priced_lot_change, abstract_lot_story};
+ghost use Rattle.brk_model.specs.Run.{IsCallFault};
+ghost use Rattle.brk_model.specs.Statement.{text_of_lines};
+ghost use Rattle.brk_report_lines.specs.Written.{line_with_line_feed};
+
+use crate::lots::{
+    quantity_increase_of_change, realised_gain_of_change, remaining_cost_of_lot,
+    remaining_quantity_of_lot,
+};
+use crate::trades::completion_price_of_trade;
+use brk_explain_columns::{
+    format_timestamp, put_leading_row_columns, put_shares_column, put_value_column,
+    value_of_shares_at_price,
+};
+use brk_explain_rows::{PricedLotChange, LotStory};
+use brk_money::{Fault, Price};
+use std::alloc::Global;
+
+// Appends the line of the opening of a lot.
+#[tactic(auto, unfolding(brk_explain_model::specs::HoldingLines::lot_opening_line))]
+fn put_lot_opening_line(alloc: Global, out: &mut Vec<u8>, lot: &LotStory) -> Result<(), Fault>
+    ensures ok { OnOk result (out.new.items ≡ out.old.items ++ line_with_line_feed (lines.lot_opening_line (abstract_lot_story lot.now))) }
+    ensures fault { IfErr result IsCallFault }
+{
+    let trade = &lot.trade;
+    let moment = format_timestamp(alloc, trade.stamp)?;
+    let price = completion_price_of_trade(trade)?;
+    let cost = value_of_shares_at_price(lot.opened, price)?;
+    let shares = i128::from(lot.opened);
+    put_leading_row_columns(alloc, out, "Lot", &moment, trade.id, shares, price)?;
+    put_value_column(alloc, out, cost)?;
+    out.push(b'\n')?;
+    Ok(())
+}
+
+// Appends the line of a later change of a lot that was opened at `price`.
+#[tactic(auto, unfolding(brk_explain_model::specs::HoldingLines::lot_change_line))]
+fn put_lot_change_line(
+    alloc: Global,
+    out: &mut Vec<u8>,
+    price: Price,
+    change: &PricedLotChange,
+) -> Result<(), Fault>
+    ensures ok { OnOk result (out.new.items ≡ out.old.items ++ line_with_line_feed (lines.lot_change_line price (abstract_priced_lot_change change.now))) }
+    ensures fault { IfErr result IsCallFault }
+{
+    let moment = format_timestamp(alloc, change.stamp)?;
+    let gain = realised_gain_of_change(price, change)?;
+    let shares = quantity_increase_of_change(change);
+    put_leading_row_columns(
+        alloc,
+        out,
+        "Change",
+        &moment,
+        change.trade,
+        shares,
+        change.price,
+    )?;
+    put_value_column(alloc, out, gain)?;
+    put_shares_column(out, change.after)?;
+    out.push(b'\n')?;
+    Ok(())
+}
+
+// Appends a line for each later change of a lot that was opened at `price`.
+fn put_lot_change_lines(
+    alloc: Global,
+    out: &mut Vec<u8>,
+    price: Price,
+    changes: &[PricedLotChange],
+) -> Result<(), Fault>
+    ensures ok { OnOk result (out.new.items ≡ out.old.items ++ text_of_lines (lines.lot_change_lines price (map abstract_priced_lot_change changes.now))) }
+    ensures fault { IfErr result IsCallFault }
+{
+    for change in changes {
+        put_lot_change_line(alloc, out, price, change)?;
+    }
+    Ok(())
+}
+
+// Appends the line of the remaining shares of a lot.
+#[tactic(auto, unfolding(brk_explain_model::specs::HoldingLines::lot_remainder_line))]
+fn put_lot_remainder_line(alloc: Global, out: &mut Vec<u8>, lot: &LotStory) -> Result<(), Fault>
+    ensures ok { OnOk result (out.new.items ≡ out.old.items ++ line_with_line_feed (lines.lot_remainder_line (abstract_lot_story lot.now))) }
+    ensures fault { IfErr result IsCallFault }
+{
+    let price = completion_price_of_trade(&lot.trade)?;
+    let cost = remaining_cost_of_lot(lot)?;
+    let left = i128::from(remaining_quantity_of_lot(lot));
+    put_leading_row_columns(
+        alloc,
+        out,
+        "Left",
+        b"                       ",
+        lot.trade.id,
+        left,
+        price,
+    )?;
+    put_value_column(alloc, out, cost)?;
+    out.push(b'\n')?;
+    Ok(())
+}
+
+// Appends the lines of a lot: its opening, each later change, and its remaining shares.
+#[tactic(auto, unfolding(brk_explain_model::specs::HoldingLines::lot_history_lines))]
+fn put_lot_history_lines(alloc: Global, out: &mut Vec<u8>, lot: &LotStory) -> Result<(), Fault>
+    ensures ok { OnOk result (out.new.items ≡ out.old.items ++ text_of_lines (lines.lot_history_lines (abstract_lot_story lot.now))) }
+    ensures fault { IfErr result IsCallFault }
+{
+    let price = completion_price_of_trade(&lot.trade)?;
+    put_lot_opening_line(alloc, out, lot)?;
+    put_lot_change_lines(alloc, out, price, &lot.changes)?;
+    put_lot_remainder_line(alloc, out, lot)
+}
+
+/// Appends the lines of each lot: its opening, each later change, and its remaining shares.
+pub(crate) fn put_all_lot_history_lines(
+    alloc: Global,
+    out: &mut Vec<u8>,
+    lots: &[LotStory],
+) -> Result<(), Fault>
+    ensures ok { OnOk result (out.new.items ≡ out.old.items ++ text_of_lines (flat_map lines.lot_history_lines (map abstract_lot_story lots.now))) }
+    ensures fault { IfErr result IsCallFault }
+{
+    for lot in lots {
+        put_lot_history_lines(alloc, out, lot)?;
+    }
+    Ok(())
+}

@@ -1,0 +1,60 @@
+//! The lines of the trades of a holding. The functions fail with `Memory` or `Store`.
+
+ghost use Rattle.std.specs.Prelude.{◌≡◌, ◌++◌, IfErr, OnOk, map};
+ghost use Rattle.brk_changes.specs.Rows.{abstract_trade_row};
+ghost use Rattle.brk_explain_model.specs.HoldingLines as lines;
+ghost use Rattle.brk_model.specs.Run.{IsCallFault};
+ghost use Rattle.brk_model.specs.Statement.{text_of_lines};
+ghost use Rattle.brk_report_lines.specs.Written.{line_with_line_feed};
+
+use crate::trades::{
+    completion_price_of_trade, quantity_held_after_trade, signed_qty, signed_value,
+};
+use brk_changes::TradeRow;
+use brk_explain_columns::{
+    format_timestamp, put_leading_row_columns, put_shares_column, put_value_column,
+};
+use brk_money::Fault;
+use std::alloc::Global;
+
+// Appends the line of a completed trade with the quantity of the holding after it.
+#[tactic(auto, unfolding(brk_explain_model::specs::HoldingLines::holding_trade_line))]
+fn put_holding_trade_line(
+    alloc: Global,
+    out: &mut Vec<u8>,
+    row: &TradeRow,
+    held: i64,
+) -> Result<(), Fault>
+    ensures ok { OnOk result (out.new.items ≡ out.old.items ++ line_with_line_feed (lines.holding_trade_line (abstract_trade_row row.now) held)) }
+    ensures fault { IfErr result IsCallFault }
+{
+    let moment = format_timestamp(alloc, row.stamp)?;
+    let price = completion_price_of_trade(row)?;
+    let value = signed_value(row)?;
+    let shares = i128::from(signed_qty(row));
+    put_leading_row_columns(alloc, out, "Trade", &moment, row.id, shares, price)?;
+    put_value_column(alloc, out, value)?;
+    put_shares_column(out, held)?;
+    out.push(b' ')?;
+    out.extend_from_slice(row.kind.code().as_bytes())?;
+    out.push(b'\n')?;
+    Ok(())
+}
+
+/// Appends a line for each completed trade with the quantity of the holding after it.
+pub(crate) fn put_holding_trade_lines(
+    alloc: Global,
+    out: &mut Vec<u8>,
+    done: &[TradeRow],
+) -> Result<(), Fault>
+    ensures ok { OnOk result (out.new.items ≡ out.old.items ++ text_of_lines (lines.holding_trade_lines (map abstract_trade_row done.now))) }
+    ensures fault { IfErr result IsCallFault }
+{
+    let mut held: i64 = 0;
+    for row in done {
+        let after = quantity_held_after_trade(held, row)?;
+        put_holding_trade_line(alloc, out, row, after)?;
+        held = after;
+    }
+    Ok(())
+}

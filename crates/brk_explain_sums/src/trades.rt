@@ -1,0 +1,108 @@
+//! The quantities and values of completed trades, and their totals. A trade without a price and a
+//! sum that does not fit are the fault `Store`: no row of a store that passed its audit leads to
+//! one.
+
+ghost use Rattle.std.specs.Prelude.{◌≡◌, ◌+ℤ◌, IfErr, IfOk, if◌then◌else◌, int_lt, map, pos};
+ghost use Rattle.brk_changes.specs.Rows.{abstract_trade_row};
+ghost use Rattle.brk_explain_model.specs.Holdings as holdings;
+ghost use Rattle.brk_explain_model.specs.Trades as stories;
+ghost use Rattle.brk_model.specs.Run.{IsCallFault};
+
+use brk_changes::TradeRow;
+use brk_explain_columns::{add_amounts, value_of_shares_at_price};
+use brk_money::{Fault, Price, Side, Wide};
+
+/// Returns the price of a completed trade. Fails with `Store` if it has none.
+pub(crate) fn completion_price_of_trade(row: &TradeRow) -> Result<Price, Fault>
+    ensures price { IfOk result (λ price. price ≡ stories.completion_price_or_zero (abstract_trade_row row.now)) }
+    ensures fault { IfErr result IsCallFault }
+{
+    match row.price {
+        Some(price) => Ok(price),
+        None => Err(Fault::Store),
+    }
+}
+
+/// Returns the quantity of a trade: below 0 for a sale.
+pub(crate) fn signed_qty(row: &TradeRow) -> i64
+    ensures { result ≡ holdings.signed_qty (abstract_trade_row row.now) }
+{
+    let shares = i64::from(row.qty.get());
+    match row.kind.side() {
+        Side::Buy => shares,
+        Side::Sell => -shares,
+    }
+}
+
+/// Returns the product of the quantity and the price of a trade, in cents: below 0 for a sale.
+/// Fails with `Store` if it does not fit, or if the trade has no price.
+pub(crate) fn signed_value(row: &TradeRow) -> Result<Wide, Fault>
+    ensures value { IfOk result (λ value. value ≡ holdings.signed_value (abstract_trade_row row.now)) }
+    ensures fault { IfErr result IsCallFault }
+{
+    let price = completion_price_of_trade(row)?;
+    value_of_shares_at_price(signed_qty(row), price)
+}
+
+/// Returns the quantity `held` before a trade plus the signed quantity of the trade. Fails with
+/// `Store` if it does not fit.
+pub(crate) fn quantity_held_after_trade(held: i64, row: &TradeRow) -> Result<i64, Fault>
+    ensures held { IfOk result (λ after. after ≡ held +ℤ holdings.signed_qty (abstract_trade_row row.now)) }
+    ensures fault { IfErr result IsCallFault }
+{
+    match held.checked_add(signed_qty(row)) {
+        Some(after) => Ok(after),
+        None => Err(Fault::Store),
+    }
+}
+
+// Returns true if `one` is below `other`.
+fn is_below(one: Wide, other: Wide) -> bool
+    ensures { result ≡ int_lt one other }
+{
+    one.get() < other.get()
+}
+
+// Returns the amount if it is above 0, otherwise 0.
+fn positive_part(amount: Wide) -> Wide
+    ensures { result ≡ (if int_lt (pos 0) amount then amount else pos 0) }
+{
+    let zero = Wide::new(0);
+    if is_below(zero, amount) { amount } else { zero }
+}
+
+// Returns the amount if it is below 0, otherwise 0.
+fn negative_part(amount: Wide) -> Wide
+    ensures { result ≡ (if int_lt amount (pos 0) then amount else pos 0) }
+{
+    let zero = Wide::new(0);
+    if is_below(amount, zero) { amount } else { zero }
+}
+
+/// Returns the sum of the values of the purchases. Fails with `Store` if a value does not fit, or
+/// if a trade has no price.
+pub(crate) fn total_purchase_value(done: &[TradeRow]) -> Result<Wide, Fault>
+    ensures total { IfOk result (λ total. total ≡ holdings.total_purchase_value (map abstract_trade_row done.now)) }
+    ensures fault { IfErr result IsCallFault }
+{
+    let mut total = Wide::new(0);
+    for row in done {
+        let value = signed_value(row)?;
+        total = add_amounts(total, positive_part(value))?;
+    }
+    Ok(total)
+}
+
+/// Returns the sum of the values of the sales: below 0, or 0 if there is none. Fails with `Store`
+/// if a value does not fit, or if a trade has no price.
+pub(crate) fn total_sale_value(done: &[TradeRow]) -> Result<Wide, Fault>
+    ensures total { IfOk result (λ total. total ≡ holdings.total_sale_value (map abstract_trade_row done.now)) }
+    ensures fault { IfErr result IsCallFault }
+{
+    let mut total = Wide::new(0);
+    for row in done {
+        let value = signed_value(row)?;
+        total = add_amounts(total, negative_part(value))?;
+    }
+    Ok(total)
+}
