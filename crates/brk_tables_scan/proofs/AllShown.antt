@@ -2,6 +2,7 @@
 use Rattle.std.proofs.Common.{◌≡◌, Bool, List, Ok, true, refl, sym, subst, ◌∙◌}
 use Rattle.sqlite_value.specs.Order.{Row}
 use Rattle.brk_model.specs.Schemas.{Schema}
+use Rattle.brk_changes.specs.declared.sheets.Sheets.{Sheets}
 use Rattle.sqlite.specs.State.{State}
 use Rattle.brk_money.specs.declared.fault.Fault.{Fault}
 use Rattle.brk_sql.specs.Model.{IsTransactionStep}
@@ -10,12 +11,12 @@ use Rattle.brk_tables_schema.specs.Desk.{Which, TheDesk, KeptRows, Brokers, Cust
 use Rattle.brk_tables_scan.specs.Whole.{ShowsAllRows, ShowsRowsIfPresent}
 use Rattle.brk_tables_scan.specs.Raw.{RawSheets, IsUnchangedAndOpen, raw_rows_of_table}
 use Rattle.brk_tables_scan.specs.Decoded.{ReadsFirstTables, ReadsAccountTables, ReadsRateTables, ReadsTradeTables, ReadsLastTables, ReadsLaterTables, ReadsDeskTables, DecodesSheets, DecodesFirstTables, DecodesAccountTables, DecodesRateTables, DecodesTradeTables, DecodesLastTables, DecodesLaterTables, are_first_well_formed, are_accounts_well_formed, are_rates_well_formed, are_trades_well_formed, are_last_well_formed, are_later_well_formed}
-use Rattle.brk_tables_scan.specs.declared.reading.FirstSheets.{FirstSheets}
-use Rattle.brk_tables_scan.specs.declared.reading.AccountSheets.{AccountSheets}
-use Rattle.brk_tables_scan.specs.declared.reading.RateSheets.{RateSheets}
-use Rattle.brk_tables_scan.specs.declared.reading.TradeSheets.{TradeSheets}
-use Rattle.brk_tables_scan.specs.declared.reading.LastSheets.{LastSheets}
-use Rattle.brk_tables_scan.specs.declared.reading.LaterSheets.{LaterSheets}
+use Rattle.brk_tables_scan.specs.declared.all_tables.FirstSheets.{FirstSheets}
+use Rattle.brk_tables_scan.specs.declared.all_tables.AccountSheets.{AccountSheets}
+use Rattle.brk_tables_scan.specs.declared.all_tables.RateSheets.{RateSheets}
+use Rattle.brk_tables_scan.specs.declared.all_tables.TradeSheets.{TradeSheets}
+use Rattle.brk_tables_scan.specs.declared.all_tables.LastSheets.{LastSheets}
+use Rattle.brk_tables_scan.specs.declared.all_tables.LaterSheets.{LaterSheets}
 use Rattle.brk_tables_scan.proofs.Continued.{continues_six}
 use Rattle.brk_tables_scan.proofs.Four.{stays_then, shown_before}
 use Rattle.brk_tables_scan.proofs.Sheeted.{sheets, are_sheets}

@@ -7,14 +7,14 @@ use Rattle.brk_changes.specs.Rows.{abstract_trade_row, abstract_history_row, abs
 use Rattle.brk_changes.specs.declared.sheets.Sheets.{Sheets}
 use Rattle.brk_tables_schema.specs.Cells.{kept_cells, broker_cells, customer_cells, account_cells, permission_cells, security_cells, last_trade_cells, charge_cells, band_cells, tax_rate_cells, customer_tax_cells, trade_cells, history_cells, request_cells, holding_cells, summary_cells, holding_history_cells, settlement_cells, cash_cells, move_cells}
 use Rattle.brk_tables_schema.specs.Desk.{TheDesk, KeptRows, Brokers, Customers, Accounts, Permissions, Securities, LastTrades, Charges, Bands, TaxRates, CustomerTaxes, Trades, TradeHistory, Requests, Holdings, Summaries, HoldingHistory, Settlements, CashRows, CashMoves, SettleRules}
-use Rattle.brk_tables_scan.specs.Raw.{RawSheets}
 use Rattle.brk_tables_scan.specs.Decoded.{DecodesSheets, DecodesFirstTables, DecodesAccountTables, DecodesRateTables, DecodesTradeTables, DecodesLastTables, DecodesLaterTables}
-use Rattle.brk_tables_scan.specs.declared.reading.FirstSheets.{FirstSheets}
-use Rattle.brk_tables_scan.specs.declared.reading.AccountSheets.{AccountSheets}
-use Rattle.brk_tables_scan.specs.declared.reading.RateSheets.{RateSheets}
-use Rattle.brk_tables_scan.specs.declared.reading.TradeSheets.{TradeSheets}
-use Rattle.brk_tables_scan.specs.declared.reading.LastSheets.{LastSheets}
-use Rattle.brk_tables_scan.specs.declared.reading.LaterSheets.{LaterSheets}
+use Rattle.brk_tables_scan.specs.Raw.{RawSheets}
+use Rattle.brk_tables_scan.specs.declared.all_tables.FirstSheets.{FirstSheets}
+use Rattle.brk_tables_scan.specs.declared.all_tables.AccountSheets.{AccountSheets}
+use Rattle.brk_tables_scan.specs.declared.all_tables.RateSheets.{RateSheets}
+use Rattle.brk_tables_scan.specs.declared.all_tables.TradeSheets.{TradeSheets}
+use Rattle.brk_tables_scan.specs.declared.all_tables.LastSheets.{LastSheets}
+use Rattle.brk_tables_scan.specs.declared.all_tables.LaterSheets.{LaterSheets}
 
 module _ (f : FirstSheets) (a : AccountSheets) (r : RateSheets) (t : TradeSheets) (l : LastSheets) (n : LaterSheets) where
   abbrev pub sheets : Sheets

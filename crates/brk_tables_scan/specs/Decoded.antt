@@ -1,5 +1,5 @@
 -- The typed rows of all tables, and the test that each raw row is well-formed.
-use Rattle.std.specs.Prelude.{◌≡◌, ◌⊎◌, List, Bool, true, false, ◌&&◌, map}
+use Rattle.std.specs.Prelude.{◌≡◌, ◌⊎◌, Bool, true, false, ◌&&◌, map}
 use Rattle.std.specs.List.{list_all}
 use Rattle.sqlite.specs.State.{State}
 use Rattle.brk_model.specs.Schemas.{Schema}
@@ -12,12 +12,12 @@ use Rattle.brk_tables_schema.specs.Desk.{Which, desk_rows, rule_rows, encode, ro
 use Rattle.brk_tables_schema.specs.Formed.{passes_all_cell_checks, is_one_valid_desk_row, kept_column_cell_checks, broker_column_cell_checks, customer_column_cell_checks, account_column_cell_checks, permission_column_cell_checks, security_column_cell_checks, last_trade_column_cell_checks, charge_column_cell_checks, band_column_cell_checks, tax_rate_column_cell_checks, customer_tax_column_cell_checks, trade_column_cell_checks, history_column_cell_checks, request_column_cell_checks, holding_column_cell_checks, summary_column_cell_checks, holding_history_column_cell_checks, settlement_column_cell_checks, cash_column_cell_checks, move_column_cell_checks, is_at_most_one_valid_rule}
 use Rattle.brk_tables_scan.specs.Whole.{ShowsRowsIfPresent}
 use Rattle.brk_tables_scan.specs.Raw.{FirstRows, AccountRows, RateRows, TradeRows, LastRows, LaterRows, RawSheets, raw_rows_of_table, IsUnchangedAndOpen, ShowsFirstTables, ShowsAccountTables, ShowsRateTables, ShowsTradeTables, ShowsLastTables, ShowsLaterTables}
-use Rattle.brk_tables_scan.specs.declared.reading.FirstSheets.{FirstSheets}
-use Rattle.brk_tables_scan.specs.declared.reading.AccountSheets.{AccountSheets}
-use Rattle.brk_tables_scan.specs.declared.reading.RateSheets.{RateSheets}
-use Rattle.brk_tables_scan.specs.declared.reading.TradeSheets.{TradeSheets}
-use Rattle.brk_tables_scan.specs.declared.reading.LastSheets.{LastSheets}
-use Rattle.brk_tables_scan.specs.declared.reading.LaterSheets.{LaterSheets}
+use Rattle.brk_tables_scan.specs.declared.all_tables.FirstSheets.{FirstSheets}
+use Rattle.brk_tables_scan.specs.declared.all_tables.AccountSheets.{AccountSheets}
+use Rattle.brk_tables_scan.specs.declared.all_tables.RateSheets.{RateSheets}
+use Rattle.brk_tables_scan.specs.declared.all_tables.TradeSheets.{TradeSheets}
+use Rattle.brk_tables_scan.specs.declared.all_tables.LastSheets.{LastSheets}
+use Rattle.brk_tables_scan.specs.declared.all_tables.LaterSheets.{LaterSheets}
 
 -- The raw rows of DESK, KEPT, BROKER and CUSTOMER are, in order, the encodings of the typed rows.
 pub record DecodesFirstTables (schema : Schema) (sheets : FirstSheets) (raw : FirstRows) : Type 0 where
@@ -113,55 +113,55 @@ pub record ContinuesDecoding (old new are_well_formed : Bool) (Decodes : Type 0)
   -- If not all are well-formed after the step, not all were before it, or not all of its own are.
   pub form : new ≡ false → (old ≡ false) ⊎ (are_well_formed ≡ false)
 
--- The reads show all rows of DESK, KEPT, BROKER and CUSTOMER, and change nothing; `sheets` are
--- the records that they encode if the flag `new`, which was `old` before, is still true.
+-- The reads show all rows of DESK, KEPT, BROKER and CUSTOMER, and change nothing. If the flag
+-- `new`, which was `old` before, is still true, the rows encode the typed rows `sheets`.
 pub record ReadsFirstTables (desk : Schema) (old new : Bool) (sheets : FirstSheets) (a b : State) : Type 0 where
   pub raw : FirstRows
   pub shown : ShowsFirstTables raw a b
   pub decoded : ContinuesDecoding old new (are_first_well_formed desk raw) (DecodesFirstTables desk sheets raw)
 
 -- The reads show all rows of CUSTOMER_ACCOUNT, ACCOUNT_PERMISSION, SECURITY and LAST_TRADE, and
--- change nothing; `sheets` are the records that they encode if the flag `new`, which was `old`
--- before, is still true.
+-- change nothing. If the flag `new`, which was `old` before, is still true, the rows encode the
+-- typed rows `sheets`.
 pub record ReadsAccountTables (old new : Bool) (sheets : AccountSheets) (a b : State) : Type 0 where
   pub raw : AccountRows
   pub shown : ShowsAccountTables raw a b
   pub decoded : ContinuesDecoding old new (are_accounts_well_formed raw) (DecodesAccountTables sheets raw)
 
 -- The reads show all rows of CHARGE, COMMISSION_RATE, TAXRATE and CUSTOMER_TAXRATE, and change
--- nothing; `sheets` are the records that they encode if the flag `new`, which was `old` before,
--- is still true.
+-- nothing. If the flag `new`, which was `old` before, is still true, the rows encode the typed rows
+-- `sheets`.
 pub record ReadsRateTables (old new : Bool) (sheets : RateSheets) (a b : State) : Type 0 where
   pub raw : RateRows
   pub shown : ShowsRateTables raw a b
   pub decoded : ContinuesDecoding old new (are_rates_well_formed raw) (DecodesRateTables sheets raw)
 
--- The reads show all rows of TRADE, TRADE_HISTORY, TRADE_REQUEST and HOLDING, and change
--- nothing; `sheets` are the records that they encode if the flag `new`, which was `old` before,
--- is still true.
+-- The reads show all rows of TRADE, TRADE_HISTORY, TRADE_REQUEST and HOLDING, and change nothing.
+-- If the flag `new`, which was `old` before, is still true, the rows encode the typed rows
+-- `sheets`.
 pub record ReadsTradeTables (old new : Bool) (sheets : TradeSheets) (a b : State) : Type 0 where
   pub raw : TradeRows
   pub shown : ShowsTradeTables raw a b
   pub decoded : ContinuesDecoding old new (are_trades_well_formed raw) (DecodesTradeTables sheets raw)
 
--- The reads show all rows of HOLDING_SUMMARY, HOLDING_HISTORY, SETTLEMENT and CASH_TRANSACTION,
--- and change nothing; `sheets` are the records that they encode if the flag `new`, which was
--- `old` before, is still true.
+-- The reads show all rows of HOLDING_SUMMARY, HOLDING_HISTORY, SETTLEMENT and CASH_TRANSACTION, and
+-- change nothing. If the flag `new`, which was `old` before, is still true, the rows encode the
+-- typed rows `sheets`.
 pub record ReadsLastTables (old new : Bool) (sheets : LastSheets) (a b : State) : Type 0 where
   pub raw : LastRows
   pub shown : ShowsLastTables raw a b
   pub decoded : ContinuesDecoding old new (are_last_well_formed raw) (DecodesLastTables sheets raw)
 
--- The reads show all rows of CASH_MOVE and SETTLE_RULE, and change nothing; `sheets` are the
--- records that they encode if the flag `new`, which was `old` before, is still true.
+-- The reads show all rows of CASH_MOVE and SETTLE_RULE, and change nothing. If the flag `new`,
+-- which was `old` before, is still true, the rows encode the typed rows `sheets`.
 pub record ReadsLaterTables (desk : Schema) (old new : Bool) (sheets : LaterSheets) (a b : State) : Type 0 where
   pub raw : LaterRows
   pub shown : ShowsLaterTables desk raw a b
   pub decoded : ContinuesDecoding old new (are_later_well_formed raw) (DecodesLaterTables sheets raw)
 
 -- The reads show all rows of each table of the schema `desk`, and none of other tables. The database
--- was open, and the reads changed nothing. The typed rows `sheets` are those that the rows encode if
--- the flag `new`, which was `old` before, is still true.
+-- was open, and the reads changed nothing. If the flag `new`, which was `old` before, is still true,
+-- the rows encode the typed rows `sheets`.
 pub record ReadsDeskTables (desk : Schema) (old new : Bool) (sheets : Sheets) (a b : State) : Type 0 where
   pub raw : RawSheets
   pub stays : IsUnchangedAndOpen a b

@@ -7,10 +7,10 @@
 //! fault `Store`.
 #![tactic(auto)]
 
+pub mod all_tables;
 mod column_names;
 pub mod columns;
 mod decoder;
-pub mod reading;
 pub mod rows;
 pub mod schema;
 pub mod sheets;

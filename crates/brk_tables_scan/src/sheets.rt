@@ -6,7 +6,7 @@ ghost use Rattle.brk_tables_scan.specs.Schemas.{HasDesk, SchemaNamesImplyDefinit
 ghost use Rattle.brk_tables_scan.specs.Whole.{AreSheetsOfDatabase};
 
 use crate::decoder::Decoder;
-use crate::reading::read_all_tables;
+use crate::all_tables::read_all_tables;
 use brk_changes::{Schema, Sheets};
 use brk_money::Fault;
 use sqlite::{Alter, Transaction};

@@ -18,13 +18,17 @@ returns-clause-step g c =
     (shown.stays.0, shown.stays.1, λ defined has. let same : Some c.in_ok-sheets.sheets ≡ read = cc in subst (AreSheetsOfDatabase desk old.now) same (rows_read desk old.now has defined shown.raw shown.shown c.in_ok-sheets.sheets (shown.decoded.value cc))))
     c.in_ok-sheets.ensures.step
 
-pub returns-in_then-clause-step : goal.returns-in_then-clause-step
-returns-in_then-clause-step g c =
+pub returns-then-not-decoder-clause-step : goal.returns-then-not-decoder-clause-step
+returns-then-not-decoder-clause-step g c =
     let desk = abstract_schema c.args.schema in
     let old = state g.S.Store c.args.tx.now.conn.now in
     let new = state g.S.Store c.read_all_tables.new.tx.conn.now in
     let flag = c.read_all_tables.new.decoder.are_well_formed in
     step_read old new c.in_ok-sheets.sheets (Ok None) (λ sheets. ReadsDeskTables desk _ flag sheets) _
-    (λ read is shown. (shown.stays.0, shown.stays.1, λ defined has. let same : None ≡ read = cc in subst (AreSheetsOfDatabase desk old.now) same
-      (none_in_form desk (narrower c.args.schema) old.now shown.raw shown.shown (elim (shown.decoded.form cc) [ inl not_at_start ↦ absurd (let e = not_at_start in cc) | inr fails ↦ fails ]))))
+    (λ read is shown. (
+      shown.stays.0,
+      shown.stays.1,
+      λ defined has. let same : None ≡ read = cc in subst (AreSheetsOfDatabase desk old.now) same
+          (none_in_form desk (narrower c.args.schema) old.now shown.raw shown.shown (elim (shown.decoded.form cc) [ inl not_at_start ↦ absurd (let e = not_at_start in cc) | inr fails ↦ fails ])),
+    ))
     c.in_ok-sheets.ensures.step

@@ -3,7 +3,7 @@ use Rattle.brk_tables_schema.specs.Desk.{Accounts, Permissions, Securities, Last
 use Rattle.brk_tables_scan.specs.Raw.{AccountRows}
 use Rattle.brk_tables_scan.proofs.Continued.{continues_four}
 use Rattle.brk_tables_scan.proofs.Four.{shows_four}
-use Rattle.brk_tables_scan.proofs.reading.read_accounts.Goals as goal
+use Rattle.brk_tables_scan.proofs.all_tables.read_accounts.Goals as goal
 
 pub returns-clause-step : goal.returns-clause-step
 returns-clause-step g c =

@@ -5,7 +5,7 @@ ghost use Rattle.std.specs.Prelude.{◌≡◌, IfErr};
 ghost use Rattle.brk_model.specs.Run.{IsCallFault};
 ghost use Rattle.brk_changes.specs.Schemas.{abstract_schema};
 ghost use Rattle.brk_sql.specs.Model.{IsConnectionStep};
-ghost use Rattle.brk_tables_scan.specs.Decoded.{ReadsAccountTables, ReadsDeskTables, ReadsFirstTables, ReadsLastTables, ReadsLaterTables, ReadsRateTables, ReadsTradeTables};
+ghost use Rattle.brk_tables_scan.specs.Decoded.{ReadsFirstTables, ReadsAccountTables, ReadsRateTables, ReadsTradeTables, ReadsLastTables, ReadsLaterTables, ReadsDeskTables};
 
 use crate::decoder::Decoder;
 use crate::rows::{
@@ -100,8 +100,8 @@ pub struct RateSheets {
     customer_taxes: Vec<CustomerTax>,
 }
 
-// Reads and decodes all rows of CHARGE, COMMISSION_RATE, TAXRATE and CUSTOMER_TAXRATE. Fails
-// with `Memory` or `Store` only.
+// Reads and decodes all rows of CHARGE, COMMISSION_RATE, TAXRATE and CUSTOMER_TAXRATE. Fails with
+// `Memory` or `Store` only.
 fn read_rates<S: Alter>(
     tx: &mut Transaction<'_, S>,
     alloc: Global,
@@ -164,8 +164,8 @@ pub struct LastSheets {
     cash: Vec<CashRow>,
 }
 
-// Reads and decodes all rows of HOLDING_SUMMARY, HOLDING_HISTORY, SETTLEMENT and
-// CASH_TRANSACTION. Fails with `Memory` or `Store` only.
+// Reads and decodes all rows of HOLDING_SUMMARY, HOLDING_HISTORY, SETTLEMENT and CASH_TRANSACTION.
+// Fails with `Memory` or `Store` only.
 fn read_last_tables<S: Alter>(
     tx: &mut Transaction<'_, S>,
     alloc: Global,
@@ -207,10 +207,7 @@ fn read_later_tables<S: Alter>(
 {
     let moves = decoder.decode(alloc, move_rows_in(tx, alloc, schema)?)?;
     let rule = decoder.decode_settlement_day(rule_rows_in(tx, alloc, schema)?)?;
-    Ok(LaterSheets {
-        moves,
-        rule,
-    })
+    Ok(LaterSheets { moves, rule })
 }
 
 /// Reads and decodes all rows of the tables of `schema`, each list sorted by key. A table that it

@@ -1,7 +1,7 @@
 use Rattle.sqlite.specs.Held.{state}
 use Rattle.brk_changes.specs.Schemas.{abstract_schema}
 use Rattle.brk_tables_scan.proofs.AllShown.{reads_desk}
-use Rattle.brk_tables_scan.proofs.reading.read_all_tables.Goals as goal
+use Rattle.brk_tables_scan.proofs.all_tables.read_all_tables.Goals as goal
 
 pub returns-clause-step : goal.returns-clause-step
 returns-clause-step g c =

@@ -3,7 +3,7 @@ use Rattle.brk_tables_schema.specs.Desk.{TheDesk, KeptRows, Brokers, Customers}
 use Rattle.brk_tables_scan.specs.Raw.{FirstRows}
 use Rattle.brk_tables_scan.proofs.Continued.{continues_four}
 use Rattle.brk_tables_scan.proofs.Four.{shows_four}
-use Rattle.brk_tables_scan.proofs.reading.read_first_tables.Goals as goal
+use Rattle.brk_tables_scan.proofs.all_tables.read_first_tables.Goals as goal
 
 pub returns-clause-step : goal.returns-clause-step
 returns-clause-step g c =
