@@ -980,8 +980,8 @@ MEANINGS = {'kept': 'kept_row', 'holding_history': 'lot_change_row'}
 
 # the tables of at most one row, which the sheets hold as a value: its type, how code decodes it, its rows, and whether they have their form
 VALUES = {
-    'desk_row': ('Option<Stamp>', 'last_stamp_in_rows(schema, &raw.desk)', 'desk_rows schema sheets.last', 'is_one_valid_desk_row desk raw.desk.items'),
-    'rule': ('Option<Day>', 'day_in_rows(&raw.rule)', 'rule_rows sheets.rule', 'is_at_most_one_valid_rule raw.rule.items'),
+    'desk_row': ('Option<Stamp>', 'decode_last_stamp(schema, ', 'desk_rows schema sheets.last', 'is_one_valid_desk_row desk raw.desk'),
+    'rule': ('Option<Day>', 'decode_settlement_day(', 'rule_rows sheets.rule', 'is_at_most_one_valid_rule raw.rule'),
 }
 
 WHICHES = ', '.join(d[2] for d in DATA)
@@ -1101,139 +1101,84 @@ use std::alloc::Global;
     out += ''.join(read_whole(d) for d in DATA) + ''.join(read_later_table(d) for d in DATA if d[0] in LATER)
     save('crates/brk_tables_scan/src/rows.rt', out)
 
-def raw_struct(word, tables):
-    """The rows of a group's tables"""
-    fields = ''.join(f'    pub {raw_field(d)}: Vec<Row>,\n' for d in tables)
-    return f"""
-/// The rows of {all_of([d[1] for d in tables])}.
-#[derive(Drop)]
-pub struct {word}Rows {{
-{fields}}}
-"""
+def reading(d):
+    """The code that reads and decodes a whole table"""
+    rows = f'{rows_name(d)}_in(tx, alloc, schema)?' if d[0] in LATER else f'{rows_name(d)}(tx)?'
+    return f'decoder.{VALUES[d[0]][1]}{rows})?' if d[0] in VALUES else f'decoder.decode(alloc, {rows})?'
 
 def read_group(word, field, tables):
-    """The function that reads a group"""
-    later = word == 'Later'
-    takes = "(\n    tx: &mut Transaction<'_, S>,\n    alloc: Global,\n    schema: Schema,\n)" if later else "(tx: &mut Transaction<'_, S>)"
-    shows = 'ShowsLaterTables (abstract_schema schema)' if later else f'Shows{word}Tables'
-    call = lambda d: f'{rows_name(d)}_in(tx, alloc, schema)?' if later else f'{rows_name(d)}(tx)?'
-    fields = ''.join(f'        {raw_field(d)}: {call(d)},\n' for d in tables)
-    return f"""
-{remark(f'Reads all rows of {named(tables)}. Fails with `Store` only.', '//')}
-fn {group_function('read', field)}<S: Alter>{takes} -> Result<{word}Rows, Fault>
-    {SAME_REFERENCE}
-    ensures step {{ IsConnectionStep S.Store tx.old tx.new result (λ raw. {shows} raw) }}
-    {STORE_FAULT}
-{{
-    Ok({word}Rows {{
-{fields}    }})
-}}
-"""
-
-def raw_code():
-    """The reads of the groups in code"""
-    reads = sorted(f'{rows_name(d)}_in' if d[0] in LATER else rows_name(d) for d in DATA)
-    out = f"""//! The rows of all tables as the database shows them. All are read before the first is decoded.
-
-ghost use Rattle.std.specs.Prelude.{{◌≡◌, Err, OnErr}};
-ghost use Rattle.brk_money.specs.declared.fault.Fault.TheVariants.{{Store}};
-ghost use Rattle.brk_sql.specs.Model.{{IsConnectionStep}};
-ghost use Rattle.brk_tables_scan.specs.Raw.{{{', '.join(f'Shows{group[0]}Tables' for group in GROUPS)}, ShowsDeskTables}};
-ghost use Rattle.brk_changes.specs.Schemas.{{abstract_schema}};
-
-use crate::rows::{{{', '.join(reads)}}};
-use brk_changes::Schema;
-use brk_money::Fault;
-use sqlite::{{Alter, Row, Transaction}};
-use std::alloc::Global;
-"""
-    out += ''.join(raw_struct(word, tables) for word, _, _, tables in groups())
-    out += f"""
-/// The rows of all tables.
-#[derive(Drop)]
-pub struct RawSheets {{
-{''.join(f'    pub {field}: {word}Rows,{chr(10)}' for word, field, _ in GROUPS)}}}
-"""
-    out += ''.join(read_group(word, field, tables) for word, field, _, tables in groups())
-    call = lambda word: '(tx, alloc, schema)?' if word == 'Later' else '(tx)?'
-    out += f"""
-/// Reads all rows of the tables of `schema`, each list sorted by key. A table that it lacks has no
-/// rows. Fails with `Store` only.
-pub fn read_raw_sheets<S: Alter>(
-    tx: &mut Transaction<'_, S>,
-    alloc: Global,
-    schema: Schema,
-) -> Result<RawSheets, Fault>
-    {SAME_REFERENCE}
-    ensures step {{ IsConnectionStep S.Store tx.old tx.new result (λ raw. ShowsDeskTables (abstract_schema schema) raw) }}
-    {STORE_FAULT}
-{{
-    Ok(RawSheets {{
-{''.join(f'        {field}: {group_function("read", field)}{call(word)},{chr(10)}' for word, field, _ in GROUPS)}    }})
-}}
-"""
-    save('crates/brk_tables_scan/src/raw.rt', out)
-
-def decode_group(word, field, tables):
-    """The rows of a group in types, and the function that decodes them"""
-    first = word == 'First'
-    schema, of_schema = ('schema: Schema, ', ' (abstract_schema schema)') if first else ('', '')
+    """The typed rows of a group, and the function that reads and decodes them"""
+    by_schema = word in ('First', 'Later')
+    schema, of_schema = ('    schema: Schema,\n', '(abstract_schema schema) ') if by_schema else ('', '')
     types = ''.join(f'    {sheet_field(d)}: {VALUES[d[0]][0] if d[0] in VALUES else f"Vec<{record_type(d)}>"},\n' for d in tables)
-    decoded = lambda d: VALUES[d[0]][1] if d[0] in VALUES else f'decode_records(alloc, &raw.{raw_field(d)})'
-    fields = ''.join(f'        {sheet_field(d)}: {decoded(d)}?,\n' for d in tables)
+    reads = ''.join(f'    let {sheet_field(d)} = {reading(d)};\n' for d in tables)
+    fields = ''.join(f'        {sheet_field(d)},\n' for d in tables)
     return f"""
+{remark(f'The typed rows of {named(tables)}.', '///')}
 #[derive(Drop)]
 pub struct {word}Sheets {{
 {types}}}
 
-{remark(f'Decodes the rows of {named(tables)}. Fails with `Form` only if one is malformed, or with `Memory`.', '//')}
-#[tactic(auto, using(crate::proofs::Formless::first_fails, crate::proofs::Formless::last_fails))]
-fn {group_function('decode', field)}(alloc: Global, {schema}raw: &{word}Rows) -> Result<{word}Sheets, DecodeError>
-    ensures value {{ IfOk result (λ sheets. Decodes{word}Tables{of_schema} sheets raw.now) }}
-    ensures form {{ result ≡ Err Formless → are_{field}_well_formed{of_schema} raw.now ≡ false }}
+{remark(f'Reads and decodes all rows of {named(tables)}. Fails with `Memory` or `Store` only.', '//')}
+fn {group_function('read', field)}<S: Alter>(
+    tx: &mut Transaction<'_, S>,
+    alloc: Global,
+{schema}    decoder: &mut Decoder,
+) -> Result<{word}Sheets, Fault>
+    {SAME_REFERENCE}
+    ensures step {{ IsConnectionStep S.Store tx.old tx.new result (λ sheets. Reads{word}Tables {of_schema}decoder.old.are_well_formed decoder.new.are_well_formed sheets) }}
+    ensures fault {{ IfErr result IsCallFault }}
 {{
-    Ok({word}Sheets {{
+{reads}    Ok({word}Sheets {{
 {fields}    }})
 }}
 """
 
-def decoding_code():
-    """The decoding of all rows in code"""
+def all_tables_code():
+    """The reads of all tables in code"""
     types = lambda crate, *more: ', '.join(sorted([record_type(d) for d in records_of(crate)] + list(more)))
-    out = f"""//! The typed rows of all tables.
+    reads = sorted(f'{rows_name(d)}_in' if d[0] in LATER else rows_name(d) for d in DATA)
+    out = f"""//! The reads of all tables: each table is read and decoded, and its raw rows are dropped, before the
+//! next one is read.
 
-ghost use Rattle.std.specs.Prelude.{{◌≡◌, Err, IfOk, false}};
-ghost use Rattle.brk_tables_schema.specs.declared.decode_error.DecodeError.TheVariants.{{Form as Formless}};
-ghost use Rattle.brk_tables_scan.specs.Decoded.{{DecodesSheets, {', '.join(f'Decodes{group[0]}Tables' for group in GROUPS)}, are_raw_sheets_well_formed, {', '.join(f'are_{group[1]}_well_formed' for group in GROUPS)}}};
+ghost use Rattle.std.specs.Prelude.{{◌≡◌, IfErr}};
+ghost use Rattle.brk_model.specs.Run.{{IsCallFault}};
 ghost use Rattle.brk_changes.specs.Schemas.{{abstract_schema}};
+ghost use Rattle.brk_sql.specs.Model.{{IsConnectionStep}};
+ghost use Rattle.brk_tables_scan.specs.Decoded.{{{', '.join(f'Reads{group[0]}Tables' for group in GROUPS)}, ReadsDeskTables}};
 
-use crate::raw::{{{', '.join(sorted([f'{group[0]}Rows' for group in GROUPS] + ['RawSheets']))}}};
+use crate::decoder::Decoder;
+use crate::rows::{{{', '.join(reads)}}};
 use brk_changes::{{{types('brk_changes', 'Schema', 'Sheets')}}};
-use brk_money::{{Day, Stamp}};
+use brk_money::{{Day, Fault, Stamp}};
 use brk_ref::{{{types('brk_ref')}}};
-use brk_tables_schema::DecodeError;
-use brk_tables_schema::desk_row::last_stamp_in_rows;
-use brk_tables_schema::record::decode_records;
-use brk_tables_schema::rule_row::day_in_rows;
+use sqlite::{{Alter, Transaction}};
 use std::alloc::Global;
 """
-    out += ''.join(decode_group(word, field, tables) for word, field, _, tables in groups())
-    schema = lambda word: 'schema, ' if word == 'First' else ''
+    out += ''.join(read_group(word, field, tables) for word, field, _, tables in groups())
+    schema = lambda word: 'schema, ' if word in ('First', 'Later') else ''
     out += f"""
-/// Decodes the rows of all tables. Fails with `Form` only if a row is malformed, or with `Memory`.
-pub fn decode_sheets(alloc: Global, schema: Schema, raw: &RawSheets) -> Result<Sheets, DecodeError>
-    ensures value {{ IfOk result (λ sheets. DecodesSheets (abstract_schema schema) sheets raw.now) }}
-    ensures form {{ result ≡ Err Formless → are_raw_sheets_well_formed (abstract_schema schema) raw.now ≡ false }}
+/// Reads and decodes all rows of the tables of `schema`, each list sorted by key. A table that it
+/// lacks has no rows. Fails with `Memory` or `Store` only.
+pub(crate) fn read_all_tables<S: Alter>(
+    tx: &mut Transaction<'_, S>,
+    alloc: Global,
+    schema: Schema,
+    decoder: &mut Decoder,
+) -> Result<Sheets, Fault>
+    {SAME_REFERENCE}
+    ensures step {{ IsConnectionStep S.Store tx.old tx.new result (λ sheets. ReadsDeskTables (abstract_schema schema) decoder.old.are_well_formed decoder.new.are_well_formed sheets) }}
+    ensures fault {{ IfErr result IsCallFault }}
 {{
-{''.join(f'    let {field} = {group_function("decode", field)}(alloc, {schema(word)}&raw.{field})?;{chr(10)}' for word, field, _ in GROUPS)}    Ok(Sheets {{
+{''.join(f'    let {field} = {group_function("read", field)}(tx, alloc, {schema(word)}decoder)?;{chr(10)}' for word, field, _ in GROUPS)}    Ok(Sheets {{
 {''.join(f'        {sheet_field(d)}: {field}.{sheet_field(d)},{chr(10)}' for _, field, _, tables in groups() for d in tables)}    }})
 }}
 """
-    save('crates/brk_tables_scan/src/decoding.rt', out)
+    save('crates/brk_tables_scan/src/all_tables.rt', out)
 
-def declared(module, suffix):
+def declared(suffix):
     """The imports of the types of a group"""
-    return '\n'.join(f'use Rattle.brk_tables_scan.specs.declared.{module}.{word}{suffix}.{{{word}{suffix}}}' for word, _, _ in GROUPS)
+    return '\n'.join(f'use Rattle.brk_tables_scan.specs.declared.all_tables.{word}{suffix}.{{{word}{suffix}}}' for word, _, _ in GROUPS)
 
 def meanings():
     """The imports of what rows in code are in the model"""
@@ -1241,17 +1186,29 @@ def meanings():
     return f"""use Rattle.brk_ref.specs.Records.{{{names('brk_ref')}}}
 use Rattle.brk_changes.specs.Rows.{{{names('brk_changes')}}}"""
 
+def raw_record(word, tables):
+    """The raw rows of a group"""
+    fields = '\n'.join(f'  pub {raw_field(d)} : List Row' for d in tables)
+    return f"""
+{remark(f'The raw rows of {named(tables)}.')}
+pub record {word}Rows : Type 0 where
+{fields}
+"""
+
 def raw_spec():
     """What the reads of all tables show"""
-    out = f"""-- The raw rows of all tables, as their reads show them.
+    out = f"""-- The raw rows of all tables, as their reads show them. The code has those of one table at a time.
 use Rattle.std.specs.Prelude.{{◌≡◌, List, IsTrue}}
 use Rattle.sqlite_value.specs.Order.{{Row}}
 use Rattle.sqlite.specs.State.{{State}}
 use Rattle.brk_tables_schema.specs.Desk.{{Which, {WHICHES}}}
 use Rattle.brk_model.specs.Schemas.{{Schema}}
 use Rattle.brk_tables_scan.specs.Whole.{{ShowsAllRows, ShowsRowsIfPresent}}
-{declared('raw', 'Rows')}
-use Rattle.brk_tables_scan.specs.declared.raw.RawSheets.{{RawSheets}}
+
+{''.join(raw_record(word, tables) for word, _, _, tables in groups())}
+-- The raw rows of all tables.
+pub record RawSheets : Type 0 where
+{chr(10).join(f'  pub {field} : {word}Rows' for word, field, _ in GROUPS)}
 
 -- The database was open, and its contents are unchanged.
 abbrev pub IsUnchangedAndOpen : State → State → Type 0
@@ -1270,7 +1227,7 @@ pub record ShowsFourTables (first second third fourth : Which) (a b c d : List R
         out += f"""
 {remark(f'The raw rows are all rows of {named(tables)}, sorted by key, and the reads changed nothing. Vacuous for a table that the database does not define as a desk does.')}
 abbrev pub Shows{word}Tables : {word}Rows → State → State → Type 0
-Shows{word}Tables raw = ShowsFourTables {' '.join(d[2] for d in tables)} {' '.join(f'raw.{raw_field(d)}.items' for d in tables)}
+Shows{word}Tables raw = ShowsFourTables {' '.join(d[2] for d in tables)} {' '.join(f'raw.{raw_field(d)}' for d in tables)}
 """
     out += f"""
 -- The raw rows are all rows of CASH_MOVE and of SETTLE_RULE, sorted by key, or none of a table that
@@ -1278,17 +1235,11 @@ Shows{word}Tables raw = ShowsFourTables {' '.join(d[2] for d in tables)} {' '.jo
 -- does not define as a desk does.
 pub record ShowsLaterTables (desk : Schema) (raw : LaterRows) (old new : State) : Type 0 where
   pub same : new.now ≡ old.now
-{chr(10).join(f'  pub {raw_field(d)} : ShowsRowsIfPresent desk {d[2]} raw.{raw_field(d)}.items old.now' for d in groups()[-1][3])}
+{chr(10).join(f'  pub {raw_field(d)} : ShowsRowsIfPresent desk {d[2]} raw.{raw_field(d)} old.now' for d in groups()[-1][3])}
 
 -- The raw rows of one table.
 abbrev pub raw_rows_of_table : RawSheets → Which → List Row
-{chr(10).join(f'raw_rows_of_table raw {d[2]} = raw.{field}.{raw_field(d)}.items' for _, field, _, tables in groups() for d in tables)}
-
--- The raw rows are all rows of each table of the schema `desk`, sorted by key, and none of other
--- tables. The database was open, and the reads changed nothing. Vacuous for a table that the
--- database does not define as a desk does.
-abbrev pub ShowsDeskTables : Schema → RawSheets → State → State → Type 0
-ShowsDeskTables desk raw old new = IsUnchangedAndOpen old new × ((w : Which) → ShowsRowsIfPresent desk w (raw_rows_of_table raw w) old.now)
+{chr(10).join(f'raw_rows_of_table raw {d[2]} = raw.{field}.{raw_field(d)}' for _, field, _, tables in groups() for d in tables)}
 """
     save('crates/brk_tables_scan/specs/Raw.antt', out)
 
@@ -1299,8 +1250,8 @@ def decoded_group(word, field, tables):
     rows = lambda d: VALUES[d[0]][2] if d[0] in VALUES else f'sheets.{sheet_field(d)}.items'
     shown = lambda d: f'{d[0]}_cells' if d[0] in VALUES else f'(λ r. {d[0]}_cells ({record_meaning(d)} r))'
     of = lambda d: f'({rows(d)})' if d[0] in VALUES else rows(d)
-    form = lambda d: VALUES[d[0]][3] if d[0] in VALUES else f'list_all (passes_all_cell_checks {d[0]}_column_cell_checks) raw.{raw_field(d)}.items'
-    fields = '\n'.join(f'  pub {raw_field(d)} : map {shown(d)} {of(d)} ≡ raw.{raw_field(d)}.items' for d in tables)
+    form = lambda d: VALUES[d[0]][3] if d[0] in VALUES else f'list_all (passes_all_cell_checks {d[0]}_column_cell_checks) raw.{raw_field(d)}'
+    fields = '\n'.join(f'  pub {raw_field(d)} : map {shown(d)} {of(d)} ≡ raw.{raw_field(d)}' for d in tables)
     return f"""
 {remark(f'The raw rows of {named(tables)} are, in order, the encodings of the typed rows.')}
 pub record Decodes{word}Tables {'(schema : Schema) ' if first else ''}(sheets : {word}Sheets) (raw : {word}Rows) : Type 0 where
@@ -1311,12 +1262,26 @@ abbrev pub are_{field}_well_formed : {'Schema → ' if first else ''}{word}Rows 
 are_{field}_well_formed {'desk ' if first else ''}raw = {' && '.join(form(d) for d in tables)}
 """
 
+def reads_group(word, field, tables):
+    """What the reads of a group show and decode"""
+    desk = '(desk : Schema) ' if word in ('First', 'Later') else ''
+    first, later = 'desk ' if word == 'First' else '', 'desk ' if word == 'Later' else ''
+    told = f'The reads show all rows of {named(tables)}, and change nothing. If the flag `new`, which was `old` before, is still true, the rows encode the typed rows `sheets`. Vacuous for a table that the database does not define as a desk does.'
+    return f"""
+{remark(told)}
+pub record Reads{word}Tables {desk}(old new : Bool) (sheets : {word}Sheets) (a b : State) : Type 0 where
+  pub raw : {word}Rows
+  pub shown : Shows{word}Tables {later}raw a b
+  pub decoded : ContinuesDecoding old new (are_{field}_well_formed {first}raw) (Decodes{word}Tables {first}sheets raw)
+"""
+
 def decoded_spec():
     """What the rows of all tables are in types"""
     forms = ', '.join(VALUES[d[0]][3].split()[0] if d[0] in VALUES else f'{d[0]}_column_cell_checks' for d in DATA)
     out = f"""-- The typed rows of all tables, and the test that each raw row is well-formed.
-use Rattle.std.specs.Prelude.{{◌≡◌, Bool, ◌&&◌, map}}
+use Rattle.std.specs.Prelude.{{◌≡◌, ◌⊎◌, Bool, true, false, ◌&&◌, map}}
 use Rattle.std.specs.List.{{list_all}}
+use Rattle.sqlite.specs.State.{{State}}
 use Rattle.brk_model.specs.Schemas.{{Schema}}
 {meanings()}
 use Rattle.brk_changes.specs.Sheets.{{tables_in_sheets}}
@@ -1324,10 +1289,9 @@ use Rattle.brk_changes.specs.declared.sheets.Sheets.{{Sheets}}
 use Rattle.brk_tables_schema.specs.Cells.{{{CELLS}}}
 use Rattle.brk_tables_schema.specs.Desk.{{Which, desk_rows, rule_rows, encode, rows_in_schema}}
 use Rattle.brk_tables_schema.specs.Formed.{{passes_all_cell_checks, {forms}}}
-use Rattle.brk_tables_scan.specs.Raw.{{raw_rows_of_table}}
-use Rattle.brk_tables_scan.specs.declared.raw.RawSheets.{{RawSheets}}
-{declared('raw', 'Rows')}
-{declared('decoding', 'Sheets')}
+use Rattle.brk_tables_scan.specs.Whole.{{ShowsRowsIfPresent}}
+use Rattle.brk_tables_scan.specs.Raw.{{{', '.join(f'{word}Rows' for word, _, _ in GROUPS)}, RawSheets, raw_rows_of_table, IsUnchangedAndOpen, {', '.join(f'Shows{word}Tables' for word, _, _ in GROUPS)}}}
+{declared('Sheets')}
 """
     out += ''.join(decoded_group(word, field, tables) for word, field, _, tables in groups())
     desk = lambda word: 'desk ' if word == 'First' else ''
@@ -1341,6 +1305,26 @@ are_raw_sheets_well_formed desk raw = {' && '.join(f'are_{field}_well_formed {de
 -- DESK has the number of the schema `desk`.
 abbrev pub DecodesSheets : Schema → Sheets → RawSheets → Type 0
 DecodesSheets desk sheets raw = (w : Which) → map (encode w) (rows_in_schema desk w (tables_in_sheets sheets)) ≡ raw_rows_of_table raw w
+
+-- A step of a decoding, which counts whether all raw rows so far are well-formed: `old` before the
+-- step and `new` after it.
+pub record ContinuesDecoding (old new are_well_formed : Bool) (Decodes : Type 0) : Type 0 where
+  -- If all are well-formed after the step, they were before it.
+  pub before : new ≡ true → old ≡ true
+  -- If all are well-formed after the step, `Decodes` holds of its own rows.
+  pub value : new ≡ true → Decodes
+  -- If not all are well-formed after the step, not all were before it, or not all of its own are.
+  pub form : new ≡ false → (old ≡ false) ⊎ (are_well_formed ≡ false)
+{''.join(reads_group(word, field, tables) for word, field, _, tables in groups())}
+-- The reads show all rows of each table of the schema `desk`, and none of other tables. The database
+-- was open, and the reads changed nothing. If the flag `new`, which was `old` before, is still true,
+-- the rows encode the typed rows `sheets`. Vacuous for a table that the database does not define as a
+-- desk does.
+pub record ReadsDeskTables (desk : Schema) (old new : Bool) (sheets : Sheets) (a b : State) : Type 0 where
+  pub raw : RawSheets
+  pub stays : IsUnchangedAndOpen a b
+  pub shown : (w : Which) → ShowsRowsIfPresent desk w (raw_rows_of_table raw w) a.now
+  pub decoded : ContinuesDecoding old new (are_raw_sheets_well_formed desk raw) (DecodesSheets desk sheets raw)
 """
     save('crates/brk_tables_scan/specs/Decoded.antt', out)
 
@@ -1360,14 +1344,15 @@ use Rattle.brk_changes.specs.declared.sheets.Sheets.{{Sheets}}
 use Rattle.brk_tables_schema.specs.Cells.{{{cells}}}
 use Rattle.brk_tables_schema.specs.Desk.{{{WHICHES}}}
 use Rattle.brk_tables_scan.specs.Decoded.{{DecodesSheets, {', '.join(f'Decodes{group[0]}Tables' for group in GROUPS)}}}
-use Rattle.brk_tables_scan.specs.declared.raw.RawSheets.{{RawSheets}}
-{declared('decoding', 'Sheets')}
+use Rattle.brk_tables_scan.specs.Raw.{{RawSheets}}
+{declared('Sheets')}
 
-module _ {sheets} (desk : Schema) (raw : RawSheets) {are} where
+module _ {sheets} where
   abbrev pub sheets : Sheets
   sheets = record {{ {'; '.join(f'{sheet_field(d)} = {v}.{sheet_field(d)}' for _, _, v, tables in groups() for d in tables)} }}
 
-  pub are_sheets : DecodesSheets desk sheets raw
+module _ {sheets} (desk : Schema) (raw : RawSheets) {are} where
+  pub are_sheets : DecodesSheets desk (sheets {' '.join(v for _, _, v in GROUPS)}) raw
 {chr(10).join(f'  are_sheets {d[2]} = {twice(d, v)}is_{v}.{raw_field(d)}' for _, _, v, tables in groups() for d in tables)}
 """
     save('crates/brk_tables_scan/proofs/Sheeted.antt', out)
@@ -1493,8 +1478,7 @@ if __name__ == '__main__':
     listed()
     whole()
     rows_code()
-    raw_code()
-    decoding_code()
+    all_tables_code()
     raw_spec()
     decoded_spec()
     sheeted()

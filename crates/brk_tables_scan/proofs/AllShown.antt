@@ -1,70 +1,117 @@
--- The reads of all tables show each of them.
-use Rattle.std.proofs.Common.{◌≡◌, List, Ok, true, refl, sym, subst, ◌∙◌}
+-- The reads of all tables, one after the other, show and decode each of them.
+use Rattle.std.proofs.Common.{◌≡◌, Bool, List, Ok, true, refl, sym, subst, ◌∙◌}
 use Rattle.sqlite_value.specs.Order.{Row}
 use Rattle.brk_model.specs.Schemas.{Schema}
+use Rattle.brk_changes.specs.declared.sheets.Sheets.{Sheets}
 use Rattle.sqlite.specs.State.{State}
 use Rattle.brk_money.specs.declared.fault.Fault.{Fault}
 use Rattle.brk_sql.specs.Model.{IsTransactionStep}
 use Rattle.brk_sql.proofs.Inside.{step_then, step_read, step_weaker}
 use Rattle.brk_tables_schema.specs.Desk.{Which, TheDesk, KeptRows, Brokers, Customers, Accounts, Permissions, Securities, LastTrades, Charges, Bands, TaxRates, CustomerTaxes, Trades, TradeHistory, Requests, Holdings, Summaries, HoldingHistory, Settlements, CashRows, CashMoves, SettleRules, has_table}
 use Rattle.brk_tables_scan.specs.Whole.{ShowsAllRows, ShowsRowsIfPresent}
-use Rattle.brk_tables_scan.specs.Raw.{IsUnchangedAndOpen, ShowsDeskTables, raw_rows_of_table, ShowsFirstTables, ShowsAccountTables, ShowsRateTables, ShowsTradeTables, ShowsLastTables, ShowsLaterTables}
-use Rattle.brk_tables_scan.specs.declared.raw.RawSheets.{RawSheets}
-use Rattle.brk_tables_scan.specs.declared.raw.FirstRows.{FirstRows}
-use Rattle.brk_tables_scan.specs.declared.raw.AccountRows.{AccountRows}
-use Rattle.brk_tables_scan.specs.declared.raw.RateRows.{RateRows}
-use Rattle.brk_tables_scan.specs.declared.raw.TradeRows.{TradeRows}
-use Rattle.brk_tables_scan.specs.declared.raw.LastRows.{LastRows}
-use Rattle.brk_tables_scan.specs.declared.raw.LaterRows.{LaterRows}
+use Rattle.brk_tables_scan.specs.Raw.{RawSheets, IsUnchangedAndOpen, raw_rows_of_table}
+use Rattle.brk_tables_scan.specs.Decoded.{ReadsFirstTables, ReadsAccountTables, ReadsRateTables, ReadsTradeTables, ReadsLastTables, ReadsLaterTables, ReadsDeskTables, DecodesSheets, DecodesFirstTables, DecodesAccountTables, DecodesRateTables, DecodesTradeTables, DecodesLastTables, DecodesLaterTables, are_first_well_formed, are_accounts_well_formed, are_rates_well_formed, are_trades_well_formed, are_last_well_formed, are_later_well_formed}
+use Rattle.brk_tables_scan.specs.declared.all_tables.FirstSheets.{FirstSheets}
+use Rattle.brk_tables_scan.specs.declared.all_tables.AccountSheets.{AccountSheets}
+use Rattle.brk_tables_scan.specs.declared.all_tables.RateSheets.{RateSheets}
+use Rattle.brk_tables_scan.specs.declared.all_tables.TradeSheets.{TradeSheets}
+use Rattle.brk_tables_scan.specs.declared.all_tables.LastSheets.{LastSheets}
+use Rattle.brk_tables_scan.specs.declared.all_tables.LaterSheets.{LaterSheets}
+use Rattle.brk_tables_scan.proofs.Continued.{continues_six}
 use Rattle.brk_tables_scan.proofs.Four.{stays_then, shown_before}
+use Rattle.brk_tables_scan.proofs.Sheeted.{sheets, are_sheets}
 
-module _ (desk : Schema) (a b c d e f g : State) (raw : RawSheets)
-    (step_first : IsTransactionStep {V = FirstRows} {E = Fault} a b (Ok raw.first) (λ rows. ShowsFirstTables rows))
-    (step_accounts : IsTransactionStep {V = AccountRows} {E = Fault} b c (Ok raw.accounts) (λ rows. ShowsAccountTables rows))
-    (step_rates : IsTransactionStep {V = RateRows} {E = Fault} c d (Ok raw.rates) (λ rows. ShowsRateTables rows))
-    (step_trades : IsTransactionStep {V = TradeRows} {E = Fault} d e (Ok raw.trades) (λ rows. ShowsTradeTables rows))
-    (step_last : IsTransactionStep {V = LastRows} {E = Fault} e f (Ok raw.last) (λ rows. ShowsLastTables rows))
-    (step_later : IsTransactionStep {V = LaterRows} {E = Fault} f g (Ok raw.later) (λ rows. ShowsLaterTables desk rows)) where
-  pub shows_desk : {V F : Type 0} (v : V) (made : V → State → State → Type 0) → (ShowsDeskTables desk raw a g → made v a g) → IsTransactionStep {V = V} {E = F} a g (Ok v) made
-  shows_desk {V} {F} v made makes =
-      let p1 = step_weaker a b (Ok raw.first) (λ rows. ShowsFirstTables rows) (λ rows x y. IsUnchangedAndOpen x y × ShowsFirstTables rows x y) (λ rows p. (p.stays, p)) step_first in
-      let p2 = step_then a b c raw.first (Ok raw.accounts) (λ rows x y. IsUnchangedAndOpen x y × ShowsFirstTables rows x y) (λ rows. ShowsAccountTables rows) (λ rows x y. IsUnchangedAndOpen x y × ShowsFirstTables raw.first x b × ShowsAccountTables rows b y) (λ rows p q. (stays_then a b c p.0 q.stays, p.1, q)) p1 step_accounts in
-      let p3 = step_then a c d raw.accounts (Ok raw.rates) (λ rows x y. IsUnchangedAndOpen x y × ShowsFirstTables raw.first x b × ShowsAccountTables rows b y) (λ rows. ShowsRateTables rows) (λ rows x y. IsUnchangedAndOpen x y × ShowsFirstTables raw.first x b × ShowsAccountTables raw.accounts b c × ShowsRateTables rows c y) (λ rows p q. (stays_then a c d p.0 q.stays, p.1, p.2, q)) p2 step_rates in
-      let p4 = step_then a d e raw.rates (Ok raw.trades) (λ rows x y. IsUnchangedAndOpen x y × ShowsFirstTables raw.first x b × ShowsAccountTables raw.accounts b c × ShowsRateTables rows c y) (λ rows. ShowsTradeTables rows) (λ rows x y. IsUnchangedAndOpen x y × ShowsFirstTables raw.first x b × ShowsAccountTables raw.accounts b c × ShowsRateTables raw.rates c d × ShowsTradeTables rows d y) (λ rows p q. (stays_then a d e p.0 q.stays, p.1, p.2, p.3, q)) p3 step_trades in
-      let p5 = step_then a e f raw.trades (Ok raw.last) (λ rows x y. IsUnchangedAndOpen x y × ShowsFirstTables raw.first x b × ShowsAccountTables raw.accounts b c × ShowsRateTables raw.rates c d × ShowsTradeTables rows d y) (λ rows. ShowsLastTables rows) (λ rows x y. IsUnchangedAndOpen x y × ShowsFirstTables raw.first x b × ShowsAccountTables raw.accounts b c × ShowsRateTables raw.rates c d × ShowsTradeTables raw.trades d e × ShowsLastTables rows e y) (λ rows p q. (stays_then a e f p.0 q.stays, p.1, p.2, p.3, p.4, q)) p4 step_last in
-      let p6 = step_then a f g raw.last (Ok raw.later) (λ rows x y. IsUnchangedAndOpen x y × ShowsFirstTables raw.first x b × ShowsAccountTables raw.accounts b c × ShowsRateTables raw.rates c d × ShowsTradeTables raw.trades d e × ShowsLastTables rows e y) (λ rows. ShowsLaterTables desk rows)
-      (λ rows x y. IsUnchangedAndOpen x y × ShowsFirstTables raw.first x b × ShowsAccountTables raw.accounts b c × ShowsRateTables raw.rates c d × ShowsTradeTables raw.trades d e × ShowsLastTables raw.last e f × (f.now ≡ x.now) × ShowsLaterTables desk rows f y)
-      (λ rows p q. ((p.0.0, q.same ∙ p.0.1), p.1, p.2, p.3, p.4, p.5, p.0.1, q)) p5 step_later in
-      step_read a g raw.later (Ok v) (λ rows x y. IsUnchangedAndOpen x y × ShowsFirstTables raw.first x b × ShowsAccountTables raw.accounts b c × ShowsRateTables raw.rates c d × ShowsTradeTables raw.trades d e × ShowsLastTables raw.last e f × (f.now ≡ x.now) × ShowsLaterTables desk rows f y) made
-      (λ w is p. let same : v ≡ w = cc in subst (λ w. made w a g) same (makes (p.0, shown p.1 p.2 p.3 p.4 p.5 p.6 p.7))) p6
-    where
-      -- one that each schema has
-      each : (w : Which) → has_table desk w ≡ true → ShowsAllRows w (raw_rows_of_table raw w) a.now → ShowsRowsIfPresent desk w (raw_rows_of_table raw w) a.now
-      each w of all = (λ _. all, λ off. absurd (let e = sym of ∙ off in cc))
+module _ (desk : Schema) (a b c d e f g : State) (n0 n1 n2 n3 n4 n5 n6 : Bool) (first : FirstSheets) (accounts : AccountSheets) (rates : RateSheets) (trades : TradeSheets) (last : LastSheets) (later : LaterSheets) where
+  abbrev all : Sheets
+  all = sheets first accounts rates trades last later
 
-      before : (w : Which) (rows : List Row) → f.now ≡ a.now → ShowsRowsIfPresent desk w rows f.now → ShowsRowsIfPresent desk w rows a.now
-      before w rows same = subst (ShowsRowsIfPresent desk w rows) same
+  module _ (in_first : ReadsFirstTables desk n0 n1 first a b) (in_accounts : ReadsAccountTables n1 n2 accounts b c) (in_rates : ReadsRateTables n2 n3 rates c d) (in_trades : ReadsTradeTables n3 n4 trades d e) (in_last : ReadsLastTables n4 n5 last e f) (in_later : ReadsLaterTables desk n5 n6 later f g) where
+    abbrev raw : RawSheets
+    raw = record { first = in_first.raw; accounts = in_accounts.raw; rates = in_rates.raw; trades = in_trades.raw; last = in_last.raw; later = in_later.raw }
 
-      shown : ShowsFirstTables raw.first a b → ShowsAccountTables raw.accounts b c → ShowsRateTables raw.rates c d → ShowsTradeTables raw.trades d e → ShowsLastTables raw.last e f → f.now ≡ a.now → ShowsLaterTables desk raw.later f g → (w : Which) → ShowsRowsIfPresent desk w (raw_rows_of_table raw w) a.now
-      shown f u r t l same n TheDesk = each TheDesk refl (f.one)
-      shown f u r t l same n KeptRows = each KeptRows refl (f.two)
-      shown f u r t l same n Brokers = each Brokers refl (f.three)
-      shown f u r t l same n Customers = each Customers refl (f.four)
-      shown f u r t l same n Accounts = each Accounts refl (shown_before Accounts (raw_rows_of_table raw Accounts) a b f.stays u.one)
-      shown f u r t l same n Permissions = each Permissions refl (shown_before Permissions (raw_rows_of_table raw Permissions) a b f.stays u.two)
-      shown f u r t l same n Securities = each Securities refl (shown_before Securities (raw_rows_of_table raw Securities) a b f.stays u.three)
-      shown f u r t l same n LastTrades = each LastTrades refl (shown_before LastTrades (raw_rows_of_table raw LastTrades) a b f.stays u.four)
-      shown f u r t l same n Charges = each Charges refl (shown_before Charges (raw_rows_of_table raw Charges) a c (stays_then a b c f.stays u.stays) r.one)
-      shown f u r t l same n Bands = each Bands refl (shown_before Bands (raw_rows_of_table raw Bands) a c (stays_then a b c f.stays u.stays) r.two)
-      shown f u r t l same n TaxRates = each TaxRates refl (shown_before TaxRates (raw_rows_of_table raw TaxRates) a c (stays_then a b c f.stays u.stays) r.three)
-      shown f u r t l same n CustomerTaxes = each CustomerTaxes refl (shown_before CustomerTaxes (raw_rows_of_table raw CustomerTaxes) a c (stays_then a b c f.stays u.stays) r.four)
-      shown f u r t l same n Trades = each Trades refl (shown_before Trades (raw_rows_of_table raw Trades) a d (stays_then a c d (stays_then a b c f.stays u.stays) r.stays) t.one)
-      shown f u r t l same n TradeHistory = each TradeHistory refl (shown_before TradeHistory (raw_rows_of_table raw TradeHistory) a d (stays_then a c d (stays_then a b c f.stays u.stays) r.stays) t.two)
-      shown f u r t l same n Requests = each Requests refl (shown_before Requests (raw_rows_of_table raw Requests) a d (stays_then a c d (stays_then a b c f.stays u.stays) r.stays) t.three)
-      shown f u r t l same n Holdings = each Holdings refl (shown_before Holdings (raw_rows_of_table raw Holdings) a d (stays_then a c d (stays_then a b c f.stays u.stays) r.stays) t.four)
-      shown f u r t l same n Summaries = each Summaries refl (shown_before Summaries (raw_rows_of_table raw Summaries) a e (stays_then a d e (stays_then a c d (stays_then a b c f.stays u.stays) r.stays) t.stays) l.one)
-      shown f u r t l same n HoldingHistory = each HoldingHistory refl (shown_before HoldingHistory (raw_rows_of_table raw HoldingHistory) a e (stays_then a d e (stays_then a c d (stays_then a b c f.stays u.stays) r.stays) t.stays) l.two)
-      shown f u r t l same n Settlements = each Settlements refl (shown_before Settlements (raw_rows_of_table raw Settlements) a e (stays_then a d e (stays_then a c d (stays_then a b c f.stays u.stays) r.stays) t.stays) l.three)
-      shown f u r t l same n CashRows = each CashRows refl (shown_before CashRows (raw_rows_of_table raw CashRows) a e (stays_then a d e (stays_then a c d (stays_then a b c f.stays u.stays) r.stays) t.stays) l.four)
-      shown f u r t l same n CashMoves = before CashMoves (raw_rows_of_table raw CashMoves) same n.moves
-      shown f u r t l same n SettleRules = before SettleRules (raw_rows_of_table raw SettleRules) same n.rule
+    -- one that each schema has
+    each : (w : Which) → has_table desk w ≡ true → ShowsAllRows w (raw_rows_of_table raw w) a.now → ShowsRowsIfPresent desk w (raw_rows_of_table raw w) a.now
+    each w of all = (λ _. all, λ off. absurd (let e = sym of ∙ off in cc))
+
+    ab : IsUnchangedAndOpen a b
+    ab = in_first.shown.stays
+
+    ac : IsUnchangedAndOpen a c
+    ac = stays_then a b c ab in_accounts.shown.stays
+
+    ad : IsUnchangedAndOpen a d
+    ad = stays_then a c d ac in_rates.shown.stays
+
+    ae : IsUnchangedAndOpen a e
+    ae = stays_then a d e ad in_trades.shown.stays
+
+    af : IsUnchangedAndOpen a f
+    af = stays_then a e f ae in_last.shown.stays
+
+    before : (w : Which) (rows : List Row) → ShowsRowsIfPresent desk w rows f.now → ShowsRowsIfPresent desk w rows a.now
+    before w rows = subst (ShowsRowsIfPresent desk w rows) af.1
+
+    shows : (w : Which) → ShowsRowsIfPresent desk w (raw_rows_of_table raw w) a.now
+    shows TheDesk = each TheDesk refl in_first.shown.one
+    shows KeptRows = each KeptRows refl in_first.shown.two
+    shows Brokers = each Brokers refl in_first.shown.three
+    shows Customers = each Customers refl in_first.shown.four
+    shows Accounts = each Accounts refl (shown_before Accounts (raw_rows_of_table raw Accounts) a b ab in_accounts.shown.one)
+    shows Permissions = each Permissions refl (shown_before Permissions (raw_rows_of_table raw Permissions) a b ab in_accounts.shown.two)
+    shows Securities = each Securities refl (shown_before Securities (raw_rows_of_table raw Securities) a b ab in_accounts.shown.three)
+    shows LastTrades = each LastTrades refl (shown_before LastTrades (raw_rows_of_table raw LastTrades) a b ab in_accounts.shown.four)
+    shows Charges = each Charges refl (shown_before Charges (raw_rows_of_table raw Charges) a c ac in_rates.shown.one)
+    shows Bands = each Bands refl (shown_before Bands (raw_rows_of_table raw Bands) a c ac in_rates.shown.two)
+    shows TaxRates = each TaxRates refl (shown_before TaxRates (raw_rows_of_table raw TaxRates) a c ac in_rates.shown.three)
+    shows CustomerTaxes = each CustomerTaxes refl (shown_before CustomerTaxes (raw_rows_of_table raw CustomerTaxes) a c ac in_rates.shown.four)
+    shows Trades = each Trades refl (shown_before Trades (raw_rows_of_table raw Trades) a d ad in_trades.shown.one)
+    shows TradeHistory = each TradeHistory refl (shown_before TradeHistory (raw_rows_of_table raw TradeHistory) a d ad in_trades.shown.two)
+    shows Requests = each Requests refl (shown_before Requests (raw_rows_of_table raw Requests) a d ad in_trades.shown.three)
+    shows Holdings = each Holdings refl (shown_before Holdings (raw_rows_of_table raw Holdings) a d ad in_trades.shown.four)
+    shows Summaries = each Summaries refl (shown_before Summaries (raw_rows_of_table raw Summaries) a e ae in_last.shown.one)
+    shows HoldingHistory = each HoldingHistory refl (shown_before HoldingHistory (raw_rows_of_table raw HoldingHistory) a e ae in_last.shown.two)
+    shows Settlements = each Settlements refl (shown_before Settlements (raw_rows_of_table raw Settlements) a e ae in_last.shown.three)
+    shows CashRows = each CashRows refl (shown_before CashRows (raw_rows_of_table raw CashRows) a e ae in_last.shown.four)
+    shows CashMoves = before CashMoves (raw_rows_of_table raw CashMoves) in_later.shown.moves
+    shows SettleRules = before SettleRules (raw_rows_of_table raw SettleRules) in_later.shown.rule
+
+    reads_all : ReadsDeskTables desk n0 n6 all a g
+    reads_all = record {
+      raw = raw;
+      stays = (ab.0, in_later.shown.same ∙ af.1);
+      shown = shows;
+      decoded = continues_six n0 n1 n2 n3 n4 n5 n6 (are_first_well_formed desk raw.first) (are_accounts_well_formed raw.accounts) (are_rates_well_formed raw.rates) (are_trades_well_formed raw.trades) (are_last_well_formed raw.last) (are_later_well_formed raw.later)
+          (DecodesFirstTables desk first raw.first) (DecodesAccountTables accounts raw.accounts) (DecodesRateTables rates raw.rates) (DecodesTradeTables trades raw.trades) (DecodesLastTables last raw.last) (DecodesLaterTables later raw.later) (DecodesSheets desk all raw)
+          (are_sheets first accounts rates trades last later desk raw)
+          in_first.decoded in_accounts.decoded in_rates.decoded in_trades.decoded in_last.decoded in_later.decoded;
+    }
+
+  module _ (step_first : IsTransactionStep {V = FirstSheets} {E = Fault} a b (Ok first) (λ read. ReadsFirstTables desk n0 n1 read))
+      (step_accounts : IsTransactionStep {V = AccountSheets} {E = Fault} b c (Ok accounts) (λ read. ReadsAccountTables n1 n2 read))
+      (step_rates : IsTransactionStep {V = RateSheets} {E = Fault} c d (Ok rates) (λ read. ReadsRateTables n2 n3 read))
+      (step_trades : IsTransactionStep {V = TradeSheets} {E = Fault} d e (Ok trades) (λ read. ReadsTradeTables n3 n4 read))
+      (step_last : IsTransactionStep {V = LastSheets} {E = Fault} e f (Ok last) (λ read. ReadsLastTables n4 n5 read))
+      (step_later : IsTransactionStep {V = LaterSheets} {E = Fault} f g (Ok later) (λ read. ReadsLaterTables desk n5 n6 read)) where
+    abbrev To2 : AccountSheets → State → State → Type 0
+    To2 read x y = ReadsFirstTables desk n0 n1 first x b × ReadsAccountTables n1 n2 read b y
+
+    abbrev To3 : RateSheets → State → State → Type 0
+    To3 read x y = To2 accounts x c × ReadsRateTables n2 n3 read c y
+
+    abbrev To4 : TradeSheets → State → State → Type 0
+    To4 read x y = To3 rates x d × ReadsTradeTables n3 n4 read d y
+
+    abbrev To5 : LastSheets → State → State → Type 0
+    To5 read x y = To4 trades x e × ReadsLastTables n4 n5 read e y
+
+    abbrev To6 : LaterSheets → State → State → Type 0
+    To6 read x y = To5 last x f × ReadsLaterTables desk n5 n6 read f y
+
+    pub reads_desk : {V F : Type 0} (v : V) (made : V → State → State → Type 0) → (ReadsDeskTables desk n0 n6 all a g → made v a g) → IsTransactionStep {V = V} {E = F} a g (Ok v) made
+    reads_desk {V} {F} v made makes =
+        let p2 = step_then a b c first (Ok accounts) (λ read. ReadsFirstTables desk n0 n1 read) (λ read. ReadsAccountTables n1 n2 read) To2 (λ read p q. (p, q)) step_first step_accounts in
+        let p3 = step_then a c d accounts (Ok rates) To2 (λ read. ReadsRateTables n2 n3 read) To3 (λ read p q. (p, q)) p2 step_rates in
+        let p4 = step_then a d e rates (Ok trades) To3 (λ read. ReadsTradeTables n3 n4 read) To4 (λ read p q. (p, q)) p3 step_trades in
+        let p5 = step_then a e f trades (Ok last) To4 (λ read. ReadsLastTables n4 n5 read) To5 (λ read p q. (p, q)) p4 step_last in
+        let p6 = step_then a f g last (Ok later) To5 (λ read. ReadsLaterTables desk n5 n6 read) To6 (λ read p q. (p, q)) p5 step_later in
+        step_read a g later (Ok v) To6 made (λ w is p. let same : v ≡ w = cc in subst (λ w. made w a g) same (makes (reads_all p.0.0.0.0.0 p.0.0.0.0.1 p.0.0.0.1 p.0.0.1 p.0.1 p.1))) p6

@@ -19,9 +19,8 @@ use Rattle.brk_model_theorems.proofs.FormParts.{form_parts}
 use Rattle.brk_tables_schema.specs.Cells.{flag_as_value, optional_as_value, desk_row_cells, kept_cells, broker_cells, customer_cells, account_cells, permission_cells, security_cells, last_trade_cells, charge_cells, band_cells, tax_rate_cells, customer_tax_cells, trade_cells, history_cells, request_cells, holding_cells, summary_cells, holding_history_cells, settlement_cells, cash_cells, move_cells, rule_cells}
 use Rattle.brk_tables_schema.specs.Desk.{Which, TheDesk, KeptRows, Brokers, Customers, Accounts, Permissions, Securities, LastTrades, Charges, Bands, TaxRates, CustomerTaxes, Trades, TradeHistory, Requests, Holdings, Summaries, HoldingHistory, Settlements, CashRows, CashMoves, SettleRules, desk_rows, rule_rows, encode, rows_in_schema}
 use Rattle.brk_tables_schema.specs.Formed.{passes_all_cell_checks, is_one_valid_desk_row, is_flag_cell, is_null_or_natural_cell, kept_column_cell_checks, broker_column_cell_checks, customer_column_cell_checks, account_column_cell_checks, permission_column_cell_checks, security_column_cell_checks, last_trade_column_cell_checks, charge_column_cell_checks, band_column_cell_checks, tax_rate_column_cell_checks, customer_tax_column_cell_checks, trade_column_cell_checks, history_column_cell_checks, request_column_cell_checks, holding_column_cell_checks, summary_column_cell_checks, holding_history_column_cell_checks, settlement_column_cell_checks, cash_column_cell_checks, move_column_cell_checks, is_at_most_one_valid_rule}
-use Rattle.brk_tables_scan.specs.Raw.{raw_rows_of_table}
+use Rattle.brk_tables_scan.specs.Raw.{RawSheets, raw_rows_of_table}
 use Rattle.brk_tables_scan.specs.Decoded.{are_raw_sheets_well_formed}
-use Rattle.brk_tables_scan.specs.declared.raw.RawSheets.{RawSheets}
 use Rattle.brk_tables_scan.proofs.InForm.{both, each_formed, customer_id, broker_id, tax_id, account_id, trade_id, symbol_of, stamp_of, type_formed, status_formed, tax_status_formed, cash_word_formed, wider}
 
 all_both : {X : Type 0} (p q : X → Bool) (xs : List X) → list_all p xs ≡ true → list_all q xs ≡ true → list_all (λ x. p x && q x) xs ≡ true

@@ -6,9 +6,10 @@ use Rattle.sqlite.specs.State.{State}
 use Rattle.brk_money.specs.declared.fault.Fault.{Fault}
 use Rattle.brk_sql.specs.Model.{IsTransactionStep}
 use Rattle.brk_sql.proofs.Inside.{step_then, step_read}
-use Rattle.brk_tables_schema.specs.Desk.{Which}
-use Rattle.brk_tables_scan.specs.Whole.{ShowsAllRows}
-use Rattle.brk_tables_scan.specs.Raw.{ShowsFourTables, IsUnchangedAndOpen}
+use Rattle.brk_model.specs.Schemas.{Schema}
+use Rattle.brk_tables_schema.specs.Desk.{Which, CashMoves, SettleRules}
+use Rattle.brk_tables_scan.specs.Whole.{ShowsAllRows, ShowsRowsIfPresent}
+use Rattle.brk_tables_scan.specs.Raw.{ShowsFourTables, ShowsLaterTables, IsUnchangedAndOpen}
 
 abbrev pub Shown : Which → Vec Row → State → State → Type 0
 Shown w rows a b = IsTrue a.is_open × (b.now ≡ a.now) × ShowsAllRows w rows.items a.now
@@ -34,3 +35,15 @@ module _ (first second third fourth : Which) (a b c d e : State) (r s t u : Vec 
       (λ rows p q. (stays_then a d e p.0 (q.0, q.1), p.1, p.2, p.3, shown_before fourth rows.items a d p.0 q.2)) abc four in
       step_read a e u (Ok v) (λ rows x y. IsUnchangedAndOpen x y × ShowsAllRows first r.items x.now × ShowsAllRows second s.items x.now × ShowsAllRows third t.items x.now × ShowsAllRows fourth rows.items x.now)
       made (λ w is p. let same : v ≡ w = cc in subst (λ w. made w a e) same (makes (record { stays = p.0; one = p.1; two = p.2; three = p.3; four = p.4 }))) all
+
+abbrev pub ShownIfPresent : Schema → Which → Vec Row → State → State → Type 0
+ShownIfPresent desk w rows a b = (b.now ≡ a.now) × ShowsRowsIfPresent desk w rows.items a.now
+
+module _ (desk : Schema) (a b c : State) (r s : Vec Row)
+    (one : IsTransactionStep {V = Vec Row} {E = Fault} a b (Ok r) (λ rows x y. ShownIfPresent desk CashMoves rows x y)) (two : IsTransactionStep {V = Vec Row} {E = Fault} b c (Ok s) (λ rows x y. ShownIfPresent desk SettleRules rows x y)) where
+  pub shows_later : {V F : Type 0} (v : V) (made : V → State → State → Type 0) → (ShowsLaterTables desk (record { moves = r.items; rule = s.items }) a c → made v a c) → IsTransactionStep {V = V} {E = F} a c (Ok v) made
+  shows_later {V} {F} v made makes =
+      let both : Vec Row → State → State → Type 0 = λ rows x y. ShowsLaterTables desk (record { moves = r.items; rule = rows.items }) x y in
+      let all = step_then a b c r (Ok s) (λ rows x y. ShownIfPresent desk CashMoves rows x y) (λ rows x y. ShownIfPresent desk SettleRules rows x y) both
+      (λ rows p q. record { same = q.0 ∙ p.0; moves = p.1; rule = subst (ShowsRowsIfPresent desk SettleRules rows.items) p.0 q.1 }) one two in
+      step_read a c s (Ok v) both made (λ w is p. let same : v ≡ w = cc in subst (λ w. made w a c) same (makes p)) all

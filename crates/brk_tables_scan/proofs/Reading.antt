@@ -22,9 +22,8 @@ use Rattle.brk_tables_schema.proofs.Which.{all_listed}
 use Rattle.brk_tables_create.specs.Made.{tables_added_after}
 use Rattle.brk_tables_scan.specs.Schemas.{HasDesk, HasTableWithNames, SchemaNamesImplyDefinitions, HasDeskDefinitions, table_names_of}
 use Rattle.brk_tables_scan.specs.Whole.{ShowsRowsIfPresent}
-use Rattle.brk_tables_scan.specs.Raw.{raw_rows_of_table}
+use Rattle.brk_tables_scan.specs.Raw.{RawSheets, raw_rows_of_table}
 use Rattle.brk_tables_scan.specs.Decoded.{DecodesSheets, are_raw_sheets_well_formed}
-use Rattle.brk_tables_scan.specs.declared.raw.RawSheets.{RawSheets}
 use Rattle.brk_tables_scan.proofs.FormedTables.{tables_formed}
 use Rattle.brk_tables_scan.proofs.Listed.{same_name_at}
 

@@ -1,17 +1,59 @@
--- The raw rows of all tables, as their reads show them.
+-- The raw rows of all tables, as their reads show them. The code has those of one table at a time.
 use Rattle.std.specs.Prelude.{◌≡◌, List, IsTrue}
 use Rattle.sqlite_value.specs.Order.{Row}
 use Rattle.sqlite.specs.State.{State}
 use Rattle.brk_tables_schema.specs.Desk.{Which, TheDesk, KeptRows, Brokers, Customers, Accounts, Permissions, Securities, LastTrades, Charges, Bands, TaxRates, CustomerTaxes, Trades, TradeHistory, Requests, Holdings, Summaries, HoldingHistory, Settlements, CashRows, CashMoves, SettleRules}
 use Rattle.brk_model.specs.Schemas.{Schema}
 use Rattle.brk_tables_scan.specs.Whole.{ShowsAllRows, ShowsRowsIfPresent}
-use Rattle.brk_tables_scan.specs.declared.raw.FirstRows.{FirstRows}
-use Rattle.brk_tables_scan.specs.declared.raw.AccountRows.{AccountRows}
-use Rattle.brk_tables_scan.specs.declared.raw.RateRows.{RateRows}
-use Rattle.brk_tables_scan.specs.declared.raw.TradeRows.{TradeRows}
-use Rattle.brk_tables_scan.specs.declared.raw.LastRows.{LastRows}
-use Rattle.brk_tables_scan.specs.declared.raw.LaterRows.{LaterRows}
-use Rattle.brk_tables_scan.specs.declared.raw.RawSheets.{RawSheets}
+
+-- The raw rows of DESK, KEPT, BROKER and CUSTOMER.
+pub record FirstRows : Type 0 where
+  pub desk : List Row
+  pub kept : List Row
+  pub brokers : List Row
+  pub customers : List Row
+
+-- The raw rows of CUSTOMER_ACCOUNT, ACCOUNT_PERMISSION, SECURITY and LAST_TRADE.
+pub record AccountRows : Type 0 where
+  pub accounts : List Row
+  pub permissions : List Row
+  pub securities : List Row
+  pub last_trades : List Row
+
+-- The raw rows of CHARGE, COMMISSION_RATE, TAXRATE and CUSTOMER_TAXRATE.
+pub record RateRows : Type 0 where
+  pub charges : List Row
+  pub bands : List Row
+  pub tax_rates : List Row
+  pub customer_taxes : List Row
+
+-- The raw rows of TRADE, TRADE_HISTORY, TRADE_REQUEST and HOLDING.
+pub record TradeRows : Type 0 where
+  pub trades : List Row
+  pub history : List Row
+  pub requests : List Row
+  pub holdings : List Row
+
+-- The raw rows of HOLDING_SUMMARY, HOLDING_HISTORY, SETTLEMENT and CASH_TRANSACTION.
+pub record LastRows : Type 0 where
+  pub summaries : List Row
+  pub holding_history : List Row
+  pub settlements : List Row
+  pub cash : List Row
+
+-- The raw rows of CASH_MOVE and SETTLE_RULE.
+pub record LaterRows : Type 0 where
+  pub moves : List Row
+  pub rule : List Row
+
+-- The raw rows of all tables.
+pub record RawSheets : Type 0 where
+  pub first : FirstRows
+  pub accounts : AccountRows
+  pub rates : RateRows
+  pub trades : TradeRows
+  pub last : LastRows
+  pub later : LaterRows
 
 -- The database was open, and its contents are unchanged.
 abbrev pub IsUnchangedAndOpen : State → State → Type 0
@@ -29,66 +71,60 @@ pub record ShowsFourTables (first second third fourth : Which) (a b c d : List R
 -- The raw rows are all rows of DESK, KEPT, BROKER and CUSTOMER, sorted by key, and the reads
 -- changed nothing. Vacuous for a table that the database does not define as a desk does.
 abbrev pub ShowsFirstTables : FirstRows → State → State → Type 0
-ShowsFirstTables raw = ShowsFourTables TheDesk KeptRows Brokers Customers raw.desk.items raw.kept.items raw.brokers.items raw.customers.items
+ShowsFirstTables raw = ShowsFourTables TheDesk KeptRows Brokers Customers raw.desk raw.kept raw.brokers raw.customers
 
 -- The raw rows are all rows of CUSTOMER_ACCOUNT, ACCOUNT_PERMISSION, SECURITY and LAST_TRADE,
 -- sorted by key, and the reads changed nothing. Vacuous for a table that the database does not
 -- define as a desk does.
 abbrev pub ShowsAccountTables : AccountRows → State → State → Type 0
-ShowsAccountTables raw = ShowsFourTables Accounts Permissions Securities LastTrades raw.accounts.items raw.permissions.items raw.securities.items raw.last_trades.items
+ShowsAccountTables raw = ShowsFourTables Accounts Permissions Securities LastTrades raw.accounts raw.permissions raw.securities raw.last_trades
 
 -- The raw rows are all rows of CHARGE, COMMISSION_RATE, TAXRATE and CUSTOMER_TAXRATE, sorted by
 -- key, and the reads changed nothing. Vacuous for a table that the database does not define as a
 -- desk does.
 abbrev pub ShowsRateTables : RateRows → State → State → Type 0
-ShowsRateTables raw = ShowsFourTables Charges Bands TaxRates CustomerTaxes raw.charges.items raw.bands.items raw.tax_rates.items raw.customer_taxes.items
+ShowsRateTables raw = ShowsFourTables Charges Bands TaxRates CustomerTaxes raw.charges raw.bands raw.tax_rates raw.customer_taxes
 
 -- The raw rows are all rows of TRADE, TRADE_HISTORY, TRADE_REQUEST and HOLDING, sorted by key, and
 -- the reads changed nothing. Vacuous for a table that the database does not define as a desk does.
 abbrev pub ShowsTradeTables : TradeRows → State → State → Type 0
-ShowsTradeTables raw = ShowsFourTables Trades TradeHistory Requests Holdings raw.trades.items raw.history.items raw.requests.items raw.holdings.items
+ShowsTradeTables raw = ShowsFourTables Trades TradeHistory Requests Holdings raw.trades raw.history raw.requests raw.holdings
 
 -- The raw rows are all rows of HOLDING_SUMMARY, HOLDING_HISTORY, SETTLEMENT and CASH_TRANSACTION,
 -- sorted by key, and the reads changed nothing. Vacuous for a table that the database does not
 -- define as a desk does.
 abbrev pub ShowsLastTables : LastRows → State → State → Type 0
-ShowsLastTables raw = ShowsFourTables Summaries HoldingHistory Settlements CashRows raw.summaries.items raw.holding_history.items raw.settlements.items raw.cash.items
+ShowsLastTables raw = ShowsFourTables Summaries HoldingHistory Settlements CashRows raw.summaries raw.holding_history raw.settlements raw.cash
 
 -- The raw rows are all rows of CASH_MOVE and of SETTLE_RULE, sorted by key, or none of a table that
 -- the schema `desk` does not have. The reads changed nothing. Vacuous for a table that the database
 -- does not define as a desk does.
 pub record ShowsLaterTables (desk : Schema) (raw : LaterRows) (old new : State) : Type 0 where
   pub same : new.now ≡ old.now
-  pub moves : ShowsRowsIfPresent desk CashMoves raw.moves.items old.now
-  pub rule : ShowsRowsIfPresent desk SettleRules raw.rule.items old.now
+  pub moves : ShowsRowsIfPresent desk CashMoves raw.moves old.now
+  pub rule : ShowsRowsIfPresent desk SettleRules raw.rule old.now
 
 -- The raw rows of one table.
 abbrev pub raw_rows_of_table : RawSheets → Which → List Row
-raw_rows_of_table raw TheDesk = raw.first.desk.items
-raw_rows_of_table raw KeptRows = raw.first.kept.items
-raw_rows_of_table raw Brokers = raw.first.brokers.items
-raw_rows_of_table raw Customers = raw.first.customers.items
-raw_rows_of_table raw Accounts = raw.accounts.accounts.items
-raw_rows_of_table raw Permissions = raw.accounts.permissions.items
-raw_rows_of_table raw Securities = raw.accounts.securities.items
-raw_rows_of_table raw LastTrades = raw.accounts.last_trades.items
-raw_rows_of_table raw Charges = raw.rates.charges.items
-raw_rows_of_table raw Bands = raw.rates.bands.items
-raw_rows_of_table raw TaxRates = raw.rates.tax_rates.items
-raw_rows_of_table raw CustomerTaxes = raw.rates.customer_taxes.items
-raw_rows_of_table raw Trades = raw.trades.trades.items
-raw_rows_of_table raw TradeHistory = raw.trades.history.items
-raw_rows_of_table raw Requests = raw.trades.requests.items
-raw_rows_of_table raw Holdings = raw.trades.holdings.items
-raw_rows_of_table raw Summaries = raw.last.summaries.items
-raw_rows_of_table raw HoldingHistory = raw.last.holding_history.items
-raw_rows_of_table raw Settlements = raw.last.settlements.items
-raw_rows_of_table raw CashRows = raw.last.cash.items
-raw_rows_of_table raw CashMoves = raw.later.moves.items
-raw_rows_of_table raw SettleRules = raw.later.rule.items
-
--- The raw rows are all rows of each table of the schema `desk`, sorted by key, and none of other
--- tables. The database was open, and the reads changed nothing. Vacuous for a table that the
--- database does not define as a desk does.
-abbrev pub ShowsDeskTables : Schema → RawSheets → State → State → Type 0
-ShowsDeskTables desk raw old new = IsUnchangedAndOpen old new × ((w : Which) → ShowsRowsIfPresent desk w (raw_rows_of_table raw w) old.now)
+raw_rows_of_table raw TheDesk = raw.first.desk
+raw_rows_of_table raw KeptRows = raw.first.kept
+raw_rows_of_table raw Brokers = raw.first.brokers
+raw_rows_of_table raw Customers = raw.first.customers
+raw_rows_of_table raw Accounts = raw.accounts.accounts
+raw_rows_of_table raw Permissions = raw.accounts.permissions
+raw_rows_of_table raw Securities = raw.accounts.securities
+raw_rows_of_table raw LastTrades = raw.accounts.last_trades
+raw_rows_of_table raw Charges = raw.rates.charges
+raw_rows_of_table raw Bands = raw.rates.bands
+raw_rows_of_table raw TaxRates = raw.rates.tax_rates
+raw_rows_of_table raw CustomerTaxes = raw.rates.customer_taxes
+raw_rows_of_table raw Trades = raw.trades.trades
+raw_rows_of_table raw TradeHistory = raw.trades.history
+raw_rows_of_table raw Requests = raw.trades.requests
+raw_rows_of_table raw Holdings = raw.trades.holdings
+raw_rows_of_table raw Summaries = raw.last.summaries
+raw_rows_of_table raw HoldingHistory = raw.last.holding_history
+raw_rows_of_table raw Settlements = raw.last.settlements
+raw_rows_of_table raw CashRows = raw.last.cash
+raw_rows_of_table raw CashMoves = raw.later.moves
+raw_rows_of_table raw SettleRules = raw.later.rule

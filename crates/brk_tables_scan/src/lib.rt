@@ -1,14 +1,16 @@
 //! The reads of all rows of a desk's tables: the check that the tables exist, and the decoding of
 //! their rows, or the answer that they are malformed.
 //!
+//! The raw rows of one table at a time are in memory, beside the typed rows of all.
+//!
 //! Each call is made within an open transaction. An error of the `sqlite` crate is reported as the
 //! fault `Store`.
 #![tactic(auto)]
 
+pub mod all_tables;
 mod column_names;
 pub mod columns;
-pub mod decoding;
-pub mod raw;
+mod decoder;
 pub mod rows;
 pub mod schema;
 pub mod sheets;

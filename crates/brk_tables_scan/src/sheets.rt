@@ -5,17 +5,16 @@ ghost use Rattle.brk_sql.specs.Model.{IsConnectionStep};
 ghost use Rattle.brk_tables_scan.specs.Schemas.{HasDesk, SchemaNamesImplyDefinitions};
 ghost use Rattle.brk_tables_scan.specs.Whole.{AreSheetsOfDatabase};
 
-use crate::decoding::decode_sheets;
-use crate::raw::read_raw_sheets;
+use crate::decoder::Decoder;
+use crate::all_tables::read_all_tables;
 use brk_changes::{Schema, Sheets};
 use brk_money::Fault;
-use brk_tables_schema::DecodeError;
 use sqlite::{Alter, Transaction};
 use std::alloc::Global;
 
 /// Reads the tables of `schema` as typed rows, each list sorted by key, ascending. Returns `None`
-/// only if a row is malformed or a text is not UTF-8. All tables are read before the first row is
-/// decoded. Changes nothing.
+/// only if a row is malformed or a text is not UTF-8, and only after all tables were read. Changes
+/// nothing.
 ///
 /// Fails with `Memory` or `Store`. The result is specified only if the database has a desk of
 /// `schema` (`has_desk`) whose tables are defined as a desk defines them.
@@ -28,10 +27,10 @@ pub fn read_sheets<S: Alter>(
     ensures step { IsConnectionStep S.Store tx.old tx.new result (λ read a b. IsTrue a.is_open × (b.now ≡ a.now) × (SchemaNamesImplyDefinitions (abstract_schema schema) a.now → HasDesk (abstract_schema schema) a.now → AreSheetsOfDatabase (abstract_schema schema) a.now read)) }
     ensures fault { IfErr result IsCallFault }
 {
-    let raw = read_raw_sheets(tx, alloc, schema)?;
-    match decode_sheets(alloc, schema, &raw) {
-        Ok(sheets) => Ok(Some(sheets)),
-        Err(DecodeError::Form) => Ok(None),
-        Err(DecodeError::Memory) => Err(Fault::Memory),
+    let mut decoder = Decoder::new();
+    let sheets = read_all_tables(tx, alloc, schema, &mut decoder)?;
+    if !decoder.are_well_formed {
+        return Ok(None);
     }
+    Ok(Some(sheets))
 }

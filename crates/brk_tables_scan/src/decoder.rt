@@ -1,0 +1,96 @@
+//! The decoding of one table after the other, which goes on after a malformed row.
+
+ghost use Rattle.std.specs.Prelude.{◌≡◌, Err, IfOk, OnErr, map, true};
+ghost use Rattle.std.specs.List.{list_all};
+ghost use Rattle.brk_money.specs.declared.fault.Fault.TheVariants.{Memory};
+ghost use Rattle.brk_changes.specs.Schemas.{abstract_schema};
+ghost use Rattle.brk_tables_schema.specs.Cells.{desk_row_cells, rule_cells};
+ghost use Rattle.brk_tables_schema.specs.Desk.{desk_rows, rule_rows};
+ghost use Rattle.brk_tables_schema.specs.Formed.{is_at_most_one_valid_rule, is_one_valid_desk_row, passes_all_cell_checks};
+ghost use Rattle.brk_tables_scan.specs.Decoded.{ContinuesDecoding};
+
+use brk_changes::Schema;
+use brk_money::{Day, Fault, Stamp};
+use brk_tables_schema::DecodeError;
+use brk_tables_schema::desk_row::last_stamp_in_rows;
+use brk_tables_schema::record::{Record, decode_records};
+use brk_tables_schema::rule_row::day_in_rows;
+use sqlite::Row;
+use std::alloc::Global;
+
+/// Decodes the rows of one table after the other. It goes on after a malformed row, so that all
+/// tables are read before it is known that one has such a row.
+#[derive(Clone, Copy)]
+pub(crate) struct Decoder {
+    /// True if all rows so far are well-formed.
+    pub(crate) are_well_formed: bool,
+}
+
+impl Decoder {
+    /// Returns a decoder that has decoded no row.
+    pub(crate) fn new() -> Decoder
+        ensures { result.are_well_formed ≡ true }
+    {
+        Decoder {
+            are_well_formed: true,
+        }
+    }
+
+    /// Decodes the rows of a table and drops them. If one of them is malformed, sets
+    /// `are_well_formed` to false and returns no records. Fails with `Memory` only.
+    pub(crate) fn decode<R: Record>(
+        &mut self,
+        alloc: Global,
+        rows: Vec<Row>,
+    ) -> Result<Vec<R>, Fault>
+        ensures decoding { IfOk result (λ all. ContinuesDecoding self.old.are_well_formed self.new.are_well_formed (list_all (passes_all_cell_checks R.forms) rows.items) (map R.cells all.items ≡ rows.items)) }
+        ensures fault { OnErr result (result ≡ Err Memory) }
+    {
+        match decode_records(alloc, &rows) {
+            Ok(all) => Ok(all),
+            Err(DecodeError::Form) => {
+                self.are_well_formed = false;
+                Ok(Vec::new(alloc))
+            }
+            Err(DecodeError::Memory) => Err(Fault::Memory),
+        }
+    }
+
+    /// Decodes the stamp of the last accepted command from the rows of DESK in a schema. If there
+    /// is not exactly one well-formed row, sets `are_well_formed` to false and returns `None`.
+    /// Fails with `Memory` only.
+    pub(crate) fn decode_last_stamp(
+        &mut self,
+        schema: Schema,
+        rows: Vec<Row>,
+    ) -> Result<Option<Stamp>, Fault>
+        ensures decoding { IfOk result (λ last. ContinuesDecoding self.old.are_well_formed self.new.are_well_formed (is_one_valid_desk_row (abstract_schema schema) rows.items) (map desk_row_cells (desk_rows (abstract_schema schema) last) ≡ rows.items)) }
+        ensures fault { OnErr result (result ≡ Err Memory) }
+    {
+        match last_stamp_in_rows(schema, &rows) {
+            Ok(last) => Ok(last),
+            Err(DecodeError::Form) => {
+                self.are_well_formed = false;
+                Ok(None)
+            }
+            Err(DecodeError::Memory) => Err(Fault::Memory),
+        }
+    }
+
+    /// Decodes the settlement day from the rows of SETTLE_RULE, of which there may be none. If there
+    /// are two rows or a malformed one, sets `are_well_formed` to false and returns `None`. Fails
+    /// with `Memory` only.
+    pub(crate) fn decode_settlement_day(&mut self, rows: Vec<Row>) -> Result<Option<Day>, Fault>
+        ensures decoding { IfOk result (λ day. ContinuesDecoding self.old.are_well_formed self.new.are_well_formed (is_at_most_one_valid_rule rows.items) (map rule_cells (rule_rows day) ≡ rows.items)) }
+        ensures fault { OnErr result (result ≡ Err Memory) }
+    {
+        match day_in_rows(&rows) {
+            Ok(day) => Ok(day),
+            Err(DecodeError::Form) => {
+                self.are_well_formed = false;
+                Ok(None)
+            }
+            Err(DecodeError::Memory) => Err(Fault::Memory),
+        }
+    }
+}
