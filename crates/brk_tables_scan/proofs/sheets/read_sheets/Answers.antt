@@ -1,4 +1,4 @@
-use Rattle.std.proofs.Common.{◌≡◌, Some, None, Ok, subst}
+use Rattle.std.proofs.Common.{◌≡◌, Some, None, Ok, inl, inr, subst}
 use Rattle.sqlite.specs.Held.{state}
 use Rattle.brk_changes.specs.Schemas.{abstract_schema}
 use Rattle.brk_sql.proofs.Inside.{step_read}
