@@ -114,7 +114,8 @@ pub record ContinuesDecoding (old new are_well_formed : Bool) (Decodes : Type 0)
   pub form : new ≡ false → (old ≡ false) ⊎ (are_well_formed ≡ false)
 
 -- The reads show all rows of DESK, KEPT, BROKER and CUSTOMER, and change nothing. If the flag
--- `new`, which was `old` before, is still true, the rows encode the typed rows `sheets`.
+-- `new`, which was `old` before, is still true, the rows encode the typed rows `sheets`. Vacuous
+-- for a table that the database does not define as a desk does.
 pub record ReadsFirstTables (desk : Schema) (old new : Bool) (sheets : FirstSheets) (a b : State) : Type 0 where
   pub raw : FirstRows
   pub shown : ShowsFirstTables raw a b
@@ -122,7 +123,7 @@ pub record ReadsFirstTables (desk : Schema) (old new : Bool) (sheets : FirstShee
 
 -- The reads show all rows of CUSTOMER_ACCOUNT, ACCOUNT_PERMISSION, SECURITY and LAST_TRADE, and
 -- change nothing. If the flag `new`, which was `old` before, is still true, the rows encode the
--- typed rows `sheets`.
+-- typed rows `sheets`. Vacuous for a table that the database does not define as a desk does.
 pub record ReadsAccountTables (old new : Bool) (sheets : AccountSheets) (a b : State) : Type 0 where
   pub raw : AccountRows
   pub shown : ShowsAccountTables raw a b
@@ -130,7 +131,7 @@ pub record ReadsAccountTables (old new : Bool) (sheets : AccountSheets) (a b : S
 
 -- The reads show all rows of CHARGE, COMMISSION_RATE, TAXRATE and CUSTOMER_TAXRATE, and change
 -- nothing. If the flag `new`, which was `old` before, is still true, the rows encode the typed rows
--- `sheets`.
+-- `sheets`. Vacuous for a table that the database does not define as a desk does.
 pub record ReadsRateTables (old new : Bool) (sheets : RateSheets) (a b : State) : Type 0 where
   pub raw : RateRows
   pub shown : ShowsRateTables raw a b
@@ -138,7 +139,7 @@ pub record ReadsRateTables (old new : Bool) (sheets : RateSheets) (a b : State) 
 
 -- The reads show all rows of TRADE, TRADE_HISTORY, TRADE_REQUEST and HOLDING, and change nothing.
 -- If the flag `new`, which was `old` before, is still true, the rows encode the typed rows
--- `sheets`.
+-- `sheets`. Vacuous for a table that the database does not define as a desk does.
 pub record ReadsTradeTables (old new : Bool) (sheets : TradeSheets) (a b : State) : Type 0 where
   pub raw : TradeRows
   pub shown : ShowsTradeTables raw a b
@@ -146,14 +147,15 @@ pub record ReadsTradeTables (old new : Bool) (sheets : TradeSheets) (a b : State
 
 -- The reads show all rows of HOLDING_SUMMARY, HOLDING_HISTORY, SETTLEMENT and CASH_TRANSACTION, and
 -- change nothing. If the flag `new`, which was `old` before, is still true, the rows encode the
--- typed rows `sheets`.
+-- typed rows `sheets`. Vacuous for a table that the database does not define as a desk does.
 pub record ReadsLastTables (old new : Bool) (sheets : LastSheets) (a b : State) : Type 0 where
   pub raw : LastRows
   pub shown : ShowsLastTables raw a b
   pub decoded : ContinuesDecoding old new (are_last_well_formed raw) (DecodesLastTables sheets raw)
 
 -- The reads show all rows of CASH_MOVE and SETTLE_RULE, and change nothing. If the flag `new`,
--- which was `old` before, is still true, the rows encode the typed rows `sheets`.
+-- which was `old` before, is still true, the rows encode the typed rows `sheets`. Vacuous for a
+-- table that the database does not define as a desk does.
 pub record ReadsLaterTables (desk : Schema) (old new : Bool) (sheets : LaterSheets) (a b : State) : Type 0 where
   pub raw : LaterRows
   pub shown : ShowsLaterTables desk raw a b
@@ -161,7 +163,8 @@ pub record ReadsLaterTables (desk : Schema) (old new : Bool) (sheets : LaterShee
 
 -- The reads show all rows of each table of the schema `desk`, and none of other tables. The database
 -- was open, and the reads changed nothing. If the flag `new`, which was `old` before, is still true,
--- the rows encode the typed rows `sheets`.
+-- the rows encode the typed rows `sheets`. Vacuous for a table that the database does not define as a
+-- desk does.
 pub record ReadsDeskTables (desk : Schema) (old new : Bool) (sheets : Sheets) (a b : State) : Type 0 where
   pub raw : RawSheets
   pub stays : IsUnchangedAndOpen a b

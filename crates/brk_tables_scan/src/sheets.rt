@@ -5,8 +5,8 @@ ghost use Rattle.brk_sql.specs.Model.{IsConnectionStep};
 ghost use Rattle.brk_tables_scan.specs.Schemas.{HasDesk, SchemaNamesImplyDefinitions};
 ghost use Rattle.brk_tables_scan.specs.Whole.{AreSheetsOfDatabase};
 
-use crate::decoder::Decoder;
 use crate::all_tables::read_all_tables;
+use crate::decoder::Decoder;
 use brk_changes::{Schema, Sheets};
 use brk_money::Fault;
 use sqlite::{Alter, Transaction};
