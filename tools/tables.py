@@ -1380,7 +1380,7 @@ def sheets_code():
     uses = sorted(f'use crate::{module(d)}::{record_type(d)};' for d in records_of('brk_changes'))
     told = {'desk_row': 'The stamp of the last accepted command.', 'rule': 'The settlement day, if one is set: the first day whose completions settle after one day (SR_DAY).'}
     kind = lambda d: VALUES[d[0]][0] if d[0] in VALUES else f'Vec<{record_type(d)}>'
-    fields = ''.join((f'    /// {told[d[0]]}\n' if d[0] in told else '') + f'    pub {sheet_field(d)}: {kind(d)},\n' for d in DATA)
+    fields = ''.join((remark(told[d[0]], '    ///') + '\n' if d[0] in told else '') + f'    pub {sheet_field(d)}: {kind(d)},\n' for d in DATA)
     text = f"""{chr(10).join(uses)}
 use brk_money::{{Day, Stamp}};
 use brk_ref::{{{', '.join(sorted(record_type(d) for d in records_of('brk_ref')))}}};
