@@ -13,11 +13,12 @@ use Rattle.brk_model.specs.Commands.{Reply, Booked, Ordered, Ticked, CanceledTra
 use Rattle.brk_model.specs.Rows.{completion_fields, estimate_fields, line_text, nonnegative_cents_text, reply_fields}
 use Rattle.brk_http_model.specs.Routes.{split_at_byte}
 
--- none of the bytes is a comma
+-- No byte of the text is a comma.
 abbrev Plain : Text → Type 0
 Plain [] = ⊤
 Plain (b ∷ text) = (eqb b 44 ≡ false) × Plain text
 
+-- No byte of any text of the list is a comma.
 abbrev AllPlain : List Text → Type 0
 AllPlain [] = ⊤
 AllPlain (text ∷ texts) = Plain text × AllPlain texts
@@ -96,6 +97,7 @@ fields (MovedCash stamp move balance) = (number stamp, (number move, (cents bala
 
 -- ---- cutting
 
+-- True if the byte is a comma.
 abbrev is_comma : ℕ → Bool
 is_comma b = eqb b 44
 

@@ -1,4 +1,4 @@
--- A batch that went through and is sent again: its rows are found under their keys, so it changes nothing.
+-- A retry of a complete batch: its rows are stored under their keys, so it changes nothing.
 use Rattle.std.proofs.Common.{◌≡◌, ℕ, ◌+◌, suc, Bool, true, false, cond, List, [], ◌∷◌, ◌++◌, length, map, refl, sym, ◌∙◌, ap, subst, arith, append_assoc, inl, inr, Some, Ok, Err}
 use Rattle.std.specs.List.{AllByRecursion}
 use Rattle.std.proofs.lemmas.List.Sums.{sum_by-cons}
@@ -28,7 +28,7 @@ length-turned [] (answer ∷ answers) base after r = absurd r
 length-turned (call ∷ calls) [] base after r = absurd r
 length-turned (call ∷ calls) (answer ∷ answers) base after r = ap suc (length-turned calls answers (answer_to_row_call step_of_row base call).1 after r.1)
 
--- no answer is a refusal
+-- No answer of the list is a refusal.
 abbrev pub NoneRefused : List Answer → Type 0
 NoneRefused answers = AllByRecursion (λ answer. is_refused_answer answer ≡ false) answers
 
@@ -142,7 +142,7 @@ pub others-same : {X : Type 0} (x y : X) (xs ys : List X) → x ∷ xs ≡ y ∷
 unfolding others_of
 others-same x y xs ys e = ap others_of e
 
--- none of the rows is an end record
+-- None of the rows is an end record.
 abbrev pub NoEnds : List Fields → Type 0
 NoEnds rows = AllByRecursion (λ row. ¬ (IsEndRecord row)) rows
 
@@ -188,7 +188,8 @@ by_parts batch answers base t b e n =
     let text : Text = answer_lines_from 1 answers ++ batch_end_line answers in
     ap (λ x. made x batch.base batch.ending batch.rows) t ∙ ap (λ x. made text x batch.ending batch.rows) b ∙ ap (λ x. made text base x batch.rows) e ∙ ap (made text base EndedWell) n
 
--- the records of a batch that ended well
+-- The records of the input begin with the header of the batch `name`, the rows and their correct
+-- end record.
 abbrev pub HasRecords : Text → Text → List Fields → Type 0
 HasRecords input name rows = (more : List Fields) × (records default_config (input_text input) ≡ batch_header name ∷ (rows ++ end_record_after (length rows) ∷ more))
 

@@ -1,4 +1,4 @@
--- The function that computes a batch gives the batch text.
+-- The function that computes a batch returns the specified result.
 use Rattle.std.proofs.Common.{◌≡◌, ◌≤◌, ◌⊎◌, inl, inr, ℕ, zero, suc, ◌+◌, Bool, true, false, cond, List, [], ◌∷◌, ◌++◌, length, take, refl, sym, ◌∙◌, ap, subst, arith, Option, Some, None, Ok, Err, codes}
 use Rattle.std.specs.Prelude.{bytes_eq, decimal}
 use Rattle.std.specs.List.{AllByRecursion}
@@ -93,7 +93,7 @@ is_end_of (word ∷ fields) h = same word (codes "end") (some-inj h)
 pub no_end : (row : Fields) → is_end_record row ≡ false → ¬ (IsEndRecord row)
 no_end row h e = let k = is_end_of row e in absurd (cc)
 
--- what the split says of the rows
+-- The split is that of the rows: none before the end record is an end record.
 abbrev pub Splits : List Fields → RowsAndEndRecord → Type 0
 Splits rows (front, Some last) = AllByRecursion (λ row. ¬ (IsEndRecord row)) front × IsEndRecord last × ((more : List Fields) × (rows ≡ front ++ last ∷ more))
 Splits rows (front, None) = AllByRecursion (λ row. ¬ (IsEndRecord row)) front × (rows ≡ front)
@@ -122,7 +122,8 @@ first_of : Fields → Text
 first_of [] = []
 first_of (word ∷ more) = word
 
--- what the name in a header says of it
+-- The record is the header of the batch with this well-formed name; without a name, it is the
+-- header of no well-formed name.
 abbrev pub NameSays : Fields → Option Text → Type 0
 NameSays header (Some name) = (header ≡ batch_header name) × IsBatchName name
 NameSays header None = (name : Text) → IsBatchName name → header ≡ batch_header name → ⊥
@@ -139,7 +140,8 @@ header_says (word ∷ name ∷ []) = at (bytes_eq word (codes "batch")) refl (is
     at true h false k = λ other named e. let q : name ≡ other = ap second_of e in absurd (cc)
     at false h n k = λ other named e. let q = same word (codes "batch") (ap first_of e) in absurd (cc)
 
--- what the test of an end record says of it
+-- The record is the correct end record of `n` rows if the Boolean is true, and is not if it is
+-- false.
 abbrev pub RightSays : ℕ → Fields → Bool → Type 0
 RightSays n last true = last ≡ end_record_after n
 RightSays n last false = last ≡ end_record_after n → ⊥
@@ -182,7 +184,7 @@ settles {B = B} {C = C} form step name base moments rows named only h = record {
     enough : length formed ≤ length moments
     enough = let k = formed-few form 1 rows in omega (k, h, arith)
 
--- a batch comes to this with the first of the moments
+-- The batch is the result of the text with the first `n` clock readings, for some `n`.
 abbrev pub Comes : {B C : Type 0} → (Fields → ReadResult C) → RowStep B C → B → List ℕ → Text → Batch B → Type 0
 Comes form step base moments text batch =
     (n : ℕ) × (IsAnswered form step base (take n moments) (Some text) batch ⊎ IsUnanswered base (take n moments) (Some text) batch)

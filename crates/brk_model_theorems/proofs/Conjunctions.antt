@@ -1,14 +1,15 @@
--- What is joined by && holds where each of its parts does, and each part holds where it does.
+-- A conjunction of Booleans is true if and only if each of its parts is true.
 use Rattle.std.proofs.Common.{◌≡◌, Bool, true, List, [], ◌∷◌}
 use Rattle.std.specs.Prelude.{◌&&◌}
 use Rattle.std.specs.List.{AllByRecursion}
 use Rattle.std.proofs.lemmas.Bool.{and_from, and_parts}
 
--- a first condition and some more, joined from the left as && is read
+-- The conjunction of `a` and the Booleans of the list, associated to the left.
 abbrev pub joined : Bool → List Bool → Bool
 joined a [] = a
 joined a (b ∷ bs) = joined (a && b) bs
 
+-- Each Boolean of the list is true.
 abbrev pub Hold : List Bool → Type 0
 Hold bs = AllByRecursion (λ b. b ≡ true) bs
 

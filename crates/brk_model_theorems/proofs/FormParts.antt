@@ -1,4 +1,4 @@
--- The condition of form, and that of keys, by their parts.
+-- The condition `Form` and the sorting of all tables, each by its parts.
 use Rattle.std.proofs.Common.{◌≡◌, Bool, true, List, [], ◌∷◌, map, filter, length}
 use Rattle.std.specs.Prelude.{is_none, nat_le}
 use Rattle.std.specs.List.{list_all, range_with_len}
@@ -15,7 +15,7 @@ use Rattle.brk_model_theorems.proofs.Conjunctions.{parts, whole}
 
 -- ---- form
 
--- its parts after the first one
+-- The parts of the condition `Form` after the first one, in sequence.
 abbrev forms : Schema → Tables → List Bool
 forms schema t =
     tables_are_sorted_by_unique_key t ∷
@@ -93,6 +93,7 @@ form_whole schema t h =
 
 -- ---- keys
 
+-- The sorting of each table after KEPT, in sequence.
 abbrev rests : Tables → List Bool
 rests t =
     is_sorted_by_unique_key broker_key t.brokers ∷

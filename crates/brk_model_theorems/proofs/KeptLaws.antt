@@ -1,4 +1,4 @@
--- Kept rows stay, and a row that is kept is answered with its line.
+-- Stored rows remain stored, and a row that is stored is answered with its stored line.
 use Rattle.std.proofs.Common.{◌≡◌, ℕ, Bool, true, false, cond, List, [], ◌∷◌, ◌++◌, refl, sym, ◌∙◌, ap, subst, append_assoc, append-nil, Option, Some, None, Result, Ok, Err, find}
 use Rattle.std.specs.Prelude.{bytes_eq}
 use Rattle.std.proofs.lemmas.Slice.Eq.{bytes_eq-Decides}
@@ -19,7 +19,7 @@ use Rattle.brk_model_theorems.proofs.KeyLaws.{matches, row_kept, keeps, found_ag
 
 -- ---- kept rows stay
 
--- the rows that are kept grow at their end
+-- The stored rows of `after` are those of `base`, followed by others.
 abbrev pub Grows : Base → Base → Type 0
 Grows base after = (more : List Kept) × (after.kept ≡ base.kept ++ more)
 
@@ -75,7 +75,8 @@ stays base after key k g h = ap (find (matches key)) g.1 ∙ find-stays (matches
 
 -- ---- a row that is kept with its answer
 
--- the row is kept under its key, with the line that it was answered with
+-- The base stores the row of the command under the key, with the line with which a retry is
+-- answered.
 pub record Remembers (base : Base) (key : Key) (command : Command) (answer : Answer) : Type 0 where
   pub kept : Kept
   pub found : stored_row_with_key base key ≡ Some kept

@@ -1,4 +1,4 @@
--- A key acts once.
+-- A command is accepted at most once under a key.
 use Rattle.std.proofs.Common.{◌≡◌, ℕ, ◌==◌, ◌&&◌, Bool, true, false, cond, List, [], ◌∷◌, ◌++◌, refl, sym, ◌∙◌, ap, Option, Some, None, Result, Ok, Err, find}
 use Rattle.std.specs.Prelude.{bytes_eq}
 use Rattle.std.proofs.lemmas.Slice.Eq.{bytes_eq-Decides}
@@ -27,6 +27,7 @@ done-inj {x = x} e = ap (reply_in x) e
 
 -- ---- what is found under a key
 
+-- True if the stored row has the key `key`.
 abbrev pub matches : Key → Kept → Bool
 matches key k = bytes_eq k.key.batch key.batch && (k.key.row == key.row)
 
@@ -42,11 +43,12 @@ find-last : {X : Type 0} (p : X → Bool) (xs : List X) (x : X) → find p xs �
 find-last p [] x none h = rw h refl
 find-last p (y ∷ ys) x none h = find-one p y ys (ys ++ x ∷ []) x (p y) none (λ e. find-last p ys x e h)
 
--- what is kept of an accepted row
+-- The stored row of an accepted command: its key, the text of its row and the line of its reply.
 abbrev pub row_kept : Key → Command → Reply → Kept
 row_kept key command reply = record { key = key; row_text = row_text command; line = line_text reply }
 
--- after an accepted row its key is found with it
+-- The key is not stored in `base`, and `after` stores in addition the row of the command and its
+-- reply.
 pub record Keeps (base : Base) (key : Key) (command : Command) (reply : Reply) (after : Base) : Type 0 where
   pub fresh : stored_row_with_key base key ≡ None
   pub kept : after.kept ≡ base.kept ++ row_kept key command reply ∷ []

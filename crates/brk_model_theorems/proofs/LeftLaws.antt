@@ -1,4 +1,5 @@
--- Calls whose keys are kept change nothing, so that the others alone lead to the base after all of them; so do those that were accepted.
+-- Calls whose keys are stored change nothing, so the other calls alone lead to the same base; so do
+-- the accepted calls alone.
 use Rattle.std.proofs.Common.{◌≡◌, cond, List, [], ◌∷◌, ◌++◌, append-nil, map, refl, sym, ◌∙◌, ap, subst, Option, Some, None}
 use Rattle.std.specs.Prelude.{is_none}
 use Rattle.brk_model.specs.Records.{Kept}

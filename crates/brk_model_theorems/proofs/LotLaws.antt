@@ -1,4 +1,4 @@
--- The lots of a position add up to its summary.
+-- The lots of a position total its holding summary.
 use Rattle.std.proofs.Common.{◌≡◌, ◌<◌, ◌⊎◌, inl, inr, ℕ, ◌+◌, ◌==◌, Bool, true, false, not, cond, ◌&&◌, List, [], ◌∷◌, refl, sym, ◌∙◌, ap, subst, map, filter, arith, ℤ, pos, ◌+ℤ◌}
 use Rattle.std.specs.Prelude.{⊤, fold, bytes_eq}
 use Rattle.std.specs.List.{AllByRecursion}
@@ -37,7 +37,7 @@ turned m n h = at (n == m) refl
     at true e = let k = (unsigned_Decides m n).1 (sym ((unsigned_Decides n m).0 e)) in absurd (cc)
     at false e = refl
 
--- no two of some trades have one number
+-- No two trades of the list have equal ids.
 abbrev pub Apart : List Trade → Type 0
 Apart [] = ⊤
 Apart (t ∷ ts) = AllByRecursion (λ u. (t.id == u.id) ≡ false) ts × Apart ts
@@ -94,11 +94,12 @@ sort-Apart before (t ∷ ts) h = insert-Apart before t (sort_by before ts) (All-
 
 -- ---- a share is of one of the trades
 
--- what a share adds to a trade's lot
+-- The number of shares, signed by side, that the share adds to the lot of the trade with the id
+-- `trade`: 0 if another trade opened it.
 abbrev pub part_of : Share → ℕ → ℤ
 part_of share trade = cond (share.trade == trade) (signed_by_side share.side 1) (pos 0)
 
--- a number is that of one of some trades, and of no other
+-- Exactly one trade of the list has the id.
 abbrev pub IsOnce : ℕ → List Trade → Type 0
 IsOnce n [] = ⊥
 IsOnce n (t ∷ ts) = (((n == t.id) ≡ true) × AllByRecursion (λ u. (n == u.id) ≡ false) ts) ⊎ (((n == t.id) ≡ false) × IsOnce n ts)

@@ -1,4 +1,4 @@
--- What a base's records name is there, after any calls from a base where it is so.
+-- Any calls preserve that the records that another record refers to exist.
 use Rattle.std.proofs.Common.{◌≡◌, ℕ, ◌+◌, ◌==◌, Bool, true, false, cond, List, [], ◌∷◌, ◌++◌, length, find, refl, ◌∙◌, ap, Option, Some, None, arith}
 use Rattle.std.specs.Prelude.{is_some, is_none, bytes_eq, fold}
 use Rattle.std.specs.Option.{option_map_or}
@@ -67,6 +67,7 @@ there (Some x) h = refl
 
 -- ---- a base that has the names of another
 
+-- Every broker, customer, account, tax rate and security of `base` exists in `after`.
 pub record Grows (base after : Base) : Type 0 where
   pub brokers : (id : ℕ) → is_some (broker_with_id base id) ≡ true → is_some (broker_with_id after id) ≡ true
   pub customers : (id : ℕ) → is_some (customer_with_id base id) ≡ true → is_some (customer_with_id after id) ≡ true
@@ -91,7 +92,7 @@ pub numbered-last : (n : ℕ) (ts : List Trade) (t : Trade) → AreNumberedFrom 
 numbered-last n [] t h e = (omega (e, arith), tt)
 numbered-last n (u ∷ us) t h e = (h.0, numbered-last (n + 1) us t h.1 (omega (e, arith)))
 
--- a change that leaves a trade's number, account and symbol
+-- The function leaves the id, the account and the symbol of every trade unchanged.
 pub record Leaves (change : Trade → Trade) : Type 0 where
   pub id : (t : Trade) → (change t).id ≡ t.id
   pub account : (t : Trade) → (change t).account ≡ t.account

@@ -1,4 +1,4 @@
--- The rows of a batch in two parts, and a batch of which the first part was settled before.
+-- The rows of a batch in two parts, and a batch whose first part was decided before.
 use Rattle.std.proofs.Common.{◌≡◌, ℕ, ◌+◌, zero, suc, false, cond, Some, List, [], ◌∷◌, ◌++◌, length, take, drop, map, refl, sym, ◌∙◌, ap, subst, arith, append-nil, Ok, Err}
 use Rattle.std.specs.List.{AllByRecursion}
 use Rattle.std.proofs.lemmas.List.Sums.{sum_by-cons}
@@ -26,7 +26,7 @@ drop-front : {X : Type 0} (xs ys : List X) → drop (length xs) (xs ++ ys) ≡ y
 drop-front [] ys = refl
 drop-front (x ∷ xs) ys = drop-front xs ys
 
--- so many elements, and the others
+-- The list in two parts, of which the first has `n` elements.
 record Parts {X : Type 0} (n : ℕ) (xs : List X) : Type 0 where
   pub front : List X
   pub back : List X
@@ -58,7 +58,7 @@ calls-joined name [] late (x ∷ xs) ys e = absurd (omega (e, arith))
 calls-joined name (m ∷ early) late [] ys e = absurd (omega (e, arith))
 calls-joined name (m ∷ early) late (x ∷ xs) ys e = ap (λ calls. record { key = record { batch = name; row = x.0 }; now = m; command = x.1 } ∷ calls) (calls-joined name early late xs ys (omega (e, arith)))
 
--- the answers to calls in two parts
+-- The answers to the calls in two parts, and the base between them.
 record Turned (base : Base) (front more : List (RowCall Command)) (answers : List Answer) (after : Base) : Type 0 where
   pub mid : Base
   pub first : List Answer
@@ -97,7 +97,8 @@ woven-joined form n (row ∷ front) more first rest e =
 
 -- ---- rows in two parts
 
--- the rows of a batch that were settled, in two parts
+-- The decided rows of a batch in two parts, with the clock readings and the answers of each part,
+-- and the base between them.
 record Parted (form : Fields → ReadResult Command) (name : Text) (base : Base) (moments : List ℕ) (front more : List Fields) (answers : List Answer) (after : Base) : Type 0 where
   pub mid : Base
   pub early : List ℕ

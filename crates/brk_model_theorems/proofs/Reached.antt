@@ -1,4 +1,4 @@
--- What holds of the empty base and is kept by each accepted command holds of each base that is reached.
+-- A property of the empty base that each accepted command preserves holds of every reachable base.
 use Rattle.std.proofs.Common.{◌≡◌, ℕ, Bool, true, false, cond, List, [], ◌∷◌, ◌++◌, refl, sym, ap, subst, Option, Some, None, Result, Ok, Err, find}
 use Rattle.std.specs.Prelude.{bytes_eq, option_map}
 use Rattle.std.specs.List.{AllByRecursion}
@@ -14,7 +14,7 @@ use Rattle.brk_model.specs.Run.{Call, Do, Ask, Outcome, Did, Saw, NoView, Failed
 use Rattle.brk_model_theorems.specs.Laws.{IsReachableFromEmptyBase}
 use Rattle.brk_model_theorems.proofs.Steps.{Accepted, accepted}
 
--- a property is kept by accepted commands, and by kept rows
+-- Accepted commands preserve the property `P`, and so does storing a row with its reply.
 pub record IsKept (P : Base → Type 0) : Type 0 where
   pub steps : (base : Base) (now : ℕ) (command : Command) → refusal_of_command base now command ≡ None → P base → P (base_after_accepted_command base (stamp_of_next_command base now) command)
   pub rows : (key : Option Key) (command : Command) (reply : Reply) (base : Base) → P base → P (base_with_stored_reply key command reply base)

@@ -1,4 +1,4 @@
--- Runs of calls: only what is answered Done changes the base, and stamps rise.
+-- Runs of calls: only accepted commands change the base, and their stamps ascend.
 use Rattle.std.proofs.Common.{◌≡◌, ◌<◌, ℕ, Bool, true, false, cond, List, [], ◌∷◌, ◌++◌, map, refl, sym, ◌∙◌, ap, subst, Option, Some, None, IfSome, Result, Ok, Err}
 use Rattle.std.specs.Prelude.{bytes_eq}
 use Rattle.brk_money.specs.declared.refusal.Refusal.{Refusal}
@@ -18,7 +18,8 @@ use Rattle.brk_model_theorems.proofs.Steps.{Accepted, accepted, reply-stamp, nex
 
 -- ---- what an answer says of the base after it
 
--- an accepted command takes a stamp above the last one, and all else leaves the base
+-- An accepted command makes its stamp, which is above the last stamp of `base`, the last stamp of
+-- `after`; for any other answer the base is unchanged.
 abbrev pub Says : Base → Answer → Base → Type 0
 Says base (Done reply) after = (after.last ≡ Some (stamp_of_reply reply)) × IfSome base.last (λ l. l < stamp_of_reply reply)
 Says base (Again line) after = after ≡ base

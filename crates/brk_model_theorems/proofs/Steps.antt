@@ -1,4 +1,4 @@
--- What a step leaves as it was, and the stamp that it takes.
+-- The fields that a step leaves unchanged, and the stamp of an accepted command.
 use Rattle.std.proofs.Common.{◌≡◌, ◌<◌, ℕ, ◌+◌, List, [], ◌∷◌, max, refl, sym, ap, arith, Option, Some, None, IfSome, Result, Ok, Err, fold}
 use Rattle.std.specs.Option.{option_map_or}
 use Rattle.brk_money.specs.declared.refusal.Refusal.{Refusal}
@@ -83,7 +83,7 @@ next-above base now = above base.last now
 
 -- ---- an accepted step
 
--- what is there where it is accepted
+-- The command is not refused, and the reply and the base after it are those of an accepted command.
 pub record Accepted (base : Base) (now : ℕ) (command : Command) (reply : Reply) (after : Base) : Type 0 where
   pub passes : refusal_of_command base now command ≡ None
   pub told : reply ≡ reply_to_command base (stamp_of_next_command base now) command

@@ -1,4 +1,5 @@
--- A batch that was stopped behind some rows, with perhaps one more that was booked, and is sent again.
+-- The retry of a batch that was interrupted after some rows, of which one more may have been
+-- accepted.
 use Rattle.std.proofs.Common.{◌≡◌, ◌⊎◌, ℕ, ◌+◌, Bool, true, false, List, [], ◌∷◌, ◌++◌, length, take, drop, refl, sym, ◌∙◌, ap, subst, arith, inl, inr, append_assoc, Ok, Err, append-nil, Some}
 use Rattle.std.specs.List.{AllByRecursion}
 use Rattle.csv.specs.Reading.{records, default_config}

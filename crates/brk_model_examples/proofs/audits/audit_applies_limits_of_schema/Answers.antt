@@ -7,11 +7,11 @@ use Rattle.brk_model_examples.proofs.audits.audit_applies_limits_of_schema.Goals
 left : List CashRow → ℕ
 left rows = length rows
 
--- two numbers that are the same
+-- The two numbers are equal.
 abbrev Equal : ℕ → ℕ → Type 0
 Equal m n = m ≡ n
 
--- two tests that are the same
+-- The two Booleans are equal.
 abbrev Same : Bool → Bool → Type 0
 Same a b = a ≡ b
 

@@ -8,11 +8,11 @@ first_stamp : List MoveRow → ℕ
 first_stamp [] = 0
 first_stamp (row ∷ rows) = row.stamp
 
--- two numbers that are the same
+-- The two numbers are equal.
 abbrev Equal : ℕ → ℕ → Type 0
 Equal m n = m ≡ n
 
--- two tests that are the same
+-- The two Booleans are equal.
 abbrev Same : Bool → Bool → Type 0
 Same a b = a ≡ b
 

@@ -54,11 +54,11 @@ first_due (row ∷ rows) = row.due_day
 left : List CashRow → ℕ
 left rows = length rows
 
--- two numbers that are the same
+-- The two numbers are equal.
 abbrev Equal : ℕ → ℕ → Type 0
 Equal m n = m ≡ n
 
--- two tests that are the same
+-- The two Booleans are equal.
 abbrev Same : Bool → Bool → Type 0
 Same a b = a ≡ b
 
