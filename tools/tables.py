@@ -44,7 +44,7 @@ DATA = [
 ]
 
 # the tables that not every schema has, each with what says so of a schema
-LATER = {'move': 'has_moves', 'rule': 'has_rule'}
+LATER = {'move': 'has_cash_move_table', 'rule': 'has_settle_rule_table'}
 
 # the keys of the tables of which a table of the model has no list of rows
 OWN_KEYS = {'desk_key', 'rule_key'}
@@ -81,10 +81,10 @@ def q(s):
     return f'codes "{s}"'
 
 def col_is(t, c, shown, agg, alias):
-    return f'column_is schema at ({t} tree) found ({q(TABLES[t][0])}) {shown} [] {agg} {alias} ({q(c)}) {index(t, c)} ({kind(t, c)} ({q(c)})) refl refl'
+    return f'column_is schema at ({t}_table tree) found ({q(TABLES[t][0])}) {shown} [] {agg} {alias} ({q(c)}) {index(t, c)} ({kind(t, c)} ({q(c)})) refl refl'
 
 def head_is(t, c):
-    return f'heading_is schema at ({t} tree) found ({q(TABLES[t][0])}) [] [] true true (e.Column None ({q(c)})) ({q(c)}) ({q(c)}) {index(t, c)} ({kind(t, c)} ({q(c)})) refl refl refl'
+    return f'heading_is schema at ({t}_table tree) found ({q(TABLES[t][0])}) [] [] true true (e.Column None ({q(c)})) ({q(c)}) ({q(c)}) {index(t, c)} ({kind(t, c)} ({q(c)})) refl refl refl'
 
 def conj(parts):
     out = parts[0]
@@ -146,7 +146,7 @@ use Rattle.brk_sql.proofs.Meant.{{meant, inserts, updates_or, deletes_or, reads_
 use Rattle.brk_sql.proofs.Pick.{{selection, whole_page}}
 use Rattle.brk_sql.proofs.Scoped.{{over_one, column_is, heading_is}}
 use Rattle.brk_sql.proofs.Texts.{{read}}
-use Rattle.brk_tables_schema.specs.Shapes.{{{table}}}
+use Rattle.brk_tables_schema.specs.Shapes.{{{table}_table}}
 '''
 
 def is_named(name, body):
@@ -198,9 +198,9 @@ statement = codes "{text}"
 abbrev pub terms : List Term
 terms = {lst(terms)}
 
-pub understood_as : (schema : Schema) (at tree : ℕ) → IsTableAt schema ({t} tree) at → compiled schema statement ≡ Ok (meant (read statement) [] (Insert at (Values terms {len(terms)})))
+pub understood_as : (schema : Schema) (at tree : ℕ) → IsTableAt schema ({t}_table tree) at → compiled schema statement ≡ Ok (meant (read statement) [] (Insert at (Values terms {len(terms)})))
 unfolding everything
-understood_as schema at tree h = inserts schema statement (read statement) refl refl ({q(sql)}) at ({t} tree) h.named h.found _ _ _ refl refl
+understood_as schema at tree h = inserts schema statement (read statement) refl refl ({q(sql)}) at ({t}_table tree) h.named h.found _ _ _ refl refl
 ''')
     return text
 
@@ -232,14 +232,14 @@ project = {lst(project)}
 abbrev pub draft : ℕ → Draft
 draft tree = simple (Inner tree ∷ []) terms project
 
-draft_is : (schema : Schema) (at tree : ℕ) → slice_get schema.tables at ≡ Some ({t} tree) → updated schema at ({t} tree) sets (Some test) ≡ Ok (draft tree)
+draft_is : (schema : Schema) (at tree : ℕ) → slice_get schema.tables at ≡ Some ({t}_table tree) → updated schema at ({t}_table tree) sets (Some test) ≡ Ok (draft tree)
 unfolding lowering
 draft_is schema at tree found = rw ({", ".join(test_lemmas(t, tests, '[]', False))})
 
-pub understood_as : (schema : Schema) (at tree : ℕ) → IsTableAt schema ({t} tree) at
+pub understood_as : (schema : Schema) (at tree : ℕ) → IsTableAt schema ({t}_table tree) at
     → (compiled schema statement ≡ Ok (meant (read statement) [] (Update at (record {{ lets = []; body = selection tree terms project [] whole_page }})))) ⊎ (compiled schema statement ≡ Err Mismatch)
 unfolding everything
-understood_as schema at tree h = updates_or schema statement (read statement) refl refl ({q(sql)}) at ({t} tree) h.named h.found sets (Some test) (draft tree) refl (draft_is schema at tree h.found)
+understood_as schema at tree h = updates_or schema statement (read statement) refl refl ({q(sql)}) at ({t}_table tree) h.named h.found sets (Some test) (draft tree) refl (draft_is schema at tree h.found)
 ''')
     return text
 
@@ -263,14 +263,14 @@ project = col 1 0 ∷ []
 abbrev pub draft : ℕ → Draft
 draft tree = simple (Inner tree ∷ []) terms project
 
-draft_is : (schema : Schema) (at tree : ℕ) → slice_get schema.tables at ≡ Some ({t} tree) → deleted schema at ({t} tree) test ≡ Ok (draft tree)
+draft_is : (schema : Schema) (at tree : ℕ) → slice_get schema.tables at ≡ Some ({t}_table tree) → deleted schema at ({t}_table tree) test ≡ Ok (draft tree)
 unfolding lowering
 draft_is schema at tree found = {proof}
 
-pub understood_as : (schema : Schema) (at tree : ℕ) → IsTableAt schema ({t} tree) at
+pub understood_as : (schema : Schema) (at tree : ℕ) → IsTableAt schema ({t}_table tree) at
     → (compiled schema statement ≡ Ok (meant (read statement) [] (Delete at (record {{ lets = []; body = selection tree terms project [] whole_page }})))) ⊎ (compiled schema statement ≡ Err Mismatch)
 unfolding everything
-understood_as schema at tree h = deletes_or schema statement (read statement) refl refl ({q(sql)}) at ({t} tree) h.named h.found test (draft tree) refl (draft_is schema at tree h.found)
+understood_as schema at tree h = deletes_or schema statement (read statement) refl refl ({q(sql)}) at ({t}_table tree) h.named h.found test (draft tree) refl (draft_is schema at tree h.found)
 ''')
     return text
 
@@ -380,8 +380,8 @@ names = {lst(q(c) for c in names)}
 abbrev after : ℕ → Carried → State
 after spent last = record (fresh 2 max_budget) {{ budget = max_budget - spent; last = last }}
 
-module _ (schema : Schema) (at tree : ℕ) (h : IsTableAt schema ({t} tree) at) where
-  abbrev found : slice_get schema.tables at ≡ Some ({t} tree)
+module _ (schema : Schema) (at tree : ℕ) (h : IsTableAt schema ({t}_table tree) at) where
+  abbrev found : slice_get schema.tables at ≡ Some ({t}_table tree)
   found = h.found
 
   shows : result lower (outermost schema) (level_one ({q(sql)}) at []) core (fresh 2 max_budget) ≡ Ok (columns, after {n1} {last1})
@@ -432,8 +432,8 @@ use Rattle.brk_sql.specs.Desk.{text_column, integer_column, nullable_integer_col
         refs = lst(f'foreign_key {spot(i)} ({q(r.split(".")[0])}) ({q(r.split(".")[1])})' for i, (c, k, _, r) in enumerate(cols) if r)
         out += f"""
 -- The table {sql}: its columns, keys and foreign keys, with its rows at `tree`.
-abbrev pub {t} : ℕ → Table
-{t} tree = table_without_checks ({q(sql)}) tree ({cs})
+abbrev pub {t}_table : ℕ → Table
+{t}_table tree = table_without_checks ({q(sql)}) tree ({cs})
     {'(Some 0)' if rowkey else 'None'} ({primary}) ({lst(uniques)}) ({refs})
 """
     save(f'{SPECS}/Shapes.antt', out)
@@ -494,14 +494,14 @@ use Rattle.brk_model.specs.Records.{{{RECORDS}}}
 use Rattle.brk_model.specs.Schemas.{{Schema, third_schema}}
 use Rattle.brk_model.specs.Tables.{{Tables, {ROWS}}}
 use Rattle.brk_model.specs.Keys.{{KeyPart, number, {', '.join(d[4] for d in DATA if d[4] not in OWN_KEYS)}}}
-use Rattle.brk_sql.specs.Desk.{{Desk}}
-use Rattle.brk_tables_schema.specs.Shapes.{{{', '.join(d[0] for d in DATA)}}}
+use Rattle.brk_sql.specs.Desk.{{ProgramTables}}
+use Rattle.brk_tables_schema.specs.Shapes.{{{', '.join(d[0] + '_table' for d in DATA)}}}
 use Rattle.brk_tables_schema.specs.Cells.{{DeskRow, RuleRow, {', '.join(d[0] + '_cells' for d in DATA)}}}
 use Rattle.brk_tables_schema.specs.Order.{{ordering_by_key}}
 
 -- The tables of a desk, by name. `table_name` is the SQL name of each.
-pub data Which : Type 0 where
-{both(lambda d: f'  {d[2]} : Which')}
+pub data DeskTable : Type 0 where
+{both(lambda d: f'  {d[2]} : DeskTable')}
 
 -- The single row of DESK in a schema, with the stamp `last` of the last command, or without one.
 abbrev pub desk_rows : Schema → Option ℕ → List DeskRow
@@ -521,62 +521,62 @@ abbrev pub rule_key : RuleRow → List KeyPart
 rule_key r = number r.id ∷ []
 
 -- True if the schema has the table.
-abbrev pub has_table : Schema → Which → Bool
-{chr(10).join(f'has_table schema {d[2]} = schema.{LATER[d[0]]}' for d in DATA if d[0] in LATER)}
-has_table schema w = true
+abbrev pub schema_has_table : Schema → DeskTable → Bool
+{chr(10).join(f'schema_has_table schema {d[2]} = schema.{LATER[d[0]]}' for d in DATA if d[0] in LATER)}
+schema_has_table schema w = true
 
 -- The definition of a table with its rows at a tree: its name, columns, keys and foreign keys.
-abbrev pub shape : Which → ℕ → Table
-{both(lambda d: f'shape {d[2]} = {d[0]}')}
+abbrev pub table_definition_at : DeskTable → ℕ → Table
+{both(lambda d: f'table_definition_at {d[2]} = {d[0]}_table')}
 
 -- The definition of a table with its rows at the tree `tree` has this tree.
-abbrev pub placed : (w : Which) (tree : ℕ) → (shape w tree).tree ≡ tree
-{both(lambda d: f'placed {d[2]} tree = refl')}
+abbrev pub table_definition_has_tree : (w : DeskTable) (tree : ℕ) → (table_definition_at w tree).tree ≡ tree
+{both(lambda d: f'table_definition_has_tree {d[2]} tree = refl')}
 
 -- The type of the records of a table.
-abbrev pub Item : Which → Type 0
-{both(lambda d: f'Item {d[2]} = {d[3]}')}
+abbrev pub RecordOfTable : DeskTable → Type 0
+{both(lambda d: f'RecordOfTable {d[2]} = {d[3]}')}
 
 -- The SQL row that encodes a record of a table: its values in the order of the columns.
-abbrev pub encode : (w : Which) → Item w → Row
-{both(lambda d: f'encode {d[2]} = {d[0]}_cells')}
+abbrev pub encoded_row : (w : DeskTable) → RecordOfTable w → Row
+{both(lambda d: f'encoded_row {d[2]} = {d[0]}_cells')}
 
 -- The primary key of a record of a table.
-abbrev pub key : (w : Which) → Item w → List KeyPart
-{both(lambda d: f'key {d[2]} = {d[4]}')}
+abbrev pub primary_key_of_record : (w : DeskTable) → RecordOfTable w → List KeyPart
+{both(lambda d: f'primary_key_of_record {d[2]} = {d[4]}')}
 
 -- Compares two records of a table by their primary keys.
-abbrev pub order : (w : Which) → Item w → Item w → Ordering
-order w = ordering_by_key (key w)
+abbrev pub ordering_by_primary_key : (w : DeskTable) → RecordOfTable w → RecordOfTable w → Ordering
+ordering_by_primary_key w = ordering_by_key (primary_key_of_record w)
 
 -- The records of the table `w` of a desk with the tables `t`. Only the record of DESK depends on
 -- the schema.
-abbrev pub rows_in_schema : Schema → (w : Which) → Tables → List (Item w)
+abbrev pub rows_in_schema : Schema → (w : DeskTable) → Tables → List (RecordOfTable w)
 {both(lambda d: f'rows_in_schema schema {d[2]} t = {d[5]}')}
 
 -- The records of the table `w` of a desk in schema 3 with the tables `t`.
-abbrev pub list : (w : Which) → Tables → List (Item w)
-list = rows_in_schema third_schema
+abbrev pub rows_of_table : (w : DeskTable) → Tables → List (RecordOfTable w)
+rows_of_table = rows_in_schema third_schema
 
 -- All tables of a desk, with the number of the given schema in the row of DESK.
-abbrev pub desk_of_schema : Schema → Desk Which Tables
-desk_of_schema schema = record {{ shape = shape; placed = placed; Item = Item; encode = encode; order = order; list = rows_in_schema schema }}
+abbrev pub desk_tables_of_schema : Schema → ProgramTables DeskTable Tables
+desk_tables_of_schema schema = record {{ shape = table_definition_at; placed = table_definition_has_tree; Item = RecordOfTable; encode = encoded_row; order = ordering_by_primary_key; list = rows_in_schema schema }}
 
 -- All tables of a desk in schema 3.
-abbrev pub desk : Desk Which Tables
-desk = desk_of_schema third_schema
+abbrev pub desk_tables : ProgramTables DeskTable Tables
+desk_tables = desk_tables_of_schema third_schema
 
 -- The list of all tables of a desk: the tables of schema 3.
-abbrev pub all_tables : List Which
+abbrev pub all_tables : List DeskTable
 all_tables = {lst(d[2] for d in DATA)}
 
 -- The list of the tables that a schema has.
-abbrev pub tables_in_schema : Schema → List Which
-tables_in_schema schema = filter (has_table schema) all_tables
+abbrev pub tables_in_schema : Schema → List DeskTable
+tables_in_schema schema = filter (schema_has_table schema) all_tables
 
 -- The SQL name of a table.
-abbrev pub table_name : Which → List ℕ
-table_name w = (shape w 0).name
+abbrev pub table_name : DeskTable → List ℕ
+table_name w = (table_definition_at w 0).name
 
 -- The SQL names of all tables.
 abbrev pub all_table_names : List (List ℕ)
@@ -588,21 +588,21 @@ def splits():
     out = f"""-- Written by tools/tables.py: equality of tables is decidable.
 use Rattle.std.proofs.Common.{{◌≡◌, ◌≢◌, ◌⊎◌, refl, inl, inr}}
 use Rattle.sqlite_rules.specs.Lists.{{Has}}
-use Rattle.brk_tables_schema.specs.Desk.{{Which, {', '.join(d[2] for d in DATA)}, all_tables}}
+use Rattle.brk_tables_schema.specs.Desk.{{DeskTable, {', '.join(d[2] for d in DATA)}, all_tables}}
 """
     for d in DATA:
         out += f"""
-pub is_{d[0]} : (v : Which) → (v ≡ {d[2]}) ⊎ (v ≢ {d[2]})
+pub is_{d[0]} : (v : DeskTable) → (v ≡ {d[2]}) ⊎ (v ≢ {d[2]})
 is_{d[0]} {d[2]} = inl refl
 is_{d[0]} v = inr (λ e. absurd (let f = e in cc))
 """
     out += f"""
 -- Two tables are equal or not.
-pub split : (w v : Which) → (v ≡ w) ⊎ (v ≢ w)
+pub split : (w v : DeskTable) → (v ≡ w) ⊎ (v ≢ w)
 {chr(10).join(f'split {d[2]} v = is_{d[0]} v' for d in DATA)}
 
 -- The list of all tables contains each table.
-pub all_listed : (w : Which) → Has all_tables w
+pub all_listed : (w : DeskTable) → Has all_tables w
 {chr(10).join(f'all_listed {d[2]} = {"inr (" * i}inl refl{")" * i}' for i, d in enumerate(DATA))}
 """
     save(f'{OUT}/Which.antt', out)
@@ -637,10 +637,10 @@ use Rattle.brk_sql.proofs.Texts.{{read}}
 use Rattle.brk_sql.proofs.Created.{{makes}}
 use Rattle.brk_sql.proofs.Founded.{{Among}}
 use Rattle.brk_model.specs.Tables.{{tables_without_rows}}
-use Rattle.brk_tables_schema.specs.Shapes.{{{', '.join(d[0] for d in DATA)}}}
-use Rattle.brk_tables_schema.specs.Desk.{{Which, {', '.join(d[2] for d in DATA)}, shape, all_tables}}
+use Rattle.brk_tables_schema.specs.Shapes.{{{', '.join(d[0] + '_table' for d in DATA)}}}
+use Rattle.brk_tables_schema.specs.Desk.{{DeskTable, {', '.join(d[2] for d in DATA)}, table_definition_at, all_tables}}
 use Rattle.brk_tables_schema.proofs.Wide.{{Wide, wide, wide_list}}
-use Rattle.brk_tables_create.specs.Texts.{{create_text}}
+use Rattle.brk_tables_create.specs.Texts.{{create_table_text}}
 
 -- The tables without rows, DESK included.
 abbrev pub bare : Wide
@@ -649,51 +649,51 @@ bare = record {{ rows = []; rules = []; tables = tables_without_rows }}
     for d in DATA:
         out += f"""
 abbrev {d[0]}_text : List ℕ
-{d[0]}_text = create_text {d[2]}
+{d[0]}_text = create_table_text {d[2]}
 
-makes_{d[0]} : (old new : State) (count : ℕ) → Executes {d[0]}_text [] old new (Ok count) → CreatesTableOfShape old.now new.now {d[0]}
+makes_{d[0]} : (old new : State) (count : ℕ) → Executes {d[0]}_text [] old new (Ok count) → CreatesTableOfShape old.now new.now {d[0]}_table
 unfolding everything
-makes_{d[0]} = makes {d[0]}_text {d[0]} refl (λ tree. refl) (λ tree. refl) refl (read {d[0]}_text) _ refl refl refl refl refl refl refl refl
+makes_{d[0]} = makes {d[0]}_text {d[0]}_table refl (λ tree. refl) (λ tree. refl) refl (read {d[0]}_text) _ refl refl refl refl refl refl refl refl
 """
     out += f"""
-pub makes_of : (w : Which) (old new : State) (count : ℕ) → Executes (create_text w) [] old new (Ok count) → CreatesTableOfShape old.now new.now (shape w)
+pub makes_of : (w : DeskTable) (old new : State) (count : ℕ) → Executes (create_table_text w) [] old new (Ok count) → CreatesTableOfShape old.now new.now (table_definition_at w)
 {chr(10).join(f'makes_of {d[2]} = makes_{d[0]}' for d in DATA)}
 """
     out += f"""
 -- Each table is one of those that are created.
-pub all_made : (w : Which) → Among wide all_tables (λ _. ⊥) w
+pub all_made : (w : DeskTable) → Among wide all_tables (λ _. ⊥) w
 {chr(10).join(f'all_made {d[2]} = {"inr (" * (len(DATA) - 1 - i)}inl refl{")" * (len(DATA) - 1 - i)}' for i, d in enumerate(DATA))}
 
 -- None of them has a row yet.
-pub none_held : (w : Which) → wide_list w bare ≡ []
+pub none_held : (w : DeskTable) → wide_list w bare ≡ []
 {chr(10).join(f'none_held {d[2]} = refl' for d in DATA)}
 """
     save(f'{MAKING}/Makes.antt', out)
 
 def since():
     """For each schema but the first: its word, and the tables that it and later schemas add"""
-    order = {'has_moves': 2, 'has_rule': 3}
+    order = {'has_cash_move_table': 2, 'has_settle_rule_table': 3}
     return [(word, [d for d in DATA if order.get(LATER.get(d[0]), 1) >= number]) for number, word in [(2, 'second'), (3, 'third')]]
 
 def texts():
     out = f"""-- Written by tools/tables.py: the tables as the code names them, and their SQL texts.
 use Rattle.std.specs.Prelude.{{ℕ, List, ◌++◌, codes}}
-use Rattle.brk_tables_schema.specs.Desk.{{Which, {', '.join(d[2] for d in DATA)}, table_name}}
+use Rattle.brk_tables_schema.specs.Desk.{{DeskTable, {', '.join(d[2] for d in DATA)}, table_name}}
 use Rattle.brk_tables_create.specs.declared.table.Table.{{Table}}
 use Rattle.brk_tables_create.specs.declared.table.Table.TheVariants as table
 
 -- The table of the specification that a table of the code represents.
-abbrev pub specified_table : Table → Which
+abbrev pub specified_table : Table → DeskTable
 {chr(10).join(f'specified_table table.{d[2]} = {d[2]}' for d in DATA)}
 
 -- The text of the CREATE TABLE statement of a table.
-abbrev pub create_text : Which → List ℕ
-{chr(10).join(f'create_text {d[2]} = codes "{create_text(d)}"' for d in DATA)}
+abbrev pub create_table_text : DeskTable → List ℕ
+{chr(10).join(f'create_table_text {d[2]} = codes "{create_text(d)}"' for d in DATA)}
 
 -- The text of a DELETE statement on a table. It is prepared, to check if the table exists, and
 -- never executed.
-abbrev pub probe_text : Which → List ℕ
-probe_text w = codes "DELETE FROM " ++ table_name w
+abbrev pub existence_probe_text : DeskTable → List ℕ
+existence_probe_text w = codes "DELETE FROM " ++ table_name w
 """
     save('crates/brk_tables_create/specs/Texts.antt', out)
     def function(name, what, contract, text):
@@ -710,7 +710,7 @@ probe_text w = codes "DELETE FROM " ++ table_name w
     out = f"""//! Written by tools/tables.py: the tables of a desk, and their SQL texts.
 
 ghost use Rattle.std.specs.Prelude.{{◌≡◌}};
-ghost use Rattle.brk_tables_create.specs.Texts.{{create_text, probe_text, specified_table}};
+ghost use Rattle.brk_tables_create.specs.Texts.{{create_table_text, existence_probe_text, specified_table}};
 
 /// A table of a desk.
 #[derive(Clone, Copy)]
@@ -718,7 +718,7 @@ pub enum Table {{
 {chr(10).join(f'    /// {d[1]}{chr(10)}    {d[2]},' for d in DATA)}
 }}
 
-impl Table {{{function('create_text', 'Returns the text of the CREATE TABLE statement of the table.', 'create_text', create_text)}{function('probe_text', 'Returns the text of a DELETE statement on the table, which is prepared and never executed.', 'probe_text', lambda d: f'DELETE FROM {d[1]}')}}}
+impl Table {{{function('create_table_text', 'Returns the text of the CREATE TABLE statement of the table.', 'create_table_text', create_text)}{function('existence_probe_text', 'Returns the text of a DELETE statement on the table, which is prepared and never executed.', 'existence_probe_text', lambda d: f'DELETE FROM {d[1]}')}}}
 """
     for name, what, tables in by_schema():
         out += f"""
@@ -733,24 +733,24 @@ use Rattle.std.proofs.Common.{{◌≡◌, ℕ, List, codes, Bool, refl}}
 use Rattle.sqlite_schema.specs.declared.schema.Schema.{{Schema}}
 use Rattle.sqlite.specs.Listing.{{listing_schema}}
 use Rattle.sqlite_tied.specs.Compute.{{everything}}
-use Rattle.brk_sql.specs.Desk.{{MatchesCompilation}}
+use Rattle.brk_sql.specs.Desk.{{IsCompilationOutcome}}
 use Rattle.brk_sql.proofs.Probe.{{probed}}
 use Rattle.brk_sql.proofs.Texts.{{read}}
-use Rattle.brk_tables_schema.specs.Desk.{{Which, {', '.join(d[2] for d in DATA)}}}
+use Rattle.brk_tables_schema.specs.Desk.{{DeskTable, {', '.join(d[2] for d in DATA)}}}
 use Rattle.brk_tables_create.specs.Present.{{has_table_named}}
-use Rattle.brk_tables_create.specs.Texts.{{probe_text}}
+use Rattle.brk_tables_create.specs.Texts.{{existence_probe_text}}
 """
     for d in DATA:
         out += f"""
 abbrev {d[0]}_probe : List ℕ
-{d[0]}_probe = probe_text {d[2]}
+{d[0]}_probe = existence_probe_text {d[2]}
 
-{d[0]}_probed : (schema : Schema) (has : Bool) → MatchesCompilation {d[0]}_probe has schema → has ≡ has_table_named schema {d[2]}
+{d[0]}_probed : (schema : Schema) (has : Bool) → IsCompilationOutcome {d[0]}_probe has schema → has ≡ has_table_named schema {d[2]}
 unfolding everything listing_schema
 {d[0]}_probed = probed {d[0]}_probe (read {d[0]}_probe) ({q(d[1])}) refl refl refl refl
 """
     out += f"""
-pub probed_of : (w : Which) (schema : Schema) (has : Bool) → MatchesCompilation (probe_text w) has schema → has ≡ has_table_named schema w
+pub probed_of : (w : DeskTable) (schema : Schema) (has : Bool) → IsCompilationOutcome (existence_probe_text w) has schema → has ≡ has_table_named schema w
 {chr(10).join(f'probed_of {d[2]} = {d[0]}_probed' for d in DATA)}
 """
     save(f'{MAKING}/Probing.antt', out)
@@ -782,10 +782,10 @@ use Rattle.sqlite.specs.Steps.{{column_names}}
 use Rattle.sqlite_tied.specs.Compute.{{everything}}
 use Rattle.brk_sql.proofs.Stars.{{shown_columns}}
 use Rattle.brk_sql.proofs.Texts.{{read}}
-use Rattle.brk_tables_schema.specs.Desk.{{Which, {', '.join(d[2] for d in DATA)}, shape}}
+use Rattle.brk_tables_schema.specs.Desk.{{DeskTable, {', '.join(d[2] for d in DATA)}, table_definition_at}}
 use Rattle.brk_tables_scan.specs.Headings.{{select_all_text}}
 
-pub columns_told : (w : Which) (schema : Schema) (at : ℕ) (table : Table) → table_named schema (shape w 0).name ≡ Some at → slice_get schema.tables at ≡ Some table
+pub columns_told : (w : DeskTable) (schema : Schema) (at : ℕ) (table : Table) → table_named schema (table_definition_at w 0).name ≡ Some at → slice_get schema.tables at ≡ Some table
     → (c : Compiled) → understood schema (select_all_text w) ≡ Ok c → column_names c ≡ map (λ c. c.name) table.columns
 unfolding everything listing_schema
 """
@@ -807,13 +807,13 @@ pub(crate) const {name.upper()}: [(&str, &[&str]); {len(tables)}] = [
 def listed():
     out = f"""-- Written by tools/tables.py: the names of a table and of its columns do not depend on its tree.
 use Rattle.std.proofs.Common.{{◌≡◌, ℕ, refl}}
-use Rattle.brk_tables_schema.specs.Desk.{{Which, {', '.join(d[2] for d in DATA)}, shape}}
-use Rattle.brk_tables_scan.specs.Schemas.{{table_names_of}}
+use Rattle.brk_tables_schema.specs.Desk.{{DeskTable, {', '.join(d[2] for d in DATA)}, table_definition_at}}
+use Rattle.brk_tables_scan.specs.Schemas.{{table_and_column_names}}
 
-pub same_name_at : (w : Which) (i j : ℕ) → (shape w i).name ≡ (shape w j).name
+pub same_name_at : (w : DeskTable) (i j : ℕ) → (table_definition_at w i).name ≡ (table_definition_at w j).name
 {chr(10).join(f'same_name_at {d[2]} i j = refl' for d in DATA)}
 
-pub names_alike : (w : Which) (m n : ℕ) → table_names_of (shape w m) ≡ table_names_of (shape w n)
+pub names_alike : (w : DeskTable) (m n : ℕ) → table_and_column_names (table_definition_at w m) ≡ table_and_column_names (table_definition_at w n)
 {chr(10).join(f'names_alike {d[2]} m n = refl' for d in DATA)}
 """
     save('crates/brk_tables_scan/proofs/Listed.antt', out)
@@ -970,7 +970,8 @@ pub {d[0]}_shown : (old new : State) (rows : List Row) → Shown {n}.statement [
 
 # The tables in groups of four, as they are read and decoded; the last group is of the tables that later schemas add. Of each the
 # word its types begin with, its field, and its variable in proofs.
-GROUPS = [('First', 'first', 'f'), ('Account', 'accounts', 'a'), ('Rate', 'rates', 'r'), ('Trade', 'trades', 't'), ('Last', 'last', 'l'), ('Later', 'later', 'n')]
+GROUPS = [('DeskAndCustomer', 'first', 'f'), ('AccountAndSecurity', 'accounts', 'a'), ('ChargeAndRate', 'rates', 'r'), ('TradeAndHolding', 'trades', 't'),
+          ('SummaryAndSettlement', 'last', 'l'), ('LaterSchema', 'later', 'n')]
 
 # the types of rows whose name in code is another
 RUST = {'SecurityRow': 'Security', 'LastTradeRow': 'LastTrade', 'TaxRate': 'Tax', 'HoldingHistoryRow': 'LotChange'}
@@ -980,9 +981,12 @@ MEANINGS = {'kept': 'kept_row', 'holding_history': 'lot_change_row'}
 
 # the tables of at most one row, which the sheets hold as a value: its type, how code decodes it, its rows, and whether they have their form
 VALUES = {
-    'desk_row': ('Option<Stamp>', 'decode_last_stamp(schema, ', 'desk_rows schema sheets.last', 'is_one_valid_desk_row desk raw.desk'),
-    'rule': ('Option<Day>', 'decode_settlement_day(', 'rule_rows sheets.rule', 'is_at_most_one_valid_rule raw.rule'),
+    'desk_row': ('Option<Stamp>', 'decode_last_stamp(schema, ', 'desk_rows schema sheets.last', 'has_one_valid_desk_row desk raw.desk'),
+    'rule': ('Option<Day>', 'decode_settlement_day(', 'rule_rows sheets.rule', 'has_at_most_one_valid_rule_row raw.rule'),
 }
+
+# the functions that read whole tables, where their names do not follow from the table's
+ROW_READS = {'desk_row': 'desk_rows', 'cash': 'cash_transaction_rows', 'move': 'cash_move_rows', 'rule': 'settle_rule_rows'}
 
 WHICHES = ', '.join(d[2] for d in DATA)
 CELLS = ', '.join(d[0] + '_cells' for d in DATA)
@@ -1034,13 +1038,13 @@ def all_of(words):
     """The words in a row, the last after 'and'"""
     return f'{", ".join(words[:-1])} and {words[-1]}'
 
-def group_function(verb, field):
-    """The function that reads or decodes a group. An adjective has the word `tables` behind it."""
-    return f'{verb}_{field}' + ('_tables' if field in ('first', 'last', 'later') else '')
+def group_function(verb, word):
+    """The function that reads or decodes a group"""
+    return f'{verb}_{words_of(word)}_tables'
 
 def rows_name(d):
     """The function that reads a whole table, in every schema"""
-    return 'desk_rows' if d[0] == 'desk_row' else f'{d[0]}_rows'
+    return ROW_READS.get(d[0], f'{d[0]}_rows')
 
 def read_whole(d):
     """The function that reads one whole table"""
@@ -1066,7 +1070,7 @@ def read_later_table(d):
     return f"""
 /// Returns all rows of {d[1]}, sorted by key, or no rows if `schema` lacks the table. Fails
 /// with `Store` only.
-pub fn {rows_name(d)}_in<S: Alter>(
+pub fn {rows_name(d)}_in_schema<S: Alter>(
     tx: &mut Transaction<'_, S>,
     alloc: Global,
     schema: Schema,
@@ -1103,7 +1107,7 @@ use std::alloc::Global;
 
 def reading(d):
     """The code that reads and decodes a whole table"""
-    rows = f'{rows_name(d)}_in(tx, alloc, schema)?' if d[0] in LATER else f'{rows_name(d)}(tx)?'
+    rows = f'{rows_name(d)}_in_schema(tx, alloc, schema)?' if d[0] in LATER else f'{rows_name(d)}(tx)?'
     return f'decoder.{VALUES[d[0]][1]}{rows})?' if d[0] in VALUES else f'decoder.decode(alloc, {rows})?'
 
 def read_group(word, field, tables):
@@ -1120,7 +1124,7 @@ pub struct {word}Sheets {{
 {types}}}
 
 {remark(f'Reads and decodes all rows of {named(tables)}. Fails with `Memory` or `Store` only.', '//')}
-fn {group_function('read', field)}<S: Alter>(
+fn {group_function('read', word)}<S: Alter>(
     tx: &mut Transaction<'_, S>,
     alloc: Global,
 {schema}    decoder: &mut Decoder,
@@ -1137,7 +1141,7 @@ fn {group_function('read', field)}<S: Alter>(
 def all_tables_code():
     """The reads of all tables in code"""
     types = lambda crate, *more: ', '.join(sorted([record_type(d) for d in records_of(crate)] + list(more)))
-    reads = sorted(f'{rows_name(d)}_in' if d[0] in LATER else rows_name(d) for d in DATA)
+    reads = sorted(f'{rows_name(d)}_in_schema' if d[0] in LATER else rows_name(d) for d in DATA)
     out = f"""//! The reads of all tables: each table is read and decoded, and its raw rows are dropped, before the
 //! next one is read.
 
@@ -1170,7 +1174,7 @@ pub(crate) fn read_all_tables<S: Alter>(
     ensures step {{ IsConnectionStep S.Store tx.old tx.new result (λ sheets. ReadsDeskTables (abstract_schema schema) decoder.old.are_well_formed decoder.new.are_well_formed sheets) }}
     ensures fault {{ IfErr result IsCallFault }}
 {{
-{''.join(f'    let {field} = {group_function("read", field)}(tx, alloc, {schema(word)}decoder)?;{chr(10)}' for word, field, _ in GROUPS)}    Ok(Sheets {{
+{''.join(f'    let {field} = {group_function("read", word)}(tx, alloc, {schema(word)}decoder)?;{chr(10)}' for word, field, _ in GROUPS)}    Ok(Sheets {{
 {''.join(f'        {sheet_field(d)}: {field}.{sheet_field(d)},{chr(10)}' for _, field, _, tables in groups() for d in tables)}    }})
 }}
 """
@@ -1201,7 +1205,7 @@ def raw_spec():
 use Rattle.std.specs.Prelude.{{◌≡◌, List, IsTrue}}
 use Rattle.sqlite_value.specs.Order.{{Row}}
 use Rattle.sqlite.specs.State.{{State}}
-use Rattle.brk_tables_schema.specs.Desk.{{Which, {WHICHES}}}
+use Rattle.brk_tables_schema.specs.Desk.{{DeskTable, {WHICHES}}}
 use Rattle.brk_model.specs.Schemas.{{Schema}}
 use Rattle.brk_tables_scan.specs.Whole.{{ShowsAllRows, ShowsRowsIfPresent}}
 
@@ -1216,7 +1220,7 @@ IsUnchangedAndOpen old new = IsTrue old.is_open × (new.now ≡ old.now)
 
 -- The lists are all rows of these four tables, sorted by key, and the reads changed nothing.
 -- Vacuous for a table that the database does not define as a desk does.
-pub record ShowsFourTables (first second third fourth : Which) (a b c d : List Row) (old new : State) : Type 0 where
+pub record ShowsFourTables (first second third fourth : DeskTable) (a b c d : List Row) (old new : State) : Type 0 where
   pub stays : IsUnchangedAndOpen old new
   pub one : ShowsAllRows first a old.now
   pub two : ShowsAllRows second b old.now
@@ -1233,20 +1237,20 @@ Shows{word}Tables raw = ShowsFourTables {' '.join(d[2] for d in tables)} {' '.jo
 -- The raw rows are all rows of CASH_MOVE and of SETTLE_RULE, sorted by key, or none of a table that
 -- the schema `desk` does not have. The reads changed nothing. Vacuous for a table that the database
 -- does not define as a desk does.
-pub record ShowsLaterTables (desk : Schema) (raw : LaterRows) (old new : State) : Type 0 where
+pub record ShowsLaterSchemaTables (desk : Schema) (raw : LaterSchemaRows) (old new : State) : Type 0 where
   pub same : new.now ≡ old.now
 {chr(10).join(f'  pub {raw_field(d)} : ShowsRowsIfPresent desk {d[2]} raw.{raw_field(d)} old.now' for d in groups()[-1][3])}
 
 -- The raw rows of one table.
-abbrev pub raw_rows_of_table : RawSheets → Which → List Row
+abbrev pub raw_rows_of_table : RawSheets → DeskTable → List Row
 {chr(10).join(f'raw_rows_of_table raw {d[2]} = raw.{field}.{raw_field(d)}' for _, field, _, tables in groups() for d in tables)}
 """
     save('crates/brk_tables_scan/specs/Raw.antt', out)
 
 def decoded_group(word, field, tables):
     """That the sheets of a group are its rows in types, and whether these have their forms"""
-    first = word == 'First'
-    counted = {'First': ' There is one row of DESK, with the number of the schema.', 'Later': ' There is at most one row of SETTLE_RULE.'}.get(word, '')
+    first = word == 'DeskAndCustomer'
+    counted = {'DeskAndCustomer': ' There is one row of DESK, with the number of the schema.', 'LaterSchema': ' There is at most one row of SETTLE_RULE.'}.get(word, '')
     rows = lambda d: VALUES[d[0]][2] if d[0] in VALUES else f'sheets.{sheet_field(d)}.items'
     shown = lambda d: f'{d[0]}_cells' if d[0] in VALUES else f'(λ r. {d[0]}_cells ({record_meaning(d)} r))'
     of = lambda d: f'({rows(d)})' if d[0] in VALUES else rows(d)
@@ -1258,21 +1262,21 @@ pub record Decodes{word}Tables {'(schema : Schema) ' if first else ''}(sheets : 
 {fields}
 
 {remark(f'True if each column of each raw row of {named(tables)} is well-formed.' + counted)}
-abbrev pub are_{field}_well_formed : {'Schema → ' if first else ''}{word}Rows → Bool
-are_{field}_well_formed {'desk ' if first else ''}raw = {' && '.join(form(d) for d in tables)}
+abbrev pub are_{words_of(word)}_rows_well_formed : {'Schema → ' if first else ''}{word}Rows → Bool
+are_{words_of(word)}_rows_well_formed {'desk ' if first else ''}raw = {' && '.join(form(d) for d in tables)}
 """
 
 def reads_group(word, field, tables):
     """What the reads of a group show and decode"""
     desk = '(desk : Schema) ' if word in ('First', 'Later') else ''
-    first, later = 'desk ' if word == 'First' else '', 'desk ' if word == 'Later' else ''
+    first, later = 'desk ' if word == 'DeskAndCustomer' else '', 'desk ' if word == 'LaterSchema' else ''
     told = f'The reads show all rows of {named(tables)}, and change nothing. If the flag `new`, which was `old` before, is still true, the rows encode the typed rows `sheets`. Vacuous for a table that the database does not define as a desk does.'
     return f"""
 {remark(told)}
 pub record Reads{word}Tables {desk}(old new : Bool) (sheets : {word}Sheets) (a b : State) : Type 0 where
   pub raw : {word}Rows
   pub shown : Shows{word}Tables {later}raw a b
-  pub decoded : ContinuesDecoding old new (are_{field}_well_formed {first}raw) (Decodes{word}Tables {first}sheets raw)
+  pub decoded : ContinuesDecoding old new (are_{words_of(word)}_rows_well_formed {first}raw) (Decodes{word}Tables {first}sheets raw)
 """
 
 def decoded_spec():
@@ -1284,27 +1288,27 @@ use Rattle.std.specs.List.{{list_all}}
 use Rattle.sqlite.specs.State.{{State}}
 use Rattle.brk_model.specs.Schemas.{{Schema}}
 {meanings()}
-use Rattle.brk_changes.specs.Sheets.{{tables_in_sheets}}
+use Rattle.brk_changes.specs.Sheets.{{abstract_sheets}}
 use Rattle.brk_changes.specs.declared.sheets.Sheets.{{Sheets}}
 use Rattle.brk_tables_schema.specs.Cells.{{{CELLS}}}
-use Rattle.brk_tables_schema.specs.Desk.{{Which, desk_rows, rule_rows, encode, rows_in_schema}}
+use Rattle.brk_tables_schema.specs.Desk.{{DeskTable, desk_rows, rule_rows, encoded_row, rows_in_schema}}
 use Rattle.brk_tables_schema.specs.Formed.{{passes_all_cell_checks, {forms}}}
 use Rattle.brk_tables_scan.specs.Whole.{{ShowsRowsIfPresent}}
 use Rattle.brk_tables_scan.specs.Raw.{{{', '.join(f'{word}Rows' for word, _, _ in GROUPS)}, RawSheets, raw_rows_of_table, IsUnchangedAndOpen, {', '.join(f'Shows{word}Tables' for word, _, _ in GROUPS)}}}
 {declared('Sheets')}
 """
     out += ''.join(decoded_group(word, field, tables) for word, field, _, tables in groups())
-    desk = lambda word: 'desk ' if word == 'First' else ''
+    desk = lambda word: 'desk ' if word == 'DeskAndCustomer' else ''
     out += f"""
 -- True if each column of each raw row is well-formed, there is one row of DESK, with the number of
 -- the schema `desk`, and there is at most one row of SETTLE_RULE.
 abbrev pub are_raw_sheets_well_formed : Schema → RawSheets → Bool
-are_raw_sheets_well_formed desk raw = {' && '.join(f'are_{field}_well_formed {desk(word)}raw.{field}' for word, field, _ in GROUPS)}
+are_raw_sheets_well_formed desk raw = {' && '.join(f'are_{words_of(word)}_rows_well_formed {desk(word)}raw.{field}' for word, field, _ in GROUPS)}
 
 -- The raw rows of each table are, in order, the encodings of the typed rows `sheets`. The row of
 -- DESK has the number of the schema `desk`.
 abbrev pub DecodesSheets : Schema → Sheets → RawSheets → Type 0
-DecodesSheets desk sheets raw = (w : Which) → map (encode w) (rows_in_schema desk w (tables_in_sheets sheets)) ≡ raw_rows_of_table raw w
+DecodesSheets desk sheets raw = (w : DeskTable) → map (encoded_row w) (rows_in_schema desk w (abstract_sheets sheets)) ≡ raw_rows_of_table raw w
 
 -- A step of a decoding, which counts whether all raw rows so far are well-formed: `old` before the
 -- step and `new` after it.
@@ -1323,7 +1327,7 @@ pub record ContinuesDecoding (old new are_well_formed : Bool) (Decodes : Type 0)
 pub record ReadsDeskTables (desk : Schema) (old new : Bool) (sheets : Sheets) (a b : State) : Type 0 where
   pub raw : RawSheets
   pub stays : IsUnchangedAndOpen a b
-  pub shown : (w : Which) → ShowsRowsIfPresent desk w (raw_rows_of_table raw w) a.now
+  pub shown : (w : DeskTable) → ShowsRowsIfPresent desk w (raw_rows_of_table raw w) a.now
   pub decoded : ContinuesDecoding old new (are_raw_sheets_well_formed desk raw) (DecodesSheets desk sheets raw)
 """
     save('crates/brk_tables_scan/specs/Decoded.antt', out)
@@ -1331,7 +1335,7 @@ pub record ReadsDeskTables (desk : Schema) (old new : Bool) (sheets : Sheets) (a
 def sheeted():
     """That the rows in types are the sheets"""
     cells = ', '.join(f'{d[0]}_cells' for d in DATA if d[0] not in VALUES)
-    desk = lambda word: 'desk ' if word == 'First' else ''
+    desk = lambda word: 'desk ' if word == 'DeskAndCustomer' else ''
     sheets = ' '.join(f'({v} : {word}Sheets)' for word, _, v in GROUPS)
     are = ' '.join(f'(is_{v} : Decodes{word}Tables {desk(word)}{v} raw.{field})' for word, field, v in GROUPS)
     twice = lambda d, v: '' if d[0] in VALUES else f'map_twice {d[0]}_cells {record_meaning(d)} {v}.{sheet_field(d)}.items ∙ '
@@ -1367,8 +1371,8 @@ use Rattle.brk_model.specs.Tables.{{Tables}}
 use Rattle.brk_changes.specs.declared.sheets.Sheets.{{Sheets}}
 
 -- The model's tables with the values of the typed rows `s`.
-abbrev pub tables_in_sheets : Sheets → Tables
-tables_in_sheets s = record {{
+abbrev pub abstract_sheets : Sheets → Tables
+abstract_sheets s = record {{
 {chr(10).join(f'  {sheet_field(d)} = {rows(d)};' for d in DATA)}
 }}
 """
@@ -1406,21 +1410,21 @@ def decode_proof():
     out = f"""-- Written by tools/tables.py: the record that a row of each table encodes.
 use Rattle.std.proofs.Common.{{◌≡◌, ℕ, refl}}
 use Rattle.sqlite_value.specs.Order.{{Row}}
-use Rattle.brk_tables_schema.specs.Desk.{{Item, Which, encode, shape, {WHICHES}}}
+use Rattle.brk_tables_schema.specs.Desk.{{RecordOfTable, DeskTable, encoded_row, table_definition_at, {WHICHES}}}
 {backs('Back')}
 {backs('TradingBack')}
 
 -- The record that a row of a table encodes.
-pub decode : (w : Which) → Row → Item w
+pub decode : (w : DeskTable) → Row → RecordOfTable w
 {chr(10).join(f'decode {d[2]} = {back(d)}_back' for d in DATA)}
 
 -- Decoding the row that encodes a record returns this record.
-pub decodes : (w : Which) (x : Item w) → decode w (encode w x) ≡ x
+pub decodes : (w : DeskTable) (x : RecordOfTable w) → decode w (encoded_row w x) ≡ x
 unfolding decode
 {chr(10).join(f'decodes {d[2]} x = {back(d)}_is_back x' for d in DATA)}
 
 -- The name of a table does not depend on its tree.
-pub named_alike : (w : Which) (m n : ℕ) → (shape w m).name ≡ (shape w n).name
+pub named_alike : (w : DeskTable) (m n : ℕ) → (table_definition_at w m).name ≡ (table_definition_at w n).name
 {chr(10).join(f'named_alike {d[2]} m n = refl' for d in DATA)}
 """
     save('crates/brk_tables_unique/proofs/Decode.antt', out)
@@ -1432,10 +1436,10 @@ def same_tables():
 use Rattle.std.proofs.Common.{{◌≡◌}}
 use Rattle.brk_model.specs.Schemas.{{Schema}}
 use Rattle.brk_model.specs.Tables.{{Tables}}
-use Rattle.brk_tables_schema.specs.Desk.{{Which, rows_in_schema, {WHICHES}}}
+use Rattle.brk_tables_schema.specs.Desk.{{DeskTable, rows_in_schema, {WHICHES}}}
 use Rattle.brk_tables_unique.proofs.Values.{{{', '.join(f'{sheet_field(d)}_alike' for d in DATA if d[0] in VALUES)}}}
 
-pub same_tables : (s : Schema) (t u : Tables) → ((w : Which) → rows_in_schema s w t ≡ rows_in_schema s w u) → t ≡ u
+pub same_tables : (s : Schema) (t u : Tables) → ((w : DeskTable) → rows_in_schema s w t ≡ rows_in_schema s w u) → t ≡ u
 same_tables s t u each = λ i. record {{
 {chr(10).join(f'  {sheet_field(d)} = {values.get(d[0], f"each {d[2]} i")};' for d in DATA)}
 }}

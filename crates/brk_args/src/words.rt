@@ -92,7 +92,7 @@ fn flag_argument<'a>(alloc: Global, name: &'static str, help: &'static str) -> A
 }
 
 // Returns the required argument with the name of a view.
-fn view_argument<'a>(alloc: Global) -> Arg<'a> {
+fn view_name_argument<'a>(alloc: Global) -> Arg<'a> {
     Arg::new(alloc, "view")
         .value_name("VIEW")
         .help("The name of the view")
@@ -119,7 +119,7 @@ fn ask_command<'a>(alloc: Global) -> Result<Command<'a>, AllocError> {
             "heads",
             "Prints the names of the fields first, where all records have the same",
         ))?
-        .arg(view_argument(alloc))?
+        .arg(view_name_argument(alloc))?
         .arg(view_arguments(alloc))
 }
 
@@ -208,7 +208,7 @@ fn argument_text(
 }
 
 // Returns a copy of the path of the desk's file, or `None` if it is missing.
-fn file_path_argument(
+fn file_path_of_matches(
     alloc: Global,
     matches: &ArgMatches<'_>,
 ) -> Result<Option<String>, AllocError> {
@@ -247,7 +247,7 @@ fn statement_job(alloc: Global, matches: &ArgMatches<'_>) -> Result<Job, UsageFa
 fn serve_job(alloc: Global, matches: &ArgMatches<'_>) -> Result<Job, UsageFault> {
     Ok(Job::Serve {
         port: matches.get_one("port").unwrap_or(0),
-        db: file_path_argument(alloc, matches)?,
+        db: file_path_of_matches(alloc, matches)?,
         at: timestamp_of_matches(matches),
         streams: matches.get_one("streams").unwrap_or(1),
     })
@@ -309,7 +309,7 @@ fn job_of_subcommand(
         return Ok(Job::Audit { db });
     }
     Ok(Job::Batch {
-        db: file_path_argument(alloc, matches)?,
+        db: file_path_of_matches(alloc, matches)?,
         at: timestamp_of_matches(matches),
     })
 }

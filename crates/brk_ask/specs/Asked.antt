@@ -6,7 +6,7 @@ use Rattle.sqlite_trees.specs.declared.store.Store.{Ghosts}
 use Rattle.sqlite.specs.Held.{Held}
 use Rattle.brk_ask.specs.Printed.{printed_view_text}
 use Rattle.brk_ask.specs.declared.form.Form.{Form}
-use Rattle.brk_desk.specs.Keeping.{AskPost}
+use Rattle.brk_desk.specs.CallPosts.{AskPost}
 use Rattle.brk_model.specs.Forms.{ReadResult}
 use Rattle.brk_model.specs.Queries.{Query}
 use Rattle.brk_money.specs.Spelling.{Text}

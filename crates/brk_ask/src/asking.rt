@@ -61,7 +61,7 @@ fn write_view<W: Write>(
 // Executes the query on the desk, and writes its view in this form.
 //
 // Fails with `Refused` or `Desk` and nothing written, or with `Write` after a prefix of the text.
-fn ask_query_and_write<W: Write, S: Alter>(
+fn execute_query_and_write_view<W: Write, S: Alter>(
     alloc: Global,
     desk: &mut Desk<S>,
     query: &Query,
@@ -86,7 +86,7 @@ fn ask_query_and_write<W: Write, S: Alter>(
 /// the result.
 ///
 /// A crash exposes only states that a crash before the call could expose.
-pub fn ask<W: Write, S: Alter>(
+pub fn parse_query_and_write_view<W: Write, S: Alter>(
     alloc: Global,
     desk: &mut Desk<S>,
     view: &str,
@@ -97,7 +97,7 @@ pub fn ask<W: Write, S: Alter>(
     ensures asked { PrintViewPost S.Store desk.old desk.new form (model.parse_query view.now (texts_of_fields arguments.now)) (W.contents writer.old) (W.contents writer.new) result }
 {
     match parse_query(alloc, view, arguments) {
-        Ok(Ok(query)) => ask_query_and_write(alloc, desk, &query, form, writer),
+        Ok(Ok(query)) => execute_query_and_write_view(alloc, desk, &query, form, writer),
         Ok(Err(refusal)) => Err(ReportFault::Refused(refusal)),
         Err(fault) => Err(ReportFault::Desk(fault)),
     }

@@ -6,6 +6,6 @@ mod form;
 mod heads;
 mod rows;
 
-pub use asking::ask;
+pub use asking::parse_query_and_write_view;
 pub use brk_report_lines::ReportFault;
 pub use form::Form;

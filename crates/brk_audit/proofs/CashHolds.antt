@@ -14,7 +14,7 @@ use Rattle.brk_model.specs.Tables.{Tables, TradeRow}
 use Rattle.brk_book_theorems.proofs.Orders.{Ascends, ascends, ascends_map}
 use Rattle.brk_book_theorems.proofs.Same.{All-of, map-same}
 use Rattle.brk_changes.specs.Rows.{abstract_cash_row, abstract_move_row, abstract_trade_row}
-use Rattle.brk_changes.specs.Sheets.{tables_in_sheets}
+use Rattle.brk_changes.specs.Sheets.{abstract_sheets}
 use Rattle.brk_changes.specs.declared.sheets.Sheets.{Sheets}
 use Rattle.brk_changes.specs.declared.trade_row.TradeRow as trade
 use Rattle.brk_changes.specs.declared.move_row.MoveRow as move
@@ -22,7 +22,7 @@ use Rattle.brk_changes.specs.declared.cash_row.CashRow as cash
 use Rattle.brk_audit.specs.AccountTerms.{tax_status_in_terms}
 use Rattle.brk_audit.specs.Conditions.{HasValidStatuses}
 use Rattle.brk_audit.specs.Posted.{abstract_posted_figures}
-use Rattle.brk_audit.specs.Settling.{MoveRowFigures, settlement_amount_at, is_completed_cash_trade, is_numbered_by_stamp, posted_figures_of_trade, posted_figures_of_row, account_tax_status_or_untaxed}
+use Rattle.brk_audit.specs.Settling.{MoveRowFigures, settlement_amount_at_tax_status, is_completed_cash_trade, is_numbered_by_stamp, posted_figures_of_trade, posted_figures_of_row, account_tax_status_or_untaxed}
 use Rattle.brk_audit.specs.declared.account_terms.AccountTerms.{AccountTerms}
 use Rattle.brk_audit.specs.declared.cash.Posted as code
 use Rattle.brk_audit.proofs.AccountTerms.{HasTerms, same_tax_statuses}
@@ -45,7 +45,7 @@ cash_back (r ∷ rows) e = absurd (cc)
 
 -- rows of trades, sorted by their trades
 pub record IsSortedOwn (s : Sheets) (own : List MoveRowFigures) : Type 0 where
-  pub permutation : IsPermutation (filter_map posted_figures_of_row (tables_in_sheets s).moves) own
+  pub permutation : IsPermutation (filter_map posted_figures_of_row (abstract_sheets s).moves) own
   pub order : Ascends (λ p. p.trade) own
 
 pub sorted_own : (s : Sheets) (rows sorted : List code.Posted) (ms : List move.MoveRow) → ms ≡ s.moves.items → map abstract_posted_figures rows ≡ filter_map (λ r. posted_figures_of_row (abstract_move_row r)) ms
@@ -62,18 +62,18 @@ pub record AreTold (s : Sheets) (terms : BTreeMap ℕ AccountTerms) (own : List 
   pub turn : is_numbered_by_stamp 1 0 (map abstract_move_row ms) ≡ true
   pub posted : map (λ p. p) own ≡ map (posted_figures_of_trade (tax_status_in_terms terms)) (filter is_completed_cash_trade (map abstract_trade_row ts))
 
-pub moves_hold : (schema : Schema) (s : Sheets) (terms : BTreeMap ℕ AccountTerms) (own : List MoveRowFigures) (ms : List move.MoveRow) (ts : List trade.TradeRow) → schema.has_moves ≡ true
-    → satisfies_form_condition schema (tables_in_sheets s) ≡ true → HasValidStatuses s → HasTerms terms s.accounts.items → IsSortedOwn s own → ms ≡ s.moves.items → ts ≡ s.trades.items
-    → AreTold s terms own ms ts ↔ ConditionHolds schema condition.Cash (tables_in_sheets s)
+pub moves_hold : (schema : Schema) (s : Sheets) (terms : BTreeMap ℕ AccountTerms) (own : List MoveRowFigures) (ms : List move.MoveRow) (ts : List trade.TradeRow) → schema.has_cash_move_table ≡ true
+    → satisfies_form_condition schema (abstract_sheets s) ≡ true → HasValidStatuses s → HasTerms terms s.accounts.items → IsSortedOwn s own → ms ≡ s.moves.items → ts ≡ s.trades.items
+    → AreTold s terms own ms ts ↔ ConditionHolds schema condition.Cash (abstract_sheets s)
 moves_hold schema s terms own ms ts n f w h o e g =
-    let t : Tables = tables_in_sheets s in
+    let t : Tables = abstract_sheets s in
     let law = cash_by_moves schema t own n f w o.permutation o.order in
     let turn : is_numbered_by_stamp 1 0 (map abstract_move_row ms) ≡ is_numbered_by_stamp 1 0 t.moves = ap (λ rs. is_numbered_by_stamp 1 0 (map abstract_move_row rs)) e in
     let rows : List TradeRow = filter is_completed_cash_trade (map abstract_trade_row s.trades.items) in
     let right : map (posted_figures_of_trade (tax_status_in_terms terms)) (filter is_completed_cash_trade (map abstract_trade_row ts)) ≡ map (posted_figures_of_trade (account_tax_status_or_untaxed t)) rows =
     ap (λ xs. map (posted_figures_of_trade (tax_status_in_terms terms)) (filter is_completed_cash_trade (map abstract_trade_row xs))) g
     ∙ map-same (posted_figures_of_trade (tax_status_in_terms terms)) (posted_figures_of_trade (account_tax_status_or_untaxed t)) rows
-    (All-of rows (λ r i. record { account = r.account; trade = r.id; stamp = r.stamp; amount = settlement_amount_at (same_tax_statuses s terms h r.account i) r })) in (
+    (All-of rows (λ r i. record { account = r.account; trade = r.id; stamp = r.stamp; amount = settlement_amount_at_tax_status (same_tax_statuses s terms h r.account i) r })) in (
       (λ k. law.0 (record { no_others = no_cash s.cash.items k.no_others; turn = sym turn ∙ k.turn; posted = sym (map-id own) ∙ k.posted ∙ right })),
       (λ k. let m = law.1 k in record { no_others = cash_back s.cash.items m.no_others; turn = turn ∙ m.turn; posted = map-id own ∙ m.posted ∙ sym right }),
     )

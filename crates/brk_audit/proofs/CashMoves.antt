@@ -23,7 +23,7 @@ use Rattle.brk_model.specs.Adopted.{base_of_tables, is_posting_of_trade, movemen
 use Rattle.brk_model.specs.Form.{satisfies_form_condition, trade_ids_of_cash_rows}
 use Rattle.brk_model.specs.Ways.{satisfies_status_condition, has_valid_status_history}
 use Rattle.brk_model.specs.Audit.{ConditionHolds, expected_tables}
-use Rattle.brk_book_theorems.specs.Books.{BooksInvariant, HasOtherStatusStamp, HasDistinctStatusStamps, HasDistinctMovementStamps}
+use Rattle.brk_book_theorems.specs.Books.{BooksInvariant, HasLastStatusAtOtherStamp, HasDistinctLastStatusStamps, HasDistinctMovementStamps}
 use Rattle.brk_book_theorems.proofs.Order.{All-insert}
 use Rattle.brk_book_theorems.proofs.LotReading.{All-sort}
 use Rattle.brk_book_theorems.proofs.Orders.{Ascends, Rises, SameSums, one_order, permuted, sum_append, sum_map, sum_sort}
@@ -112,9 +112,9 @@ apart_movements done (m ∷ ms) h = (All-mapped (λ q. (q.stamp == m.stamp) ≡ 
 
 of_each : (t : Trade) (done : List Trade) (ms : List Movement) → In t done → HasDistinctMovementStamps done ms → AllByRecursion (λ m. (m.stamp == last_status_stamp_of_trade t) ≡ false) ms
 of_each t done [] i h = tt
-of_each t done (m ∷ ms) i h = (other_stamp (last_status_stamp_of_trade t) m.stamp (of_all (HasOtherStatusStamp m.stamp) done t h.0 i), of_each t done ms i h.2)
+of_each t done (m ∷ ms) i h = (other_stamp (last_status_stamp_of_trade t) m.stamp (of_all (HasLastStatusAtOtherStamp m.stamp) done t h.0 i), of_each t done ms i h.2)
 
-apart_trades : (base : Base) (done ts : List Trade) (ms : List Movement) → AllByRecursion (λ t. In t done) ts → HasDistinctStatusStamps ts → HasDistinctMovementStamps done ms
+apart_trades : (base : Base) (done ts : List Trade) (ms : List Movement) → AllByRecursion (λ t. In t done) ts → HasDistinctLastStatusStamps ts → HasDistinctMovementStamps done ms
     → Apart (map (posting_of_trade base.accounts) ts ++ map posting_of_movement ms)
 unfolding Apart
 apart_trades base done [] ms i m h = apart_movements done ms h
@@ -125,10 +125,10 @@ apart_trades base done (t ∷ ts) ms i m h = (
   apart_trades base done ts ms i.1 m.1 h,
 )
 
-moments_filter : (p : Trade → Bool) (ts : List Trade) → HasDistinctStatusStamps ts → HasDistinctStatusStamps (filter p ts)
+moments_filter : (p : Trade → Bool) (ts : List Trade) → HasDistinctLastStatusStamps ts → HasDistinctLastStatusStamps (filter p ts)
 moments_filter p [] m = tt
 moments_filter p (t ∷ ts) m =
-    elim (p t) as (λ b. HasDistinctStatusStamps (cond b (t ∷ filter p ts) (filter p ts)))
+    elim (p t) as (λ b. HasDistinctLastStatusStamps (cond b (t ∷ filter p ts) (filter p ts)))
     [ true ↦ (All-filter (λ u. (last_status_stamp_of_trade u == last_status_stamp_of_trade t) ≡ false) p ts m.0, moments_filter p ts m.1) | false ↦ moments_filter p ts m.1 ]
 
 postings_rise : (base : Base) → BooksInvariant base → Rises (λ p. p.stamp) (postings_sorted_by_stamp (postings_of_base base))
@@ -345,12 +345,12 @@ trades_rise f (r ∷ rs) e c = (All-mapped (λ p. (f r).trade < p.trade) f rs (A
 
 -- ---- together
 
-wanted_no_cash : (schema : Schema) (t : Tables) → schema.has_moves ≡ true → (expected_tables schema t).cash ≡ []
+wanted_no_cash : (schema : Schema) (t : Tables) → schema.has_cash_move_table ≡ true → (expected_tables schema t).cash ≡ []
 unfolding tables_sorted_by_key tables_of_base_in_schema
 wanted_no_cash schema t n =
     ap (λ b. rows_sorted_by_key cash_key (cond b [] (map (cash_row (base_of_tables t).accounts) (cash_trades (completed_trades (base_of_tables t)))))) n ∙ no_rows (is_row_key_less cash_key)
 
-wanted_moves : (schema : Schema) (t : Tables) → schema.has_moves ≡ true → (expected_tables schema t).moves ≡ numbered_move_rows 1 (postings_sorted_by_stamp (postings_of_base (base_of_tables t)))
+wanted_moves : (schema : Schema) (t : Tables) → schema.has_cash_move_table ≡ true → (expected_tables schema t).moves ≡ numbered_move_rows 1 (postings_sorted_by_stamp (postings_of_base (base_of_tables t)))
 unfolding tables_sorted_by_key tables_of_base_in_schema
 wanted_moves schema t n =
     ap (λ b. rows_sorted_by_key move_key (cond b (numbered_move_rows 1 (postings_sorted_by_stamp (postings_of_base (base_of_tables t)))) [])) n ∙ numbered_stay 1 (postings_sorted_by_stamp (postings_of_base (base_of_tables t)))
@@ -361,7 +361,7 @@ pub record AreMoves (t : Tables) (own : List MoveRowFigures) : Type 0 where
   pub turn : is_numbered_by_stamp 1 0 t.moves ≡ true
   pub posted : own ≡ map (posted_figures_of_trade (account_tax_status_or_untaxed t)) (filter is_completed_cash_trade t.trades)
 
-pub cash_by_moves : (schema : Schema) (t : Tables) (own : List MoveRowFigures) → schema.has_moves ≡ true → satisfies_form_condition schema t ≡ true → satisfies_status_condition t ≡ true
+pub cash_by_moves : (schema : Schema) (t : Tables) (own : List MoveRowFigures) → schema.has_cash_move_table ≡ true → satisfies_form_condition schema t ≡ true → satisfies_status_condition t ≡ true
     → IsPermutation (filter_map posted_figures_of_row t.moves) own → Ascends (λ p. p.trade) own → (AreMoves t own → ConditionHolds schema condition.Cash t) × (ConditionHolds schema condition.Cash t → AreMoves t own)
 unfolding ConditionHolds
 cash_by_moves schema t own n f s p a =

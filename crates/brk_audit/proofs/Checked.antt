@@ -9,7 +9,7 @@ use Rattle.brk_model.specs.Tables.{TradeRow}
 use Rattle.brk_changes.specs.Rows.{abstract_move_row, abstract_trade_row}
 use Rattle.brk_changes.specs.declared.trade_row.TradeRow as trade
 use Rattle.brk_changes.specs.declared.move_row.MoveRow as move
-use Rattle.brk_audit.specs.Sums.{movement_posting}
+use Rattle.brk_audit.specs.Sums.{movement_posting_of_row}
 use Rattle.brk_book_theorems.proofs.Places.{filter-append}
 use Rattle.brk_book_theorems.proofs.Worth.{total-append}
 use Rattle.brk_book_theorems.proofs.Same.{All-map, All-mapped, All-of, filter-same, total_by-same}
@@ -33,7 +33,7 @@ posted_sum p k j a b rows q e f =
     same_key r = sym (unsigned_ties (k r) q) ∙ ap (λ n. n == q) (e r)
 
 -- the sum of movements in types, as one over the rows that they are
-pub moved_sum : (rows : List move.MoveRow) (q : ℕ) → total_amount_at_key nat_cmp (filter_map (λ r. movement_posting (abstract_move_row r)) rows) q
+pub moved_sum : (rows : List move.MoveRow) (q : ℕ) → total_amount_at_key nat_cmp (filter_map (λ r. movement_posting_of_row (abstract_move_row r)) rows) q
     ≡ total_by (λ r. r.amount) (filter (λ r. is_none r.trade && (r.account == q)) (map abstract_move_row rows))
 moved_sum rows q =
     total_posted nat_cmp (λ r. is_none (abstract_move_row r).trade) (λ r. (abstract_move_row r).account) (λ r. (abstract_move_row r).amount) rows q

@@ -15,13 +15,13 @@ use Rattle.brk_lots.specs.Lots.{abstract_lot}
 use Rattle.brk_lots.proofs.Ends.{walk_of}
 use Rattle.brk_lots.proofs.Plain.{lots_walk}
 use Rattle.brk_book_theorems.specs.Books.{BooksInvariant}
-use Rattle.brk_book_theorems.specs.TradeReads.{holding_rows_of_position, position_lots, lot_of_row}
+use Rattle.brk_book_theorems.specs.TradeReads.{holding_rows_of_position, lots_of_position, lot_of_row}
 use Rattle.brk_book_theorems.proofs.LotOrder.{position_read, shares_read}
 use Rattle.brk_book_theorems.proofs.LotReading.{All-sort, all_pass}
 use Rattle.brk_book_theorems.proofs.Places.{filter-all, filter-append}
 use Rattle.brk_book_theorems.proofs.Same.{All-map, All-of, filter-none}
 use Rattle.brk_audit_theorems.proofs.Climbs.{In}
-use Rattle.brk_audit.specs.Positions.{AreLotsLeftByTrades, lot_row_of_position, nothing, position, deal_of_completed_row, lot_rows_left_by_trades, is_same_position}
+use Rattle.brk_audit.specs.Positions.{AreLotsLeftByTrades, holding_row_in_position_of_trade, nothing, position, deal_of_completed_row, holding_rows_left_by_trades, is_same_position}
 use Rattle.brk_book_theorems.proofs.Orders.{sum_append, sum_both, sum_filter, sum_same, sum_sort}
 use Rattle.brk_audit.proofs.Places.{all_back, at_one, one_place, same_self}
 
@@ -62,19 +62,19 @@ along r s h e f =
 
 -- ---- a position
 
-rows_back : (r : TradeRow) (hs : List HoldingRow) → AllByRecursion (λ h. at_place r h ≡ true) hs → map (lot_row_of_position r) (map abstract_lot (map lot_of_row hs)) ≡ hs
+rows_back : (r : TradeRow) (hs : List HoldingRow) → AllByRecursion (λ h. at_place r h ≡ true) hs → map (holding_row_in_position_of_trade r) (map abstract_lot (map lot_of_row hs)) ≡ hs
 rows_back r [] p = refl
 rows_back r (h ∷ hs) p = let k = is_at r h p.0 in λ i. record h { account = sym k.account i; symbol = sym k.symbol i } ∷ rows_back r hs p.1 i
 
 -- what a position's deals leave is what the tables have of it
 rows_there : (base : Base) → BooksInvariant base → (r : TradeRow) (run : List TradeRow) → map deal_of_completed_row run ≡ deals_of_position (completed_trades base) r.account r.symbol
-    → lot_rows_left_by_trades r run ≡ holding_rows_of_position (sheets base) r.account r.symbol
+    → holding_rows_left_by_trades r run ≡ holding_rows_of_position (sheets base) r.account r.symbol
 unfolding shares_of_position
 rows_there base books r run e =
-    let P : List Lot = position_lots (sheets base) r.account r.symbol in
-    ap (λ (ds : List Deal). map (lot_row_of_position r) (lots_of_shares (replay ds))) e
-    ∙ ap (λ (us : List Share). map (lot_row_of_position r) (lots_of_shares us)) (sym (shares_read base r.account r.symbol books))
-    ∙ ap (map (lot_row_of_position r)) (lots_walk P (walk_of P (position_read base r.account r.symbol books)))
+    let P : List Lot = lots_of_position (sheets base) r.account r.symbol in
+    ap (λ (ds : List Deal). map (holding_row_in_position_of_trade r) (lots_of_shares (replay ds))) e
+    ∙ ap (λ (us : List Share). map (holding_row_in_position_of_trade r) (lots_of_shares us)) (sym (shares_read base r.account r.symbol books))
+    ∙ ap (map (holding_row_in_position_of_trade r)) (lots_walk P (walk_of P (position_read base r.account r.symbol books)))
     ∙ rows_back r (holding_rows_of_position (sheets base) r.account r.symbol)
     (All-sort (λ h. at_place r h ≡ true) (is_row_key_less (λ h. number h.stamp ∷ number h.trade ∷ [])) (filter (at_place r) (sheets base).holdings) (all_pass (at_place r) (sheets base).holdings))
 
@@ -158,12 +158,12 @@ pub leave_sums : (base : Base) → BooksInvariant base → {rs : List TradeRow} 
 leave_sums base books nothing d f = sym (ap (sum_by f) (filter-none (at_any []) (sheets base).holdings (All-of (sheets base).holdings (λ h. refl))))
 leave_sums base books (position r run later rows same apart l) d f =
     let E : List HoldingRow = (sheets base).holdings in
-    let here : sum_by f (lot_rows_left_by_trades r (r ∷ run)) ≡ sum_by f (filter (at_place r) E) =
+    let here : sum_by f (holding_rows_left_by_trades r (r ∷ run)) ≡ sum_by f (filter (at_place r) E) =
     ap (sum_by f) (rows_there base books r (r ∷ run) (ap (map deal_of_completed_row) (sym (own_run r run later same apart)) ∙ d.0)) ∙ sum_there base r f in
     let rest : AreDealt base later =
     both later apart (all_back (λ s. map deal_of_completed_row (filter (is_same_position s) (r ∷ run ++ later)) ≡ deals_of_position (completed_trades base) s.account s.symbol) run later d.1) in
     let ih : sum_by f rows ≡ sum_by f (filter (at_any later) E) = leave_sums base books l rest f in
-    sum_append f (lot_rows_left_by_trades r (r ∷ run)) rows ∙ (λ i. here i + ih i)
+    sum_append f (holding_rows_left_by_trades r (r ∷ run)) rows ∙ (λ i. here i + ih i)
     ∙ (λ i. sum_filter f (at_place r) E i + sum_filter f (at_any later) E i)
     ∙ sym (sum_both (λ h. cond (at_place r h) (f h) 0) (λ h. cond (at_any later h) (f h) 0) E)
     ∙ sym (sum_same (λ h. cond (at_any (r ∷ run ++ later) h) (f h) 0) (λ h. cond (at_place r h) (f h) 0 + cond (at_any later h) (f h) 0) E (All-of E (λ h. parted r run later h (f h) same apart)))

@@ -31,7 +31,7 @@ use Rattle.brk_model.specs.Form.{has_account, has_security, is_id, is_price, is_
 use Rattle.brk_changes.specs.Rows.{abstract_trade_row}
 use Rattle.brk_changes.specs.declared.trade_row.TradeRow as trade
 use Rattle.brk_lots.proofs.Left.{same_is}
-use Rattle.brk_book_theorems.specs.Books.{BooksInvariant, HasDistinctStatusStamps}
+use Rattle.brk_book_theorems.specs.Books.{BooksInvariant, HasDistinctLastStatusStamps}
 use Rattle.brk_book_theorems.proofs.Bools.{numbers_back}
 use Rattle.brk_book_theorems.proofs.LotOrder.{Follows, InOrder, held_in_order, trades_held}
 use Rattle.brk_book_theorems.proofs.LotReading.{IdsApart, IdsRise, all_pass, filter-map, holdings_in_order, is_left, numbered_rise, rise_apart, rise_filter}
@@ -47,7 +47,7 @@ use Rattle.brk_model_theorems.specs.FormParts.{SatisfiesFormParts}
 use Rattle.brk_model_theorems.proofs.FormParts.{form_parts}
 use Rattle.brk_model_theorems.proofs.Conjunctions.{parts10}
 use Rattle.brk_audit.specs.Completed.{completed_trade_rows, is_completed_row}
-use Rattle.brk_audit.specs.Positions.{AreLotsLeftByTrades, has_same_id_or_stamp, precedes_by_position, deal_of_completed_row, is_same_position}
+use Rattle.brk_audit.specs.Positions.{AreLotsLeftByTrades, has_same_id_or_stamp, is_before_by_position, deal_of_completed_row, is_same_position}
 use Rattle.brk_audit.proofs.Completed.{completed_rows, done_moments, right_rows}
 use Rattle.brk_audit.proofs.Leaving.{any_in, at_any, at_place, leave_sums}
 use Rattle.brk_book_theorems.proofs.Orders.{Ascends, Rises, one_order, permuted, sum_filter, sum_map, sum_same, sum_sort}
@@ -85,7 +85,7 @@ priced_rows t f s =
     (filtered (λ r. (is_well_formed_trade_row f.schema t r ≡ true) × (has_valid_status_history t r ≡ true)) is_completed_row t.trades
     (both_all (λ r. is_well_formed_trade_row f.schema t r ≡ true) (λ r. has_valid_status_history t r ≡ true) t.trades (list_all_true (is_well_formed_trade_row f.schema t) t.trades p.trades) (right_rows t s)))
 
-no_clash : (t : Tables) (rs : List TradeRow) → IdsApart (map (trade_of_row t) rs) → HasDistinctStatusStamps (map (trade_of_row t) rs) → AllByRecursion (λ r. last_status_stamp_of_trade (trade_of_row t r) ≡ r.stamp) rs
+no_clash : (t : Tables) (rs : List TradeRow) → IdsApart (map (trade_of_row t) rs) → HasDistinctLastStatusStamps (map (trade_of_row t) rs) → AllByRecursion (λ r. last_status_stamp_of_trade (trade_of_row t r) ≡ r.stamp) rs
     → IsDistinct has_same_id_or_stamp rs
 unfolding IsDistinct
 no_clash t [] i m h = tt
@@ -106,7 +106,7 @@ clash_apart t f s =
     let rows : completed_trades base ≡ map (trade_of_row t) (completed_trade_rows t) = completed_rows t s in
     no_clash t (completed_trade_rows t)
     (subst IdsApart rows (rise_apart (completed_trades base) (rise_filter is_completed base.trades (numbered_rise 1 base.trades books.numbered))))
-    (subst HasDistinctStatusStamps rows books.moments)
+    (subst HasDistinctLastStatusStamps rows books.moments)
     (done_moments t s)
 
 -- ---- the deals of a position
@@ -160,11 +160,11 @@ deals_rise (t ∷ ts) o = (ahead ts o.0, deals_rise ts o.1)
     ahead [] h = tt
     ahead (u ∷ us) h = (h.0.1, ahead us h.1)
 
-rows_ascend : (p : TradeRow) (rs : List TradeRow) → AllByRecursion (λ r. is_same_position p r ≡ true) rs → Sorted precedes_by_position rs → Ascends (λ d. d.stamp) (map deal_of_completed_row rs)
+rows_ascend : (p : TradeRow) (rs : List TradeRow) → AllByRecursion (λ r. is_same_position p r ≡ true) rs → Sorted is_before_by_position rs → Ascends (λ d. d.stamp) (map deal_of_completed_row rs)
 rows_ascend p [] a s = tt
 rows_ascend p (r ∷ rs) a s = (ahead rs a.1 s.0, rows_ascend p rs a.1 s.1)
   where
-    ahead : (ss : List TradeRow) → AllByRecursion (λ u. is_same_position p u ≡ true) ss → NoneBefore precedes_by_position r ss → AllByRecursion (λ (d : Deal). r.stamp ≤ d.stamp) (map deal_of_completed_row ss)
+    ahead : (ss : List TradeRow) → AllByRecursion (λ u. is_same_position p u ≡ true) ss → NoneBefore is_before_by_position r ss → AllByRecursion (λ (d : Deal). r.stamp ≤ d.stamp) (map deal_of_completed_row ss)
     ahead [] b n = tt
     ahead (u ∷ ss) b n =
         let x = at_one p r a.0 in
@@ -205,7 +205,7 @@ sums_alike t r f rs h =
         ∙ parted (u.account == r.account) (bytes_eq u.symbol r.symbol) (f (deal_of_trade (trade_of_row t u)))
 
 -- in sorted rows a position's deals are those of the base
-pub dealt : (t : Tables) → IsWellFormedBySomeSchema t → satisfies_status_condition t ≡ true → (rs : List TradeRow) → IsPermutation (completed_trade_rows t) rs → Sorted precedes_by_position rs → (r : TradeRow)
+pub dealt : (t : Tables) → IsWellFormedBySomeSchema t → satisfies_status_condition t ≡ true → (rs : List TradeRow) → IsPermutation (completed_trade_rows t) rs → Sorted is_before_by_position rs → (r : TradeRow)
     → map deal_of_completed_row (filter (is_same_position r) rs) ≡ deals_of_position (completed_trades (base_of_tables t)) r.account r.symbol
 dealt t f s rs p o r =
     let base : Base = base_of_tables t in
@@ -213,7 +213,7 @@ dealt t f s rs p o r =
     let P : List Trade = trades_of_position (completed_trades base) r.account r.symbol in
     one_order (λ d. d.stamp) same_deal deals_decide (deals_of_position (completed_trades base) r.account r.symbol) (map deal_of_completed_row (filter (is_same_position r) rs))
     (deals_rise (trades_held base r.account r.symbol) (held_in_order base r.account r.symbol books))
-    (rows_ascend r (filter (is_same_position r) rs) (all_pass (is_same_position r) rs) (sorted_filter precedes_by_position (is_same_position r) rs o))
+    (rows_ascend r (filter (is_same_position r) rs) (all_pass (is_same_position r) rs) (sorted_filter is_before_by_position (is_same_position r) rs o))
     (λ g.
     sum_map g deal_of_completed_row (filter (is_same_position r) rs)
     ∙ sum_filter (λ u. g (deal_of_completed_row u)) (is_same_position r) rs
@@ -269,7 +269,7 @@ lots_placed t done rs (r ∷ all) m =
     let here : at_place r (holding_row done (trade_of_row t r)) ≡ true = and_from (r.account == r.account) (bytes_eq r.symbol r.symbol) (eq-eqb r.account r.account refl) ((bytes_eq-Decides r.symbol r.symbol).1 refl) in
     (any_in (λ u. at_place u (holding_row done (trade_of_row t r))) rs r (m r (inl refl)) here, lots_placed t done rs all (λ u k. m u (inr k)))
 
-pub lots_told : (schema : Schema) (t : Tables) → IsWellFormedBySomeSchema t → satisfies_status_condition t ≡ true → (rs : List TradeRow) (rows held : List HoldingRow) → IsPermutation (completed_trade_rows t) rs → Sorted precedes_by_position rs
+pub lots_told : (schema : Schema) (t : Tables) → IsWellFormedBySomeSchema t → satisfies_status_condition t ≡ true → (rs : List TradeRow) (rows held : List HoldingRow) → IsPermutation (completed_trade_rows t) rs → Sorted is_before_by_position rs
     → AreLotsLeftByTrades rs rows → IsPermutation rows held → Ascends (λ h. h.trade) held → held ≡ (expected_tables schema t).holdings
 lots_told schema t f s rs rows held p o l q a =
     let base : Base = base_of_tables t in

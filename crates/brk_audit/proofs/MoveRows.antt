@@ -13,7 +13,7 @@ use Rattle.brk_model.specs.Base.{Base, completed_trades}
 use Rattle.brk_model.specs.Derived.{deal_of_trade, deals_of_position}
 use Rattle.brk_model.specs.Keys.{KeyPart, rows_sorted_by_key, is_row_key_less, holding_history_key}
 use Rattle.brk_model.specs.Shares.{Deal}
-use Rattle.brk_model.specs.Tables.{HoldingHistoryRow, Tables, TradeRow, row_changes_quantity, holding_history_rows_of_lot, lot_rows_of_deals, tables_of_base_in_schema}
+use Rattle.brk_model.specs.Tables.{HoldingHistoryRow, Tables, TradeRow, row_changes_quantity, holding_history_rows_of_lot, holding_history_rows_of_deals, tables_of_base_in_schema}
 use Rattle.brk_model.specs.Sheets.{sheets, tables_sorted_by_key}
 use Rattle.brk_model.specs.Adopted.{base_of_tables, trade_of_row}
 use Rattle.brk_model.specs.Audit.{expected_tables}
@@ -29,7 +29,7 @@ use Rattle.brk_audit_theorems.proofs.Climbs.{Climbs}
 use Rattle.brk_audit_theorems.proofs.Parts.{key_parts}
 use Rattle.brk_model_theorems.proofs.FormParts.{form_parts}
 use Rattle.brk_audit.specs.Completed.{completed_trade_rows}
-use Rattle.brk_audit.specs.Positions.{AreLotChangesOfTrades, moves, precedes_by_position, deal_of_completed_row, is_same_position, untouched}
+use Rattle.brk_audit.specs.Positions.{AreLotChangesOfTrades, moves, is_before_by_position, deal_of_completed_row, is_same_position, untouched}
 use Rattle.brk_audit.proofs.Completed.{completed_rows}
 use Rattle.brk_audit.proofs.Leaving.{AreDealt, deals_among, own_run}
 use Rattle.brk_audit.proofs.LotRows.{dealt}
@@ -102,7 +102,7 @@ key_order_one {X = X} key same d (x ∷ xs) (y ∷ ys) c a h =
 
 -- what the rows of a trade's lot give to a sum
 abbrev pub own : Base → (HoldingHistoryRow → ℕ) → TradeRow → ℕ
-own base f r = sum_by f (filter row_changes_quantity (lot_rows_of_deals r.id [] (deals_of_position (completed_trades base) r.account r.symbol)))
+own base f r = sum_by f (filter row_changes_quantity (holding_history_rows_of_deals r.id [] (deals_of_position (completed_trades base) r.account r.symbol)))
 
 deals_of_order : (ts : List Trade) → InOrder ts → AreAscendingDeals (map deal_of_trade ts)
 deals_of_order [] o = tt
@@ -120,14 +120,14 @@ trace_sums base books (moves r run later rows same apart l) d f =
     let e : ds ≡ deals_of_position (completed_trades base) r.account r.symbol = ap (map deal_of_completed_row) (sym (own_run r run later same apart)) ∙ d.0 in
     let a : AreAscendingDeals ds = subst AreAscendingDeals (sym e) (deals_of_order (trades_held base r.account r.symbol) (held_in_order base r.account r.symbol books)) in
     let here : sum_by f (lot_changes_of_deals ds []) ≡ sum_by (own base f) (r ∷ run) =
-    run_sums ds a f ∙ sum_map (λ d. sum_by f (filter row_changes_quantity (lot_rows_of_deals d.trade [] ds))) deal_of_completed_row (r ∷ run)
-    ∙ sum_same (λ s. sum_by f (filter row_changes_quantity (lot_rows_of_deals s.id [] ds))) (own base f) (r ∷ run) (All-map (r ∷ run) (λ s p. one s p ds e) (same_self r, same)) in
+    run_sums ds a f ∙ sum_map (λ d. sum_by f (filter row_changes_quantity (holding_history_rows_of_deals d.trade [] ds))) deal_of_completed_row (r ∷ run)
+    ∙ sum_same (λ s. sum_by f (filter row_changes_quantity (holding_history_rows_of_deals s.id [] ds))) (own base f) (r ∷ run) (All-map (r ∷ run) (λ s p. one s p ds e) (same_self r, same)) in
     let rest : AreDealt base later =
     both later apart (all_back (λ s. map deal_of_completed_row (filter (is_same_position s) (r ∷ run ++ later)) ≡ deals_of_position (completed_trades base) s.account s.symbol) run later d.1) in
     sum_append f (lot_changes_of_deals ds []) rows ∙ (λ i. here i + trace_sums base books l rest f i) ∙ sym (sum_append (own base f) (r ∷ run) later)
   where
-    one : (s : TradeRow) → is_same_position r s ≡ true → (ds : List Deal) → ds ≡ deals_of_position (completed_trades base) r.account r.symbol → sum_by f (filter row_changes_quantity (lot_rows_of_deals s.id [] ds)) ≡ own base f s
-    one s p ds e = let k = at_one r s p in ap (λ (es : List Deal). sum_by f (filter row_changes_quantity (lot_rows_of_deals s.id [] es))) (e ∙ (λ i. deals_of_position (completed_trades base) (k.account i) (k.symbol i)))
+    one : (s : TradeRow) → is_same_position r s ≡ true → (ds : List Deal) → ds ≡ deals_of_position (completed_trades base) r.account r.symbol → sum_by f (filter row_changes_quantity (holding_history_rows_of_deals s.id [] ds)) ≡ own base f s
+    one s p ds e = let k = at_one r s p in ap (λ (es : List Deal). sum_by f (filter row_changes_quantity (holding_history_rows_of_deals s.id [] es))) (e ∙ (λ i. deals_of_position (completed_trades base) (k.account i) (k.symbol i)))
 
     both : (ss : List TradeRow) → AllByRecursion (λ s. is_same_position r s ≡ false) ss → AllByRecursion (λ s. map deal_of_completed_row (filter (is_same_position s) (r ∷ run ++ later)) ≡ deals_of_position (completed_trades base) s.account s.symbol) ss
         → AllByRecursion (λ s. map deal_of_completed_row (filter (is_same_position s) later) ≡ deals_of_position (completed_trades base) s.account s.symbol) ss
@@ -163,7 +163,7 @@ listed : (base : Base) → (sheets base).holding_history ≡ rows_sorted_by_key 
 unfolding tables_of_base_in_schema tables_sorted_by_key
 listed base = refl
 
-pub moves_told : (schema : Schema) (t : Tables) → IsWellFormedBySomeSchema t → satisfies_status_condition t ≡ true → (rs : List TradeRow) (rows moved : List HoldingHistoryRow) → IsPermutation (completed_trade_rows t) rs → Sorted precedes_by_position rs
+pub moves_told : (schema : Schema) (t : Tables) → IsWellFormedBySomeSchema t → satisfies_status_condition t ≡ true → (rs : List TradeRow) (rows moved : List HoldingHistoryRow) → IsPermutation (completed_trade_rows t) rs → Sorted is_before_by_position rs
     → AreLotChangesOfTrades rs rows → IsPermutation rows moved → Sorted (is_row_key_less holding_history_key) moved → (moved ≡ t.holding_history) ↔ (t.holding_history ≡ (expected_tables schema t).holding_history)
 moves_told schema t f s rs rows moved p o l q a =
     let base : Base = base_of_tables t in

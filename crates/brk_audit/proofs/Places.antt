@@ -16,7 +16,7 @@ use Rattle.brk_lots.specs.Deals.{AreAscendingDeals, IsLaterDeal}
 use Rattle.brk_book_theorems.proofs.Order.{NoneBefore, Sorted, key_one_way, key_splits, key_total}
 use Rattle.brk_book_theorems.proofs.Same.{All-map}
 use Rattle.brk_audit_form.proofs.KeyOrders.{gt_lt, numbers_before, texts_before}
-use Rattle.brk_audit.specs.Positions.{FirstElementSatisfies, has_same_id_or_stamp, precedes_by_position, position_sort_key, deal_of_completed_row, is_same_position}
+use Rattle.brk_audit.specs.Positions.{FirstElementSatisfies, has_same_id_or_stamp, is_before_by_position, position_sort_key, deal_of_completed_row, is_same_position}
 
 -- ---- a comparison tells it
 
@@ -61,7 +61,7 @@ key_order {X = X} key = record {
         let k : is_key_less (key y) (key z) ≡ true = key_splits (key z) (key y) (key x) h e in
         absurd (cc)
 
-pub place_order : {X : Type 0} (g : X → TradeRow) → IsStrictWeakOrder (λ x y. precedes_by_position (g x) (g y))
+pub place_order : {X : Type 0} (g : X → TradeRow) → IsStrictWeakOrder (λ x y. is_before_by_position (g x) (g y))
 place_order g = key_order (λ x. position_sort_key (g x))
 
 -- ---- trades of one position
@@ -86,7 +86,7 @@ text_self (x ∷ s) = let e : nat_lt x x ≡ false = le-ltb x x (omega arith) in
 moments_told : (a : ℕ) (s : Text) (m n : ℕ) → is_key_less (number a ∷ word s ∷ number m ∷ []) (number a ∷ word s ∷ number n ∷ []) ≡ nat_lt m n
 moments_told a s m n = let e : nat_lt a a ≡ false = le-ltb a a (omega arith) in rw (e, text_self s) (sym (alone (nat_lt m n) (nat_lt n m)))
 
-pub moment_order : (r s : TradeRow) → AtOne r s → precedes_by_position s r ≡ false → r.stamp ≤ s.stamp
+pub moment_order : (r s : TradeRow) → AtOne r s → is_before_by_position s r ≡ false → r.stamp ≤ s.stamp
 moment_order r s e h =
     let k : is_key_less (number r.account ∷ word r.symbol ∷ number s.stamp ∷ []) (position_sort_key r) ≡ false = (λ i. is_key_less (number (e.account i) ∷ word (e.symbol i) ∷ number s.stamp ∷ []) (position_sort_key r)) ∙ h in
     ltb-false s.stamp r.stamp (sym (moments_told r.account r.symbol s.stamp r.stamp) ∙ k)
@@ -111,7 +111,7 @@ between_texts s t e f =
 past_account : (a : ℕ) (ks ls : List KeyPart) → is_key_less (number a ∷ ks) (number a ∷ ls) ≡ is_key_less ks ls
 past_account a ks ls = let e : nat_lt a a ≡ false = le-ltb a a (omega arith) in rw e refl
 
-pub between : (r y z : TradeRow) → AtOne r z → precedes_by_position y r ≡ false → precedes_by_position z y ≡ false → AtOne r y
+pub between : (r y z : TradeRow) → AtOne r z → is_before_by_position y r ≡ false → is_before_by_position z y ≡ false → AtOne r y
 between r y z h e f =
     let low : nat_lt y.account r.account ≡ false = (or_none _ _ e).0 in
     let high : nat_lt z.account y.account ≡ false = (or_none _ _ f).0 in
@@ -158,19 +158,19 @@ distinct_drop same (suc n) [] d = tt
 distinct_drop same (suc n) (x ∷ xs) d = distinct_drop same n xs d.1
 
 -- those behind the trades of a position are of others
-pub others : (r : TradeRow) (run later : List TradeRow) → Sorted precedes_by_position (r ∷ run ++ later) → FirstElementSatisfies (λ s. is_same_position r s ≡ false) later → AllByRecursion (λ s. is_same_position r s ≡ false) later
-others r run later s h = by_first later (all_back (λ y. precedes_by_position y r ≡ false) run later s.0) (sorted_back precedes_by_position run later s.1) h
+pub others : (r : TradeRow) (run later : List TradeRow) → Sorted is_before_by_position (r ∷ run ++ later) → FirstElementSatisfies (λ s. is_same_position r s ≡ false) later → AllByRecursion (λ s. is_same_position r s ≡ false) later
+others r run later s h = by_first later (all_back (λ y. is_before_by_position y r ≡ false) run later s.0) (sorted_back is_before_by_position run later s.1) h
   where
-    other : (y z : TradeRow) → precedes_by_position y r ≡ false → is_same_position r y ≡ false → precedes_by_position z y ≡ false → (b : Bool) → is_same_position r z ≡ b → is_same_position r z ≡ false
+    other : (y z : TradeRow) → is_before_by_position y r ≡ false → is_same_position r y ≡ false → is_before_by_position z y ≡ false → (b : Bool) → is_same_position r z ≡ b → is_same_position r z ≡ false
     other y z e n f false k = k
     other y z e n f true k = let p : is_same_position r y ≡ true = one_place r y (between r y z (at_one r z k) e f) in absurd (cc)
 
-    by_first : (ys : List TradeRow) → AllByRecursion (λ y. precedes_by_position y r ≡ false) ys → Sorted precedes_by_position ys → FirstElementSatisfies (λ s. is_same_position r s ≡ false) ys → AllByRecursion (λ s. is_same_position r s ≡ false) ys
+    by_first : (ys : List TradeRow) → AllByRecursion (λ y. is_before_by_position y r ≡ false) ys → Sorted is_before_by_position ys → FirstElementSatisfies (λ s. is_same_position r s ≡ false) ys → AllByRecursion (λ s. is_same_position r s ≡ false) ys
     by_first [] a t h = tt
     by_first (y ∷ ys) a t h = (h, All-map ys (λ z f. other y z a.0 h f (is_same_position r z) refl) t.0)
 
 -- the trades of a position are deals one after another
-follows : (p r s : TradeRow) → is_same_position p r ≡ true → is_same_position p s ≡ true → has_same_id_or_stamp r s ≡ false → precedes_by_position s r ≡ false → IsLaterDeal (deal_of_completed_row r) (deal_of_completed_row s)
+follows : (p r s : TradeRow) → is_same_position p r ≡ true → is_same_position p s ≡ true → has_same_id_or_stamp r s ≡ false → is_before_by_position s r ≡ false → IsLaterDeal (deal_of_completed_row r) (deal_of_completed_row s)
 follows p r s e f c b =
     let x = at_one p r e in
     let y = at_one p s f in
@@ -178,12 +178,12 @@ follows p r s e f c b =
     let low : r.stamp ≤ s.stamp = moment_order r s (record { account = sym x.account ∙ y.account; symbol = sym x.symbol ∙ y.symbol }) b in
     (eqb-false r.id s.id k.0, let n : r.stamp ≢ s.stamp = eqb-false r.stamp s.stamp k.1 in omega (arith, low, n))
 
-pub deals_follow : (p : TradeRow) (run : List TradeRow) → Sorted precedes_by_position run → IsDistinct has_same_id_or_stamp run → AllByRecursion (λ s. is_same_position p s ≡ true) run → AreAscendingDeals (map deal_of_completed_row run)
+pub deals_follow : (p : TradeRow) (run : List TradeRow) → Sorted is_before_by_position run → IsDistinct has_same_id_or_stamp run → AllByRecursion (λ s. is_same_position p s ≡ true) run → AreAscendingDeals (map deal_of_completed_row run)
 unfolding IsDistinct
 deals_follow p [] s d a = tt
 deals_follow p (r ∷ run) s d a = (behind run s.0 d.0 a.1, deals_follow p run s.1 d.1 a.1)
   where
-    behind : (ss : List TradeRow) → NoneBefore precedes_by_position r ss → AllByRecursion (λ t. has_same_id_or_stamp r t ≡ false) ss → AllByRecursion (λ t. is_same_position p t ≡ true) ss → AllByRecursion (IsLaterDeal (deal_of_completed_row r)) (map deal_of_completed_row ss)
+    behind : (ss : List TradeRow) → NoneBefore is_before_by_position r ss → AllByRecursion (λ t. has_same_id_or_stamp r t ≡ false) ss → AllByRecursion (λ t. is_same_position p t ≡ true) ss → AllByRecursion (IsLaterDeal (deal_of_completed_row r)) (map deal_of_completed_row ss)
     behind [] h k l = tt
     behind (t ∷ ts) h k l = (follows p r t a.0 l.0 k.0 h.0, behind ts h.1 k.1 l.1)
 

@@ -25,7 +25,7 @@ use Rattle.brk_audit_theorems.proofs.Climbs.{Climbs, In, climbs_filter, climbs_m
 use Rattle.brk_audit_theorems.proofs.Members.{FoundIn, found_in, map-map, one_of_key}
 use Rattle.brk_audit_theorems.proofs.AdoptedBooks.{filter-map}
 use Rattle.brk_audit.specs.Completed.{completed_trade_rows, is_completed_row, is_pending_row, pending_trade_rows}
-use Rattle.brk_audit.specs.Settling.{settlement_amount_at, account_broker_or_zero, settlement_figures_of_row, settlement_figures_of_trade, is_completed_cash_trade, cash_figures_of_trade, cash_figures_of_row, request_row_of_trade, account_tax_status_or_untaxed}
+use Rattle.brk_audit.specs.Settling.{settlement_amount_at_tax_status, account_broker_or_zero, settlement_figures_of_row, settlement_figures_of_trade, is_completed_cash_trade, cash_figures_of_trade, cash_figures_of_row, request_row_of_trade, account_tax_status_or_untaxed}
 use Rattle.brk_audit.proofs.Completed.{completed_rows, pending_rows, right_rows, row_moment}
 use Rattle.brk_model.specs.Schemas.{Schema}
 
@@ -51,7 +51,7 @@ same_tax_status t id = ap (λ o. option_map_or (λ a. a.tax_status) o Untaxed) (
     of_row None = refl
     of_row (Some a) = refl
 
-pub same_amount : (t : Tables) (r : TradeRow) → settlement_amount (accounts_in t) (trade_of_row t r) ≡ settlement_amount_at (account_tax_status_or_untaxed t r.account) r
+pub same_amount : (t : Tables) (r : TradeRow) → settlement_amount (accounts_in t) (trade_of_row t r) ≡ settlement_amount_at_tax_status (account_tax_status_or_untaxed t r.account) r
 same_amount t r = λ i.
     signed_proceeds (side_of_trade_type r.kind) (r.qty * unwrap_or r.price 0) -ℤ pos (r.charge + r.commission + (if is_withholding_status (same_tax_status t r.account i) then r.tax else 0))
 
@@ -89,7 +89,7 @@ cash_rows t s =
     ap cash_trades (completed_rows t s) ∙ filter-map (λ u. u.is_cash) (trade_of_row t) (completed_trade_rows t)
     ∙ ap (map (trade_of_row t)) (filter-filter (λ r. r.is_cash) is_completed_row t.trades)
 
-wanted_cash : (schema : Schema) (t : Tables) → schema.has_moves ≡ false → Climbs trade_key t.trades → satisfies_status_condition t ≡ true
+wanted_cash : (schema : Schema) (t : Tables) → schema.has_cash_move_table ≡ false → Climbs trade_key t.trades → satisfies_status_condition t ≡ true
     → (expected_tables schema t).cash ≡ map (λ r. cash_row (accounts_in t) (trade_of_row t r)) (filter is_completed_cash_trade t.trades)
 unfolding base_of_tables tables_sorted_by_key tables_of_base_in_schema
 wanted_cash schema t n c s =
@@ -104,7 +104,7 @@ pub no_rows : {Row : Type 0} (before : Row → Row → Bool) → sort_by before 
 unfolding sort_by
 no_rows before = refl
 
-wanted_no_moves : (schema : Schema) (t : Tables) → schema.has_moves ≡ false → (expected_tables schema t).moves ≡ []
+wanted_no_moves : (schema : Schema) (t : Tables) → schema.has_cash_move_table ≡ false → (expected_tables schema t).moves ≡ []
 unfolding tables_sorted_by_key tables_of_base_in_schema
 wanted_no_moves schema t n = ap (λ b. rows_sorted_by_key move_key (cond b (numbered_move_rows 1 (postings_sorted_by_stamp (postings_of_base (base_of_tables t)))) [])) n ∙ no_rows (is_row_key_less move_key)
 
@@ -235,7 +235,7 @@ same_cash t (c ∷ cs) (r ∷ rs) n f e d =
     let more = same_cash t cs rs n f.1 e.1 k in
     λ i. g i ∷ more i
 
-pub cash_by_rows : (schema : Schema) (t : Tables) → schema.has_moves ≡ false → t.moves ≡ [] → Climbs trade_key t.trades → Climbs cash_key t.cash → satisfies_status_condition t ≡ true
+pub cash_by_rows : (schema : Schema) (t : Tables) → schema.has_cash_move_table ≡ false → t.moves ≡ [] → Climbs trade_key t.trades → Climbs cash_key t.cash → satisfies_status_condition t ≡ true
     → (ConditionHolds schema condition.Cash t → HasCash t) × (HasCash t → ConditionHolds schema condition.Cash t)
 unfolding ConditionHolds
 cash_by_rows schema t n m c d s =

@@ -9,7 +9,7 @@ use Rattle.brk_lots.specs.Deals.{AreAscendingDeals}
 use Rattle.brk_model.specs.Tables.{TradeRow}
 use Rattle.brk_book_theorems.proofs.Order.{Sorted}
 use Rattle.brk_audit_theorems.proofs.Members.{map-map}
-use Rattle.brk_audit.specs.Positions.{FirstElementSatisfies, has_same_id_or_stamp, precedes_by_position, deal_of_completed_row, is_same_position}
+use Rattle.brk_audit.specs.Positions.{FirstElementSatisfies, has_same_id_or_stamp, is_before_by_position, deal_of_completed_row, is_same_position}
 use Rattle.brk_book_theorems.proofs.Orders.{sorted_by, sorted_map}
 use Rattle.brk_audit.proofs.Places.{deals_follow, distinct_drop, distinct_front, others, place_order, same_self, sorted_drop, sorted_front}
 
@@ -39,7 +39,7 @@ pub record Stretch (done : List (Bor code.TradeRow)) (b n : ℕ) (x : Bor code.T
   pub behind : AllByRecursion (λ s. is_same_position (seen x) s ≡ false) (map seen (drop (b + 1 + n) done))
 
 pub stretch : (done : List (Bor code.TradeRow)) (b n : ℕ) (x : Bor code.TradeRow) → b < length done → x ≡ get_or done b x
-    → IsSortedBy (λ y z. precedes_by_position (seen y) (seen z)) done → IsDistinct has_same_id_or_stamp (map seen done)
+    → IsSortedBy (λ y z. is_before_by_position (seen y) (seen z)) done → IsDistinct has_same_id_or_stamp (map seen done)
     → AllByRecursion (λ y. is_same_position (seen x) (seen y) ≡ true) (take n (take (length done - (b + 1)) (drop (b + 1) done)))
     → FirstElementSatisfies (λ y. is_same_position (seen x) (seen y) ≡ false) (drop n (take (length done - (b + 1)) (drop (b + 1) done)))
     → Stretch done b n x
@@ -53,9 +53,9 @@ stretch done b n x h e sorted apart same next =
     ∙ ap (λ (ys : List TradeRow). seen x ∷ ys) (map-append seen (take n rest) (drop n rest))
     ∙ ap (λ (ys : List (Bor code.TradeRow)). seen x ∷ map seen (take n rest) ++ map seen ys) later in
     let length_is : b + 1 + n - b ≡ suc n = omega arith in
-    let ordered : Sorted precedes_by_position (map seen (drop b done)) = sorted_map precedes_by_position seen (drop b done) (sorted_drop (λ y z. precedes_by_position (seen y) (seen z)) b done (sorted_by (λ y z. precedes_by_position (seen y) (seen z)) (place_order seen) done sorted)) in
+    let ordered : Sorted is_before_by_position (map seen (drop b done)) = sorted_map is_before_by_position seen (drop b done) (sorted_drop (λ y z. is_before_by_position (seen y) (seen z)) b done (sorted_by (λ y z. is_before_by_position (seen y) (seen z)) (place_order seen) done sorted)) in
     let distinct : IsDistinct has_same_id_or_stamp (map seen (drop b done)) = subst (IsDistinct has_same_id_or_stamp) (map_drop seen b done) (distinct_drop has_same_id_or_stamp b (map seen done) apart) in
-    let s : Sorted precedes_by_position (seen x ∷ map seen (take n rest) ++ map seen (drop (b + 1 + n) done)) = subst (Sorted precedes_by_position) is ordered in
+    let s : Sorted is_before_by_position (seen x ∷ map seen (take n rest) ++ map seen (drop (b + 1 + n) done)) = subst (Sorted is_before_by_position) is ordered in
     let d : IsDistinct has_same_id_or_stamp (seen x ∷ map seen (take n rest) ++ map seen (drop (b + 1 + n) done)) = subst (IsDistinct has_same_id_or_stamp) is distinct in
     let a : AllByRecursion (λ t. is_same_position (seen x) t ≡ true) (map seen (take n rest)) = all_mapped (λ t. is_same_position (seen x) t ≡ true) seen (take n rest) (subst (λ (ys : List (Bor code.TradeRow)). AllByRecursion (λ y. is_same_position (seen x) (seen y) ≡ true) (take n ys)) whole same) in
     let heads : FirstElementSatisfies (λ y. is_same_position (seen x) (seen y) ≡ false) (drop (b + 1 + n) done) = subst (λ (ys : List (Bor code.TradeRow)). FirstElementSatisfies (λ y. is_same_position (seen x) (seen y) ≡ false) ys) (ap (drop n) whole ∙ later) next in
@@ -63,7 +63,7 @@ stretch done b n x h e sorted apart same next =
       is = is;
       run = ap (map seen) (ap (λ m. take m (drop b done)) length_is ∙ ap (take (suc n)) first);
       same = a;
-      deals = deals_follow (seen x) (seen x ∷ map seen (take n rest)) (sorted_front precedes_by_position (seen x ∷ map seen (take n rest)) (map seen (drop (b + 1 + n) done)) s) (distinct_front has_same_id_or_stamp (seen x ∷ map seen (take n rest)) (map seen (drop (b + 1 + n) done)) d) (same_self (seen x), a);
+      deals = deals_follow (seen x) (seen x ∷ map seen (take n rest)) (sorted_front is_before_by_position (seen x ∷ map seen (take n rest)) (map seen (drop (b + 1 + n) done)) s) (distinct_front has_same_id_or_stamp (seen x ∷ map seen (take n rest)) (map seen (drop (b + 1 + n) done)) d) (same_self (seen x), a);
       behind = others (seen x) (map seen (take n rest)) (map seen (drop (b + 1 + n) done)) s (heads_mapped (λ t. is_same_position (seen x) t ≡ false) seen (drop (b + 1 + n) done) heads);
     }
 

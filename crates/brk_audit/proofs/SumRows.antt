@@ -23,7 +23,7 @@ use Rattle.brk_audit_theorems.proofs.Climbs.{Climbs, In, climbs_map, each_in, st
 use Rattle.brk_audit_theorems.proofs.Members.{FoundIn, found_in, map-map, one_of_key}
 use Rattle.brk_audit_theorems.proofs.AdoptedTables.{brokers_there}
 use Rattle.brk_audit.specs.Completed.{completed_trade_rows, is_completed_row}
-use Rattle.brk_audit.specs.Settling.{settlement_amount_at, account_broker_or_zero, is_completed_cash_trade, account_tax_status_or_untaxed}
+use Rattle.brk_audit.specs.Settling.{settlement_amount_at_tax_status, account_broker_or_zero, is_completed_cash_trade, account_tax_status_or_untaxed}
 use Rattle.brk_audit.specs.Sums.{sum_over_account_cash_trades, sum_over_broker_trades, movement_sum_of_account}
 use Rattle.brk_audit.proofs.Completed.{completed_rows}
 use Rattle.brk_audit.proofs.Postings.{total_mapped}
@@ -54,11 +54,11 @@ of_broker_sum t f g broker s e =
     (All-of t.trades (λ r i. is_completed_row r && (same_broker t r.account i == broker))))
 
 of_account_sum : (t : Tables) (account : ℕ) → satisfies_status_condition t ≡ true
-    → total_by (settlement_amount (base_of_tables t).accounts) (filter (λ u. u.account == account) (cash_trades (completed_trades (base_of_tables t)))) ≡ sum_over_account_cash_trades t (λ r. settlement_amount_at (account_tax_status_or_untaxed t r.account) r) account
+    → total_by (settlement_amount (base_of_tables t).accounts) (filter (λ u. u.account == account) (cash_trades (completed_trades (base_of_tables t)))) ≡ sum_over_account_cash_trades t (λ r. settlement_amount_at_tax_status (account_tax_status_or_untaxed t r.account) r) account
 unfolding base_of_tables
 of_account_sum t account s =
     let f : Trade → ℤ = settlement_amount (accounts_in t) in
-    let g : TradeRow → ℤ = λ r. settlement_amount_at (account_tax_status_or_untaxed t r.account) r in
+    let g : TradeRow → ℤ = λ r. settlement_amount_at_tax_status (account_tax_status_or_untaxed t r.account) r in
     ap (λ ts. total_by f (filter (λ u. u.account == account) (cash_trades ts))) (completed_rows t s)
     ∙ ap (total_by f) (filter-filter (λ u. u.account == account) (λ u. u.is_cash) (map (trade_of_row t) (completed_trade_rows t)))
     ∙ total_mapped f (λ u. u.is_cash && (u.account == account)) (trade_of_row t) (completed_trade_rows t)
@@ -118,7 +118,7 @@ CommissionsHold t = AllByRecursion (λ b. pos b.commissions ≡ sum_over_broker_
 
 -- what its cash trades and its movements moved on an account
 abbrev pub moved_on : Tables → ℕ → ℤ
-moved_on t account = sum_over_account_cash_trades t (λ r. settlement_amount_at (account_tax_status_or_untaxed t r.account) r) account +ℤ movement_sum_of_account t account
+moved_on t account = sum_over_account_cash_trades t (λ r. settlement_amount_at_tax_status (account_tax_status_or_untaxed t r.account) r) account +ℤ movement_sum_of_account t account
 
 abbrev pub BalancesHold : Tables → Type 0
 BalancesHold t = AllByRecursion (λ a. a.balance ≡ a.opening +ℤ moved_on t a.id) t.accounts

@@ -21,7 +21,7 @@ use Rattle.brk_model.specs.Shares.{signed_by_side}
 use Rattle.brk_model.specs.Schemas.{Schema}
 use Rattle.brk_model.specs.Tables.{Tables, SummaryRow, TradeRow}
 use Rattle.brk_changes.specs.Rows.{abstract_summary_row, abstract_trade_row}
-use Rattle.brk_changes.specs.Sheets.{tables_in_sheets}
+use Rattle.brk_changes.specs.Sheets.{abstract_sheets}
 use Rattle.brk_changes.specs.declared.sheets.Sheets.{Sheets}
 use Rattle.brk_book_theorems.proofs.Same.{All-map, All-mapped, All-of, filter-none, filter-same, find-none}
 use Rattle.brk_audit_theorems.proofs.Climbs.{list_all_true, of_all}
@@ -29,7 +29,7 @@ use Rattle.brk_audit_theorems.proofs.Members.{FoundIn, found_in}
 use Rattle.brk_model_theorems.proofs.FormParts.{form_parts}
 use Rattle.brk_model_theorems.proofs.Conjunctions.{parts10, parts3}
 use Rattle.brk_audit.specs.Completed.{is_completed_row}
-use Rattle.brk_audit.specs.PositionSums.{SummariesMatchTrades, HasNonzeroQuantity, plain_posting, position_cmp, share_posting_of_trade, shares_left_by_trades, shares_in_summaries, share_posting_of_summary}
+use Rattle.brk_audit.specs.PositionSums.{SummariesMatchTrades, HasNonzeroQuantity, posting_with_owned_symbol, position_cmp, share_posting_of_trade, shares_left_by_trades, shares_in_summaries, share_posting_of_summary}
 use Rattle.brk_audit.specs.Tally.{sum_at_key, total_amount_at_key}
 use Rattle.brk_audit.specs.declared.tally.Posting.{Posting}
 use Rattle.brk_audit.proofs.Checked.{rows_back, rows_hold}
@@ -54,13 +54,13 @@ is_same_place m n s u = both_equal (nat_cmp m n) (slice_cmp nat_cmp s u) ∙ (λ
 
 -- ---- sums
 
-sum_there : (s : Sheets) (ps : List (Posting Place)) (q : Place) → map plain_posting ps ≡ filter_map (λ r. share_posting_of_trade (abstract_trade_row r)) s.trades.items
-    → total_amount_at_key position_cmp ps q ≡ shares_left_by_trades (tables_in_sheets s) q.0 q.1.now
+sum_there : (s : Sheets) (ps : List (Posting Place)) (q : Place) → map posting_with_owned_symbol ps ≡ filter_map (λ r. share_posting_of_trade (abstract_trade_row r)) s.trades.items
+    → total_amount_at_key position_cmp ps q ≡ shares_left_by_trades (abstract_sheets s) q.0 q.1.now
 unfolding plain_cmp
 sum_there s ps q e =
     let at : ℕ × Text = (q.0, q.1.now) in
     let f : TradeRow → ℤ = λ r. signed_by_side (side_of_trade_type r.kind) r.qty in
-    sym (total_mapped (λ p. p.amount) (λ p. is_eq (plain_cmp p.key at)) plain_posting ps)
+    sym (total_mapped (λ p. p.amount) (λ p. is_eq (plain_cmp p.key at)) posting_with_owned_symbol ps)
     ∙ ap (λ xs. total_amount_at_key plain_cmp xs at) e
     ∙ total_posted plain_cmp (λ r. is_completed_row (abstract_trade_row r)) (λ r. ((abstract_trade_row r).account, (abstract_trade_row r).symbol)) (λ r. f (abstract_trade_row r)) s.trades.items at
     ∙ ap (total_by (λ r. f (abstract_trade_row r))) (filter-same (λ r. is_completed_row (abstract_trade_row r) && is_eq (plain_cmp ((abstract_trade_row r).account, (abstract_trade_row r).symbol) at))
@@ -68,12 +68,12 @@ sum_there s ps q e =
     (All-of s.trades.items (λ r i. is_completed_row (abstract_trade_row r) && is_same_place (abstract_trade_row r).account q.0 (abstract_trade_row r).symbol q.1.now i)))
     ∙ sym (total_mapped f (λ r. is_completed_row r && ((r.account == q.0) && bytes_eq r.symbol q.1.now)) abstract_trade_row s.trades.items)
 
-told_there : (s : Sheets) (cs : List (Posting Place)) (q : Place) → map plain_posting cs ≡ map (λ r. share_posting_of_summary (abstract_summary_row r)) s.summaries.items
-    → total_amount_at_key position_cmp cs q ≡ shares_in_summaries (tables_in_sheets s).summaries q.0 q.1.now
+told_there : (s : Sheets) (cs : List (Posting Place)) (q : Place) → map posting_with_owned_symbol cs ≡ map (λ r. share_posting_of_summary (abstract_summary_row r)) s.summaries.items
+    → total_amount_at_key position_cmp cs q ≡ shares_in_summaries (abstract_sheets s).summaries q.0 q.1.now
 unfolding plain_cmp
 told_there s cs q e =
     let at : ℕ × Text = (q.0, q.1.now) in
-    sym (total_mapped (λ p. p.amount) (λ p. is_eq (plain_cmp p.key at)) plain_posting cs)
+    sym (total_mapped (λ p. p.amount) (λ p. is_eq (plain_cmp p.key at)) posting_with_owned_symbol cs)
     ∙ ap (λ xs. total_amount_at_key plain_cmp xs at) e
     ∙ total_mapped (λ p. p.amount) (λ p. is_eq (plain_cmp p.key at)) (λ r. share_posting_of_summary (abstract_summary_row r)) s.summaries.items
     ∙ ap (total_by (λ r. (abstract_summary_row r).qty)) (filter-same (λ r. is_eq (plain_cmp ((abstract_summary_row r).account, (abstract_summary_row r).symbol) at))
@@ -95,22 +95,22 @@ trade_known schema t r e =
 summary_known : (schema : Schema) (t : Tables) (h : SummaryRow) → is_well_formed_summary_row schema t h ≡ true → IsKnown t h.account h.symbol
 summary_known schema t h e = let p = parts3 (has_account t h.account) (has_security t h.symbol) (nat_le (nat_abs h.qty) schema.greatest_summary) e in (p.0, p.1)
 
-postings_known : (s : Sheets) (ps : List (Posting Place)) → IsWellFormedBySomeSchema (tables_in_sheets s) → map plain_posting ps ≡ filter_map (λ r. share_posting_of_trade (abstract_trade_row r)) s.trades.items
-    → AllByRecursion (λ p. IsKnown (tables_in_sheets s) p.key.0 p.key.1.now) ps
+postings_known : (s : Sheets) (ps : List (Posting Place)) → IsWellFormedBySomeSchema (abstract_sheets s) → map posting_with_owned_symbol ps ≡ filter_map (λ r. share_posting_of_trade (abstract_trade_row r)) s.trades.items
+    → AllByRecursion (λ p. IsKnown (abstract_sheets s) p.key.0 p.key.1.now) ps
 postings_known s ps f e =
-    let t : Tables = tables_in_sheets s in
-    rows_back (λ p. IsKnown t p.key.0 p.key.1.now) (λ p. IsKnown t p.key.0 p.key.1) plain_posting ps (λ p h. h)
+    let t : Tables = abstract_sheets s in
+    rows_back (λ p. IsKnown t p.key.0 p.key.1.now) (λ p. IsKnown t p.key.0 p.key.1) posting_with_owned_symbol ps (λ p h. h)
     (subst (AllByRecursion (λ p. IsKnown t p.key.0 p.key.1)) (sym e)
     (All-filter_map (λ p. IsKnown t p.key.0 p.key.1) (λ r. is_completed_row (abstract_trade_row r))
     (λ r. record { key = ((abstract_trade_row r).account, (abstract_trade_row r).symbol); amount = signed_by_side (side_of_trade_type (abstract_trade_row r).kind) (abstract_trade_row r).qty }) s.trades.items
     (rows_back (λ r. IsKnown t (abstract_trade_row r).account (abstract_trade_row r).symbol) (λ r. is_well_formed_trade_row f.schema t r ≡ true) abstract_trade_row s.trades.items (λ r. trade_known f.schema t (abstract_trade_row r))
     (list_all_true (is_well_formed_trade_row f.schema t) t.trades (form_parts f.schema t f.form).trades))))
 
-claims_known : (s : Sheets) (cs : List (Posting Place)) → IsWellFormedBySomeSchema (tables_in_sheets s) → map plain_posting cs ≡ map (λ r. share_posting_of_summary (abstract_summary_row r)) s.summaries.items
-    → AllByRecursion (λ p. IsKnown (tables_in_sheets s) p.key.0 p.key.1.now) cs
+claims_known : (s : Sheets) (cs : List (Posting Place)) → IsWellFormedBySomeSchema (abstract_sheets s) → map posting_with_owned_symbol cs ≡ map (λ r. share_posting_of_summary (abstract_summary_row r)) s.summaries.items
+    → AllByRecursion (λ p. IsKnown (abstract_sheets s) p.key.0 p.key.1.now) cs
 claims_known s cs f e =
-    let t : Tables = tables_in_sheets s in
-    rows_back (λ p. IsKnown t p.key.0 p.key.1.now) (λ p. IsKnown t p.key.0 p.key.1) plain_posting cs (λ p h. h)
+    let t : Tables = abstract_sheets s in
+    rows_back (λ p. IsKnown t p.key.0 p.key.1.now) (λ p. IsKnown t p.key.0 p.key.1) posting_with_owned_symbol cs (λ p h. h)
     (subst (AllByRecursion (λ p. IsKnown t p.key.0 p.key.1)) (sym e)
     (All-mapped (λ p. IsKnown t p.key.0 p.key.1) (λ r. share_posting_of_summary (abstract_summary_row r)) s.summaries.items
     (rows_back (λ r. IsKnown t (abstract_summary_row r).account (abstract_summary_row r).symbol) (λ r. is_well_formed_summary_row f.schema t r ≡ true) abstract_summary_row s.summaries.items (λ r. summary_known f.schema t (abstract_summary_row r))
@@ -120,8 +120,8 @@ claims_known s cs f e =
 
 -- two tallies, of what trades leave and of what summaries tell
 pub record Tallied (s : Sheets) (sums told : BTreeMap Place ℤ) (ps cs : List (Posting Place)) : Type 0 where
-  pub posted : map plain_posting ps ≡ filter_map (λ r. share_posting_of_trade (abstract_trade_row r)) s.trades.items
-  pub claimed : map plain_posting cs ≡ map (λ r. share_posting_of_summary (abstract_summary_row r)) s.summaries.items
+  pub posted : map posting_with_owned_symbol ps ≡ filter_map (λ r. share_posting_of_trade (abstract_trade_row r)) s.trades.items
+  pub claimed : map posting_with_owned_symbol cs ≡ map (λ r. share_posting_of_summary (abstract_summary_row r)) s.summaries.items
   pub of_trades : (q : Place) → sum_at_key position_cmp sums q ≡ total_amount_at_key position_cmp ps q
   pub of_rows : (q : Place) → sum_at_key position_cmp told q ≡ total_amount_at_key position_cmp cs q
 
@@ -135,7 +135,7 @@ none_there ps q e = ap (total_by (λ p. p.amount)) (filter-none (λ p. is_eq (po
 
 module _ (s : Sheets) (sums told : BTreeMap Place ℤ) (ps cs : List (Posting Place)) (w : Tallied s sums told ps cs) where
   abbrev t : Tables
-  t = tables_in_sheets s
+  t = abstract_sheets s
 
   sum_is : (q : Place) → sum_at_key position_cmp sums q ≡ shares_left_by_trades t q.0 q.1.now
   sum_is q = w.of_trades q ∙ sum_there s ps q w.posted
@@ -167,7 +167,7 @@ module _ (s : Sheets) (sums told : BTreeMap Place ℤ) (ps cs : List (Posting Pl
   pub they_hold : AllByRecursion (Agree sums told) ps → AllByRecursion (Agree sums told) cs → AllByRecursion (λ r. is_zero r.qty ≡ false) s.summaries.items → SummariesMatchTrades t
   they_hold a b n = record {
     sums = λ account symbol i j. agreed a b (account, record { ref_ptr = (0, 0); now = symbol });
-    told = rows_hold (λ r. is_zero r.qty ≡ false) HasNonzeroQuantity abstract_summary_row s.summaries.items (λ r h. h) n;
+    nonzero = rows_hold (λ r. is_zero r.qty ≡ false) HasNonzeroQuantity abstract_summary_row s.summaries.items (λ r h. h) n;
   }
 
   known_agree : (xs : List (Posting Place)) → SummariesMatchTrades t → AllByRecursion (λ p. IsKnown t p.key.0 p.key.1.now) xs → AllByRecursion (Agree sums told) xs
@@ -178,5 +178,5 @@ module _ (s : Sheets) (sums told : BTreeMap Place ℤ) (ps cs : List (Posting Pl
   they_agree f h = (
     known_agree ps h (postings_known s ps f w.posted),
     known_agree cs h (claims_known s cs f w.claimed),
-    rows_back (λ r. is_zero r.qty ≡ false) HasNonzeroQuantity abstract_summary_row s.summaries.items (λ r e. e) h.told,
+    rows_back (λ r. is_zero r.qty ≡ false) HasNonzeroQuantity abstract_summary_row s.summaries.items (λ r e. e) h.nonzero,
   )

@@ -283,9 +283,9 @@ summaries_by_rows schema t f s =
     let e : (expected_tables schema t).summaries ≡ wanted t = wanted_is schema t k in (
       (λ h. let g : wanted t ≡ t.summaries = sym (h ∙ e) in record {
         sums = λ account symbol i j. sym (told account symbol i j) ∙ ap (λ rows. shares_in_summaries rows account symbol) g;
-        told = subst (AllByRecursion HasNonzeroQuantity) g (wanted_tells t);
+        nonzero = subst (AllByRecursion HasNonzeroQuantity) g (wanted_tells t);
       }),
       (λ w. same_rows summary_key t.summaries (wanted t) k.summaries (wanted_climbs t k)
-          (each_alike t t.summaries (wanted t) k.summaries (wanted_climbs t k) w.told known (λ account symbol i j. sym (w.sums account symbol i j) ∙ sym (told account symbol i j)))
+          (each_alike t t.summaries (wanted t) k.summaries (wanted_climbs t k) w.nonzero known (λ account symbol i j. sym (w.sums account symbol i j) ∙ sym (told account symbol i j)))
           (each_alike t (wanted t) t.summaries (wanted_climbs t k) k.summaries (wanted_tells t) (wanted_known t) (λ account symbol i j. told account symbol i j ∙ w.sums account symbol i j)) ∙ sym e),
     )

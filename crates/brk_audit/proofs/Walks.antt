@@ -11,7 +11,7 @@ use Rattle.brk_changes.specs.Rows.{abstract_history_row, abstract_move_row, abst
 use Rattle.brk_changes.specs.declared.trade_row.TradeRow.{TradeRow}
 use Rattle.brk_changes.specs.declared.history_row.HistoryRow.{HistoryRow}
 use Rattle.brk_changes.specs.declared.move_row.MoveRow.{MoveRow}
-use Rattle.brk_audit.specs.Statuses.{all_histories_are_valid, is_valid_history, movement_stamps_of, completion_stamps_of}
+use Rattle.brk_audit.specs.Statuses.{all_histories_are_valid, is_valid_history, movement_stamps_of_cash_rows, completion_stamps_of_history}
 
 false_true : {A : Type 0} → false ≡ true → A
 false_true e = absurd (cc)
@@ -82,7 +82,7 @@ not_distinct_front (m ∷ ms) ns e =
 
 -- the stamps of completions that rows of the history tell
 abbrev pub told_stamps : List HistoryRow → List ℕ
-told_stamps hs = completion_stamps_of (map abstract_history_row hs)
+told_stamps hs = completion_stamps_of_history (map abstract_history_row hs)
 
 told-append : (hs ks : List HistoryRow) → told_stamps (hs ++ ks) ≡ told_stamps hs ++ told_stamps ks
 told-append [] ks = refl
@@ -137,7 +137,7 @@ not_apart hs i h was l e f g =
 
 -- the stamps of movements that rows tell
 abbrev pub moved_told : List MoveRow → List ℕ
-moved_told rs = movement_stamps_of (map abstract_move_row rs)
+moved_told rs = movement_stamps_of_cash_rows (map abstract_move_row rs)
 
 moved-append : (rs ks : List MoveRow) → moved_told (rs ++ ks) ≡ moved_told rs ++ moved_told ks
 moved-append [] ks = refl

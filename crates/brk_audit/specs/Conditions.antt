@@ -4,7 +4,7 @@ use Rattle.brk_model.specs.Form.{satisfies_form_condition}
 use Rattle.brk_model.specs.Schemas.{Schema}
 use Rattle.brk_model.specs.Tables.{Tables}
 use Rattle.brk_model.specs.Ways.{satisfies_status_condition}
-use Rattle.brk_changes.specs.Sheets.{tables_in_sheets}
+use Rattle.brk_changes.specs.Sheets.{abstract_sheets}
 use Rattle.brk_changes.specs.declared.sheets.Sheets.{Sheets}
 
 -- The tables satisfy the condition `Form` by the limits of some schema.
@@ -14,9 +14,9 @@ pub record IsWellFormedBySomeSchema (t : Tables) : Type 0 where
 
 -- The tables of the typed rows `s` satisfy the condition `Form` by the limits of some schema.
 abbrev pub HasWellFormedRows : Sheets → Type 0
-HasWellFormedRows s = IsWellFormedBySomeSchema (tables_in_sheets s)
+HasWellFormedRows s = IsWellFormedBySomeSchema (abstract_sheets s)
 
 -- The tables of the typed rows `s` satisfy the condition `Status`: each trade's history is a valid
 -- status sequence, and no two completions or movements have the same stamp.
 abbrev pub HasValidStatuses : Sheets → Type 0
-HasValidStatuses s = IsTrue (satisfies_status_condition (tables_in_sheets s))
+HasValidStatuses s = IsTrue (satisfies_status_condition (abstract_sheets s))

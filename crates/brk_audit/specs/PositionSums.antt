@@ -33,15 +33,15 @@ HasNonzeroQuantity h = is_zero h.qty ≡ false
 pub record SummariesMatchTrades (t : Tables) : Type 0 where
   pub sums : (account : ℕ) (symbol : Text) → has_account t account ≡ true → has_security t symbol ≡ true
       → shares_left_by_trades t account symbol ≡ shares_in_summaries t.summaries account symbol
-  pub told : AllByRecursion HasNonzeroQuantity t.summaries
+  pub nonzero : AllByRecursion HasNonzeroQuantity t.summaries
 
 -- The order of positions: by account, then by the bytes of the symbol.
 abbrev pub position_cmp : ℕ × Bor (List ℕ) → ℕ × Bor (List ℕ) → Ordering
 position_cmp x y = ordering_then (nat_cmp x.0 y.0) (slice_cmp nat_cmp x.1.now y.1.now)
 
 -- The posting with the bytes of its symbol in place of a reference to them.
-abbrev pub plain_posting : Posting (ℕ × Bor (List ℕ)) → Posting (ℕ × Text)
-plain_posting p = record { key = (p.key.0, p.key.1.now); amount = p.amount }
+abbrev pub posting_with_owned_symbol : Posting (ℕ × Bor (List ℕ)) → Posting (ℕ × Text)
+posting_with_owned_symbol p = record { key = (p.key.0, p.key.1.now); amount = p.amount }
 
 -- The posting of the signed quantity of the trade at its account and symbol, or `None` if the trade
 -- is not completed.

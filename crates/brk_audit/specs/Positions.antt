@@ -20,8 +20,8 @@ abbrev pub position_sort_key : TradeRow → List KeyPart
 position_sort_key r = number r.account ∷ word r.symbol ∷ number r.stamp ∷ []
 
 -- True if the trade `r` is before the trade `s` in the order of account, symbol and stamp.
-abbrev pub precedes_by_position : TradeRow → TradeRow → Bool
-precedes_by_position r s = is_row_key_less position_sort_key r s
+abbrev pub is_before_by_position : TradeRow → TradeRow → Bool
+is_before_by_position r s = is_row_key_less position_sort_key r s
 
 -- True if the two trades have the same number or the same stamp.
 abbrev pub has_same_id_or_stamp : TradeRow → TradeRow → Bool
@@ -33,20 +33,20 @@ FirstElementSatisfies P [] = ⊤
 FirstElementSatisfies P (x ∷ xs) = P x
 
 -- The row of HOLDING of the lot `l`, with the account and the symbol of the trade `r`.
-abbrev pub lot_row_of_position : TradeRow → Lot → HoldingRow
-lot_row_of_position r l = record { trade = l.trade; account = r.account; symbol = r.symbol; stamp = l.stamp; price = l.price; qty = l.qty }
+abbrev pub holding_row_in_position_of_trade : TradeRow → Lot → HoldingRow
+holding_row_in_position_of_trade r l = record { trade = l.trade; account = r.account; symbol = r.symbol; stamp = l.stamp; price = l.price; qty = l.qty }
 
 -- The rows of HOLDING of the lots that the trades `run` leave, executed in order, with the account
 -- and the symbol of the trade `r`.
-abbrev pub lot_rows_left_by_trades : TradeRow → List TradeRow → List HoldingRow
-lot_rows_left_by_trades r run = map (lot_row_of_position r) (lots_of_shares (replay (map deal_of_completed_row run)))
+abbrev pub holding_rows_left_by_trades : TradeRow → List TradeRow → List HoldingRow
+holding_rows_left_by_trades r run = map (holding_row_in_position_of_trade r) (lots_of_shares (replay (map deal_of_completed_row run)))
 
 -- The rows are the lots that the trades leave, position by position. The trades of one position are
 -- neighbours in the list.
 pub data AreLotsLeftByTrades : List TradeRow → List HoldingRow → Type 0 where
   nothing : AreLotsLeftByTrades [] []
   position : (r : TradeRow) (run later : List TradeRow) (rows : List HoldingRow) → AllByRecursion (λ s. is_same_position r s ≡ true) run → AllByRecursion (λ s. is_same_position r s ≡ false) later
-      → AreLotsLeftByTrades later rows → AreLotsLeftByTrades (r ∷ run ++ later) (lot_rows_left_by_trades r (r ∷ run) ++ rows)
+      → AreLotsLeftByTrades later rows → AreLotsLeftByTrades (r ∷ run ++ later) (holding_rows_left_by_trades r (r ∷ run) ++ rows)
 
 -- The rows are the lot changes of the trades, position by position. The trades of one position are
 -- neighbours in the list.

@@ -26,8 +26,8 @@ request_row_of_trade brokers r = record { trade = r.id; kind = r.kind; symbol = 
 
 -- The settlement amount of the completed trade `r` at the tax status `status`, in cents; negative
 -- if the account pays.
-abbrev pub settlement_amount_at : TaxStatus → TradeRow → ℤ
-settlement_amount_at status r =
+abbrev pub settlement_amount_at_tax_status : TaxStatus → TradeRow → ℤ
+settlement_amount_at_tax_status status r =
     signed_proceeds (side_of_trade_type r.kind) (r.qty * unwrap_or r.price 0) -ℤ pos (r.charge + r.commission + (if is_withholding_status status then r.tax else 0))
 
 -- The trade, the due day and the amount, in cents, of a settlement.
@@ -43,7 +43,7 @@ settlement_figures_of_row s = record { trade = s.trade; due_day = s.due_day; amo
 -- The trade, the due day and the amount of the settlement of the completed trade `r`, by the
 -- settlement day `rule`. The tax status of its account is given by `statuses`.
 abbrev pub settlement_figures_of_trade : SettleRule → (ℕ → TaxStatus) → TradeRow → SettlementFigures
-settlement_figures_of_trade rule statuses r = record { trade = r.id; due_day = due_day_of_completion_stamp rule r.stamp; amount = settlement_amount_at (statuses r.account) r }
+settlement_figures_of_trade rule statuses r = record { trade = r.id; due_day = due_day_of_completion_stamp rule r.stamp; amount = settlement_amount_at_tax_status (statuses r.account) r }
 
 -- The trade, the stamp and the amount, in cents, of a row of CASH_TRANSACTION.
 pub record CashRowFigures : Type 0 where
@@ -58,7 +58,7 @@ cash_figures_of_row c = record { trade = c.trade; stamp = c.stamp; amount = c.am
 -- The trade, the stamp and the amount of the row of CASH_TRANSACTION of the completed cash trade
 -- `r`. The tax status of its account is given by `statuses`.
 abbrev pub cash_figures_of_trade : (ℕ → TaxStatus) → TradeRow → CashRowFigures
-cash_figures_of_trade statuses r = record { trade = r.id; stamp = r.stamp; amount = settlement_amount_at (statuses r.account) r }
+cash_figures_of_trade statuses r = record { trade = r.id; stamp = r.stamp; amount = settlement_amount_at_tax_status (statuses r.account) r }
 
 -- The account, the trade, the stamp and the amount, in cents, of a row of CASH_MOVE that belongs to
 -- a trade.
@@ -76,7 +76,7 @@ posted_figures_of_row r = option_map (λ id. record { account = r.account; trade
 -- The account, the trade, the stamp and the amount of the row of CASH_MOVE of the completed cash
 -- trade `r`. The tax status of its account is given by `statuses`.
 abbrev pub posted_figures_of_trade : (ℕ → TaxStatus) → TradeRow → MoveRowFigures
-posted_figures_of_trade statuses r = record { account = r.account; trade = r.id; stamp = r.stamp; amount = settlement_amount_at (statuses r.account) r }
+posted_figures_of_trade statuses r = record { account = r.account; trade = r.id; stamp = r.stamp; amount = settlement_amount_at_tax_status (statuses r.account) r }
 
 -- True if the rows are numbered from `n` without a gap, and their stamps are at least `stamp` and
 -- do not decrease.
@@ -91,12 +91,12 @@ is_completed_cash_trade r = is_completed_row r && r.is_cash
 -- For any list of later trades: the rows `rows` match `trade` and the later trades if and only if
 -- the rows `others` match the later trades. Rows match trades if the values of `tells` of the rows
 -- equal the values of `gives` of those trades that pass `test`, in order.
-abbrev pub MatchReducesToOthers : {Row Told : Type 0} → (Row → Told) → (TradeRow → Told) → (TradeRow → Bool) → List Row → TradeRow → List Row → Type 0
-MatchReducesToOthers tells gives test rows trade others =
+abbrev pub RowsMatchTradesIffOthersDo : {Row Told : Type 0} → (Row → Told) → (TradeRow → Told) → (TradeRow → Bool) → List Row → TradeRow → List Row → Type 0
+RowsMatchTradesIffOthersDo tells gives test rows trade others =
     (trades : List TradeRow) → (map tells rows ≡ map gives (filter test (trade ∷ trades))) ↔ (map tells others ≡ map gives (filter test trades))
 
 -- For any list of later trades: the rows `rows` do not match `trade` and the later trades. Rows
 -- match trades if the values of `tells` of the rows equal the values of `gives` of those trades
 -- that pass `test`, in order.
-abbrev pub MatchIsImpossible : {Row Told : Type 0} → (Row → Told) → (TradeRow → Told) → (TradeRow → Bool) → List Row → TradeRow → Type 0
-MatchIsImpossible tells gives test rows trade = (trades : List TradeRow) → map tells rows ≡ map gives (filter test (trade ∷ trades)) → ⊥
+abbrev pub RowsCannotMatchTrades : {Row Told : Type 0} → (Row → Told) → (TradeRow → Told) → (TradeRow → Bool) → List Row → TradeRow → Type 0
+RowsCannotMatchTrades tells gives test rows trade = (trades : List TradeRow) → map tells rows ≡ map gives (filter test (trade ∷ trades)) → ⊥

@@ -16,39 +16,39 @@ is_first_status Pending = true
 is_first_status Canceled = false
 
 -- True if the trade's row `r` has the status and the stamp of the history row `h`.
-abbrev pub has_status_and_stamp_of : TradeRow → HistoryRow → Bool
-has_status_and_stamp_of r h = is_same_trade_status r.status h.status && (r.stamp == h.stamp)
+abbrev pub has_status_and_stamp_of_row : TradeRow → HistoryRow → Bool
+has_status_and_stamp_of_row r h = is_same_trade_status r.status h.status && (r.stamp == h.stamp)
 
 -- The value `first` if the two statuses of a history, sorted by code, can be a valid sequence that
 -- ends in the first of them, `second` if one that ends in the second, and false if they cannot be a
 -- valid sequence.
-abbrev pub two_status_result : Status → Status → Bool → Bool → Bool
-two_status_result Completed Submitted first second = first
-two_status_result Canceled Pending first second = first
-two_status_result Pending Submitted first second = second
-two_status_result _ _ first second = false
+abbrev pub choice_by_last_of_two_statuses : Status → Status → Bool → Bool → Bool
+choice_by_last_of_two_statuses Completed Submitted first second = first
+choice_by_last_of_two_statuses Canceled Pending first second = first
+choice_by_last_of_two_statuses Pending Submitted first second = second
+choice_by_last_of_two_statuses _ _ first second = false
 
 -- True if the history of the two rows is a valid status sequence by their stamps, and the trade's
 -- row has the status and the stamp of its last row.
 abbrev pub is_valid_two_row_history : TradeRow → HistoryRow → HistoryRow → Bool
-is_valid_two_row_history r a b = two_status_result a.status b.status (nat_lt b.stamp a.stamp && has_status_and_stamp_of r a) (nat_lt a.stamp b.stamp && has_status_and_stamp_of r b)
+is_valid_two_row_history r a b = choice_by_last_of_two_statuses a.status b.status (nat_lt b.stamp a.stamp && has_status_and_stamp_of_row r a) (nat_lt a.stamp b.stamp && has_status_and_stamp_of_row r b)
 
--- The value `told` if the three statuses of a history, sorted by code, can be a valid sequence,
+-- The value `nonzero` if the three statuses of a history, sorted by code, can be a valid sequence,
 -- otherwise false.
-abbrev pub three_status_result : Status → Status → Status → Bool → Bool
-three_status_result Completed Pending Submitted told = told
-three_status_result _ _ _ told = false
+abbrev pub choice_if_valid_three_statuses : Status → Status → Status → Bool → Bool
+choice_if_valid_three_statuses Completed Pending Submitted told = told
+choice_if_valid_three_statuses _ _ _ told = false
 
 -- True if the history of the three rows is a valid status sequence by their stamps, and the trade's
 -- row has the status and the stamp of its last row.
 abbrev pub is_valid_three_row_history : TradeRow → HistoryRow → HistoryRow → HistoryRow → Bool
-is_valid_three_row_history r a b c = three_status_result a.status b.status c.status (nat_lt b.stamp c.stamp && nat_lt c.stamp a.stamp && has_status_and_stamp_of r a)
+is_valid_three_row_history r a b c = choice_if_valid_three_statuses a.status b.status c.status (nat_lt b.stamp c.stamp && nat_lt c.stamp a.stamp && has_status_and_stamp_of_row r a)
 
 -- True if the history rows of the trade, sorted by status code, are a valid status sequence by
 -- their stamps, and the trade's row has the status and the stamp of the last one.
 abbrev pub is_valid_history : TradeRow → List HistoryRow → Bool
 is_valid_history r [] = false
-is_valid_history r (h ∷ []) = is_first_status h.status && has_status_and_stamp_of r h
+is_valid_history r (h ∷ []) = is_first_status h.status && has_status_and_stamp_of_row r h
 is_valid_history r (a ∷ b ∷ []) = is_valid_two_row_history r a b
 is_valid_history r (a ∷ b ∷ c ∷ []) = is_valid_three_row_history r a b c
 is_valid_history r (a ∷ b ∷ c ∷ d ∷ hs) = false
@@ -61,9 +61,9 @@ all_histories_are_valid (r ∷ rs) hs =
     is_valid_history r (take (prefix_len (λ h. h.trade == r.id) hs) hs) && all_histories_are_valid rs (drop (prefix_len (λ h. h.trade == r.id) hs) hs)
 
 -- The stamps of the history rows with the status `Completed`.
-abbrev pub completion_stamps_of : List HistoryRow → List ℕ
-completion_stamps_of hs = map (λ h. h.stamp) (filter (λ h. is_same_trade_status h.status Completed) hs)
+abbrev pub completion_stamps_of_history : List HistoryRow → List ℕ
+completion_stamps_of_history hs = map (λ h. h.stamp) (filter (λ h. is_same_trade_status h.status Completed) hs)
 
 -- The stamps of the cash rows without a trade: deposits and withdrawals.
-abbrev pub movement_stamps_of : List MoveRow → List ℕ
-movement_stamps_of rows = map (λ r. r.stamp) (filter (λ r. is_none r.trade) rows)
+abbrev pub movement_stamps_of_cash_rows : List MoveRow → List ℕ
+movement_stamps_of_cash_rows rows = map (λ r. r.stamp) (filter (λ r. is_none r.trade) rows)

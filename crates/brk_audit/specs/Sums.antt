@@ -4,7 +4,7 @@ use Rattle.brk_money.specs.declared.tax_status.TaxStatus.{TaxStatus}
 use Rattle.brk_model.specs.Lists.{total_by}
 use Rattle.brk_model.specs.Tables.{MoveRow, Tables, TradeRow}
 use Rattle.brk_audit.specs.Completed.{is_completed_row}
-use Rattle.brk_audit.specs.Settling.{settlement_amount_at, account_broker_or_zero, is_completed_cash_trade}
+use Rattle.brk_audit.specs.Settling.{settlement_amount_at_tax_status, account_broker_or_zero, is_completed_cash_trade}
 use Rattle.brk_audit.specs.declared.tally.Posting.{Posting}
 
 -- The sum of `amount` over the completed trades of the broker's accounts.
@@ -17,18 +17,18 @@ sum_over_account_cash_trades t amount account = total_by amount (filter (λ r. i
 
 -- The posting of 1 at the broker of the trade's account, which `brokers` gives, or `None` if the
 -- trade is not completed.
-abbrev pub count_posting : (ℕ → ℕ) → TradeRow → Option (Posting ℕ)
-count_posting brokers r = if is_completed_row r then Some (record { key = brokers r.account; amount = pos 1 }) else None
+abbrev pub count_posting_of_row : (ℕ → ℕ) → TradeRow → Option (Posting ℕ)
+count_posting_of_row brokers r = if is_completed_row r then Some (record { key = brokers r.account; amount = pos 1 }) else None
 
 -- The posting of the trade's commission, in cents, at the broker of its account, which `brokers`
 -- gives, or `None` if the trade is not completed.
-abbrev pub commission_posting : (ℕ → ℕ) → TradeRow → Option (Posting ℕ)
-commission_posting brokers r = if is_completed_row r then Some (record { key = brokers r.account; amount = pos r.commission }) else None
+abbrev pub commission_posting_of_row : (ℕ → ℕ) → TradeRow → Option (Posting ℕ)
+commission_posting_of_row brokers r = if is_completed_row r then Some (record { key = brokers r.account; amount = pos r.commission }) else None
 
 -- The posting of the trade's settlement amount, in cents, at its account, or `None` if it is not a
 -- completed cash trade. The tax status of its account is given by `statuses`.
-abbrev pub cash_posting : (ℕ → TaxStatus) → TradeRow → Option (Posting ℕ)
-cash_posting statuses r = if is_completed_cash_trade r then Some (record { key = r.account; amount = settlement_amount_at (statuses r.account) r }) else None
+abbrev pub cash_posting_of_row : (ℕ → TaxStatus) → TradeRow → Option (Posting ℕ)
+cash_posting_of_row statuses r = if is_completed_cash_trade r then Some (record { key = r.account; amount = settlement_amount_at_tax_status (statuses r.account) r }) else None
 
 -- The sum of the amounts of the account's deposits and withdrawals, in cents; the amount of a
 -- withdrawal is below 0.
@@ -37,5 +37,5 @@ movement_sum_of_account t account = total_by (λ r. r.amount) (filter (λ r. is_
 
 -- The posting of the row's amount, in cents, at its account, or `None` if the row belongs to a
 -- trade.
-abbrev pub movement_posting : MoveRow → Option (Posting ℕ)
-movement_posting r = if is_none r.trade then Some (record { key = r.account; amount = r.amount }) else None
+abbrev pub movement_posting_of_row : MoveRow → Option (Posting ℕ)
+movement_posting_of_row r = if is_none r.trade then Some (record { key = r.account; amount = r.amount }) else None

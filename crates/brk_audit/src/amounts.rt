@@ -5,7 +5,7 @@ ghost use Rattle.brk_model.specs.Base.{is_withholding_status};
 ghost use Rattle.brk_model.specs.Derived.{signed_proceeds};
 ghost use Rattle.brk_model.specs.Limits.{greatest_amount, greatest_price, greatest_qty};
 ghost use Rattle.brk_changes.specs.Rows.{abstract_trade_row};
-ghost use Rattle.brk_audit.specs.Settling.{settlement_amount_at};
+ghost use Rattle.brk_audit.specs.Settling.{settlement_amount_at_tax_status};
 
 use brk_changes::TradeRow;
 use brk_money::{Amount, Price, Side, TaxStatus};
@@ -58,7 +58,7 @@ fn proceeds_less_deductions(side: Side, value: u64, taken_off: u64) -> i64
 /// Returns the settlement amount of a completed trade at its account's tax status, in cents;
 /// negative if the account pays.
 pub(crate) fn settlement_amount_of_row(trade: &TradeRow, tax_status: TaxStatus) -> i64
-    ensures { result ≡ settlement_amount_at tax_status (abstract_trade_row trade.now) }
+    ensures { result ≡ settlement_amount_at_tax_status tax_status (abstract_trade_row trade.now) }
 {
     let value = value_of_shares(trade.qty.get(), price_or_zero(trade.price));
     let charge = u64::from(trade.charge.get());

@@ -2,7 +2,7 @@ ghost use Rattle.std.specs.Prelude.{◌≡◌, IfErr, IfOk};
 ghost use Rattle.brk_money.specs.declared.fault.Fault.TheVariants.{Memory};
 ghost use Rattle.brk_model.specs.Audit.{IsAuditResult};
 ghost use Rattle.brk_changes.specs.Schemas.{abstract_schema};
-ghost use Rattle.brk_changes.specs.Sheets.{tables_in_sheets};
+ghost use Rattle.brk_changes.specs.Sheets.{abstract_sheets};
 
 use crate::balances::balance_condition_holds;
 use crate::cash::cash_condition_holds;
@@ -14,7 +14,7 @@ use crate::requests::request_condition_holds;
 use crate::settlements::settlement_condition_holds;
 use crate::status::status_condition_holds;
 use crate::summaries::summary_condition_holds;
-use brk_audit_form::has_form;
+use brk_audit_form::form_condition_holds;
 use brk_changes::{Schema, Sheets};
 use brk_money::{Condition, Fault};
 use std::alloc::Global;
@@ -29,10 +29,10 @@ pub fn audit_rows(
     schema: Schema,
     sheets: &Sheets,
 ) -> Result<Option<Condition>, Fault>
-    ensures told { IfOk result (λ answer. IsAuditResult (abstract_schema schema) (tables_in_sheets sheets.now) answer) }
+    ensures condition { IfOk result (λ answer. IsAuditResult (abstract_schema schema) (abstract_sheets sheets.now) answer) }
     ensures fault { IfErr result (λ fault. fault ≡ Memory) }
 {
-    if !has_form(alloc, schema, sheets)? {
+    if !form_condition_holds(alloc, schema, sheets)? {
         return Ok(Some(Condition::Form));
     }
     if !status_condition_holds(alloc, sheets)? {

@@ -7,16 +7,16 @@ ghost use Rattle.brk_money.specs.declared.fault.Fault.TheVariants.{Memory};
 ghost use Rattle.brk_model.specs.Audit.{ConditionHolds};
 ghost use Rattle.brk_model.specs.Schemas.{Schema};
 ghost use Rattle.brk_changes.specs.Rows.{abstract_move_row, abstract_trade_row};
-ghost use Rattle.brk_changes.specs.Sheets.{tables_in_sheets};
+ghost use Rattle.brk_changes.specs.Sheets.{abstract_sheets};
 ghost use Rattle.brk_audit.specs.AccountTerms.{tax_status_in_terms};
 ghost use Rattle.brk_audit.specs.Conditions.{HasWellFormedRows, HasValidStatuses};
-ghost use Rattle.brk_audit.specs.Sums.{cash_posting, movement_posting};
+ghost use Rattle.brk_audit.specs.Sums.{cash_posting_of_row, movement_posting_of_row};
 ghost use Rattle.brk_audit.specs.Tally.{sum_at_key};
 
 use crate::account_terms::{AccountTerms, account_tax_status, account_terms_by_id};
 use crate::amounts::settlement_amount_of_row;
 use crate::status::is_completed;
-use crate::tally::{Posting, sum_at, tally};
+use crate::tally::{Posting, sum_or_zero_at_key, tally};
 use brk_changes::{MoveRow, Sheets, TradeRow};
 use brk_money::Fault;
 use brk_ref::AccountRow;
@@ -29,7 +29,7 @@ fn cash_posting_of_trade(
     terms: &BTreeMap<u64, AccountTerms>,
     trade: &TradeRow,
 ) -> Option<Posting<u64>>
-    ensures { result ≡ cash_posting (tax_status_in_terms terms.now) (abstract_trade_row trade.now) }
+    ensures { result ≡ cash_posting_of_row (tax_status_in_terms terms.now) (abstract_trade_row trade.now) }
 {
     if !is_completed(trade.status) || !trade.is_cash {
         return None;
@@ -46,7 +46,7 @@ fn cash_postings_of_trades(
     terms: &BTreeMap<u64, AccountTerms>,
     trades: &[TradeRow],
 ) -> Result<Vec<Posting<u64>>, Fault>
-    ensures all { IfOk result (λ all. all.items ≡ filter_map (λ r. cash_posting (tax_status_in_terms terms.now) (abstract_trade_row r)) trades.now) }
+    ensures all { IfOk result (λ all. all.items ≡ filter_map (λ r. cash_posting_of_row (tax_status_in_terms terms.now) (abstract_trade_row r)) trades.now) }
     ensures fault { IfErr result (λ fault. fault ≡ Memory) }
 {
     let all = trades
@@ -59,7 +59,7 @@ fn cash_postings_of_trades(
 // Returns the posting of a deposit or a withdrawal at its account, or `None` if the row belongs to
 // a trade.
 fn posting_of_movement_row(row: &MoveRow) -> Option<Posting<u64>>
-    ensures { result ≡ movement_posting (abstract_move_row row.now) }
+    ensures { result ≡ movement_posting_of_row (abstract_move_row row.now) }
 {
     if row.trade.is_some() {
         return None;
@@ -71,7 +71,7 @@ fn posting_of_movement_row(row: &MoveRow) -> Option<Posting<u64>>
 
 // Appends the postings of the deposits and withdrawals. Fails with `Memory` only.
 fn append_movement_postings(all: &mut Vec<Posting<u64>>, moves: &[MoveRow]) -> Result<(), Fault>
-    ensures all { OnOk result (all.new.items ≡ all.old.items ++ filter_map (λ r. movement_posting (abstract_move_row r)) moves.now) }
+    ensures all { OnOk result (all.new.items ≡ all.old.items ++ filter_map (λ r. movement_posting_of_row (abstract_move_row r)) moves.now) }
     ensures fault { OnErr result (result ≡ Err Memory) }
 {
     for row in moves {
@@ -90,27 +90,27 @@ fn balance_change(balance: i64, opening: i64) -> i128
 }
 
 // Returns true if the two numbers are equal.
-fn are_equal(one: i128, other: i128) -> bool
+fn are_numbers_equal(one: i128, other: i128) -> bool
     ensures { IsTrue result ↔ (one ≡ other) }
 {
     one == other
 }
 
 // Returns true if the balance is the opening balance plus the amount `moved`.
-fn equals_opening_plus_moved(balance: i64, opening: i64, moved: i128) -> bool
+fn balance_equals_opening_plus_moved(balance: i64, opening: i64, moved: i128) -> bool
     ensures { IsTrue result ↔ (balance ≡ opening +ℤ moved) }
 {
     let left = balance_change(balance, opening);
-    are_equal(left, moved)
+    are_numbers_equal(left, moved)
 }
 
 // Returns true if the account's balance is its opening balance plus the sum at the account's id in
 // `sums`.
-fn is_balanced(sums: &BTreeMap<u64, i128>, row: &AccountRow) -> bool
+fn is_account_balanced(sums: &BTreeMap<u64, i128>, row: &AccountRow) -> bool
     ensures { IsTrue result ↔ (row.now.balance ≡ row.now.account.opening +ℤ sum_at_key nat_cmp sums.now row.now.account.id) }
 {
-    let moved = sum_at(sums, row.account.id.get());
-    equals_opening_plus_moved(row.balance.get(), row.account.opening.get(), moved)
+    let moved = sum_or_zero_at_key(sums, row.account.id.get());
+    balance_equals_opening_plus_moved(row.balance.get(), row.account.opening.get(), moved)
 }
 
 // Returns true if the balance of each account is its opening balance plus the sum at its id in
@@ -119,7 +119,7 @@ fn all_accounts_are_balanced(sums: &BTreeMap<u64, i128>, rows: &[AccountRow]) ->
     ensures { IsTrue result ↔ AllByRecursion (λ row. row.balance ≡ row.account.opening +ℤ sum_at_key nat_cmp sums.now row.account.id) rows.now }
 {
     for row in rows {
-        if !is_balanced(sums, row) {
+        if !is_account_balanced(sums, row) {
             return false;
         }
     }
@@ -132,7 +132,7 @@ fn all_accounts_are_balanced(sums: &BTreeMap<u64, i128>, rows: &[AccountRow]) ->
 pub(crate) fn balance_condition_holds(alloc: Global, sheets: &Sheets) -> Result<bool, Fault>
     requires form { HasWellFormedRows sheets.now }
     requires status { HasValidStatuses sheets.now }
-    ensures told { IfOk result (λ holds. (schema : Schema) → IsTrue holds ↔ ConditionHolds schema Balance (tables_in_sheets sheets.now)) }
+    ensures value { IfOk result (λ holds. (schema : Schema) → IsTrue holds ↔ ConditionHolds schema Balance (abstract_sheets sheets.now)) }
     ensures fault { IfErr result (λ fault. fault ≡ Memory) }
 {
     let terms = account_terms_by_id(alloc, &sheets.accounts)?;

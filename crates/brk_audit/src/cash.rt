@@ -6,14 +6,14 @@ ghost use Rattle.brk_money.specs.declared.fault.Fault.TheVariants.{Memory};
 ghost use Rattle.brk_model.specs.Audit.{ConditionHolds};
 ghost use Rattle.brk_audit.specs.AccountTerms.{tax_status_in_terms};
 ghost use Rattle.brk_audit.specs.Conditions.{HasValidStatuses};
-ghost use Rattle.brk_audit.specs.Settling.{MatchIsImpossible, MatchReducesToOthers, settlement_amount_at, is_completed_cash_trade, is_numbered_by_stamp, cash_figures_of_trade, cash_figures_of_row, posted_figures_of_trade, posted_figures_of_row};
+ghost use Rattle.brk_audit.specs.Settling.{RowsCannotMatchTrades, RowsMatchTradesIffOthersDo, settlement_amount_at_tax_status, is_completed_cash_trade, is_numbered_by_stamp, cash_figures_of_trade, cash_figures_of_row, posted_figures_of_trade, posted_figures_of_row};
 ghost use Rattle.brk_changes.specs.Rows.{abstract_cash_row, abstract_move_row, abstract_trade_row};
 ghost use Rattle.brk_changes.specs.Schemas.{abstract_schema};
-ghost use Rattle.brk_changes.specs.Sheets.{tables_in_sheets};
+ghost use Rattle.brk_changes.specs.Sheets.{abstract_sheets};
 
 use crate::account_terms::{AccountTerms, account_tax_status, account_terms_by_id};
 use crate::amounts::settlement_amount_of_row;
-use crate::status::{is_completed, millis};
+use crate::status::{is_completed, stamp_in_millis};
 use crate::summaries::all_three_true;
 use brk_changes::{CashRow, MoveRow, Schema, Sheets, TradeRow};
 use brk_money::{Cents, Fault, Id, Stamp, TaxStatus};
@@ -22,8 +22,8 @@ use std::collections::BTreeMap;
 
 // Returns true if the row has the trade, the stamp and the settlement amount of the completed
 // trade, at the tax status of its account.
-fn is_cash_row_of(cash: &CashRow, trade: &TradeRow, tax_status: TaxStatus) -> bool
-    ensures { IsTrue result ↔ ((cash.now.trade ≡ trade.now.id) × (cash.now.stamp ≡ trade.now.stamp) × (cash.now.amount ≡ settlement_amount_at tax_status (abstract_trade_row trade.now))) }
+fn cash_row_matches_trade(cash: &CashRow, trade: &TradeRow, tax_status: TaxStatus) -> bool
+    ensures { IsTrue result ↔ ((cash.now.trade ≡ trade.now.id) × (cash.now.stamp ≡ trade.now.stamp) × (cash.now.amount ≡ settlement_amount_at_tax_status tax_status (abstract_trade_row trade.now))) }
 {
     cash.trade == trade.id
         && cash.stamp == trade.stamp
@@ -31,7 +31,7 @@ fn is_cash_row_of(cash: &CashRow, trade: &TradeRow, tax_status: TaxStatus) -> bo
 }
 
 // Returns true if the trade is completed and is a cash trade.
-fn is_completed_cash_row(trade: &TradeRow) -> bool
+fn is_completed_cash_trade_row(trade: &TradeRow) -> bool
     ensures { result ≡ is_completed_cash_trade (abstract_trade_row trade.now) }
 {
     is_completed(trade.status) && trade.is_cash
@@ -45,16 +45,16 @@ fn cash_rows_after_trade<'a>(
     terms: &BTreeMap<u64, AccountTerms>,
 ) -> Option<&'a [CashRow]>
     ensures { MatchOption result
-        (MatchIsImpossible cash_figures_of_row (cash_figures_of_trade (tax_status_in_terms terms.now)) is_completed_cash_trade (map abstract_cash_row cash.now) (abstract_trade_row trade.now))
-        (λ others. MatchReducesToOthers cash_figures_of_row (cash_figures_of_trade (tax_status_in_terms terms.now)) is_completed_cash_trade (map abstract_cash_row cash.now) (abstract_trade_row trade.now) (map abstract_cash_row others.now)) }
+        (RowsCannotMatchTrades cash_figures_of_row (cash_figures_of_trade (tax_status_in_terms terms.now)) is_completed_cash_trade (map abstract_cash_row cash.now) (abstract_trade_row trade.now))
+        (λ others. RowsMatchTradesIffOthersDo cash_figures_of_row (cash_figures_of_trade (tax_status_in_terms terms.now)) is_completed_cash_trade (map abstract_cash_row cash.now) (abstract_trade_row trade.now) (map abstract_cash_row others.now)) }
 {
-    if !is_completed_cash_row(trade) {
+    if !is_completed_cash_trade_row(trade) {
         return Some(cash);
     }
     let [first, others @ ..] = cash else {
         return None;
     };
-    if is_cash_row_of(first, trade, account_tax_status(terms, trade.account)) {
+    if cash_row_matches_trade(first, trade, account_tax_status(terms, trade.account)) {
         Some(others)
     } else {
         None
@@ -91,7 +91,7 @@ struct Posted {
 
 // Returns the account, the trade, the stamp and the amount of the row, or `None` if it belongs to
 // no trade.
-fn figures_of_move_row(row: &MoveRow) -> Option<Posted>
+fn posted_figures_of_move_row(row: &MoveRow) -> Option<Posted>
     ensures { option_map abstract_posted_figures result ≡ posted_figures_of_row (abstract_move_row row.now) }
 {
     let trade = row.trade?;
@@ -105,13 +105,13 @@ fn figures_of_move_row(row: &MoveRow) -> Option<Posted>
 
 // Returns the account, the trade, the stamp and the amount of each row that belongs to a trade, in
 // order. Fails with `Memory` only.
-fn figures_of_move_rows(alloc: Global, moves: &[MoveRow]) -> Result<Vec<Posted>, Fault>
+fn posted_figures_of_move_rows(alloc: Global, moves: &[MoveRow]) -> Result<Vec<Posted>, Fault>
     ensures all { IfOk result (λ all. map abstract_posted_figures all.items ≡ filter_map (λ r. posted_figures_of_row (abstract_move_row r)) moves.now) }
     ensures fault { IfErr result (λ fault. fault ≡ Memory) }
 {
     let mut all = Vec::new(alloc);
     for row in moves {
-        if let Some(posted) = figures_of_move_row(row) {
+        if let Some(posted) = posted_figures_of_move_row(row) {
             all.push(posted)?;
         }
     }
@@ -121,7 +121,7 @@ fn figures_of_move_rows(alloc: Global, moves: &[MoveRow]) -> Result<Vec<Posted>,
 // Returns true if the row has the account, the id, the stamp and the settlement amount of the
 // completed trade, at the tax status of its account.
 fn has_figures_of_trade(row: Posted, trade: &TradeRow, tax_status: TaxStatus) -> bool
-    ensures { IsTrue result ↔ ((row.account ≡ trade.now.account) × (row.trade ≡ trade.now.id) × (row.stamp ≡ trade.now.stamp) × (row.amount ≡ settlement_amount_at tax_status (abstract_trade_row trade.now))) }
+    ensures { IsTrue result ↔ ((row.account ≡ trade.now.account) × (row.trade ≡ trade.now.id) × (row.stamp ≡ trade.now.stamp) × (row.amount ≡ settlement_amount_at_tax_status tax_status (abstract_trade_row trade.now))) }
 {
     row.account == trade.account
         && row.trade == trade.id
@@ -137,10 +137,10 @@ fn posted_rows_after_trade<'a>(
     terms: &BTreeMap<u64, AccountTerms>,
 ) -> Option<&'a [Posted]>
     ensures { MatchOption result
-        (MatchIsImpossible (λ p. p) (posted_figures_of_trade (tax_status_in_terms terms.now)) is_completed_cash_trade (map abstract_posted_figures rows.now) (abstract_trade_row trade.now))
-        (λ others. MatchReducesToOthers (λ p. p) (posted_figures_of_trade (tax_status_in_terms terms.now)) is_completed_cash_trade (map abstract_posted_figures rows.now) (abstract_trade_row trade.now) (map abstract_posted_figures others.now)) }
+        (RowsCannotMatchTrades (λ p. p) (posted_figures_of_trade (tax_status_in_terms terms.now)) is_completed_cash_trade (map abstract_posted_figures rows.now) (abstract_trade_row trade.now))
+        (λ others. RowsMatchTradesIffOthersDo (λ p. p) (posted_figures_of_trade (tax_status_in_terms terms.now)) is_completed_cash_trade (map abstract_posted_figures rows.now) (abstract_trade_row trade.now) (map abstract_posted_figures others.now)) }
 {
-    if !is_completed_cash_row(trade) {
+    if !is_completed_cash_trade_row(trade) {
         return Some(rows);
     }
     let [first, others @ ..] = rows else {
@@ -173,10 +173,10 @@ fn posted_rows_match_trades(
 }
 
 // Returns true if the row has the number `number` and a stamp of at least `stamp`.
-fn has_next_number_and_stamp(row: &MoveRow, number: u64, stamp: u64) -> bool
+fn has_number_and_no_earlier_stamp(row: &MoveRow, number: u64, stamp: u64) -> bool
     ensures { result ≡ (row.now.id == number) && nat_le stamp row.now.stamp }
 {
-    row.id.get() == number && stamp <= millis(row.stamp)
+    row.id.get() == number && stamp <= stamp_in_millis(row.stamp)
 }
 
 // Returns true if the rows are numbered 1, 2, 3 and so on, and their stamps do not decrease.
@@ -185,10 +185,10 @@ fn move_rows_are_numbered_by_stamp(moves: &[MoveRow]) -> bool
 {
     let mut stamp = 0;
     for (i, row) in moves.iter().enumerate() {
-        if !has_next_number_and_stamp(row, i as u64 + 1, stamp) {
+        if !has_number_and_no_earlier_stamp(row, i as u64 + 1, stamp) {
             return false;
         }
-        stamp = millis(row.stamp);
+        stamp = stamp_in_millis(row.stamp);
     }
     true
 }
@@ -202,16 +202,16 @@ pub(crate) fn cash_condition_holds(
     schema: Schema,
     sheets: &Sheets,
 ) -> Result<bool, Fault>
-    requires form { ConditionHolds (abstract_schema schema) Form (tables_in_sheets sheets.now) }
+    requires form { ConditionHolds (abstract_schema schema) Form (abstract_sheets sheets.now) }
     requires status { HasValidStatuses sheets.now }
-    ensures told { IfOk result (λ holds. IsTrue holds ↔ ConditionHolds (abstract_schema schema) Cash (tables_in_sheets sheets.now)) }
+    ensures value { IfOk result (λ holds. IsTrue holds ↔ ConditionHolds (abstract_schema schema) Cash (abstract_sheets sheets.now)) }
     ensures fault { IfErr result (λ fault. fault ≡ Memory) }
 {
     let terms = account_terms_by_id(alloc, &sheets.accounts)?;
-    if !schema.has_moves() {
+    if !schema.has_cash_move_table() {
         return Ok(cash_rows_match_trades(&sheets.cash, &sheets.trades, &terms));
     }
-    let mut rows = figures_of_move_rows(alloc, &sheets.moves)?;
+    let mut rows = posted_figures_of_move_rows(alloc, &sheets.moves)?;
     rows.sort_unstable_by_key(|row| row.trade.get());
     let no_others = sheets.cash.is_empty();
     let in_turn = move_rows_are_numbered_by_stamp(&sheets.moves);

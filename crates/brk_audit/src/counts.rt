@@ -7,15 +7,15 @@ ghost use Rattle.brk_money.specs.declared.fault.Fault.TheVariants.{Memory};
 ghost use Rattle.brk_model.specs.Audit.{ConditionHolds};
 ghost use Rattle.brk_model.specs.Schemas.{Schema};
 ghost use Rattle.brk_changes.specs.Rows.{abstract_trade_row};
-ghost use Rattle.brk_changes.specs.Sheets.{tables_in_sheets};
+ghost use Rattle.brk_changes.specs.Sheets.{abstract_sheets};
 ghost use Rattle.brk_audit.specs.AccountTerms.{broker_in_terms};
 ghost use Rattle.brk_audit.specs.Conditions.{HasWellFormedRows, HasValidStatuses};
-ghost use Rattle.brk_audit.specs.Sums.{count_posting};
+ghost use Rattle.brk_audit.specs.Sums.{count_posting_of_row};
 ghost use Rattle.brk_audit.specs.Tally.{sum_at_key};
 
 use crate::account_terms::{AccountTerms, account_broker_id, account_terms_by_id};
 use crate::status::is_completed;
-use crate::tally::{Posting, sum_at, tally};
+use crate::tally::{Posting, sum_or_zero_at_key, tally};
 use brk_changes::{Sheets, TradeRow};
 use brk_money::Fault;
 use brk_ref::BrokerRow;
@@ -28,7 +28,7 @@ fn count_posting_of_trade(
     terms: &BTreeMap<u64, AccountTerms>,
     trade: &TradeRow,
 ) -> Option<Posting<u64>>
-    ensures { result ≡ count_posting (broker_in_terms terms.now) (abstract_trade_row trade.now) }
+    ensures { result ≡ count_posting_of_row (broker_in_terms terms.now) (abstract_trade_row trade.now) }
 {
     if !is_completed(trade.status) {
         return None;
@@ -43,7 +43,7 @@ fn count_postings_of_trades(
     terms: &BTreeMap<u64, AccountTerms>,
     trades: &[TradeRow],
 ) -> Result<Vec<Posting<u64>>, Fault>
-    ensures all { IfOk result (λ all. all.items ≡ filter_map (λ r. count_posting (broker_in_terms terms.now) (abstract_trade_row r)) trades.now) }
+    ensures all { IfOk result (λ all. all.items ≡ filter_map (λ r. count_posting_of_row (broker_in_terms terms.now) (abstract_trade_row r)) trades.now) }
     ensures fault { IfErr result (λ fault. fault ≡ Memory) }
 {
     let all = trades
@@ -57,12 +57,12 @@ fn count_postings_of_trades(
 fn has_trade_count(sums: &BTreeMap<u64, i128>, row: &BrokerRow) -> bool
     ensures { IsTrue result ↔ (row.now.trades ≡ sum_at_key nat_cmp sums.now row.now.broker.id) }
 {
-    let count = sum_at(sums, row.broker.id.get());
+    let count = sum_or_zero_at_key(sums, row.broker.id.get());
     i128::from(row.trades) == count
 }
 
 // Returns true if the trade count of each broker is the sum at the broker's id in `sums`.
-fn all_have_trade_counts(sums: &BTreeMap<u64, i128>, rows: &[BrokerRow]) -> bool
+fn all_brokers_have_trade_counts(sums: &BTreeMap<u64, i128>, rows: &[BrokerRow]) -> bool
     ensures { IsTrue result ↔ AllByRecursion (λ row. row.trades ≡ sum_at_key nat_cmp sums.now row.broker.id) rows.now }
 {
     for row in rows {
@@ -78,11 +78,11 @@ fn all_have_trade_counts(sums: &BTreeMap<u64, i128>, rows: &[BrokerRow]) -> bool
 pub(crate) fn count_condition_holds(alloc: Global, sheets: &Sheets) -> Result<bool, Fault>
     requires form { HasWellFormedRows sheets.now }
     requires status { HasValidStatuses sheets.now }
-    ensures told { IfOk result (λ holds. (schema : Schema) → IsTrue holds ↔ ConditionHolds schema Count (tables_in_sheets sheets.now)) }
+    ensures value { IfOk result (λ holds. (schema : Schema) → IsTrue holds ↔ ConditionHolds schema Count (abstract_sheets sheets.now)) }
     ensures fault { IfErr result (λ fault. fault ≡ Memory) }
 {
     let terms = account_terms_by_id(alloc, &sheets.accounts)?;
     let postings = count_postings_of_trades(alloc, &terms, &sheets.trades)?;
     let sums = tally(alloc, &postings)?;
-    Ok(all_have_trade_counts(&sums, &sheets.brokers))
+    Ok(all_brokers_have_trade_counts(&sums, &sheets.brokers))
 }

@@ -3,9 +3,9 @@ ghost use Rattle.std.specs.List.{AllByRecursion, IsDistinct};
 ghost use Rattle.std.specs.List.Sorted.{IsSortedBy};
 ghost use Rattle.std.specs.Ordering.{is_lt};
 ghost use Rattle.brk_audit.specs.Conditions.{HasWellFormedRows, HasValidStatuses};
-ghost use Rattle.brk_audit.specs.Positions.{AreLotChangesOfTrades, has_same_id_or_stamp, precedes_by_position, deal_of_completed_row};
+ghost use Rattle.brk_audit.specs.Positions.{AreLotChangesOfTrades, has_same_id_or_stamp, is_before_by_position, deal_of_completed_row};
 ghost use Rattle.brk_changes.specs.Rows.{abstract_lot_change_row, abstract_trade_row};
-ghost use Rattle.brk_changes.specs.Sheets.{tables_in_sheets};
+ghost use Rattle.brk_changes.specs.Sheets.{abstract_sheets};
 ghost use Rattle.brk_lots.specs.Chains.{abstract_deal_touch, lot_changes_of_deals};
 ghost use Rattle.brk_lots.specs.Deals.{AreAscendingDeals};
 ghost use Rattle.brk_model.specs.Audit.{ConditionHolds};
@@ -15,7 +15,7 @@ ghost use Rattle.brk_money.specs.declared.fault.Condition.TheVariants.{History};
 ghost use Rattle.brk_money.specs.declared.fault.Fault.TheVariants.{Memory};
 
 use crate::positions::{
-    completed_trades_by_position, deals_of_completed_trades, leading_position_len,
+    completed_trades_by_position, deals_of_completed_trades, leading_trade_count_of_position,
 };
 use brk_changes::{LotChange, Sheets, TradeRow};
 use brk_lots::{DealTouch, Position};
@@ -36,23 +36,23 @@ fn append_lot_changes_of_trades(
     ensures fault { IfErr result (λ fault. fault ≡ Memory) }
 {
     let deals = deals_of_completed_trades(alloc, run)?;
-    let _ = Position::replay_with(alloc, &deals, rows)?;
+    let _ = Position::replay_with_lot_changes(alloc, &deals, rows)?;
     Ok(())
 }
 
 // Returns the lot changes of the completed trades, position by position. Fails with `Memory` only.
 fn lot_changes_of_trades(alloc: Global, done: &[&TradeRow]) -> Result<Vec<DealTouch>, Fault>
-    requires order { IsSortedBy (λ one other. precedes_by_position (abstract_trade_row one.now) (abstract_trade_row other.now)) done.now }
+    requires order { IsSortedBy (λ one other. is_before_by_position (abstract_trade_row one.now) (abstract_trade_row other.now)) done.now }
     requires apart { IsDistinct has_same_id_or_stamp (map (λ row. abstract_trade_row row.now) done.now) }
     requires priced { AllByRecursion (λ row. IsSome row.now.price) done.now }
-    ensures made { IfOk result (λ rows. AreLotChangesOfTrades (map (λ row. abstract_trade_row row.now) done.now) (map abstract_deal_touch rows.items)) }
+    ensures changes { IfOk result (λ rows. AreLotChangesOfTrades (map (λ row. abstract_trade_row row.now) done.now) (map abstract_deal_touch rows.items)) }
     ensures fault { IfErr result (λ fault. fault ≡ Memory) }
 {
     let mut rows = Vec::new(alloc);
     let mut begin = 0;
     while begin < done.len() {
         let trade = done[begin];
-        let end = begin + 1 + leading_position_len(trade, &done[begin + 1..]);
+        let end = begin + 1 + leading_trade_count_of_position(trade, &done[begin + 1..]);
         append_lot_changes_of_trades(alloc, &mut rows, &done[begin..end])?;
         begin = end;
     }
@@ -60,7 +60,7 @@ fn lot_changes_of_trades(alloc: Global, done: &[&TradeRow]) -> Result<Vec<DealTo
 }
 
 // Compares two changes by lot, then by trade.
-fn compare_by_lot_and_trade(one: &DealTouch, other: &DealTouch) -> Ordering
+fn compare_lot_changes(one: &DealTouch, other: &DealTouch) -> Ordering
     ensures { is_lt result ≡ is_row_key_less holding_history_key (abstract_deal_touch one.now) (abstract_deal_touch other.now) }
 {
     let lots = one.touch.lot.get().cmp(&other.touch.lot.get());
@@ -69,15 +69,15 @@ fn compare_by_lot_and_trade(one: &DealTouch, other: &DealTouch) -> Ordering
 }
 
 // Sorts the changes by lot, then by trade.
-fn sort_by_lot(rows: &mut Vec<DealTouch>)
+fn sort_lot_changes(rows: &mut Vec<DealTouch>)
     ensures permutation { IsPermutation rows.old.items rows.new.items }
     ensures order { IsSortedBy (λ one other. is_row_key_less holding_history_key (abstract_deal_touch one) (abstract_deal_touch other)) rows.new.items }
 {
-    rows.sort_unstable_by(|one, other| compare_by_lot_and_trade(one, other));
+    rows.sort_unstable_by(|one, other| compare_lot_changes(one, other));
 }
 
 // Returns true if the row of HOLDING_HISTORY equals the lot change.
-fn is_same_row(touch: &DealTouch, row: &LotChange) -> bool
+fn lot_change_equals_row(touch: &DealTouch, row: &LotChange) -> bool
     ensures { IsTrue result ↔ (abstract_deal_touch touch.now ≡ abstract_lot_change_row row.now) }
 {
     touch.touch.lot == row.lot
@@ -87,14 +87,14 @@ fn is_same_row(touch: &DealTouch, row: &LotChange) -> bool
 }
 
 // Returns true if the rows of HOLDING_HISTORY equal the lot changes, in order.
-fn are_same_rows(touches: &[DealTouch], rows: &[LotChange]) -> bool
+fn lot_changes_equal_rows(touches: &[DealTouch], rows: &[LotChange]) -> bool
     ensures { IsTrue result ↔ (map abstract_deal_touch touches.now ≡ map abstract_lot_change_row rows.now) }
 {
     if touches.len() != rows.len() {
         return false;
     }
     for (i, touch) in touches.iter().enumerate() {
-        if !is_same_row(touch, &rows[i]) {
+        if !lot_change_equals_row(touch, &rows[i]) {
             return false;
         }
     }
@@ -106,11 +106,11 @@ fn are_same_rows(touches: &[DealTouch], rows: &[LotChange]) -> bool
 pub(crate) fn history_condition_holds(alloc: Global, sheets: &Sheets) -> Result<bool, Fault>
     requires form { HasWellFormedRows sheets.now }
     requires status { HasValidStatuses sheets.now }
-    ensures told { IfOk result (λ holds. (schema : Schema) → IsTrue holds ↔ ConditionHolds schema History (tables_in_sheets sheets.now)) }
+    ensures value { IfOk result (λ holds. (schema : Schema) → IsTrue holds ↔ ConditionHolds schema History (abstract_sheets sheets.now)) }
     ensures fault { IfErr result (λ fault. fault ≡ Memory) }
 {
     let done = completed_trades_by_position(alloc, &sheets.trades)?;
     let mut rows = lot_changes_of_trades(alloc, &done)?;
-    sort_by_lot(&mut rows);
-    Ok(are_same_rows(&rows, &sheets.holding_history))
+    sort_lot_changes(&mut rows);
+    Ok(lot_changes_equal_rows(&rows, &sheets.holding_history))
 }

@@ -2,16 +2,16 @@ ghost use Rattle.std.specs.Prelude.{◌≡◌, ◌++◌, ◌↔◌, IfErr, IfOk,
 ghost use Rattle.std.specs.List.{AllByRecursion, IsDistinct};
 ghost use Rattle.std.specs.List.Sorted.{IsSortedBy};
 ghost use Rattle.brk_audit.specs.Conditions.{HasWellFormedRows, HasValidStatuses};
-ghost use Rattle.brk_audit.specs.Positions.{AreLotsLeftByTrades, has_same_id_or_stamp, lot_row_of_position, precedes_by_position};
+ghost use Rattle.brk_audit.specs.Positions.{AreLotsLeftByTrades, has_same_id_or_stamp, holding_row_in_position_of_trade, is_before_by_position};
 ghost use Rattle.brk_changes.specs.Rows.{abstract_holding_row, abstract_trade_row};
-ghost use Rattle.brk_changes.specs.Sheets.{tables_in_sheets};
+ghost use Rattle.brk_changes.specs.Sheets.{abstract_sheets};
 ghost use Rattle.brk_lots.specs.Lots.{abstract_lot};
 ghost use Rattle.brk_model.specs.Audit.{ConditionHolds};
 ghost use Rattle.brk_model.specs.Schemas.{Schema};
 ghost use Rattle.brk_money.specs.declared.fault.Condition.TheVariants.{Lots};
 ghost use Rattle.brk_money.specs.declared.fault.Fault.TheVariants.{Memory};
 
-use crate::positions::{completed_trades_by_position, leading_position_len, position_after_trades};
+use crate::positions::{completed_trades_by_position, leading_trade_count_of_position, position_after_trades};
 use brk_changes::{HoldingRow, Sheets, TradeRow};
 use brk_lots::Lot;
 use brk_money::Fault;
@@ -19,8 +19,8 @@ use std::alloc::Global;
 
 // Appends to `held` the HOLDING rows of the lots, with the account and the symbol of the trade.
 // Fails with `Memory` only.
-fn append_lot_rows(held: &mut Vec<HoldingRow>, trade: &TradeRow, lots: &[Lot]) -> Result<(), Fault>
-    ensures added { OnOk result (map abstract_holding_row held.new.items ≡ map abstract_holding_row held.old.items ++ map (lot_row_of_position (abstract_trade_row trade.now)) (map abstract_lot lots.now)) }
+fn append_holding_rows(held: &mut Vec<HoldingRow>, trade: &TradeRow, lots: &[Lot]) -> Result<(), Fault>
+    ensures added { OnOk result (map abstract_holding_row held.new.items ≡ map abstract_holding_row held.old.items ++ map (holding_row_in_position_of_trade (abstract_trade_row trade.now)) (map abstract_lot lots.now)) }
     ensures fault { IfErr result (λ fault. fault ≡ Memory) }
 {
     for lot in lots {
@@ -39,7 +39,7 @@ fn append_lot_rows(held: &mut Vec<HoldingRow>, trade: &TradeRow, lots: &[Lot]) -
 // Returns the HOLDING rows of the lots that the completed trades leave, position by position. Fails
 // with `Memory` only.
 fn lots_left_by_trades(alloc: Global, done: &[&TradeRow]) -> Result<Vec<HoldingRow>, Fault>
-    requires order { IsSortedBy (λ one other. precedes_by_position (abstract_trade_row one.now) (abstract_trade_row other.now)) done.now }
+    requires order { IsSortedBy (λ one other. is_before_by_position (abstract_trade_row one.now) (abstract_trade_row other.now)) done.now }
     requires apart { IsDistinct has_same_id_or_stamp (map (λ row. abstract_trade_row row.now) done.now) }
     requires priced { AllByRecursion (λ row. IsSome row.now.price) done.now }
     ensures left { IfOk result (λ held. AreLotsLeftByTrades (map (λ row. abstract_trade_row row.now) done.now) (map abstract_holding_row held.items)) }
@@ -49,16 +49,16 @@ fn lots_left_by_trades(alloc: Global, done: &[&TradeRow]) -> Result<Vec<HoldingR
     let mut begin = 0;
     while begin < done.len() {
         let trade = done[begin];
-        let end = begin + 1 + leading_position_len(trade, &done[begin + 1..]);
+        let end = begin + 1 + leading_trade_count_of_position(trade, &done[begin + 1..]);
         let position = position_after_trades(alloc, &done[begin..end])?;
-        append_lot_rows(&mut held, trade, position.lots())?;
+        append_holding_rows(&mut held, trade, position.lots())?;
         begin = end;
     }
     Ok(held)
 }
 
 // Returns true if the two rows are equal.
-fn is_same_row(one: &HoldingRow, other: &HoldingRow) -> bool
+fn are_holding_rows_equal(one: &HoldingRow, other: &HoldingRow) -> bool
     ensures { IsTrue result ↔ (abstract_holding_row one.now ≡ abstract_holding_row other.now) }
 {
     one.trade == other.trade
@@ -70,14 +70,14 @@ fn is_same_row(one: &HoldingRow, other: &HoldingRow) -> bool
 }
 
 // Returns true if the two lists of rows are equal.
-fn are_same_rows(rows: &[HoldingRow], others: &[HoldingRow]) -> bool
+fn are_holding_lists_equal(rows: &[HoldingRow], others: &[HoldingRow]) -> bool
     ensures { IsTrue result ↔ (map abstract_holding_row rows.now ≡ map abstract_holding_row others.now) }
 {
     if rows.len() != others.len() {
         return false;
     }
     for (i, row) in rows.iter().enumerate() {
-        if !is_same_row(row, &others[i]) {
+        if !are_holding_rows_equal(row, &others[i]) {
             return false;
         }
     }
@@ -89,11 +89,11 @@ fn are_same_rows(rows: &[HoldingRow], others: &[HoldingRow]) -> bool
 pub(crate) fn lot_condition_holds(alloc: Global, sheets: &Sheets) -> Result<bool, Fault>
     requires form { HasWellFormedRows sheets.now }
     requires status { HasValidStatuses sheets.now }
-    ensures told { IfOk result (λ holds. (schema : Schema) → IsTrue holds ↔ ConditionHolds schema Lots (tables_in_sheets sheets.now)) }
+    ensures value { IfOk result (λ holds. (schema : Schema) → IsTrue holds ↔ ConditionHolds schema Lots (abstract_sheets sheets.now)) }
     ensures fault { IfErr result (λ fault. fault ≡ Memory) }
 {
     let done = completed_trades_by_position(alloc, &sheets.trades)?;
     let mut held = lots_left_by_trades(alloc, &done)?;
     held.sort_unstable_by_key(|row| row.trade.get());
-    Ok(are_same_rows(&held, &sheets.holdings))
+    Ok(are_holding_lists_equal(&held, &sheets.holdings))
 }

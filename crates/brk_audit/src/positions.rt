@@ -3,7 +3,7 @@ ghost use Rattle.std.specs.List.{AllByRecursion};
 ghost use Rattle.std.specs.List.Sorted.{IsSortedBy};
 ghost use Rattle.std.specs.Ordering.{is_lt};
 ghost use Rattle.brk_audit.specs.Completed.{is_completed_row};
-ghost use Rattle.brk_audit.specs.Positions.{FirstElementSatisfies, precedes_by_position, deal_of_completed_row, is_same_position};
+ghost use Rattle.brk_audit.specs.Positions.{FirstElementSatisfies, is_before_by_position, deal_of_completed_row, is_same_position};
 ghost use Rattle.brk_changes.specs.Rows.{abstract_trade_row};
 ghost use Rattle.brk_lots.specs.Deals.{AreAscendingDeals};
 ghost use Rattle.brk_lots.specs.Lots.{abstract_deal, shares_of_lots};
@@ -31,8 +31,8 @@ fn collect_completed_trades(alloc: Global, trades: &[TradeRow]) -> Result<Vec<&T
 }
 
 // Compares two trades by account, then by symbol, then by stamp.
-fn compare_by_position_and_stamp(one: &TradeRow, other: &TradeRow) -> Ordering
-    ensures { is_lt result ≡ precedes_by_position (abstract_trade_row one.now) (abstract_trade_row other.now) }
+fn compare_trades_by_position(one: &TradeRow, other: &TradeRow) -> Ordering
+    ensures { is_lt result ≡ is_before_by_position (abstract_trade_row one.now) (abstract_trade_row other.now) }
 {
     let accounts = one.account.get().cmp(&other.account.get());
     let symbols = one.symbol.as_str().cmp(other.symbol.as_str());
@@ -45,11 +45,11 @@ fn compare_by_position_and_stamp(one: &TradeRow, other: &TradeRow) -> Ordering
 }
 
 // Sorts the trades by account, then by symbol, then by stamp.
-fn sort_by_position(done: &mut Vec<&TradeRow>)
+fn sort_trades_by_position(done: &mut Vec<&TradeRow>)
     ensures permutation { IsPermutation done.old.items done.new.items }
-    ensures order { IsSortedBy (λ one other. precedes_by_position (abstract_trade_row one.now) (abstract_trade_row other.now)) done.new.items }
+    ensures order { IsSortedBy (λ one other. is_before_by_position (abstract_trade_row one.now) (abstract_trade_row other.now)) done.new.items }
 {
-    done.sort_unstable_by(|one, other| compare_by_position_and_stamp(one, other));
+    done.sort_unstable_by(|one, other| compare_trades_by_position(one, other));
 }
 
 /// Returns the completed trades, sorted by account, then by symbol, then by stamp. Fails with
@@ -59,16 +59,16 @@ pub(crate) fn completed_trades_by_position(
     trades: &[TradeRow],
 ) -> Result<Vec<&TradeRow>, Fault>
     ensures done { IfOk result (λ done. IsPermutation (filter is_completed_row (map abstract_trade_row trades.now)) (map (λ row. abstract_trade_row row.now) done.items)) }
-    ensures order { IfOk result (λ done. IsSortedBy (λ one other. precedes_by_position (abstract_trade_row one.now) (abstract_trade_row other.now)) done.items) }
+    ensures order { IfOk result (λ done. IsSortedBy (λ one other. is_before_by_position (abstract_trade_row one.now) (abstract_trade_row other.now)) done.items) }
     ensures fault { IfErr result (λ fault. fault ≡ Memory) }
 {
     let mut done = collect_completed_trades(alloc, trades)?;
-    sort_by_position(&mut done);
+    sort_trades_by_position(&mut done);
     Ok(done)
 }
 
 // Returns true if the two trades have the same account and symbol.
-fn are_of_one_position(one: &TradeRow, other: &TradeRow) -> bool
+fn have_same_position(one: &TradeRow, other: &TradeRow) -> bool
     ensures { result ≡ is_same_position (abstract_trade_row one.now) (abstract_trade_row other.now) }
 {
     one.account == other.account && one.symbol.as_str() == other.symbol.as_str()
@@ -76,13 +76,13 @@ fn are_of_one_position(one: &TradeRow, other: &TradeRow) -> bool
 
 /// Returns the number of trades at the beginning of `done` that have the account and the symbol of
 /// `trade`.
-pub(crate) fn leading_position_len(trade: &TradeRow, done: &[&TradeRow]) -> usize
+pub(crate) fn leading_trade_count_of_position(trade: &TradeRow, done: &[&TradeRow]) -> usize
     ensures within { result ≤ length done.now }
     ensures same { AllByRecursion (λ other. is_same_position (abstract_trade_row trade.now) (abstract_trade_row other.now) ≡ true) (take result done.now) }
     ensures next { FirstElementSatisfies (λ other. is_same_position (abstract_trade_row trade.now) (abstract_trade_row other.now) ≡ false) (drop result done.now) }
 {
     for (i, other) in done.iter().enumerate() {
-        if !are_of_one_position(trade, other) {
+        if !have_same_position(trade, other) {
             return i;
         }
     }

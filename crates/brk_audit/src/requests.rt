@@ -8,9 +8,9 @@ ghost use Rattle.brk_model.specs.Schemas.{Schema};
 ghost use Rattle.brk_audit.specs.AccountTerms.{broker_in_terms};
 ghost use Rattle.brk_audit.specs.Completed.{is_pending_row};
 ghost use Rattle.brk_audit.specs.Conditions.{HasWellFormedRows, HasValidStatuses};
-ghost use Rattle.brk_audit.specs.Settling.{MatchIsImpossible, MatchReducesToOthers, request_row_of_trade};
+ghost use Rattle.brk_audit.specs.Settling.{RowsCannotMatchTrades, RowsMatchTradesIffOthersDo, request_row_of_trade};
 ghost use Rattle.brk_changes.specs.Rows.{abstract_request_row, abstract_trade_row};
-ghost use Rattle.brk_changes.specs.Sheets.{tables_in_sheets};
+ghost use Rattle.brk_changes.specs.Sheets.{abstract_sheets};
 
 use crate::account_terms::{AccountTerms, account_broker_id, account_terms_by_id};
 use brk_changes::{RequestRow, Sheets, TradeRow};
@@ -36,7 +36,7 @@ fn has_order_terms_of_trade(request: &RequestRow, trade: &TradeRow) -> bool
 
 // Returns true if the request is exactly the TRADE_REQUEST row of the pending trade, with the
 // broker `broker`.
-fn is_request_of(request: &RequestRow, trade: &TradeRow, broker: u64) -> bool
+fn request_matches_trade(request: &RequestRow, trade: &TradeRow, broker: u64) -> bool
     ensures { IsTrue result ↔ (abstract_request_row request.now ≡ request_row_of_trade (λ account. broker) (abstract_trade_row trade.now)) }
 {
     request.trade == trade.id
@@ -60,8 +60,8 @@ fn requests_after_trade<'a>(
     terms: &BTreeMap<u64, AccountTerms>,
 ) -> Option<&'a [RequestRow]>
     ensures { MatchOption result
-        (MatchIsImpossible (λ q. q) (request_row_of_trade (broker_in_terms terms.now)) is_pending_row (map abstract_request_row requests.now) (abstract_trade_row trade.now))
-        (λ others. MatchReducesToOthers (λ q. q) (request_row_of_trade (broker_in_terms terms.now)) is_pending_row (map abstract_request_row requests.now) (abstract_trade_row trade.now) (map abstract_request_row others.now)) }
+        (RowsCannotMatchTrades (λ q. q) (request_row_of_trade (broker_in_terms terms.now)) is_pending_row (map abstract_request_row requests.now) (abstract_trade_row trade.now))
+        (λ others. RowsMatchTradesIffOthersDo (λ q. q) (request_row_of_trade (broker_in_terms terms.now)) is_pending_row (map abstract_request_row requests.now) (abstract_trade_row trade.now) (map abstract_request_row others.now)) }
 {
     if !is_pending(trade.status) {
         return Some(requests);
@@ -69,7 +69,7 @@ fn requests_after_trade<'a>(
     let [first, others @ ..] = requests else {
         return None;
     };
-    if is_request_of(first, trade, account_broker_id(terms, trade.account)) {
+    if request_matches_trade(first, trade, account_broker_id(terms, trade.account)) {
         Some(others)
     } else {
         None
@@ -99,7 +99,7 @@ fn requests_match_trades(
 pub(crate) fn request_condition_holds(alloc: Global, sheets: &Sheets) -> Result<bool, Fault>
     requires form { HasWellFormedRows sheets.now }
     requires status { HasValidStatuses sheets.now }
-    ensures told { IfOk result (λ holds. (schema : Schema) → IsTrue holds ↔ ConditionHolds schema condition.Requests (tables_in_sheets sheets.now)) }
+    ensures value { IfOk result (λ holds. (schema : Schema) → IsTrue holds ↔ ConditionHolds schema condition.Requests (abstract_sheets sheets.now)) }
     ensures fault { IfErr result (λ fault. fault ≡ Memory) }
 {
     let terms = account_terms_by_id(alloc, &sheets.accounts)?;

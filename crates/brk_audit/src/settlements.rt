@@ -7,14 +7,14 @@ ghost use Rattle.brk_model.specs.Derived.{due_day_of_completion_stamp};
 ghost use Rattle.brk_audit.specs.AccountTerms.{tax_status_in_terms};
 ghost use Rattle.brk_audit.specs.Completed.{is_completed_row};
 ghost use Rattle.brk_audit.specs.Conditions.{HasWellFormedRows, HasValidStatuses};
-ghost use Rattle.brk_audit.specs.Settling.{MatchIsImpossible, MatchReducesToOthers, settlement_amount_at, settlement_figures_of_row, settlement_figures_of_trade};
+ghost use Rattle.brk_audit.specs.Settling.{RowsCannotMatchTrades, RowsMatchTradesIffOthersDo, settlement_amount_at_tax_status, settlement_figures_of_row, settlement_figures_of_trade};
 ghost use Rattle.brk_changes.specs.Rows.{abstract_settlement_row, abstract_trade_row};
-ghost use Rattle.brk_changes.specs.Sheets.{tables_in_sheets};
+ghost use Rattle.brk_changes.specs.Sheets.{abstract_sheets};
 
 use crate::account_terms::{AccountTerms, account_tax_status, account_terms_by_id};
 use crate::amounts::settlement_amount_of_row;
 use crate::status::is_completed;
-use brk_changes::{SettlementRow, Sheets, TradeRow, settlement_days};
+use brk_changes::{SettlementRow, Sheets, TradeRow, days_to_settlement};
 use brk_money::{Day, Fault, Stamp, TaxStatus, day_of};
 use std::alloc::Global;
 use std::collections::BTreeMap;
@@ -25,19 +25,19 @@ fn settles_on_day(day: Day, rule: Option<Day>, stamp: Stamp) -> bool
     ensures { IsTrue result ↔ (day ≡ due_day_of_completion_stamp rule stamp) }
 {
     let completed = day_of(stamp);
-    day.get() == completed.get() + i32::from(settlement_days(rule, completed))
+    day.get() == completed.get() + i32::from(days_to_settlement(rule, completed))
 }
 
 // Returns true if the settlement has the id, the due day and the settlement amount of the completed
 // trade, by the settlement day `rule` and the tax status of its account.
-fn is_settlement_of(
+fn settlement_matches_trade(
     settlement: &SettlementRow,
     trade: &TradeRow,
     rule: Option<Day>,
     tax_status: TaxStatus,
 ) -> bool
     ensures { IsTrue result ↔ ((settlement.now.trade ≡ trade.now.id) × (settlement.now.due_day ≡ due_day_of_completion_stamp rule trade.now.stamp)
-        × (settlement.now.amount ≡ settlement_amount_at tax_status (abstract_trade_row trade.now))) }
+        × (settlement.now.amount ≡ settlement_amount_at_tax_status tax_status (abstract_trade_row trade.now))) }
 {
     settlement.trade == trade.id
         && settles_on_day(settlement.due_day, rule, trade.stamp)
@@ -53,8 +53,8 @@ fn settlements_after_trade<'a>(
     terms: &BTreeMap<u64, AccountTerms>,
 ) -> Option<&'a [SettlementRow]>
     ensures { MatchOption result
-        (MatchIsImpossible settlement_figures_of_row (settlement_figures_of_trade rule.now (tax_status_in_terms terms.now)) is_completed_row (map abstract_settlement_row settlements.now) (abstract_trade_row trade.now))
-        (λ others. MatchReducesToOthers settlement_figures_of_row (settlement_figures_of_trade rule.now (tax_status_in_terms terms.now)) is_completed_row (map abstract_settlement_row settlements.now) (abstract_trade_row trade.now) (map abstract_settlement_row others.now)) }
+        (RowsCannotMatchTrades settlement_figures_of_row (settlement_figures_of_trade rule.now (tax_status_in_terms terms.now)) is_completed_row (map abstract_settlement_row settlements.now) (abstract_trade_row trade.now))
+        (λ others. RowsMatchTradesIffOthersDo settlement_figures_of_row (settlement_figures_of_trade rule.now (tax_status_in_terms terms.now)) is_completed_row (map abstract_settlement_row settlements.now) (abstract_trade_row trade.now) (map abstract_settlement_row others.now)) }
 {
     if !is_completed(trade.status) {
         return Some(settlements);
@@ -62,7 +62,7 @@ fn settlements_after_trade<'a>(
     let [first, others @ ..] = settlements else {
         return None;
     };
-    if is_settlement_of(
+    if settlement_matches_trade(
         first,
         trade,
         *rule,
@@ -99,7 +99,7 @@ fn settlements_match_trades(
 pub(crate) fn settlement_condition_holds(alloc: Global, sheets: &Sheets) -> Result<bool, Fault>
     requires form { HasWellFormedRows sheets.now }
     requires status { HasValidStatuses sheets.now }
-    ensures told { IfOk result (λ holds. (schema : Schema) → IsTrue holds ↔ ConditionHolds schema Settlement (tables_in_sheets sheets.now)) }
+    ensures value { IfOk result (λ holds. (schema : Schema) → IsTrue holds ↔ ConditionHolds schema Settlement (abstract_sheets sheets.now)) }
     ensures fault { IfErr result (λ fault. fault ≡ Memory) }
 {
     let terms = account_terms_by_id(alloc, &sheets.accounts)?;

@@ -12,7 +12,7 @@ ghost use Rattle.brk_model.specs.Lists.{all_distinct};
 ghost use Rattle.brk_audit.specs.Conditions.{HasWellFormedRows};
 ghost use Rattle.brk_audit.specs.Statuses as spec;
 ghost use Rattle.brk_changes.specs.Rows.{abstract_history_row, abstract_move_row, abstract_trade_row};
-ghost use Rattle.brk_changes.specs.Sheets.{tables_in_sheets};
+ghost use Rattle.brk_changes.specs.Sheets.{abstract_sheets};
 
 use brk_changes::{HistoryRow, MoveRow, Sheets, TradeRow};
 use brk_money::{Fault, Id, Stamp, Status};
@@ -27,7 +27,7 @@ pub(crate) fn is_completed(status: Status) -> bool
 }
 
 /// Returns the stamp in milliseconds since 1970-01-01 UTC.
-pub(crate) fn millis(stamp: Stamp) -> u64
+pub(crate) fn stamp_in_millis(stamp: Stamp) -> u64
     ensures { result ≡ stamp }
 {
     stamp.get().unsigned_abs()
@@ -48,8 +48,8 @@ fn is_first_status(status: Status) -> bool
 }
 
 // Returns true if the trade's row has the status and the stamp of the history row.
-fn has_status_and_stamp_of(trade: &TradeRow, row: HistoryRow) -> bool
-    ensures { result ≡ spec.has_status_and_stamp_of (abstract_trade_row trade.now) (abstract_history_row row) }
+fn has_status_and_stamp_of_row(trade: &TradeRow, row: HistoryRow) -> bool
+    ensures { result ≡ spec.has_status_and_stamp_of_row (abstract_trade_row trade.now) (abstract_history_row row) }
 {
     trade.status == row.status && trade.stamp == row.stamp
 }
@@ -61,10 +61,10 @@ fn is_valid_two_row_history(trade: &TradeRow, a: HistoryRow, b: HistoryRow) -> b
 {
     match (a.status, b.status) {
         (Status::Completed, Status::Submitted) | (Status::Canceled, Status::Pending) => {
-            is_before(b.stamp, a.stamp) && has_status_and_stamp_of(trade, a)
+            is_before(b.stamp, a.stamp) && has_status_and_stamp_of_row(trade, a)
         }
         (Status::Pending, Status::Submitted) => {
-            is_before(a.stamp, b.stamp) && has_status_and_stamp_of(trade, b)
+            is_before(a.stamp, b.stamp) && has_status_and_stamp_of_row(trade, b)
         }
         _ => false,
     }
@@ -79,7 +79,7 @@ fn is_valid_three_row_history(trade: &TradeRow, a: HistoryRow, b: HistoryRow, c:
         (Status::Completed, Status::Pending, Status::Submitted) => {
             is_before(b.stamp, c.stamp)
                 && is_before(c.stamp, a.stamp)
-                && has_status_and_stamp_of(trade, a)
+                && has_status_and_stamp_of_row(trade, a)
         }
         _ => false,
     }
@@ -91,7 +91,7 @@ fn is_valid_trade_history(trade: &TradeRow, rows: &[HistoryRow]) -> bool
     ensures { result ≡ spec.is_valid_history (abstract_trade_row trade.now) (map abstract_history_row rows.now) }
 {
     match rows {
-        [only] => is_first_status(only.status) && has_status_and_stamp_of(trade, *only),
+        [only] => is_first_status(only.status) && has_status_and_stamp_of_row(trade, *only),
         [a, b] => is_valid_two_row_history(trade, *a, *b),
         [a, b, c] => is_valid_three_row_history(trade, *a, *b, *c),
         _ => false,
@@ -99,7 +99,7 @@ fn is_valid_trade_history(trade: &TradeRow, rows: &[HistoryRow]) -> bool
 }
 
 // Returns the number of rows at the beginning of `history` that belong to the trade.
-fn leading_row_count(history: &[HistoryRow], trade: Id) -> usize
+fn leading_row_count_of_trade(history: &[HistoryRow], trade: Id) -> usize
     ensures { result ≡ prefix_len (λ h. h.trade == trade) history.now }
 {
     for (i, row) in history.iter().enumerate() {
@@ -117,7 +117,7 @@ fn all_histories_are_valid(trades: &[TradeRow], history: &[HistoryRow]) -> bool
 {
     let mut rest = history;
     for trade in trades {
-        let (rows, others) = rest.split_at(leading_row_count(rest, trade.id));
+        let (rows, others) = rest.split_at(leading_row_count_of_trade(rest, trade.id));
         if !is_valid_trade_history(trade, rows) {
             return false;
         }
@@ -136,7 +136,7 @@ fn insert_completion_stamp(seen: &mut BTreeSet<u64>, row: &HistoryRow) -> Result
     if !is_completed(row.status) {
         return Ok(true);
     }
-    let new = seen.insert(millis(row.stamp))?;
+    let new = seen.insert(stamp_in_millis(row.stamp))?;
     Ok(new)
 }
 
@@ -150,7 +150,7 @@ fn insert_movement_stamp(seen: &mut BTreeSet<u64>, row: &MoveRow) -> Result<bool
     if row.trade.is_some() {
         return Ok(true);
     }
-    let new = seen.insert(millis(row.stamp))?;
+    let new = seen.insert(stamp_in_millis(row.stamp))?;
     Ok(new)
 }
 
@@ -161,7 +161,7 @@ fn has_distinct_stamps(
     history: &[HistoryRow],
     moves: &[MoveRow],
 ) -> Result<bool, Fault>
-    ensures told { IfOk result (λ apart. apart ≡ all_distinct (spec.completion_stamps_of (map abstract_history_row history.now) ++ spec.movement_stamps_of (map abstract_move_row moves.now))) }
+    ensures value { IfOk result (λ apart. apart ≡ all_distinct (spec.completion_stamps_of_history (map abstract_history_row history.now) ++ spec.movement_stamps_of_cash_rows (map abstract_move_row moves.now))) }
     ensures fault { IfErr result (λ fault. fault ≡ Memory) }
 {
     let mut seen = BTreeSet::new(alloc);
@@ -183,7 +183,7 @@ fn has_distinct_stamps(
 /// `Memory` only.
 pub(crate) fn status_condition_holds(alloc: Global, sheets: &Sheets) -> Result<bool, Fault>
     requires form { HasWellFormedRows sheets.now }
-    ensures told { IfOk result (λ holds. (schema : Schema) → IsTrue holds ↔ ConditionHolds schema condition.Status (tables_in_sheets sheets.now)) }
+    ensures value { IfOk result (λ holds. (schema : Schema) → IsTrue holds ↔ ConditionHolds schema condition.Status (abstract_sheets sheets.now)) }
     ensures fault { IfErr result (λ fault. fault ≡ Memory) }
 {
     if !all_histories_are_valid(&sheets.trades, &sheets.history) {

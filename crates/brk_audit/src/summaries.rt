@@ -7,13 +7,13 @@ ghost use Rattle.brk_model.specs.Schemas.{Schema};
 ghost use Rattle.brk_model.specs.Lists.{is_zero};
 ghost use Rattle.brk_model.specs.Shares.{signed_by_side};
 ghost use Rattle.brk_changes.specs.Rows.{abstract_summary_row, abstract_trade_row};
-ghost use Rattle.brk_changes.specs.Sheets.{tables_in_sheets};
+ghost use Rattle.brk_changes.specs.Sheets.{abstract_sheets};
 ghost use Rattle.brk_audit.specs.Conditions.{HasWellFormedRows, HasValidStatuses};
-ghost use Rattle.brk_audit.specs.PositionSums.{HasNonzeroQuantity, plain_posting, share_posting_of_trade, share_posting_of_summary};
+ghost use Rattle.brk_audit.specs.PositionSums.{HasNonzeroQuantity, posting_with_owned_symbol, share_posting_of_trade, share_posting_of_summary};
 ghost use Rattle.brk_audit.specs.Tally.{sum_at_key};
 
 use crate::status::is_completed;
-use crate::tally::{Posting, sum_at, tally};
+use crate::tally::{Posting, sum_or_zero_at_key, tally};
 use brk_changes::{Sheets, SummaryRow, TradeRow};
 use brk_money::{Fault, Side};
 use std::alloc::Global;
@@ -32,7 +32,7 @@ fn signed_shares(side: Side, qty: u32) -> i64
 // Returns the posting of the trade's signed quantity at its account and symbol, or `None` if the
 // trade is not completed.
 fn share_posting_of_row(trade: &TradeRow) -> Option<Posting<(u64, &str)>>
-    ensures { option_map plain_posting result ≡ share_posting_of_trade (abstract_trade_row trade.now) }
+    ensures { option_map posting_with_owned_symbol result ≡ share_posting_of_trade (abstract_trade_row trade.now) }
 {
     if !is_completed(trade.status) {
         return None;
@@ -47,7 +47,7 @@ fn share_postings_of_trades<'a>(
     alloc: Global,
     trades: &'a [TradeRow],
 ) -> Result<Vec<Posting<(u64, &'a str)>>, Fault>
-    ensures all { IfOk result (λ all. map plain_posting all.items ≡ filter_map (λ r. share_posting_of_trade (abstract_trade_row r)) trades.now) }
+    ensures all { IfOk result (λ all. map posting_with_owned_symbol all.items ≡ filter_map (λ r. share_posting_of_trade (abstract_trade_row r)) trades.now) }
     ensures fault { IfErr result (λ fault. fault ≡ Memory) }
 {
     let mut all = Vec::new(alloc);
@@ -61,7 +61,7 @@ fn share_postings_of_trades<'a>(
 
 // Returns the posting of the summary's quantity at its account and symbol.
 fn posting_of_summary(row: &SummaryRow) -> Posting<(u64, &str)>
-    ensures { plain_posting result ≡ share_posting_of_summary (abstract_summary_row row.now) }
+    ensures { posting_with_owned_symbol result ≡ share_posting_of_summary (abstract_summary_row row.now) }
 {
     let key = (row.account.get(), row.symbol.as_str());
     let amount = row.qty;
@@ -73,7 +73,7 @@ fn postings_of_summaries<'a>(
     alloc: Global,
     rows: &'a [SummaryRow],
 ) -> Result<Vec<Posting<(u64, &'a str)>>, Fault>
-    ensures all { IfOk result (λ all. map plain_posting all.items ≡ map (λ r. share_posting_of_summary (abstract_summary_row r)) rows.now) }
+    ensures all { IfOk result (λ all. map posting_with_owned_symbol all.items ≡ map (λ r. share_posting_of_summary (abstract_summary_row r)) rows.now) }
     ensures fault { IfErr result (λ fault. fault ≡ Memory) }
 {
     let mut all = Vec::new(alloc);
@@ -84,7 +84,7 @@ fn postings_of_summaries<'a>(
 }
 
 // Returns true if the two maps have equal sums at the key of each posting.
-fn tallies_agree<K: Ord + Copy>(
+fn sums_agree_at_postings<K: Ord + Copy>(
     sums: &BTreeMap<K, i128>,
     told: &BTreeMap<K, i128>,
     postings: &[Posting<K>],
@@ -92,7 +92,7 @@ fn tallies_agree<K: Ord + Copy>(
     ensures { IsTrue result ↔ AllByRecursion (λ p. sum_at_key K.cmp sums.now p.key ≡ sum_at_key K.cmp told.now p.key) postings.now }
 {
     for posting in postings {
-        if sum_at(sums, posting.key) != sum_at(told, posting.key) {
+        if sum_or_zero_at_key(sums, posting.key) != sum_or_zero_at_key(told, posting.key) {
             return false;
         }
     }
@@ -130,15 +130,15 @@ pub(crate) fn all_three_true(one: bool, other: bool, last: bool) -> bool
 pub(crate) fn summary_condition_holds(alloc: Global, sheets: &Sheets) -> Result<bool, Fault>
     requires form { HasWellFormedRows sheets.now }
     requires status { HasValidStatuses sheets.now }
-    ensures told { IfOk result (λ holds. (schema : Schema) → IsTrue holds ↔ ConditionHolds schema Summary (tables_in_sheets sheets.now)) }
+    ensures value { IfOk result (λ holds. (schema : Schema) → IsTrue holds ↔ ConditionHolds schema Summary (abstract_sheets sheets.now)) }
     ensures fault { IfErr result (λ fault. fault ≡ Memory) }
 {
     let postings = share_postings_of_trades(alloc, &sheets.trades)?;
     let claims = postings_of_summaries(alloc, &sheets.summaries)?;
     let sums = tally(alloc, &postings)?;
     let told = tally(alloc, &claims)?;
-    let each_trade = tallies_agree(&sums, &told, &postings);
-    let each_row = tallies_agree(&sums, &told, &claims);
+    let each_trade = sums_agree_at_postings(&sums, &told, &postings);
+    let each_row = sums_agree_at_postings(&sums, &told, &claims);
     let shares = all_summaries_nonzero(&sheets.summaries);
     Ok(all_three_true(each_trade, each_row, shares))
 }

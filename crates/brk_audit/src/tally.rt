@@ -59,7 +59,7 @@ pub(crate) fn tally<K: Ord + Copy>(
 }
 
 /// Returns the sum at the key, or 0 if the map does not contain the key.
-pub(crate) fn sum_at<K: Ord + Copy>(tally: &BTreeMap<K, i128>, key: K) -> i128
+pub(crate) fn sum_or_zero_at_key<K: Ord + Copy>(tally: &BTreeMap<K, i128>, key: K) -> i128
     ensures { result ≡ sum_at_key K.cmp tally.now key }
 {
     tally.get(&key).copied().unwrap_or(0)

@@ -8,7 +8,7 @@ use Rattle.brk_money.specs.Kinds.{trade_type_name}
 use Rattle.brk_model.specs.Tables.{Tables, TradeRow, SecurityRow, LastTradeRow}
 use Rattle.brk_model.specs.Adopted.{base_of_tables, security_of_row, security_of_rows, zero_last_trade_row, trade_of_row}
 use Rattle.brk_model.specs.Results.{cash_row_name}
-use Rattle.brk_audit_form.specs.Names.{cash_text_in}
+use Rattle.brk_audit_form.specs.Names.{cash_text_of_trade_in_tables}
 
 symbol_same : (t : Tables) (s : SecurityRow) → (security_of_row t s).symbol ≡ s.symbol
 symbol_same t s = by_last (find (λ l. bytes_eq l.symbol s.symbol) t.last_trades)
@@ -39,7 +39,7 @@ names_same t q (s ∷ rows) =
     by_test false e = e
 
 -- the text of a trade is that of its row
-pub text_same : (t : Tables) (words : Text) (row : TradeRow) → cash_text_in t words row ≡ cash_row_name words (base_of_tables t) (trade_of_row t row)
+pub text_same : (t : Tables) (words : Text) (row : TradeRow) → cash_text_of_trade_in_tables t words row ≡ cash_row_name words (base_of_tables t) (trade_of_row t row)
 unfolding base_of_tables
 text_same t words row = ap (λ name. trade_type_name row.kind ++ 32 ∷ decimal row.qty ++ words ++ name) (sym (names_same t row.symbol t.securities))
 

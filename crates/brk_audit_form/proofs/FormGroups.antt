@@ -7,7 +7,7 @@ use Rattle.brk_model.specs.Keys.{KeyPart, is_key_less, kept_key, broker_key, cus
 use Rattle.brk_model.specs.Form.{is_sorted_by_unique_key, tables_are_sorted_by_unique_key, is_well_formed_kept_row, is_well_formed_broker_row, is_well_formed_customer_row, is_well_formed_account_row, is_well_formed_permission_row, is_well_formed_security_row, is_well_formed_last_trade_row, is_well_formed_charge_row, is_well_formed_band_row, is_well_formed_tax_rate_row, is_well_formed_customer_tax_row, is_well_formed_trade_row, is_well_formed_history_row, is_well_formed_request_row, is_well_formed_holding_row, is_well_formed_summary_row, is_well_formed_holding_history_row, is_well_formed_settlement_row}
 use Rattle.brk_ref.specs.Records.{abstract_kept_row, abstract_broker_row, abstract_customer, abstract_account_row, abstract_permission, abstract_security_row, abstract_last_trade_row, abstract_charge, abstract_band, abstract_tax_rate, abstract_customer_tax}
 use Rattle.brk_changes.specs.Rows.{abstract_trade_row, abstract_history_row, abstract_request_row, abstract_holding_row, abstract_summary_row, abstract_lot_change_row, abstract_settlement_row, abstract_cash_row, abstract_move_row}
-use Rattle.brk_changes.specs.Sheets.{tables_in_sheets}
+use Rattle.brk_changes.specs.Sheets.{abstract_sheets}
 use Rattle.brk_model.specs.Schemas.{Schema}
 use Rattle.brk_model.specs.Tables.{Tables}
 use Rattle.brk_changes.specs.declared.sheets.Sheets.{Sheets}
@@ -24,7 +24,7 @@ regroup : (a r0 r1 r2 r3 r4 r5 r6 r7 r8 : Bool) → (a && (r0 && r1 && r2 && r3 
 regroup true r0 r1 r2 r3 r4 r5 r6 r7 r8 = refl
 regroup false r0 r1 r2 r3 r4 r5 r6 r7 r8 = refl
 
-pub keys_whole : (s : Sheets) → (reference_tables_are_sorted s && trading_tables_are_sorted s) ≡ tables_are_sorted_by_unique_key (tables_in_sheets s)
+pub keys_whole : (s : Sheets) → (reference_tables_are_sorted s && trading_tables_are_sorted s) ≡ tables_are_sorted_by_unique_key (abstract_sheets s)
 unfolding tables_are_sorted_by_unique_key
 keys_whole s =
     regroup (reference_tables_are_sorted s)
@@ -64,52 +64,52 @@ pub record ReferenceForms (schema : Schema) (s : Sheets) : Type 0 where
   pub kept : list_all is_well_formed_kept_row (map abstract_kept_row s.kept.items) ≡ true
   pub brokers : list_all is_well_formed_broker_row (map abstract_broker_row s.brokers.items) ≡ true
   pub customers : list_all is_well_formed_customer_row (map abstract_customer s.customers.items) ≡ true
-  pub accounts : list_all (is_well_formed_account_row (tables_in_sheets s)) (map abstract_account_row s.accounts.items) ≡ true
-  pub permissions : list_all (is_well_formed_permission_row (tables_in_sheets s)) (map abstract_permission s.permissions.items) ≡ true
-  pub securities : list_all (is_well_formed_security_row (tables_in_sheets s)) (map abstract_security_row s.securities.items) ≡ true
-  pub last_trades : list_all (is_well_formed_last_trade_row (tables_in_sheets s)) (map abstract_last_trade_row s.last_trades.items) ≡ true
+  pub accounts : list_all (is_well_formed_account_row (abstract_sheets s)) (map abstract_account_row s.accounts.items) ≡ true
+  pub permissions : list_all (is_well_formed_permission_row (abstract_sheets s)) (map abstract_permission s.permissions.items) ≡ true
+  pub securities : list_all (is_well_formed_security_row (abstract_sheets s)) (map abstract_security_row s.securities.items) ≡ true
+  pub last_trades : list_all (is_well_formed_last_trade_row (abstract_sheets s)) (map abstract_last_trade_row s.last_trades.items) ≡ true
   pub charges : list_all is_well_formed_charge_row (map abstract_charge s.charges.items) ≡ true
   pub bands : list_all (is_well_formed_band_row schema) (map abstract_band s.bands.items) ≡ true
   pub tax_rates : list_all is_well_formed_tax_rate_row (map abstract_tax_rate s.tax_rates.items) ≡ true
-  pub customer_taxes : list_all (is_well_formed_customer_tax_row (tables_in_sheets s)) (map abstract_customer_tax s.customer_taxes.items) ≡ true
+  pub customer_taxes : list_all (is_well_formed_customer_tax_row (abstract_sheets s)) (map abstract_customer_tax s.customer_taxes.items) ≡ true
 
 -- and of trades
 pub record TradingForms (schema : Schema) (s : Sheets) : Type 0 where
-  pub trades : list_all (is_well_formed_trade_row schema (tables_in_sheets s)) (map abstract_trade_row s.trades.items) ≡ true
-  pub history : list_all (is_well_formed_history_row (tables_in_sheets s)) (map abstract_history_row s.history.items) ≡ true
-  pub requests : list_all (is_well_formed_request_row schema (tables_in_sheets s)) (map abstract_request_row s.requests.items) ≡ true
-  pub holdings : list_all (is_well_formed_holding_row (tables_in_sheets s)) (map abstract_holding_row s.holdings.items) ≡ true
-  pub summaries : list_all (is_well_formed_summary_row schema (tables_in_sheets s)) (map abstract_summary_row s.summaries.items) ≡ true
-  pub holding_history : list_all (is_well_formed_holding_history_row (tables_in_sheets s)) (map abstract_lot_change_row s.holding_history.items) ≡ true
-  pub settlements : list_all (is_well_formed_settlement_row (tables_in_sheets s)) (map abstract_settlement_row s.settlements.items) ≡ true
+  pub trades : list_all (is_well_formed_trade_row schema (abstract_sheets s)) (map abstract_trade_row s.trades.items) ≡ true
+  pub history : list_all (is_well_formed_history_row (abstract_sheets s)) (map abstract_history_row s.history.items) ≡ true
+  pub requests : list_all (is_well_formed_request_row schema (abstract_sheets s)) (map abstract_request_row s.requests.items) ≡ true
+  pub holdings : list_all (is_well_formed_holding_row (abstract_sheets s)) (map abstract_holding_row s.holdings.items) ≡ true
+  pub summaries : list_all (is_well_formed_summary_row schema (abstract_sheets s)) (map abstract_summary_row s.summaries.items) ≡ true
+  pub holding_history : list_all (is_well_formed_holding_history_row (abstract_sheets s)) (map abstract_lot_change_row s.holding_history.items) ≡ true
+  pub settlements : list_all (is_well_formed_settlement_row (abstract_sheets s)) (map abstract_settlement_row s.settlements.items) ≡ true
 
 -- those after the first one
 abbrev reference_rests : Schema → Sheets → List Bool
 reference_rests schema s =
     list_all is_well_formed_broker_row (map abstract_broker_row s.brokers.items) ∷
     list_all is_well_formed_customer_row (map abstract_customer s.customers.items) ∷
-    list_all (is_well_formed_account_row (tables_in_sheets s)) (map abstract_account_row s.accounts.items) ∷
-    list_all (is_well_formed_permission_row (tables_in_sheets s)) (map abstract_permission s.permissions.items) ∷
-    list_all (is_well_formed_security_row (tables_in_sheets s)) (map abstract_security_row s.securities.items) ∷
-    list_all (is_well_formed_last_trade_row (tables_in_sheets s)) (map abstract_last_trade_row s.last_trades.items) ∷
+    list_all (is_well_formed_account_row (abstract_sheets s)) (map abstract_account_row s.accounts.items) ∷
+    list_all (is_well_formed_permission_row (abstract_sheets s)) (map abstract_permission s.permissions.items) ∷
+    list_all (is_well_formed_security_row (abstract_sheets s)) (map abstract_security_row s.securities.items) ∷
+    list_all (is_well_formed_last_trade_row (abstract_sheets s)) (map abstract_last_trade_row s.last_trades.items) ∷
     list_all is_well_formed_charge_row (map abstract_charge s.charges.items) ∷
     list_all (is_well_formed_band_row schema) (map abstract_band s.bands.items) ∷
     list_all is_well_formed_tax_rate_row (map abstract_tax_rate s.tax_rates.items) ∷
-    list_all (is_well_formed_customer_tax_row (tables_in_sheets s)) (map abstract_customer_tax s.customer_taxes.items) ∷ []
+    list_all (is_well_formed_customer_tax_row (abstract_sheets s)) (map abstract_customer_tax s.customer_taxes.items) ∷ []
 
 reference_mapped : (schema : Schema) (s : Sheets) → joined (list_all is_well_formed_kept_row (map abstract_kept_row s.kept.items)) (reference_rests schema s) ≡ reference_rows_are_well_formed schema s
 reference_mapped schema s = λ i.
     list_all-map is_well_formed_kept_row abstract_kept_row s.kept.items i
     && list_all-map is_well_formed_broker_row abstract_broker_row s.brokers.items i
     && list_all-map is_well_formed_customer_row abstract_customer s.customers.items i
-    && list_all-map (is_well_formed_account_row (tables_in_sheets s)) abstract_account_row s.accounts.items i
-    && list_all-map (is_well_formed_permission_row (tables_in_sheets s)) abstract_permission s.permissions.items i
-    && list_all-map (is_well_formed_security_row (tables_in_sheets s)) abstract_security_row s.securities.items i
-    && list_all-map (is_well_formed_last_trade_row (tables_in_sheets s)) abstract_last_trade_row s.last_trades.items i
+    && list_all-map (is_well_formed_account_row (abstract_sheets s)) abstract_account_row s.accounts.items i
+    && list_all-map (is_well_formed_permission_row (abstract_sheets s)) abstract_permission s.permissions.items i
+    && list_all-map (is_well_formed_security_row (abstract_sheets s)) abstract_security_row s.securities.items i
+    && list_all-map (is_well_formed_last_trade_row (abstract_sheets s)) abstract_last_trade_row s.last_trades.items i
     && list_all-map is_well_formed_charge_row abstract_charge s.charges.items i
     && list_all-map (is_well_formed_band_row schema) abstract_band s.bands.items i
     && list_all-map is_well_formed_tax_rate_row abstract_tax_rate s.tax_rates.items i
-    && list_all-map (is_well_formed_customer_tax_row (tables_in_sheets s)) abstract_customer_tax s.customer_taxes.items i
+    && list_all-map (is_well_formed_customer_tax_row (abstract_sheets s)) abstract_customer_tax s.customer_taxes.items i
 
 pub reference_forms_parts : (schema : Schema) (s : Sheets) → reference_rows_are_well_formed schema s ≡ true → ReferenceForms schema s
 reference_forms_parts schema s h =
@@ -136,26 +136,26 @@ reference_forms_whole schema s p =
 -- those after the first one
 abbrev trading_rests : Schema → Sheets → List Bool
 trading_rests schema s =
-    list_all (is_well_formed_history_row (tables_in_sheets s)) (map abstract_history_row s.history.items) ∷
-    list_all (is_well_formed_request_row schema (tables_in_sheets s)) (map abstract_request_row s.requests.items) ∷
-    list_all (is_well_formed_holding_row (tables_in_sheets s)) (map abstract_holding_row s.holdings.items) ∷
-    list_all (is_well_formed_summary_row schema (tables_in_sheets s)) (map abstract_summary_row s.summaries.items) ∷
-    list_all (is_well_formed_holding_history_row (tables_in_sheets s)) (map abstract_lot_change_row s.holding_history.items) ∷
-    list_all (is_well_formed_settlement_row (tables_in_sheets s)) (map abstract_settlement_row s.settlements.items) ∷ []
+    list_all (is_well_formed_history_row (abstract_sheets s)) (map abstract_history_row s.history.items) ∷
+    list_all (is_well_formed_request_row schema (abstract_sheets s)) (map abstract_request_row s.requests.items) ∷
+    list_all (is_well_formed_holding_row (abstract_sheets s)) (map abstract_holding_row s.holdings.items) ∷
+    list_all (is_well_formed_summary_row schema (abstract_sheets s)) (map abstract_summary_row s.summaries.items) ∷
+    list_all (is_well_formed_holding_history_row (abstract_sheets s)) (map abstract_lot_change_row s.holding_history.items) ∷
+    list_all (is_well_formed_settlement_row (abstract_sheets s)) (map abstract_settlement_row s.settlements.items) ∷ []
 
-trading_mapped : (schema : Schema) (s : Sheets) → joined (list_all (is_well_formed_trade_row schema (tables_in_sheets s)) (map abstract_trade_row s.trades.items)) (trading_rests schema s) ≡ trading_rows_are_well_formed schema s
+trading_mapped : (schema : Schema) (s : Sheets) → joined (list_all (is_well_formed_trade_row schema (abstract_sheets s)) (map abstract_trade_row s.trades.items)) (trading_rests schema s) ≡ trading_rows_are_well_formed schema s
 trading_mapped schema s = λ i.
-    list_all-map (is_well_formed_trade_row schema (tables_in_sheets s)) abstract_trade_row s.trades.items i
-    && list_all-map (is_well_formed_history_row (tables_in_sheets s)) abstract_history_row s.history.items i
-    && list_all-map (is_well_formed_request_row schema (tables_in_sheets s)) abstract_request_row s.requests.items i
-    && list_all-map (is_well_formed_holding_row (tables_in_sheets s)) abstract_holding_row s.holdings.items i
-    && list_all-map (is_well_formed_summary_row schema (tables_in_sheets s)) abstract_summary_row s.summaries.items i
-    && list_all-map (is_well_formed_holding_history_row (tables_in_sheets s)) abstract_lot_change_row s.holding_history.items i
-    && list_all-map (is_well_formed_settlement_row (tables_in_sheets s)) abstract_settlement_row s.settlements.items i
+    list_all-map (is_well_formed_trade_row schema (abstract_sheets s)) abstract_trade_row s.trades.items i
+    && list_all-map (is_well_formed_history_row (abstract_sheets s)) abstract_history_row s.history.items i
+    && list_all-map (is_well_formed_request_row schema (abstract_sheets s)) abstract_request_row s.requests.items i
+    && list_all-map (is_well_formed_holding_row (abstract_sheets s)) abstract_holding_row s.holdings.items i
+    && list_all-map (is_well_formed_summary_row schema (abstract_sheets s)) abstract_summary_row s.summaries.items i
+    && list_all-map (is_well_formed_holding_history_row (abstract_sheets s)) abstract_lot_change_row s.holding_history.items i
+    && list_all-map (is_well_formed_settlement_row (abstract_sheets s)) abstract_settlement_row s.settlements.items i
 
 pub trading_forms_parts : (schema : Schema) (s : Sheets) → trading_rows_are_well_formed schema s ≡ true → TradingForms schema s
 trading_forms_parts schema s h =
-    let p = parts (list_all (is_well_formed_trade_row schema (tables_in_sheets s)) (map abstract_trade_row s.trades.items)) (trading_rests schema s) (trading_mapped schema s ∙ h) in
+    let p = parts (list_all (is_well_formed_trade_row schema (abstract_sheets s)) (map abstract_trade_row s.trades.items)) (trading_rests schema s) (trading_mapped schema s ∙ h) in
     record {
       trades = p.0;
       history = p.1.0;
@@ -169,7 +169,7 @@ trading_forms_parts schema s h =
 pub trading_forms_whole : (schema : Schema) (s : Sheets) → TradingForms schema s → trading_rows_are_well_formed schema s ≡ true
 trading_forms_whole schema s p =
     sym (trading_mapped schema s)
-    ∙ whole (list_all (is_well_formed_trade_row schema (tables_in_sheets s)) (map abstract_trade_row s.trades.items)) (trading_rests schema s) p.trades (p.history, (p.requests, (p.holdings, (p.summaries, (p.holding_history, (p.settlements, tt))))))
+    ∙ whole (list_all (is_well_formed_trade_row schema (abstract_sheets s)) (map abstract_trade_row s.trades.items)) (trading_rests schema s) p.trades (p.history, (p.requests, (p.holdings, (p.summaries, (p.holding_history, (p.settlements, tt))))))
 
 -- the keys of the bands
 pub bands_rise : (t : Tables) → tables_are_sorted_by_unique_key t ≡ true → is_sorted_by_unique_key band_key t.bands ≡ true

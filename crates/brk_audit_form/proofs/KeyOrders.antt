@@ -10,7 +10,7 @@ use Rattle.std.proofs.lemmas.Bool.Decides.{nat_tests}
 use Rattle.brk_model.specs.Lists.{is_text_less}
 use Rattle.brk_model.specs.Keys.{KeyPart, number, word, is_key_part_less, is_key_less}
 use Rattle.brk_model.specs.Form.{is_sorted_by_unique_key}
-use Rattle.brk_audit_form.specs.Keys.{part_cmp, key_cmp}
+use Rattle.brk_audit_form.specs.Keys.{key_part_cmp, key_cmp}
 
 pub texts_before : (s t : List ℕ) → is_text_less s t ≡ is_gt (slice_cmp nat_cmp t s)
 texts_before [] [] = refl
@@ -33,13 +33,13 @@ pub numbers_before : (m n : ℕ) → nat_lt m n ≡ is_lt (nat_cmp m n)
 numbers_before m n = grind (arith, nat_tests)
 
 -- how a part goes before another, one way and the other
-part_lt : (j k : KeyPart) → is_key_part_less j k ≡ is_lt (part_cmp j k)
+part_lt : (j k : KeyPart) → is_key_part_less j k ≡ is_lt (key_part_cmp j k)
 part_lt (number m) (number n) = numbers_before m n
 part_lt (word s) (word t) = texts_before s t ∙ gt_lt (slice_cmp nat_cmp t s) (slice_cmp nat_cmp s t) (nat_list_cmp_total.antisymm t s)
 part_lt (number m) (word t) = refl
 part_lt (word s) (number n) = refl
 
-part_gt : (j k : KeyPart) → is_key_part_less k j ≡ is_gt (part_cmp j k)
+part_gt : (j k : KeyPart) → is_key_part_less k j ≡ is_gt (key_part_cmp j k)
 part_gt (number m) (number n) = numbers_before n m ∙ sym (gt_lt (nat_cmp m n) (nat_cmp n m) (nat_cmp_total.antisymm m n))
 part_gt (word s) (word t) = texts_before t s
 part_gt (number m) (word t) = refl
@@ -65,10 +65,10 @@ pub key_lt : (js ks : List KeyPart) → is_key_less js ks ≡ is_lt (key_cmp js 
 key_lt [] [] = refl
 key_lt [] (k ∷ ks) = refl
 key_lt (j ∷ js) [] = refl
-key_lt (j ∷ []) (k ∷ []) = alone (part_cmp j k) _ _ (part_lt j k) (part_gt j k)
-key_lt (j ∷ []) (k ∷ l ∷ ls) = decided (part_cmp j k) (key_cmp [] (l ∷ ls)) _ _ _ (part_lt j k) (part_gt j k) (key_lt [] (l ∷ ls))
-key_lt (j ∷ i ∷ is) (k ∷ []) = decided (part_cmp j k) (key_cmp (i ∷ is) []) _ _ _ (part_lt j k) (part_gt j k) (key_lt (i ∷ is) [])
-key_lt (j ∷ i ∷ is) (k ∷ l ∷ ls) = decided (part_cmp j k) (key_cmp (i ∷ is) (l ∷ ls)) _ _ _ (part_lt j k) (part_gt j k) (key_lt (i ∷ is) (l ∷ ls))
+key_lt (j ∷ []) (k ∷ []) = alone (key_part_cmp j k) _ _ (part_lt j k) (part_gt j k)
+key_lt (j ∷ []) (k ∷ l ∷ ls) = decided (key_part_cmp j k) (key_cmp [] (l ∷ ls)) _ _ _ (part_lt j k) (part_gt j k) (key_lt [] (l ∷ ls))
+key_lt (j ∷ i ∷ is) (k ∷ []) = decided (key_part_cmp j k) (key_cmp (i ∷ is) []) _ _ _ (part_lt j k) (part_gt j k) (key_lt (i ∷ is) [])
+key_lt (j ∷ i ∷ is) (k ∷ l ∷ ls) = decided (key_part_cmp j k) (key_cmp (i ∷ is) (l ∷ ls)) _ _ _ (part_lt j k) (part_gt j k) (key_lt (i ∷ is) (l ∷ ls))
 
 -- each row goes before the next
 rises_all : {X : Type 0} (key : X → List KeyPart) (xs : List X) → ((k : ℕ) (d : X) → suc k < length xs → is_key_less (key (get_or xs k d)) (key (get_or xs (suc k) d)) ≡ true)

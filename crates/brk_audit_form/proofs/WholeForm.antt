@@ -12,13 +12,13 @@ use Rattle.brk_model.specs.Schemas.{Schema}
 use Rattle.brk_model.specs.Form.{satisfies_form_condition, tables_are_sorted_by_unique_key, bands_are_disjoint, are_equal_number_lists, has_distinct_tax_ids, is_within_customer_limits, is_well_formed_cash_row, is_well_formed_move_row, trade_ids_of_cash_rows, lacks_rows_of_later_schemas}
 use Rattle.brk_ref.specs.Records.{abstract_customer, abstract_band}
 use Rattle.brk_changes.specs.Rows.{abstract_trade_row, abstract_cash_row, abstract_move_row}
-use Rattle.brk_changes.specs.Sheets.{tables_in_sheets}
+use Rattle.brk_changes.specs.Sheets.{abstract_sheets}
 use Rattle.brk_changes.specs.declared.sheets.Sheets.{Sheets}
 use Rattle.brk_model_theorems.specs.FormParts.{SatisfiesFormParts}
 use Rattle.brk_model_theorems.proofs.FormParts.{form_parts}
 use Rattle.brk_model_theorems.proofs.Conjunctions.{Hold, joined, parts, whole}
 use Rattle.brk_model_theorems.proofs.FormParts.{form_whole}
-use Rattle.brk_audit_form.specs.Groups.{passes_unallocated_checks, reference_rows_are_well_formed, trading_rows_are_well_formed}
+use Rattle.brk_audit_form.specs.Groups.{passes_nonallocating_form_checks, reference_rows_are_well_formed, trading_rows_are_well_formed}
 use Rattle.brk_audit_form.proofs.CustomerSums.{count-mapped}
 use Rattle.brk_audit_form.proofs.FormGroups.{ReferenceForms, TradingForms, reference_forms_parts, reference_forms_whole, trading_forms_parts, trading_forms_whole}
 
@@ -42,9 +42,9 @@ moves-counted s = ap (λ n. nat_le n greatest_id) (count-mapped (λ r. is_none r
 abbrev pub rests : Sheets → List Bool
 rests s =
     has_distinct_tax_ids (map abstract_customer s.customers.items) ∷
-    list_all (is_within_customer_limits (tables_in_sheets s)) (map abstract_customer s.customers.items) ∷
-    list_all (is_well_formed_cash_row (tables_in_sheets s)) (map abstract_cash_row s.cash.items) ∷
-    list_all (is_well_formed_move_row (tables_in_sheets s)) (map abstract_move_row s.moves.items) ∷
+    list_all (is_within_customer_limits (abstract_sheets s)) (map abstract_customer s.customers.items) ∷
+    list_all (is_well_formed_cash_row (abstract_sheets s)) (map abstract_cash_row s.cash.items) ∷
+    list_all (is_well_formed_move_row (abstract_sheets s)) (map abstract_move_row s.moves.items) ∷
     all_distinct (trade_ids_of_cash_rows (map abstract_move_row s.moves.items)) ∷ []
 
 -- the plain tests, after the keys
@@ -57,11 +57,11 @@ plain_rests schema s =
     are_equal_number_lists (map (λ row. row.id) s.trades.items) (range_with_len 1 (length s.trades.items)) ∷
     nat_le (length (filter (λ r. is_none r.trade) s.moves.items)) greatest_id ∷
     option_map_or (λ day. nat_le day greatest_day) s.rule true ∷
-    lacks_rows_of_later_schemas schema (tables_in_sheets s) ∷ []
+    lacks_rows_of_later_schemas schema (abstract_sheets s) ∷ []
 
-forth : (schema : Schema) (s : Sheets) → passes_unallocated_checks schema s ≡ true → Hold (rests s) → satisfies_form_condition schema (tables_in_sheets s) ≡ true
+forth : (schema : Schema) (s : Sheets) → passes_nonallocating_form_checks schema s ≡ true → Hold (rests s) → satisfies_form_condition schema (abstract_sheets s) ≡ true
 forth schema s plain h =
-    let t = tables_in_sheets s in
+    let t = abstract_sheets s in
     let p = parts (tables_are_sorted_by_unique_key t) (plain_rests schema s) plain in
     let r : ReferenceForms schema s = reference_forms_parts schema s p.1.0 in
     let q : TradingForms schema s = trading_forms_parts schema s p.1.1.1.0 in
@@ -98,7 +98,7 @@ forth schema s plain h =
       fits = p.1.1.1.1.1.1.1.1.0;
     })
 
-back : (schema : Schema) (s : Sheets) → SatisfiesFormParts schema (tables_in_sheets s) → passes_unallocated_checks schema s ≡ true
+back : (schema : Schema) (s : Sheets) → SatisfiesFormParts schema (abstract_sheets s) → passes_nonallocating_form_checks schema s ≡ true
 back schema s p =
     let r : ReferenceForms schema s = record {
       kept = p.kept;
@@ -122,15 +122,15 @@ back schema s p =
       holding_history = p.holding_history;
       settlements = p.settlements;
     } in
-    whole (tables_are_sorted_by_unique_key (tables_in_sheets s)) (plain_rests schema s) p.keys
+    whole (tables_are_sorted_by_unique_key (abstract_sheets s)) (plain_rests schema s) p.keys
     (reference_forms_whole schema s r, (p.clock, (trading_forms_whole schema s q, (p.apart, (numbers-mapped s ∙ p.numbers, (moves-counted s ∙ p.counted, (p.rule, (p.fits, tt))))))))
 
 -- each of the six tests is of the whole, and together they are it
-pub form_told : (schema : Schema) (s : Sheets) → joined (passes_unallocated_checks schema s) (rests s) ≡ satisfies_form_condition schema (tables_in_sheets s)
+pub form_told : (schema : Schema) (s : Sheets) → joined (passes_nonallocating_form_checks schema s) (rests s) ≡ satisfies_form_condition schema (abstract_sheets s)
 form_told schema s =
     both_ways _ _
-    (λ e. let p = parts (passes_unallocated_checks schema s) (rests s) e in forth schema s p.0 p.1)
-    (λ e. let p = form_parts schema (tables_in_sheets s) e in whole (passes_unallocated_checks schema s) (rests s) (back schema s p) (p.tax_ids, (p.limits, (p.cash, (p.moves, (p.own_moves, tt))))))
+    (λ e. let p = parts (passes_nonallocating_form_checks schema s) (rests s) e in forth schema s p.0 p.1)
+    (λ e. let p = form_parts schema (abstract_sheets s) e in whole (passes_nonallocating_form_checks schema s) (rests s) (back schema s p) (p.tax_ids, (p.limits, (p.cash, (p.moves, (p.own_moves, tt))))))
 
 -- ---- what an answer of the checker says
 

@@ -7,7 +7,7 @@ use Rattle.brk_model.specs.Keys.{kept_key, broker_key, customer_key, account_key
 use Rattle.brk_model.specs.Form.{tables_are_sorted_by_unique_key, bands_are_disjoint, are_equal_number_lists, is_sorted_by_unique_key, is_well_formed_kept_row, is_well_formed_broker_row, is_well_formed_customer_row, is_well_formed_account_row, is_well_formed_permission_row, is_well_formed_security_row, is_well_formed_last_trade_row, is_well_formed_charge_row, is_well_formed_band_row, is_well_formed_tax_rate_row, is_well_formed_customer_tax_row, is_well_formed_trade_row, is_well_formed_history_row, is_well_formed_request_row, is_well_formed_holding_row, is_well_formed_summary_row, is_well_formed_holding_history_row, is_well_formed_settlement_row, lacks_rows_of_later_schemas, is_last_stamp_in_calendar, is_settlement_day_in_calendar}
 use Rattle.brk_ref.specs.Records.{abstract_kept_row, abstract_broker_row, abstract_customer, abstract_account_row, abstract_permission, abstract_security_row, abstract_last_trade_row, abstract_charge, abstract_band, abstract_tax_rate, abstract_customer_tax}
 use Rattle.brk_changes.specs.Rows.{abstract_trade_row, abstract_history_row, abstract_request_row, abstract_holding_row, abstract_summary_row, abstract_lot_change_row, abstract_settlement_row, abstract_cash_row, abstract_move_row}
-use Rattle.brk_changes.specs.Sheets.{tables_in_sheets}
+use Rattle.brk_changes.specs.Sheets.{abstract_sheets}
 use Rattle.brk_changes.specs.declared.sheets.Sheets.{Sheets}
 
 -- True if KEPT, LAST_TRADE and each table of reference data are sorted by key, and no key occurs
@@ -46,30 +46,30 @@ reference_rows_are_well_formed schema s =
     list_all (λ r. is_well_formed_kept_row (abstract_kept_row r)) s.kept.items
     && list_all (λ r. is_well_formed_broker_row (abstract_broker_row r)) s.brokers.items
     && list_all (λ r. is_well_formed_customer_row (abstract_customer r)) s.customers.items
-    && list_all (λ r. is_well_formed_account_row (tables_in_sheets s) (abstract_account_row r)) s.accounts.items
-    && list_all (λ r. is_well_formed_permission_row (tables_in_sheets s) (abstract_permission r)) s.permissions.items
-    && list_all (λ r. is_well_formed_security_row (tables_in_sheets s) (abstract_security_row r)) s.securities.items
-    && list_all (λ r. is_well_formed_last_trade_row (tables_in_sheets s) (abstract_last_trade_row r)) s.last_trades.items
+    && list_all (λ r. is_well_formed_account_row (abstract_sheets s) (abstract_account_row r)) s.accounts.items
+    && list_all (λ r. is_well_formed_permission_row (abstract_sheets s) (abstract_permission r)) s.permissions.items
+    && list_all (λ r. is_well_formed_security_row (abstract_sheets s) (abstract_security_row r)) s.securities.items
+    && list_all (λ r. is_well_formed_last_trade_row (abstract_sheets s) (abstract_last_trade_row r)) s.last_trades.items
     && list_all (λ r. is_well_formed_charge_row (abstract_charge r)) s.charges.items
     && list_all (λ r. is_well_formed_band_row schema (abstract_band r)) s.bands.items
     && list_all (λ r. is_well_formed_tax_rate_row (abstract_tax_rate r)) s.tax_rates.items
-    && list_all (λ r. is_well_formed_customer_tax_row (tables_in_sheets s) (abstract_customer_tax r)) s.customer_taxes.items
+    && list_all (λ r. is_well_formed_customer_tax_row (abstract_sheets s) (abstract_customer_tax r)) s.customer_taxes.items
 
 -- True if the rows of trades, lots and settlements are well-formed; cash rows are not checked.
 abbrev pub trading_rows_are_well_formed : Schema → Sheets → Bool
 trading_rows_are_well_formed schema s =
-    list_all (λ r. is_well_formed_trade_row schema (tables_in_sheets s) (abstract_trade_row r)) s.trades.items
-    && list_all (λ r. is_well_formed_history_row (tables_in_sheets s) (abstract_history_row r)) s.history.items
-    && list_all (λ r. is_well_formed_request_row schema (tables_in_sheets s) (abstract_request_row r)) s.requests.items
-    && list_all (λ r. is_well_formed_holding_row (tables_in_sheets s) (abstract_holding_row r)) s.holdings.items
-    && list_all (λ r. is_well_formed_summary_row schema (tables_in_sheets s) (abstract_summary_row r)) s.summaries.items
-    && list_all (λ r. is_well_formed_holding_history_row (tables_in_sheets s) (abstract_lot_change_row r)) s.holding_history.items
-    && list_all (λ r. is_well_formed_settlement_row (tables_in_sheets s) (abstract_settlement_row r)) s.settlements.items
+    list_all (λ r. is_well_formed_trade_row schema (abstract_sheets s) (abstract_trade_row r)) s.trades.items
+    && list_all (λ r. is_well_formed_history_row (abstract_sheets s) (abstract_history_row r)) s.history.items
+    && list_all (λ r. is_well_formed_request_row schema (abstract_sheets s) (abstract_request_row r)) s.requests.items
+    && list_all (λ r. is_well_formed_holding_row (abstract_sheets s) (abstract_holding_row r)) s.holdings.items
+    && list_all (λ r. is_well_formed_summary_row schema (abstract_sheets s) (abstract_summary_row r)) s.summaries.items
+    && list_all (λ r. is_well_formed_holding_history_row (abstract_sheets s) (abstract_lot_change_row r)) s.holding_history.items
+    && list_all (λ r. is_well_formed_settlement_row (abstract_sheets s) (abstract_settlement_row r)) s.settlements.items
 
 -- True if the typed rows pass those checks of the condition `Form` that do not allocate: all but
 -- those of tax ids, of the limits of customers, and of cash rows.
-abbrev pub passes_unallocated_checks : Schema → Sheets → Bool
-passes_unallocated_checks schema s =
-    tables_are_sorted_by_unique_key (tables_in_sheets s) && reference_rows_are_well_formed schema s && is_last_stamp_in_calendar s.last && trading_rows_are_well_formed schema s
+abbrev pub passes_nonallocating_form_checks : Schema → Sheets → Bool
+passes_nonallocating_form_checks schema s =
+    tables_are_sorted_by_unique_key (abstract_sheets s) && reference_rows_are_well_formed schema s && is_last_stamp_in_calendar s.last && trading_rows_are_well_formed schema s
     && bands_are_disjoint (map abstract_band s.bands.items) && are_equal_number_lists (map (λ row. row.id) s.trades.items) (range_with_len 1 (length s.trades.items))
-    && nat_le (length (filter (λ r. is_none r.trade) s.moves.items)) greatest_id && is_settlement_day_in_calendar s.rule && lacks_rows_of_later_schemas schema (tables_in_sheets s)
+    && nat_le (length (filter (λ r. is_none r.trade) s.moves.items)) greatest_id && is_settlement_day_in_calendar s.rule && lacks_rows_of_later_schemas schema (abstract_sheets s)

@@ -7,16 +7,16 @@ use Rattle.std.specs.Cmp.Lexicographic.{slice_cmp}
 use Rattle.brk_model.specs.Keys.{KeyPart, number, word}
 
 -- The order of two parts of a key: numbers by size, texts by bytes, and a number before a text.
-abbrev pub part_cmp : KeyPart → KeyPart → Ordering
-part_cmp (number m) (number n) = nat_cmp m n
-part_cmp (word s) (word t) = slice_cmp nat_cmp s t
-part_cmp (number m) (word t) = Less
-part_cmp (word s) (number n) = Greater
+abbrev pub key_part_cmp : KeyPart → KeyPart → Ordering
+key_part_cmp (number m) (number n) = nat_cmp m n
+key_part_cmp (word s) (word t) = slice_cmp nat_cmp s t
+key_part_cmp (number m) (word t) = Less
+key_part_cmp (word s) (number n) = Greater
 
 -- The lexicographic order of two keys.
 abbrev pub key_cmp : List KeyPart → List KeyPart → Ordering
 key_cmp [] [] = Equal
 key_cmp [] (k ∷ ks) = Less
 key_cmp (j ∷ js) [] = Greater
-key_cmp (j ∷ []) (k ∷ []) = part_cmp j k
-key_cmp (j ∷ js) (k ∷ ks) = ordering_then (part_cmp j k) (key_cmp js ks)
+key_cmp (j ∷ []) (k ∷ []) = key_part_cmp j k
+key_cmp (j ∷ js) (k ∷ ks) = ordering_then (key_part_cmp j k) (key_cmp js ks)

@@ -6,11 +6,11 @@ ghost use Rattle.brk_model.specs.Form as form;
 ghost use Rattle.brk_model.specs.Joins.{trade_row_with_id};
 ghost use Rattle.brk_model.specs.Results.{cash_row_name_from_parts};
 ghost use Rattle.brk_changes.specs.Rows.{abstract_cash_row, abstract_move_row, abstract_trade_row};
-ghost use Rattle.brk_changes.specs.Sheets.{tables_in_sheets};
+ghost use Rattle.brk_changes.specs.Sheets.{abstract_sheets};
 ghost use Rattle.brk_audit_form.specs.Conditions.{HasSortedKeys};
-ghost use Rattle.brk_audit_form.specs.Names.{security_name_in};
+ghost use Rattle.brk_audit_form.specs.Names.{security_name_or_empty};
 
-use crate::limits::{is_balance_within_limit, is_move_id, is_stamp_up_to_last};
+use crate::limits::{is_balance_within_limit, is_move_id_within_limits, stamp_is_at_most_last_stamp};
 use crate::references::{find_security, find_trade, has_account};
 use brk_changes::{CashRow, MoveRow, Sheets, TradeRow};
 use brk_money::{Cents, Fault, Id, Qty};
@@ -20,7 +20,7 @@ use std::alloc::{AllocError, Global};
 // Returns the name of the security, or the empty text if it does not exist.
 fn security_name<'a>(sheets: &'a Sheets, symbol: &Symbol) -> &'a str
     requires { HasSortedKeys sheets.now }
-    ensures { result.now ≡ security_name_in (tables_in_sheets sheets.now) symbol.now }
+    ensures { result.now ≡ security_name_or_empty (abstract_sheets sheets.now) symbol.now }
 {
     match find_security(sheets, symbol) {
         Some(security) => security.name.as_str(),
@@ -37,7 +37,7 @@ fn append_quantity_words(name: &mut String, qty: Qty, words: &str) -> Result<(),
 
 // Returns the cash text of the trade: the name of its type, a space, its quantity, `words`, and
 // `security`, the name of its security. Fails with `Memory` only.
-fn format_cash_name(
+fn format_cash_text_of_trade(
     alloc: Global,
     trade: &TradeRow,
     words: &str,
@@ -60,15 +60,15 @@ fn is_cash_text_of_trade(
     name: &str,
 ) -> Result<bool, Fault>
     requires { HasSortedKeys sheets.now }
-    ensures told { IfOk result (λ holds. holds ≡ form.is_cash_row_name_of_trade (tables_in_sheets sheets.now) name.now (abstract_trade_row trade.now)) }
+    ensures value { IfOk result (λ holds. holds ≡ form.is_cash_row_name_of_trade (abstract_sheets sheets.now) name.now (abstract_trade_row trade.now)) }
     ensures fault { IfErr result (λ fault. fault ≡ Memory) }
 {
     let security = security_name(sheets, &trade.symbol);
-    let first = format_cash_name(alloc, trade, " shares of ", security)?;
+    let first = format_cash_text_of_trade(alloc, trade, " shares of ", security)?;
     if name == first.as_str() {
         return Ok(true);
     }
-    let second = format_cash_name(alloc, trade, " Shares of ", security)?;
+    let second = format_cash_text_of_trade(alloc, trade, " Shares of ", security)?;
     Ok(name == second.as_str())
 }
 
@@ -81,7 +81,7 @@ fn is_cash_text_of_trade_id(
     name: &str,
 ) -> Result<bool, Fault>
     requires { HasSortedKeys sheets.now }
-    ensures told { IfOk result (λ holds. holds ≡ option_map_or (form.is_cash_row_name_of_trade (tables_in_sheets sheets.now) name.now) (trade_row_with_id (tables_in_sheets sheets.now) id) false) }
+    ensures value { IfOk result (λ holds. holds ≡ option_map_or (form.is_cash_row_name_of_trade (abstract_sheets sheets.now) name.now) (trade_row_with_id (abstract_sheets sheets.now) id) false) }
     ensures fault { IfErr result (λ fault. fault ≡ Memory) }
 {
     let Some(trade) = find_trade(sheets, id) else {
@@ -95,16 +95,16 @@ fn is_cash_text_of_trade_id(
 // the limit. Fails with `Memory` only.
 fn cash_row_is_well_formed(alloc: Global, sheets: &Sheets, row: &CashRow) -> Result<bool, Fault>
     requires { HasSortedKeys sheets.now }
-    ensures told { IfOk result (λ holds. holds ≡ form.is_well_formed_cash_row (tables_in_sheets sheets.now) (abstract_cash_row row.now)) }
+    ensures value { IfOk result (λ holds. holds ≡ form.is_well_formed_cash_row (abstract_sheets sheets.now) (abstract_cash_row row.now)) }
     ensures fault { IfErr result (λ fault. fault ≡ Memory) }
 {
     let is_named = is_cash_text_of_trade_id(alloc, sheets, row.trade, row.name.as_str())?;
-    Ok(is_named && is_stamp_up_to_last(sheets, row.stamp) && is_balance_within_limit(row.amount))
+    Ok(is_named && stamp_is_at_most_last_stamp(sheets, row.stamp) && is_balance_within_limit(row.amount))
 }
 
 // Returns true if the text is "Deposit" and the amount is above 0, or the text is "Withdrawal" and
 // the amount is below 0.
-fn is_movement_name_of_amount(name: &str, amount: Cents) -> bool
+fn movement_name_matches_sign(name: &str, amount: Cents) -> bool
     ensures { result ≡ form.is_movement_name_and_amount name.now amount }
 {
     (name == "Deposit" && 0 < amount.get()) || (name == "Withdrawal" && amount.get() < 0)
@@ -115,13 +115,13 @@ fn is_movement_name_of_amount(name: &str, amount: Cents) -> bool
 // with `Memory` only.
 fn has_valid_cash_text(alloc: Global, sheets: &Sheets, row: &MoveRow) -> Result<bool, Fault>
     requires { HasSortedKeys sheets.now }
-    ensures told { IfOk result (λ holds. holds
-        ≡ option_map_or (form.has_cash_row_name_of_trade (tables_in_sheets sheets.now) (abstract_move_row row.now)) row.now.trade (form.is_movement_name_and_amount (string_bytes row.now.name) row.now.amount)) }
+    ensures value { IfOk result (λ holds. holds
+        ≡ option_map_or (form.has_cash_row_name_of_trade (abstract_sheets sheets.now) (abstract_move_row row.now)) row.now.trade (form.is_movement_name_and_amount (string_bytes row.now.name) row.now.amount)) }
     ensures fault { IfErr result (λ fault. fault ≡ Memory) }
 {
     match row.trade {
         Some(trade) => is_cash_text_of_trade_id(alloc, sheets, trade, row.name.as_str()),
-        None => Ok(is_movement_name_of_amount(row.name.as_str(), row.amount)),
+        None => Ok(movement_name_matches_sign(row.name.as_str(), row.amount)),
     }
 }
 
@@ -130,15 +130,15 @@ fn has_valid_cash_text(alloc: Global, sheets: &Sheets, row: &MoveRow) -> Result<
 // the last stamp. Fails with `Memory` only.
 fn move_row_is_well_formed(alloc: Global, sheets: &Sheets, row: &MoveRow) -> Result<bool, Fault>
     requires { HasSortedKeys sheets.now }
-    ensures told { IfOk result (λ holds. holds ≡ form.is_well_formed_move_row (tables_in_sheets sheets.now) (abstract_move_row row.now)) }
+    ensures value { IfOk result (λ holds. holds ≡ form.is_well_formed_move_row (abstract_sheets sheets.now) (abstract_move_row row.now)) }
     ensures fault { IfErr result (λ fault. fault ≡ Memory) }
 {
     let is_called = has_valid_cash_text(alloc, sheets, row)?;
     Ok(
-        is_move_id(row.id)
+        is_move_id_within_limits(row.id)
             && has_account(sheets, row.account)
             && is_called
-            && is_stamp_up_to_last(sheets, row.stamp)
+            && stamp_is_at_most_last_stamp(sheets, row.stamp)
             && is_balance_within_limit(row.amount),
     )
 }
@@ -146,7 +146,7 @@ fn move_row_is_well_formed(alloc: Global, sheets: &Sheets, row: &MoveRow) -> Res
 /// Returns true if each row of CASH_TRANSACTION is well-formed. Fails with `Memory` only.
 pub(crate) fn all_cash_rows_well_formed(alloc: Global, sheets: &Sheets) -> Result<bool, Fault>
     requires { HasSortedKeys sheets.now }
-    ensures told { IfOk result (λ holds. holds ≡ list_all (form.is_well_formed_cash_row (tables_in_sheets sheets.now)) (map abstract_cash_row sheets.now.cash.items)) }
+    ensures value { IfOk result (λ holds. holds ≡ list_all (form.is_well_formed_cash_row (abstract_sheets sheets.now)) (map abstract_cash_row sheets.now.cash.items)) }
     ensures fault { IfErr result (λ fault. fault ≡ Memory) }
 {
     for row in &sheets.cash {
@@ -161,7 +161,7 @@ pub(crate) fn all_cash_rows_well_formed(alloc: Global, sheets: &Sheets) -> Resul
 /// Returns true if each row of CASH_MOVE is well-formed. Fails with `Memory` only.
 pub(crate) fn all_move_rows_well_formed(alloc: Global, sheets: &Sheets) -> Result<bool, Fault>
     requires { HasSortedKeys sheets.now }
-    ensures told { IfOk result (λ holds. holds ≡ list_all (form.is_well_formed_move_row (tables_in_sheets sheets.now)) (map abstract_move_row sheets.now.moves.items)) }
+    ensures value { IfOk result (λ holds. holds ≡ list_all (form.is_well_formed_move_row (abstract_sheets sheets.now)) (map abstract_move_row sheets.now.moves.items)) }
     ensures fault { IfErr result (λ fault. fault ≡ Memory) }
 {
     for row in &sheets.moves {

@@ -3,11 +3,11 @@ ghost use Rattle.std.specs.List.{list_all};
 ghost use Rattle.brk_money.specs.declared.fault.Fault.TheVariants.{Memory};
 ghost use Rattle.brk_model.specs.Form as form;
 ghost use Rattle.brk_model.specs.Limits as limits;
-ghost use Rattle.brk_changes.specs.Sheets.{tables_in_sheets};
+ghost use Rattle.brk_changes.specs.Sheets.{abstract_sheets};
 ghost use Rattle.brk_audit_form.specs.Conditions.{HasSortedKeys};
-ghost use Rattle.brk_audit_form.specs.Customers.{tax_rate_or_zero, rate_sum_paid_by, sum_at};
+ghost use Rattle.brk_audit_form.specs.Customers.{rate_of_tax_rate_or_zero, tax_rate_sum_of_payer, sum_at_customer_id};
 
-use crate::references::find_tax;
+use crate::references::find_tax_rate;
 use brk_changes::Sheets;
 use brk_money::{Fault, Id, TaxRate};
 use brk_ref::{AccountRow, Customer};
@@ -20,8 +20,8 @@ const MOST_ACCOUNTS: u128 = 10;
 // Adds `more` to the sum of the customer; a customer that the map does not contain has the sum 0.
 // Fails with `Memory` only.
 fn add_to_customer_sum(sums: &mut BTreeMap<u64, u128>, customer: Id, more: u32) -> Result<(), Fault>
-    requires room { sum_at sums.old customer + 2 ^ 32 < 2 ^ 128 }
-    ensures more { OnOk result ((q : ℕ) → sum_at sums.new q ≡ sum_at sums.old q + cond (customer == q) more 0) }
+    requires room { sum_at_customer_id sums.old customer + 2 ^ 32 < 2 ^ 128 }
+    ensures more { OnOk result ((q : ℕ) → sum_at_customer_id sums.new q ≡ sum_at_customer_id sums.old q + cond (customer == q) more 0) }
     ensures fault { IfErr result (λ fault. fault ≡ Memory) }
 {
     let number = customer.get();
@@ -31,8 +31,8 @@ fn add_to_customer_sum(sums: &mut BTreeMap<u64, u128>, customer: Id, more: u32) 
 }
 
 // Returns a map from each customer to the number of its accounts. Fails with `Memory` only.
-fn count_accounts(alloc: Global, accounts: &[AccountRow]) -> Result<BTreeMap<u64, u128>, Fault>
-    ensures counts { IfOk result (λ counts. (q : ℕ) → sum_at counts q ≡ length (filter (λ a. a.account.customer == q) accounts.now)) }
+fn count_accounts_by_customer(alloc: Global, accounts: &[AccountRow]) -> Result<BTreeMap<u64, u128>, Fault>
+    ensures counts { IfOk result (λ counts. (q : ℕ) → sum_at_customer_id counts q ≡ length (filter (λ a. a.account.customer == q) accounts.now)) }
     ensures fault { IfErr result (λ fault. fault ≡ Memory) }
 {
     let mut counts = BTreeMap::new(alloc);
@@ -45,10 +45,10 @@ fn count_accounts(alloc: Global, accounts: &[AccountRow]) -> Result<BTreeMap<u64
 // Returns the rate of the tax rate, or 0 if it does not exist.
 fn rate_of_tax_or_zero(sheets: &Sheets, tax: Id) -> u32
     requires { HasSortedKeys sheets.now }
-    ensures rate { result ≡ tax_rate_or_zero (tables_in_sheets sheets.now) tax }
+    ensures rate { result ≡ rate_of_tax_rate_or_zero (abstract_sheets sheets.now) tax }
     ensures high { result ≤ limits.greatest_tax_rate }
 {
-    match find_tax(sheets, tax) {
+    match find_tax_rate(sheets, tax) {
         Some(tax) => tax.rate.get(),
         None => 0,
     }
@@ -56,9 +56,9 @@ fn rate_of_tax_or_zero(sheets: &Sheets, tax: Id) -> u32
 
 // Returns a map from each customer to the sum of the tax rates that the customer pays. A tax rate
 // that does not exist counts as 0. Fails with `Memory` only.
-fn sum_rates(alloc: Global, sheets: &Sheets) -> Result<BTreeMap<u64, u128>, Fault>
+fn sum_tax_rates_by_customer(alloc: Global, sheets: &Sheets) -> Result<BTreeMap<u64, u128>, Fault>
     requires { HasSortedKeys sheets.now }
-    ensures sums { IfOk result (λ sums. (q : ℕ) → sum_at sums q ≡ rate_sum_paid_by (tables_in_sheets sheets.now) q) }
+    ensures sums { IfOk result (λ sums. (q : ℕ) → sum_at_customer_id sums q ≡ tax_rate_sum_of_payer (abstract_sheets sheets.now) q) }
     ensures fault { IfErr result (λ fault. fault ≡ Memory) }
 {
     let mut sums = BTreeMap::new(alloc);
@@ -76,7 +76,7 @@ fn customer_is_within_limits(
     sums: &BTreeMap<u64, u128>,
     customer: &Customer,
 ) -> bool
-    ensures { result ≡ (nat_le (sum_at counts.now customer.now.id) limits.most_accounts_per_customer && nat_le (sum_at sums.now customer.now.id) limits.greatest_tax_rate) }
+    ensures { result ≡ (nat_le (sum_at_customer_id counts.now customer.now.id) limits.most_accounts_per_customer && nat_le (sum_at_customer_id sums.now customer.now.id) limits.greatest_tax_rate) }
 {
     let number = customer.id.get();
     let count = counts.get(&number).copied().unwrap_or(0);
@@ -86,12 +86,12 @@ fn customer_is_within_limits(
 
 // Returns true if each customer has at most 10 accounts by `counts`, and at most the greatest tax
 // rate by `sums`.
-fn all_within_customer_limits(
+fn all_customers_within_limits(
     counts: &BTreeMap<u64, u128>,
     sums: &BTreeMap<u64, u128>,
     customers: &[Customer],
 ) -> bool
-    ensures { result ≡ list_all (λ c. nat_le (sum_at counts.now c.id) limits.most_accounts_per_customer && nat_le (sum_at sums.now c.id) limits.greatest_tax_rate) customers.now }
+    ensures { result ≡ list_all (λ c. nat_le (sum_at_customer_id counts.now c.id) limits.most_accounts_per_customer && nat_le (sum_at_customer_id sums.now c.id) limits.greatest_tax_rate) customers.now }
 {
     customers.iter().all(|customer| customer_is_within_limits(counts, sums, customer))
 }
@@ -100,10 +100,10 @@ fn all_within_customer_limits(
 /// total. Fails with `Memory` only.
 pub(crate) fn customers_are_within_limits(alloc: Global, sheets: &Sheets) -> Result<bool, Fault>
     requires { HasSortedKeys sheets.now }
-    ensures told { IfOk result (λ holds. holds ≡ list_all (form.is_within_customer_limits (tables_in_sheets sheets.now)) (tables_in_sheets sheets.now).customers) }
+    ensures value { IfOk result (λ holds. holds ≡ list_all (form.is_within_customer_limits (abstract_sheets sheets.now)) (abstract_sheets sheets.now).customers) }
     ensures fault { IfErr result (λ fault. fault ≡ Memory) }
 {
-    let counts = count_accounts(alloc, &sheets.accounts)?;
-    let sums = sum_rates(alloc, sheets)?;
-    Ok(all_within_customer_limits(&counts, &sums, &sheets.customers))
+    let counts = count_accounts_by_customer(alloc, &sheets.accounts)?;
+    let sums = sum_tax_rates_by_customer(alloc, sheets)?;
+    Ok(all_customers_within_limits(&counts, &sums, &sheets.customers))
 }

@@ -4,18 +4,18 @@ ghost use Rattle.brk_money.specs.declared.fault.Fault.TheVariants.{Memory};
 ghost use Rattle.brk_model.specs.Audit.{ConditionHolds};
 ghost use Rattle.brk_model.specs.Form.{is_last_stamp_in_calendar, is_settlement_day_in_calendar, lacks_rows_of_later_schemas};
 ghost use Rattle.brk_changes.specs.Schemas.{abstract_schema};
-ghost use Rattle.brk_changes.specs.Sheets.{tables_in_sheets};
-ghost use Rattle.brk_audit_form.specs.Groups.{passes_unallocated_checks};
+ghost use Rattle.brk_changes.specs.Sheets.{abstract_sheets};
+ghost use Rattle.brk_audit_form.specs.Groups.{passes_nonallocating_form_checks};
 
-use crate::bands::have_no_overlap;
+use crate::bands::are_bands_disjoint;
 use crate::cash_names::{all_cash_rows_well_formed, all_move_rows_well_formed};
 use crate::customer_limits::customers_are_within_limits;
-use crate::numbers::{are_numbered_from_one, are_within_movement_limit};
-use crate::own_rows::has_distinct_trades;
+use crate::numbers::{are_trades_numbered_from_one, is_movement_count_within_limit};
+use crate::own_rows::cash_rows_have_distinct_trades;
 use crate::tables::{
     all_tables_have_sorted_keys, has_well_formed_reference_rows, has_well_formed_trading_rows,
 };
-use crate::tax_ids::has_no_repeated_tax_ids;
+use crate::tax_ids::customers_have_distinct_tax_ids;
 use brk_changes::{Schema, Sheets};
 use brk_money::{Day, Fault, Stamp};
 use std::alloc::Global;
@@ -42,17 +42,17 @@ fn is_valid_settlement_day(rule: Option<Day>) -> bool
 
 // Returns true if the rows have no part that the schema lacks: no rows of CASH_MOVE in a schema
 // without this table, and no settlement day in a schema without one.
-fn fits(schema: Schema, sheets: &Sheets) -> bool
-    ensures { result ≡ lacks_rows_of_later_schemas (abstract_schema schema) (tables_in_sheets sheets.now) }
+fn has_no_rows_of_later_schemas(schema: Schema, sheets: &Sheets) -> bool
+    ensures { result ≡ lacks_rows_of_later_schemas (abstract_schema schema) (abstract_sheets sheets.now) }
 {
-    (schema.has_moves() || sheets.moves.is_empty()) && (schema.has_rule() || sheets.rule.is_none())
+    (schema.has_cash_move_table() || sheets.moves.is_empty()) && (schema.has_settle_rule_table() || sheets.rule.is_none())
 }
 
 // Returns true if the rows pass the checks of `Form` that do not allocate: of the keys, of the
 // columns except those of cash rows, of bands, of the numbers of trades and movements, of the last
 // stamp, of the settlement day, and of the tables that the schema does not have.
 fn passes_checks_without_allocation(schema: Schema, sheets: &Sheets) -> bool
-    ensures { result ≡ passes_unallocated_checks (abstract_schema schema) sheets.now }
+    ensures { result ≡ passes_nonallocating_form_checks (abstract_schema schema) sheets.now }
 {
     if !all_tables_have_sorted_keys(sheets) {
         return false;
@@ -62,11 +62,11 @@ fn passes_checks_without_allocation(schema: Schema, sheets: &Sheets) -> bool
     }
     is_valid_last_stamp(sheets.last)
         && has_well_formed_trading_rows(schema, sheets)
-        && have_no_overlap(schema, &sheets.bands)
-        && are_numbered_from_one(&sheets.trades)
-        && are_within_movement_limit(&sheets.moves)
+        && are_bands_disjoint(schema, &sheets.bands)
+        && are_trades_numbered_from_one(&sheets.trades)
+        && is_movement_count_within_limit(&sheets.moves)
         && is_valid_settlement_day(sheets.rule)
-        && fits(schema, sheets)
+        && has_no_rows_of_later_schemas(schema, sheets)
 }
 
 /// Returns true if the rows satisfy the condition `Form` of `schema`: each row is well-formed and
@@ -74,14 +74,14 @@ fn passes_checks_without_allocation(schema: Schema, sheets: &Sheets) -> bool
 /// by key, and no key occurs twice.
 ///
 /// Fails with `Memory` only.
-pub fn has_form(alloc: Global, schema: Schema, sheets: &Sheets) -> Result<bool, Fault>
-    ensures told { IfOk result (λ holds. IsTrue holds ↔ ConditionHolds (abstract_schema schema) Form (tables_in_sheets sheets.now)) }
+pub fn form_condition_holds(alloc: Global, schema: Schema, sheets: &Sheets) -> Result<bool, Fault>
+    ensures value { IfOk result (λ holds. IsTrue holds ↔ ConditionHolds (abstract_schema schema) Form (abstract_sheets sheets.now)) }
     ensures fault { IfErr result (λ fault. fault ≡ Memory) }
 {
     if !passes_checks_without_allocation(schema, sheets) {
         return Ok(false);
     }
-    let has_own = has_no_repeated_tax_ids(alloc, &sheets.customers)?;
+    let has_own = customers_have_distinct_tax_ids(alloc, &sheets.customers)?;
     if !has_own {
         return Ok(false);
     }
@@ -97,5 +97,5 @@ pub fn has_form(alloc: Global, schema: Schema, sheets: &Sheets) -> Result<bool, 
     if !has_moves {
         return Ok(false);
     }
-    has_distinct_trades(alloc, &sheets.moves)
+    cash_rows_have_distinct_trades(alloc, &sheets.moves)
 }

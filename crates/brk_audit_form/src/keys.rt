@@ -14,7 +14,7 @@ pub(crate) trait Keyed {
     ghost key: { Self → List KeyPart };
 
     /// Compares the key of the row with that of another.
-    fn compare(&self, other: &Self) -> Ordering
+    fn compare_keys(&self, other: &Self) -> Ordering
         ensures { result ≡ key_cmp (key self.now) (key other.now) };
 }
 
@@ -36,5 +36,5 @@ pub(crate) fn compare_texts<F: Form>(one: &Text<F>, other: &Text<F>) -> Ordering
 pub(crate) fn has_sorted_unique_keys<R: Keyed>(rows: &[R]) -> bool
     ensures { result ≡ form.is_sorted_by_unique_key R.key rows.now }
 {
-    rows.is_sorted_by(|row, next| row.compare(next).is_lt())
+    rows.is_sorted_by(|row, next| row.compare_keys(next).is_lt())
 }

@@ -19,4 +19,4 @@ mod tax_ids;
 mod trading_forms;
 mod trading_keys;
 
-pub use form::has_form;
+pub use form::form_condition_holds;

@@ -3,21 +3,21 @@ ghost use Rattle.brk_money.specs.Spelling.{is_within_amount_limit};
 ghost use Rattle.brk_model.specs.Form as form;
 ghost use Rattle.brk_model.specs.Limits as limits;
 ghost use Rattle.brk_changes.specs.Schemas.{abstract_schema};
-ghost use Rattle.brk_changes.specs.Sheets.{tables_in_sheets};
+ghost use Rattle.brk_changes.specs.Sheets.{abstract_sheets};
 
 use brk_changes::{Schema, Sheets};
 use brk_money::{Amount, Cents, Id, MoveId, Price, Qty, Stamp};
 use brk_ref::{ChargeAmount, Form, Text, Tier};
 
 /// Returns true if the id is from 1 to the greatest id.
-pub(crate) fn is_id(id: Id) -> bool
+pub(crate) fn is_id_within_limits(id: Id) -> bool
     ensures { result ≡ form.is_id id }
 {
     1 <= id.get() && id.get() <= Id::GREATEST
 }
 
 /// Returns true if the number of a cash row is from 1 to the greatest number of a cash row.
-pub(crate) fn is_move_id(id: MoveId) -> bool
+pub(crate) fn is_move_id_within_limits(id: MoveId) -> bool
     ensures { result ≡ form.is_cash_row_number id }
 {
     1 <= id.get() && id.get() <= MoveId::GREATEST
@@ -31,14 +31,14 @@ pub(crate) fn is_quantity_within_limits(schema: Schema, qty: Qty) -> bool
 }
 
 /// Returns true if the price is from 1 cent to the greatest price.
-pub(crate) fn is_price(price: Price) -> bool
+pub(crate) fn is_price_within_limits(price: Price) -> bool
     ensures { result ≡ form.is_price price }
 {
     1 <= price.get() && price.get() <= Price::GREATEST
 }
 
 /// Returns true if the customer tier is from 1 to 3.
-pub(crate) fn is_tier(tier: Tier) -> bool
+pub(crate) fn is_tier_within_limits(tier: Tier) -> bool
     ensures { result ≡ form.is_tier tier }
 {
     1 <= tier.get() && tier.get() <= 3
@@ -53,7 +53,7 @@ pub(crate) fn is_balance_within_limit(cents: Cents) -> bool
 }
 
 /// Returns true if the amount, in cents, is at most the greatest amount.
-pub(crate) fn is_amount(amount: Amount) -> bool
+pub(crate) fn is_amount_within_limit(amount: Amount) -> bool
     ensures { result ≡ nat_le amount limits.greatest_amount }
 {
     amount.get() <= Amount::GREATEST
@@ -67,8 +67,8 @@ pub(crate) fn is_charge_within_limit(charge: ChargeAmount) -> bool
 }
 
 /// Returns true if the stamp is at most the last stamp. Returns false if there is no last stamp.
-pub(crate) fn is_stamp_up_to_last(sheets: &Sheets, stamp: Stamp) -> bool
-    ensures { result ≡ form.is_at_most_last_stamp (tables_in_sheets sheets.now) stamp }
+pub(crate) fn stamp_is_at_most_last_stamp(sheets: &Sheets, stamp: Stamp) -> bool
+    ensures { result ≡ form.is_at_most_last_stamp (abstract_sheets sheets.now) stamp }
 {
     let Some(last) = sheets.last else {
         return false;

@@ -7,7 +7,7 @@ use brk_changes::{MoveRow, TradeRow};
 use brk_money::Id;
 
 /// Returns true if the ids of the trades are 1, 2, 3 and so on, in the order of the rows.
-pub(crate) fn are_numbered_from_one(trades: &[TradeRow]) -> bool
+pub(crate) fn are_trades_numbered_from_one(trades: &[TradeRow]) -> bool
     ensures { result ≡ form.are_equal_number_lists (map (λ row. row.id) trades.now) (range_with_len 1 (length trades.now)) }
 {
     for (place, row) in trades.iter().enumerate() {
@@ -20,7 +20,7 @@ pub(crate) fn are_numbered_from_one(trades: &[TradeRow]) -> bool
 
 /// Returns true if at most `Id::GREATEST` rows of CASH_MOVE have no trade. These are the deposits
 /// and the withdrawals.
-pub(crate) fn are_within_movement_limit(moves: &[MoveRow]) -> bool
+pub(crate) fn is_movement_count_within_limit(moves: &[MoveRow]) -> bool
     ensures { result ≡ nat_le (length (filter (λ r. is_none r.trade) moves.now)) greatest_id }
 {
     let mut count = 0u64;

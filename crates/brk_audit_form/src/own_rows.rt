@@ -27,8 +27,8 @@ fn insert_cash_row_trade(seen: &mut BTreeSet<u64>, trade: Option<Id>) -> Result<
 }
 
 /// Returns true if no trade has two rows of CASH_MOVE. Fails with `Memory` only.
-pub(crate) fn has_distinct_trades(alloc: Global, moves: &[MoveRow]) -> Result<bool, Fault>
-    ensures told { IfOk result (λ own. own ≡ all_distinct (trade_ids_of_cash_rows (map abstract_move_row moves.now))) }
+pub(crate) fn cash_rows_have_distinct_trades(alloc: Global, moves: &[MoveRow]) -> Result<bool, Fault>
+    ensures value { IfOk result (λ own. own ≡ all_distinct (trade_ids_of_cash_rows (map abstract_move_row moves.now))) }
     ensures fault { IfErr result (λ fault. fault ≡ Memory) }
 {
     let mut seen = BTreeSet::new(alloc);

@@ -2,11 +2,11 @@ ghost use Rattle.brk_model.specs.Form as form;
 ghost use Rattle.brk_ref.specs.Records as of;
 
 use crate::limits::{
-    is_balance_within_limit, is_charge_within_limit, is_id, is_price, is_quantity_within_limits,
-    is_stamp_up_to_last, is_tier, is_well_formed_text,
+    is_balance_within_limit, is_charge_within_limit, is_id_within_limits, is_price_within_limits, is_quantity_within_limits,
+    stamp_is_at_most_last_stamp, is_tier_within_limits, is_well_formed_text,
 };
 use crate::references::{
-    has_account, has_broker, has_customer, has_last_trade, has_security, has_tax,
+    has_account, has_broker, has_customer, has_last_trade, has_security, has_tax_rate,
 };
 use crate::rows::Formed;
 use brk_changes::{Schema, Sheets};
@@ -20,7 +20,7 @@ impl Formed for Kept {
     ghost form = { λ schema tables row. form.is_well_formed_kept_row (of.abstract_kept_row row) };
 
     // Returns true if the batch name and the row number of the key are well-formed.
-    fn is_formed(&self, _schema: Schema, _sheets: &Sheets) -> bool {
+    fn is_row_well_formed(&self, _schema: Schema, _sheets: &Sheets) -> bool {
         is_well_formed_text(&self.key.batch)
             && 1 <= self.key.row.get()
             && self.key.row.get() <= RowNumber::GREATEST
@@ -32,8 +32,8 @@ impl Formed for BrokerRow {
 
     // Returns true if the id and the name are well-formed, and the commission total is within the
     // limit.
-    fn is_formed(&self, _schema: Schema, _sheets: &Sheets) -> bool {
-        is_id(self.broker.id)
+    fn is_row_well_formed(&self, _schema: Schema, _sheets: &Sheets) -> bool {
+        is_id_within_limits(self.broker.id)
             && is_well_formed_text(&self.broker.name)
             && self.commissions <= Amount::GREATEST
     }
@@ -43,9 +43,9 @@ impl Formed for Customer {
     ghost form = { λ schema tables row. form.is_well_formed_customer_row (of.abstract_customer row) };
 
     // Returns true if the id, the tier, the tax id and both names are well-formed.
-    fn is_formed(&self, _schema: Schema, _sheets: &Sheets) -> bool {
-        is_id(self.id)
-            && is_tier(self.tier)
+    fn is_row_well_formed(&self, _schema: Schema, _sheets: &Sheets) -> bool {
+        is_id_within_limits(self.id)
+            && is_tier_within_limits(self.tier)
             && is_well_formed_text(&self.tax_id)
             && is_well_formed_text(&self.last_name)
             && is_well_formed_text(&self.first_name)
@@ -57,8 +57,8 @@ impl Formed for AccountRow {
 
     // Returns true if the id, the name and both amounts are well-formed, and the customer and the
     // broker exist.
-    fn is_formed(&self, _schema: Schema, sheets: &Sheets) -> bool {
-        is_id(self.account.id)
+    fn is_row_well_formed(&self, _schema: Schema, sheets: &Sheets) -> bool {
+        is_id_within_limits(self.account.id)
             && is_well_formed_text(&self.account.name)
             && is_balance_within_limit(self.account.opening)
             && is_balance_within_limit(self.balance)
@@ -72,7 +72,7 @@ impl Formed for Permission {
 
     // Returns true if the access control list, the tax id and both names are well-formed, and the
     // account exists.
-    fn is_formed(&self, _schema: Schema, sheets: &Sheets) -> bool {
+    fn is_row_well_formed(&self, _schema: Schema, sheets: &Sheets) -> bool {
         is_well_formed_text(&self.acl)
             && is_well_formed_text(&self.tax_id)
             && is_well_formed_text(&self.last_name)
@@ -85,7 +85,7 @@ impl Formed for Security {
     ghost form = { λ schema tables row. form.is_well_formed_security_row tables (of.abstract_security_row row) };
 
     // Returns true if the four texts are well-formed, and the symbol has a row of LAST_TRADE.
-    fn is_formed(&self, _schema: Schema, sheets: &Sheets) -> bool {
+    fn is_row_well_formed(&self, _schema: Schema, sheets: &Sheets) -> bool {
         is_well_formed_text(&self.symbol)
             && is_well_formed_text(&self.name)
             && is_well_formed_text(&self.exchange)
@@ -99,10 +99,10 @@ impl Formed for LastTrade {
 
     // Returns true if the security exists, the stamp is at most the last stamp, and the price and
     // the volume are within their limits.
-    fn is_formed(&self, _schema: Schema, sheets: &Sheets) -> bool {
+    fn is_row_well_formed(&self, _schema: Schema, sheets: &Sheets) -> bool {
         has_security(sheets, &self.symbol)
-            && is_stamp_up_to_last(sheets, self.stamp)
-            && is_price(self.price)
+            && stamp_is_at_most_last_stamp(sheets, self.stamp)
+            && is_price_within_limits(self.price)
             && self.volume.get() <= Volume::GREATEST
     }
 }
@@ -111,8 +111,8 @@ impl Formed for Charge {
     ghost form = { λ schema tables row. form.is_well_formed_charge_row (of.abstract_charge row) };
 
     // Returns true if the tier and the amount are within their limits.
-    fn is_formed(&self, _schema: Schema, _sheets: &Sheets) -> bool {
-        is_tier(self.tier) && is_charge_within_limit(self.amount)
+    fn is_row_well_formed(&self, _schema: Schema, _sheets: &Sheets) -> bool {
+        is_tier_within_limits(self.tier) && is_charge_within_limit(self.amount)
     }
 }
 
@@ -121,8 +121,8 @@ impl Formed for Band {
 
     // Returns true if the tier, the exchange, both bounds and the rate are well-formed, and the
     // lower bound is at most the upper.
-    fn is_formed(&self, schema: Schema, _sheets: &Sheets) -> bool {
-        is_tier(self.tier)
+    fn is_row_well_formed(&self, schema: Schema, _sheets: &Sheets) -> bool {
+        is_tier_within_limits(self.tier)
             && is_well_formed_text(&self.exchange)
             && is_quantity_within_limits(schema, self.from_qty)
             && is_quantity_within_limits(schema, self.to_qty)
@@ -135,8 +135,8 @@ impl Formed for Tax {
     ghost form = { λ schema tables row. form.is_well_formed_tax_rate_row (of.abstract_tax_rate row) };
 
     // Returns true if the id, the name and the rate are well-formed.
-    fn is_formed(&self, _schema: Schema, _sheets: &Sheets) -> bool {
-        is_id(self.id) && is_well_formed_text(&self.name) && self.rate.get() <= TaxRate::GREATEST
+    fn is_row_well_formed(&self, _schema: Schema, _sheets: &Sheets) -> bool {
+        is_id_within_limits(self.id) && is_well_formed_text(&self.name) && self.rate.get() <= TaxRate::GREATEST
     }
 }
 
@@ -144,7 +144,7 @@ impl Formed for CustomerTax {
     ghost form = { λ schema tables row. form.is_well_formed_customer_tax_row tables (of.abstract_customer_tax row) };
 
     // Returns true if the customer and the tax rate exist.
-    fn is_formed(&self, _schema: Schema, sheets: &Sheets) -> bool {
-        has_customer(sheets, self.customer) && has_tax(sheets, self.tax)
+    fn is_row_well_formed(&self, _schema: Schema, sheets: &Sheets) -> bool {
+        has_customer(sheets, self.customer) && has_tax_rate(sheets, self.tax)
     }
 }

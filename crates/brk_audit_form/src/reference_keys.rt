@@ -12,7 +12,7 @@ impl Keyed for Kept {
     ghost key = { λ row. keys.kept_key (of.abstract_kept_row row) };
 
     // Compares the rows by batch name, then by row number.
-    fn compare(&self, other: &Kept) -> Ordering {
+    fn compare_keys(&self, other: &Kept) -> Ordering {
         compare_texts(&self.key.batch, &other.key.batch).then(
             self.key.row.get().cmp(&other.key.row.get()),
         )
@@ -23,7 +23,7 @@ impl Keyed for BrokerRow {
     ghost key = { λ row. keys.broker_key (of.abstract_broker_row row) };
 
     // Compares the rows by id.
-    fn compare(&self, other: &BrokerRow) -> Ordering {
+    fn compare_keys(&self, other: &BrokerRow) -> Ordering {
         compare_ids(self.broker.id, other.broker.id)
     }
 }
@@ -32,7 +32,7 @@ impl Keyed for Customer {
     ghost key = { λ row. keys.customer_key (of.abstract_customer row) };
 
     // Compares the rows by id.
-    fn compare(&self, other: &Customer) -> Ordering {
+    fn compare_keys(&self, other: &Customer) -> Ordering {
         compare_ids(self.id, other.id)
     }
 }
@@ -41,7 +41,7 @@ impl Keyed for AccountRow {
     ghost key = { λ row. keys.account_key (of.abstract_account_row row) };
 
     // Compares the rows by id.
-    fn compare(&self, other: &AccountRow) -> Ordering {
+    fn compare_keys(&self, other: &AccountRow) -> Ordering {
         compare_ids(self.account.id, other.account.id)
     }
 }
@@ -50,7 +50,7 @@ impl Keyed for Permission {
     ghost key = { λ row. keys.permission_key (of.abstract_permission row) };
 
     // Compares the rows by account, then by tax id.
-    fn compare(&self, other: &Permission) -> Ordering {
+    fn compare_keys(&self, other: &Permission) -> Ordering {
         compare_ids(self.account, other.account).then(compare_texts(&self.tax_id, &other.tax_id))
     }
 }
@@ -59,7 +59,7 @@ impl Keyed for Security {
     ghost key = { λ row. keys.security_key (of.abstract_security_row row) };
 
     // Compares the rows by symbol.
-    fn compare(&self, other: &Security) -> Ordering {
+    fn compare_keys(&self, other: &Security) -> Ordering {
         compare_texts(&self.symbol, &other.symbol)
     }
 }
@@ -68,7 +68,7 @@ impl Keyed for LastTrade {
     ghost key = { λ row. keys.last_trade_key (of.abstract_last_trade_row row) };
 
     // Compares the rows by symbol.
-    fn compare(&self, other: &LastTrade) -> Ordering {
+    fn compare_keys(&self, other: &LastTrade) -> Ordering {
         compare_texts(&self.symbol, &other.symbol)
     }
 }
@@ -77,7 +77,7 @@ impl Keyed for Charge {
     ghost key = { λ row. keys.charge_key (of.abstract_charge row) };
 
     // Compares the rows by trade type, then by tier.
-    fn compare(&self, other: &Charge) -> Ordering {
+    fn compare_keys(&self, other: &Charge) -> Ordering {
         self.kind
             .code()
             .cmp(other.kind.code())
@@ -89,7 +89,7 @@ impl Keyed for Band {
     ghost key = { λ row. keys.band_key (of.abstract_band row) };
 
     // Compares the rows by tier, then by trade type, then by exchange, then by lower bound.
-    fn compare(&self, other: &Band) -> Ordering {
+    fn compare_keys(&self, other: &Band) -> Ordering {
         let bound = self.from_qty.get().cmp(&other.from_qty.get());
         let exchange = compare_texts(&self.exchange, &other.exchange).then(bound);
         let kind = self.kind.code().cmp(other.kind.code()).then(exchange);
@@ -101,7 +101,7 @@ impl Keyed for Tax {
     ghost key = { λ row. keys.tax_rate_key (of.abstract_tax_rate row) };
 
     // Compares the rows by id.
-    fn compare(&self, other: &Tax) -> Ordering {
+    fn compare_keys(&self, other: &Tax) -> Ordering {
         compare_ids(self.id, other.id)
     }
 }
@@ -110,7 +110,7 @@ impl Keyed for CustomerTax {
     ghost key = { λ row. keys.customer_tax_key (of.abstract_customer_tax row) };
 
     // Compares the rows by customer, then by tax rate.
-    fn compare(&self, other: &CustomerTax) -> Ordering {
+    fn compare_keys(&self, other: &CustomerTax) -> Ordering {
         compare_ids(self.customer, other.customer).then(compare_ids(self.tax, other.tax))
     }
 }

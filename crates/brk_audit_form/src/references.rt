@@ -6,7 +6,7 @@ ghost use Rattle.brk_money.specs.declared.status.Status.TheVariants.{Completed};
 ghost use Rattle.brk_model.specs.Form as form;
 ghost use Rattle.brk_model.specs.Joins as joins;
 ghost use Rattle.brk_changes.specs.Rows.{abstract_trade_row};
-ghost use Rattle.brk_changes.specs.Sheets.{tables_in_sheets};
+ghost use Rattle.brk_changes.specs.Sheets.{abstract_sheets};
 ghost use Rattle.brk_ref.specs.Records.{abstract_security_row, abstract_tax_rate};
 ghost use Rattle.brk_audit_form.specs.Conditions.{HasSortedKeys};
 
@@ -18,7 +18,7 @@ use brk_ref::{Security, Symbol, Tax};
 /// Returns true if a broker with the id exists.
 pub(crate) fn has_broker(sheets: &Sheets, id: Id) -> bool
     requires { HasSortedKeys sheets.now }
-    ensures { result ≡ form.has_broker (tables_in_sheets sheets.now) id }
+    ensures { result ≡ form.has_broker (abstract_sheets sheets.now) id }
 {
     let number = id.get();
     sheets
@@ -30,7 +30,7 @@ pub(crate) fn has_broker(sheets: &Sheets, id: Id) -> bool
 /// Returns true if a customer with the id exists.
 pub(crate) fn has_customer(sheets: &Sheets, id: Id) -> bool
     requires { HasSortedKeys sheets.now }
-    ensures { result ≡ form.has_customer (tables_in_sheets sheets.now) id }
+    ensures { result ≡ form.has_customer (abstract_sheets sheets.now) id }
 {
     let number = id.get();
     sheets
@@ -42,7 +42,7 @@ pub(crate) fn has_customer(sheets: &Sheets, id: Id) -> bool
 /// Returns true if a account with the id exists.
 pub(crate) fn has_account(sheets: &Sheets, id: Id) -> bool
     requires { HasSortedKeys sheets.now }
-    ensures { result ≡ form.has_account (tables_in_sheets sheets.now) id }
+    ensures { result ≡ form.has_account (abstract_sheets sheets.now) id }
 {
     let number = id.get();
     sheets
@@ -54,7 +54,7 @@ pub(crate) fn has_account(sheets: &Sheets, id: Id) -> bool
 /// Returns true if a trade with the id exists.
 pub(crate) fn has_trade(sheets: &Sheets, id: Id) -> bool
     requires { HasSortedKeys sheets.now }
-    ensures { result ≡ form.has_trade (tables_in_sheets sheets.now) id }
+    ensures { result ≡ form.has_trade (abstract_sheets sheets.now) id }
 {
     let number = id.get();
     sheets
@@ -64,9 +64,9 @@ pub(crate) fn has_trade(sheets: &Sheets, id: Id) -> bool
 }
 
 /// Returns true if a tax rate with the id exists.
-pub(crate) fn has_tax(sheets: &Sheets, id: Id) -> bool
+pub(crate) fn has_tax_rate(sheets: &Sheets, id: Id) -> bool
     requires { HasSortedKeys sheets.now }
-    ensures { result ≡ list_any (λ r. r.id == id) (tables_in_sheets sheets.now).tax_rates }
+    ensures { result ≡ list_any (λ r. r.id == id) (abstract_sheets sheets.now).tax_rates }
 {
     let number = id.get();
     sheets
@@ -78,7 +78,7 @@ pub(crate) fn has_tax(sheets: &Sheets, id: Id) -> bool
 /// Returns true if a security with the symbol exists.
 pub(crate) fn has_security(sheets: &Sheets, symbol: &Symbol) -> bool
     requires { HasSortedKeys sheets.now }
-    ensures { result ≡ form.has_security (tables_in_sheets sheets.now) symbol.now }
+    ensures { result ≡ form.has_security (abstract_sheets sheets.now) symbol.now }
 {
     sheets
         .securities
@@ -89,7 +89,7 @@ pub(crate) fn has_security(sheets: &Sheets, symbol: &Symbol) -> bool
 /// Returns true if the symbol has a row of LAST_TRADE.
 pub(crate) fn has_last_trade(sheets: &Sheets, symbol: &Symbol) -> bool
     requires { HasSortedKeys sheets.now }
-    ensures { result ≡ list_any (λ l. bytes_eq l.symbol symbol.now) (tables_in_sheets sheets.now).last_trades }
+    ensures { result ≡ list_any (λ l. bytes_eq l.symbol symbol.now) (abstract_sheets sheets.now).last_trades }
 {
     sheets
         .last_trades
@@ -100,7 +100,7 @@ pub(crate) fn has_last_trade(sheets: &Sheets, symbol: &Symbol) -> bool
 /// Returns true if the trade has a completion in its history.
 pub(crate) fn has_completion(sheets: &Sheets, id: Id) -> bool
     requires { HasSortedKeys sheets.now }
-    ensures { result ≡ list_any (λ h. is_same_trade_status h.status Completed) (joins.history_rows_with_trade_id (tables_in_sheets sheets.now) id) }
+    ensures { result ≡ list_any (λ h. is_same_trade_status h.status Completed) (joins.history_rows_with_trade_id (abstract_sheets sheets.now) id) }
 {
     let code = Status::Completed.code();
     sheets
@@ -112,7 +112,7 @@ pub(crate) fn has_completion(sheets: &Sheets, id: Id) -> bool
 /// Returns the row of the trade with the id, or `None` if there is none.
 pub(crate) fn find_trade(sheets: &Sheets, id: Id) -> Option<&TradeRow>
     requires { HasSortedKeys sheets.now }
-    ensures { option_map abstract_trade_row (option_copied result) ≡ joins.trade_row_with_id (tables_in_sheets sheets.now) id }
+    ensures { option_map abstract_trade_row (option_copied result) ≡ joins.trade_row_with_id (abstract_sheets sheets.now) id }
 {
     let number = id.get();
     match sheets
@@ -127,7 +127,7 @@ pub(crate) fn find_trade(sheets: &Sheets, id: Id) -> Option<&TradeRow>
 /// Returns the row of the security with the symbol, or `None` if there is none.
 pub(crate) fn find_security<'a>(sheets: &'a Sheets, symbol: &Symbol) -> Option<&'a Security>
     requires { HasSortedKeys sheets.now }
-    ensures { option_map abstract_security_row (option_copied result) ≡ joins.security_row_with_symbol (tables_in_sheets sheets.now) symbol.now }
+    ensures { option_map abstract_security_row (option_copied result) ≡ joins.security_row_with_symbol (abstract_sheets sheets.now) symbol.now }
 {
     match sheets
         .securities
@@ -139,9 +139,9 @@ pub(crate) fn find_security<'a>(sheets: &'a Sheets, symbol: &Symbol) -> Option<&
 }
 
 /// Returns the row of the tax rate with the id, or `None` if there is none.
-pub(crate) fn find_tax(sheets: &Sheets, id: Id) -> Option<&Tax>
+pub(crate) fn find_tax_rate(sheets: &Sheets, id: Id) -> Option<&Tax>
     requires { HasSortedKeys sheets.now }
-    ensures { option_map abstract_tax_rate (option_copied result) ≡ find (λ r. r.id == id) (tables_in_sheets sheets.now).tax_rates }
+    ensures { option_map abstract_tax_rate (option_copied result) ≡ find (λ r. r.id == id) (abstract_sheets sheets.now).tax_rates }
 {
     let number = id.get();
     match sheets

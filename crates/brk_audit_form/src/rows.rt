@@ -3,7 +3,7 @@ ghost use Rattle.std.specs.List.{list_all};
 ghost use Rattle.brk_model.specs.Schemas as schemas;
 ghost use Rattle.brk_model.specs.Tables.{Tables};
 ghost use Rattle.brk_changes.specs.Schemas.{abstract_schema};
-ghost use Rattle.brk_changes.specs.Sheets.{tables_in_sheets};
+ghost use Rattle.brk_changes.specs.Sheets.{abstract_sheets};
 ghost use Rattle.brk_audit_form.specs.Conditions.{HasSortedKeys};
 
 use brk_changes::{Schema, Sheets};
@@ -14,16 +14,16 @@ pub(crate) trait Formed {
 
     /// Returns true if the columns of the row are well-formed and within the limits of the schema,
     /// and each record that it refers to exists.
-    fn is_formed(&self, schema: Schema, sheets: &Sheets) -> bool
+    fn is_row_well_formed(&self, schema: Schema, sheets: &Sheets) -> bool
         requires { HasSortedKeys sheets.now }
-        ensures { result ≡ form (abstract_schema schema) (tables_in_sheets sheets.now) self.now };
+        ensures { result ≡ form (abstract_schema schema) (abstract_sheets sheets.now) self.now };
 }
 
 /// Returns true if each row is well-formed and within the limits of the schema, and each record
 /// that it refers to exists.
 pub(crate) fn all_rows_well_formed<R: Formed>(schema: Schema, sheets: &Sheets, rows: &[R]) -> bool
     requires { HasSortedKeys sheets.now }
-    ensures { result ≡ list_all (R.form (abstract_schema schema) (tables_in_sheets sheets.now)) rows.now }
+    ensures { result ≡ list_all (R.form (abstract_schema schema) (abstract_sheets sheets.now)) rows.now }
 {
-    rows.iter().all(|row| row.is_formed(schema, sheets))
+    rows.iter().all(|row| row.is_row_well_formed(schema, sheets))
 }

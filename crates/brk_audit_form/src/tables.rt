@@ -1,7 +1,7 @@
 ghost use Rattle.std.specs.Prelude.{◌≡◌};
 ghost use Rattle.brk_model.specs.Form as form;
 ghost use Rattle.brk_changes.specs.Schemas.{abstract_schema};
-ghost use Rattle.brk_changes.specs.Sheets.{tables_in_sheets};
+ghost use Rattle.brk_changes.specs.Sheets.{abstract_sheets};
 ghost use Rattle.brk_audit_form.specs.Conditions.{HasSortedKeys};
 ghost use Rattle.brk_audit_form.specs.Groups.{reference_rows_are_well_formed, reference_tables_are_sorted, trading_rows_are_well_formed, trading_tables_are_sorted};
 
@@ -45,7 +45,7 @@ fn has_sorted_trading_tables(sheets: &Sheets) -> bool
 
 /// Returns true if each table is sorted by key, and no key occurs twice.
 pub(crate) fn all_tables_have_sorted_keys(sheets: &Sheets) -> bool
-    ensures { result ≡ form.tables_are_sorted_by_unique_key (tables_in_sheets sheets.now) }
+    ensures { result ≡ form.tables_are_sorted_by_unique_key (abstract_sheets sheets.now) }
 {
     has_sorted_reference_tables(sheets) && has_sorted_trading_tables(sheets)
 }

@@ -1,12 +1,12 @@
 ghost use Rattle.std.specs.Prelude.{◌≡◌};
 ghost use Rattle.brk_model.specs.Form as form;
 ghost use Rattle.brk_changes.specs.Rows as of;
-ghost use Rattle.brk_changes.specs.Sheets.{tables_in_sheets};
+ghost use Rattle.brk_changes.specs.Sheets.{abstract_sheets};
 ghost use Rattle.brk_audit_form.specs.Conditions.{HasSortedKeys};
 
 use crate::limits::{
-    is_amount, is_balance_within_limit, is_charge_within_limit, is_id, is_price,
-    is_quantity_within_limits, is_stamp_up_to_last,
+    is_amount_within_limit, is_balance_within_limit, is_charge_within_limit, is_id_within_limits, is_price_within_limits,
+    is_quantity_within_limits, stamp_is_at_most_last_stamp,
 };
 use crate::references::{
     find_trade, has_account, has_broker, has_completion, has_security, has_trade,
@@ -22,17 +22,17 @@ use brk_money::{Day, Stamp, Status};
 // completion nor a price.
 fn row_has_price_exactly_if_completed(sheets: &Sheets, row: &TradeRow) -> bool
     requires { HasSortedKeys sheets.now }
-    ensures { result ≡ form.price_matches_completion (tables_in_sheets sheets.now) (of.abstract_trade_row row.now) }
+    ensures { result ≡ form.price_matches_completion (abstract_sheets sheets.now) (of.abstract_trade_row row.now) }
 {
     match row.price {
-        Some(price) => has_completion(sheets, row.id) && is_price(price),
+        Some(price) => has_completion(sheets, row.id) && is_price_within_limits(price),
         None => !has_completion(sheets, row.id),
     }
 }
 
 // Returns true if a completion at `stamp` has a due day within the calendar, by the settlement day
 // `rule`. Returns true for any other status.
-fn settles_within_calendar(rule: Option<Day>, status: Status, stamp: Stamp) -> bool
+fn is_due_day_within_calendar(rule: Option<Day>, status: Status, stamp: Stamp) -> bool
     ensures { result ≡ form.is_due_within_calendar rule status stamp }
 {
     status != Status::Completed || due_day_after_completion(rule, stamp).is_some()
@@ -40,7 +40,7 @@ fn settles_within_calendar(rule: Option<Day>, status: Status, stamp: Stamp) -> b
 
 // Returns true if the settlement text is one of the two texts of a cash trade (`is_cash`), or one
 // of the two of a margin trade if `is_cash` is false.
-fn is_settlement_text_of(is_cash: bool, word: CashType) -> bool
+fn is_settlement_text_of_trade_kind(is_cash: bool, word: CashType) -> bool
     ensures { result ≡ form.is_cash_type_of_trade is_cash (of.cash_type_text word) }
 {
     match word {
@@ -54,14 +54,14 @@ impl Formed for TradeRow {
 
     // Returns true if the numbers are within their limits, the stamp is at most the last stamp, the
     // account and the security exist, and the row has a price if and only if it has a completion.
-    fn is_formed(&self, schema: Schema, sheets: &Sheets) -> bool {
-        is_id(self.id)
+    fn is_row_well_formed(&self, schema: Schema, sheets: &Sheets) -> bool {
+        is_id_within_limits(self.id)
             && is_quantity_within_limits(schema, self.qty)
-            && is_price(self.bid)
+            && is_price_within_limits(self.bid)
             && is_charge_within_limit(self.charge)
-            && is_amount(self.commission)
-            && is_amount(self.tax)
-            && is_stamp_up_to_last(sheets, self.stamp)
+            && is_amount_within_limit(self.commission)
+            && is_amount_within_limit(self.tax)
+            && stamp_is_at_most_last_stamp(sheets, self.stamp)
             && has_security(sheets, &self.symbol)
             && has_account(sheets, self.account)
             && row_has_price_exactly_if_completed(sheets, self)
@@ -73,10 +73,10 @@ impl Formed for HistoryRow {
 
     // Returns true if the trade exists, the stamp is at most the last stamp, and the due day of a
     // completion is within the calendar.
-    fn is_formed(&self, _schema: Schema, sheets: &Sheets) -> bool {
+    fn is_row_well_formed(&self, _schema: Schema, sheets: &Sheets) -> bool {
         has_trade(sheets, self.trade)
-            && is_stamp_up_to_last(sheets, self.stamp)
-            && settles_within_calendar(sheets.rule, self.status, self.stamp)
+            && stamp_is_at_most_last_stamp(sheets, self.stamp)
+            && is_due_day_within_calendar(sheets.rule, self.status, self.stamp)
     }
 }
 
@@ -85,11 +85,11 @@ impl Formed for RequestRow {
 
     // Returns true if the quantity and the bid are within their limits, and the trade, the security
     // and the broker exist.
-    fn is_formed(&self, schema: Schema, sheets: &Sheets) -> bool {
+    fn is_row_well_formed(&self, schema: Schema, sheets: &Sheets) -> bool {
         has_trade(sheets, self.trade)
             && has_security(sheets, &self.symbol)
             && is_quantity_within_limits(schema, self.qty)
-            && is_price(self.bid)
+            && is_price_within_limits(self.bid)
             && has_broker(sheets, self.broker)
     }
 }
@@ -99,12 +99,12 @@ impl Formed for HoldingRow {
 
     // Returns true if the price is within its limits, the stamp is at most the last stamp, and the
     // trade, the account and the security exist. The quantity is not checked.
-    fn is_formed(&self, _schema: Schema, sheets: &Sheets) -> bool {
+    fn is_row_well_formed(&self, _schema: Schema, sheets: &Sheets) -> bool {
         has_trade(sheets, self.trade)
             && has_account(sheets, self.account)
             && has_security(sheets, &self.symbol)
-            && is_stamp_up_to_last(sheets, self.stamp)
-            && is_price(self.price)
+            && stamp_is_at_most_last_stamp(sheets, self.stamp)
+            && is_price_within_limits(self.price)
     }
 }
 
@@ -113,7 +113,7 @@ impl Formed for SummaryRow {
 
     // Returns true if the account and the security exist, and the quantity is within the limit of
     // the schema.
-    fn is_formed(&self, schema: Schema, sheets: &Sheets) -> bool {
+    fn is_row_well_formed(&self, schema: Schema, sheets: &Sheets) -> bool {
         has_account(sheets, self.account)
             && has_security(sheets, &self.symbol)
             && self.qty.unsigned_abs() <= schema.greatest_summary()
@@ -124,7 +124,7 @@ impl Formed for LotChange {
     ghost form = { λ schema tables row. form.is_well_formed_holding_history_row tables (of.abstract_lot_change_row row) };
 
     // Returns true if the trade that opened the lot and the trade that changed it exist.
-    fn is_formed(&self, _schema: Schema, sheets: &Sheets) -> bool {
+    fn is_row_well_formed(&self, _schema: Schema, sheets: &Sheets) -> bool {
         has_trade(sheets, self.lot) && has_trade(sheets, self.trade)
     }
 }
@@ -134,11 +134,11 @@ impl Formed for SettlementRow {
 
     // Returns true if the trade exists, the text is one of the two for a cash trade or for a margin
     // trade, whichever it is, and the due day and the amount are within their limits.
-    fn is_formed(&self, _schema: Schema, sheets: &Sheets) -> bool {
+    fn is_row_well_formed(&self, _schema: Schema, sheets: &Sheets) -> bool {
         let Some(trade) = find_trade(sheets, self.trade) else {
             return false;
         };
-        is_settlement_text_of(trade.is_cash, self.cash_type)
+        is_settlement_text_of_trade_kind(trade.is_cash, self.cash_type)
             && self.due_day.get() <= Day::GREATEST
             && is_balance_within_limit(self.amount)
     }

@@ -12,7 +12,7 @@ impl Keyed for TradeRow {
     ghost key = { λ row. keys.trade_key (of.abstract_trade_row row) };
 
     // Compares the rows by number.
-    fn compare(&self, other: &TradeRow) -> Ordering {
+    fn compare_keys(&self, other: &TradeRow) -> Ordering {
         compare_ids(self.id, other.id)
     }
 }
@@ -21,7 +21,7 @@ impl Keyed for HistoryRow {
     ghost key = { λ row. keys.history_key (of.abstract_history_row row) };
 
     // Compares the rows by trade, then by code of the status.
-    fn compare(&self, other: &HistoryRow) -> Ordering {
+    fn compare_keys(&self, other: &HistoryRow) -> Ordering {
         compare_ids(self.trade, other.trade).then(self.status.code().cmp(other.status.code()))
     }
 }
@@ -30,7 +30,7 @@ impl Keyed for RequestRow {
     ghost key = { λ row. keys.request_key (of.abstract_request_row row) };
 
     // Compares the rows by trade.
-    fn compare(&self, other: &RequestRow) -> Ordering {
+    fn compare_keys(&self, other: &RequestRow) -> Ordering {
         compare_ids(self.trade, other.trade)
     }
 }
@@ -39,7 +39,7 @@ impl Keyed for HoldingRow {
     ghost key = { λ row. keys.holding_key (of.abstract_holding_row row) };
 
     // Compares the rows by trade that opened the lot.
-    fn compare(&self, other: &HoldingRow) -> Ordering {
+    fn compare_keys(&self, other: &HoldingRow) -> Ordering {
         compare_ids(self.trade, other.trade)
     }
 }
@@ -48,7 +48,7 @@ impl Keyed for SummaryRow {
     ghost key = { λ row. keys.summary_key (of.abstract_summary_row row) };
 
     // Compares the rows by account, then by symbol.
-    fn compare(&self, other: &SummaryRow) -> Ordering {
+    fn compare_keys(&self, other: &SummaryRow) -> Ordering {
         compare_ids(self.account, other.account).then(compare_texts(&self.symbol, &other.symbol))
     }
 }
@@ -57,7 +57,7 @@ impl Keyed for LotChange {
     ghost key = { λ row. keys.holding_history_key (of.abstract_lot_change_row row) };
 
     // Compares the rows by lot, then by trade.
-    fn compare(&self, other: &LotChange) -> Ordering {
+    fn compare_keys(&self, other: &LotChange) -> Ordering {
         compare_ids(self.lot, other.lot).then(compare_ids(self.trade, other.trade))
     }
 }
@@ -66,7 +66,7 @@ impl Keyed for SettlementRow {
     ghost key = { λ row. keys.settlement_key (of.abstract_settlement_row row) };
 
     // Compares the rows by trade.
-    fn compare(&self, other: &SettlementRow) -> Ordering {
+    fn compare_keys(&self, other: &SettlementRow) -> Ordering {
         compare_ids(self.trade, other.trade)
     }
 }
@@ -75,7 +75,7 @@ impl Keyed for CashRow {
     ghost key = { λ row. keys.cash_key (of.abstract_cash_row row) };
 
     // Compares the rows by trade.
-    fn compare(&self, other: &CashRow) -> Ordering {
+    fn compare_keys(&self, other: &CashRow) -> Ordering {
         compare_ids(self.trade, other.trade)
     }
 }
@@ -84,7 +84,7 @@ impl Keyed for MoveRow {
     ghost key = { λ row. keys.move_key (of.abstract_move_row row) };
 
     // Compares the rows by number.
-    fn compare(&self, other: &MoveRow) -> Ordering {
+    fn compare_keys(&self, other: &MoveRow) -> Ordering {
         self.id.get().cmp(&other.id.get())
     }
 }

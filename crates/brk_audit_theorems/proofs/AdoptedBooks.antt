@@ -23,8 +23,8 @@ use Rattle.brk_model.specs.Forms.{is_name, is_exchange}
 use Rattle.brk_model.specs.Adopted.{account_of_row, base_of_tables, movement_of_row, zero_last_trade_row, security_of_row, security_of_rows, trade_of_row}
 use Rattle.brk_model.specs.Form.{is_well_formed_account_row, is_well_formed_band_row, has_account, has_broker, has_customer, satisfies_form_condition, has_security, has_trade, is_well_formed_history_row, has_cash_row_name_of_trade, is_id, is_cash_row_number, is_movement_name_and_amount, is_price, is_quantity_in_schema, is_at_most_last_stamp, is_tier, is_well_formed_last_trade_row, is_well_formed_move_row, bands_are_disjoint, price_matches_completion, are_equal_number_lists, is_well_formed_trade_row}
 use Rattle.brk_model.specs.Ways.{completion_stamps, satisfies_status_condition, movement_stamps, has_valid_status_history}
-use Rattle.brk_model.specs.Names.{AccountOfTradeExists, BrokerOfAccountExists, CustomerOfAccountExists, SecurityOfTradeExists, AreNumberedFrom}
-use Rattle.brk_book_theorems.specs.Books.{MovementBooksInvariant, HasDisjointBands, HasNoCompletionIfSubmitted, HasDistinctAccountIds, HasDistinctSymbols, HasOrderedBounds, MovementAccountExists, HasVolumeWithinLimit, BooksInvariant, IsTradeUpToLastStamp, IsMovementUpToLastStamp, HasOtherStatusStamp, HasDistinctStatusStamps, HasDistinctMovementStamps, HasDistinctPermissions, HasOneChangeIfPending}
+use Rattle.brk_model.specs.Names.{AccountOfTradeExists, BrokerOfAccountExists, CustomerOfAccountExists, SecurityOfTradeExists, TradesAreNumberedFrom}
+use Rattle.brk_book_theorems.specs.Books.{MovementBooksInvariant, HasDisjointBands, HasNoCompletionIfSubmitted, HasDistinctAccountIds, HasDistinctSymbols, HasOrderedBounds, MovementAccountExists, HasVolumeWithinLimit, BooksInvariant, TradeStampIsAtMostLast, MovementStampIsAtMostLast, HasLastStatusAtOtherStamp, HasDistinctLastStatusStamps, HasDistinctMovementStamps, HasDistinctPermissions, HasOneStatusChangeIfPending}
 use Rattle.brk_book_theorems.proofs.Bools.{numbers_back}
 use Rattle.brk_book_theorems.proofs.Same.{All-map, All-mapped, All-of, any-none, find-All}
 use Rattle.brk_book_theorems.proofs.Reading.{find-map, is_some-map, some-is-any}
@@ -137,7 +137,7 @@ volume_of t l e =
     leb-true l.volume greatest_amount (and_parts (has_security t l.symbol && is_at_most_last_stamp t l.stamp && is_price l.price) (nat_le l.volume greatest_amount) e).1
 
 numbered : (t : Tables) (n : ℕ) (rows : List TradeRow) → are_equal_number_lists (map (λ row. row.id) rows) (range_with_len n (length rows)) ≡ true
-    → AreNumberedFrom n (map (trade_of_row t) rows)
+    → TradesAreNumberedFrom n (map (trade_of_row t) rows)
 numbered t n [] e = tt
 numbered t n (r ∷ rows) e =
     let k = and_parts (r.id == n) (are_equal_number_lists (map (λ row. row.id) rows) (range_with_len (n + 1) (length rows))) e in
@@ -229,7 +229,7 @@ one_stamp (x ∷ hs) h k d m n e = by_places (λ m n. one_stamp hs h k parts.1 m
     by_places ih (inr m) (inr n) = ih m n
 
 moments_apart : (t : Tables) (rows : List TradeRow) → all_distinct (completion_stamps t) ≡ true → Climbs trade_key rows → AllByRecursion (IsDone t) rows
-    → HasDistinctStatusStamps (map (trade_of_row t) rows)
+    → HasDistinctLastStatusStamps (map (trade_of_row t) rows)
 moments_apart t [] d c h = tt
 moments_apart t (r ∷ rows) d c h = (others rows c.0 h.1, moments_apart t rows d c.1 h.1)
   where
@@ -245,14 +245,14 @@ moments_apart t (r ∷ rows) d c h = (others rows c.0 h.1, moments_apart t rows 
     others [] b k = tt
     others (u ∷ us) b k = (other u b.0 k.0, others us b.1 k.1)
 
-early_at : (o : Option ℕ) (u : Trade) (n : ℕ) → n ≡ last_status_stamp_of_trade u → option_map_or (λ last. nat_le n last) o false ≡ true → IsTradeUpToLastStamp o u
+early_at : (o : Option ℕ) (u : Trade) (n : ℕ) → n ≡ last_status_stamp_of_trade u → option_map_or (λ last. nat_le n last) o false ≡ true → TradeStampIsAtMostLast o u
 early_at None u n e h = false_true h
 early_at (Some last) u n e h = let k : n ≤ last = leb-true n last h in omega arith
 
 stamp_of : (t : Tables) (h : HistoryRow) → is_well_formed_history_row t h ≡ true → is_at_most_last_stamp t h.stamp ≡ true
 stamp_of t h e = (parts3 (has_trade t h.trade) (is_at_most_last_stamp t h.stamp) (not (is_same_trade_status h.status Completed) || nat_le (due_day_of_completion_stamp t.rule h.stamp) greatest_day) e).1
 
-early_of : (t : Tables) (r : TradeRow) → AllByRecursion (λ h. is_well_formed_history_row t h ≡ true) t.history → IsDone t r → IsTradeUpToLastStamp t.last (trade_of_row t r)
+early_of : (t : Tables) (r : TradeRow) → AllByRecursion (λ h. is_well_formed_history_row t h ≡ true) t.history → IsDone t r → TradeStampIsAtMostLast t.last (trade_of_row t r)
 early_of t r f k = early_at t.last (trade_of_row t r) k.row.stamp k.stamp (stamp_of t k.row (of_all (λ h. is_well_formed_history_row t h ≡ true) t.history k.row f k.there))
 
 done_all : (t : Tables) → AllByRecursion (λ r. has_valid_status_history t r ≡ true) t.trades → AllByRecursion (IsDone t) (done_rows t)
@@ -274,7 +274,7 @@ movements_apart t ds [] h d = tt
 movements_apart t ds (r ∷ rows) h d =
     let k = and_parts (not (contains_number r.stamp (map (λ r. r.stamp) rows))) (all_distinct (map (λ r. r.stamp) rows)) d in
     let other : List ℕ = map (λ r. r.stamp) rows in (
-      All-mapped (HasOtherStatusStamp r.stamp) (trade_of_row t) ds
+      All-mapped (HasLastStatusAtOtherStamp r.stamp) (trade_of_row t) ds
           (All-map ds (λ d e. numbers_back (last_status_stamp_of_trade (trade_of_row t d)) r.stamp ∙ (both_false (r.stamp == last_status_stamp_of_trade (trade_of_row t d)) (contains_number (last_status_stamp_of_trade (trade_of_row t d)) other) e).0) h),
       All-mapped (λ m. (m.stamp == r.stamp) ≡ false) movement_of_row rows (no_number r.stamp rows (not-true (contains_number r.stamp other) k.0)),
       movements_apart t ds rows (All-map ds (λ d e. (both_false (r.stamp == last_status_stamp_of_trade (trade_of_row t d)) (contains_number (last_status_stamp_of_trade (trade_of_row t d)) other) e).1) h) k.1,
@@ -314,7 +314,7 @@ none_at_completion t ds h done =
     (of_all (λ row. contains_number row.stamp (movement_stamps t) ≡ false) (completions t) k.row
     (of_mapped (λ n. contains_number n (movement_stamps t) ≡ false) (λ row. row.stamp) (completions t) h) k.counted)) done
 
-made_at : (o : Option ℕ) (n : ℕ) (m : Movement) → n ≡ m.stamp → option_map_or (λ last. nat_le n last) o false ≡ true → IsMovementUpToLastStamp o m
+made_at : (o : Option ℕ) (n : ℕ) (m : Movement) → n ≡ m.stamp → option_map_or (λ last. nat_le n last) o false ≡ true → MovementStampIsAtMostLast o m
 made_at None n m e h = false_true h
 made_at (Some last) n m e h = let k : n ≤ last = leb-true n last h in omega arith
 
@@ -331,7 +331,7 @@ adopted_movements t ds f h d =
     record {
       holders = All-mapped (MovementAccountExists (map account_of_row t.accounts)) movement_of_row rows
           (All-map rows (λ r e. found_mapped (λ a. a.id == r.account) account_of_row t.accounts ∙ (move_parts t r e).0) formed);
-      early = All-mapped (IsMovementUpToLastStamp t.last) movement_of_row rows (All-map rows (λ r e. made_at t.last r.stamp (movement_of_row r) refl (move_parts t r e).1) formed);
+      early = All-mapped (MovementStampIsAtMostLast t.last) movement_of_row rows (All-map rows (λ r e. made_at t.last r.stamp (movement_of_row r) refl (move_parts t r e).1) formed);
       apart = movements_apart t ds rows h d;
     }
   where
@@ -369,14 +369,14 @@ adopted_books schema t f s =
         accounts = All-mapped (AccountOfTradeExists (base_of_tables t)) (trade_of_row t) t.trades (All-map t.trades (knows_account schema t) trades);
         securities = All-mapped (SecurityOfTradeExists (base_of_tables t)) (trade_of_row t) t.trades (All-map t.trades (knows_security schema t) trades);
         numbered = numbered t 1 t.trades p.numbers;
-        ways = All-mapped HasOneChangeIfPending (trade_of_row t) t.trades (All-map t.trades (waits_first t) ways);
+        ways = All-mapped HasOneStatusChangeIfPending (trade_of_row t) t.trades (All-map t.trades (waits_first t) ways);
         completions = All-mapped HasNoCompletionIfSubmitted (trade_of_row t) t.trades (All-map t.trades (completes_first t) ways);
       };
       times = record {
-        early = subst (AllByRecursion (IsTradeUpToLastStamp t.last)) (sym (filter-map is_completed (trade_of_row t) t.trades))
-            (All-mapped (IsTradeUpToLastStamp t.last) (trade_of_row t) (done_rows t)
+        early = subst (AllByRecursion (TradeStampIsAtMostLast t.last)) (sym (filter-map is_completed (trade_of_row t) t.trades))
+            (All-mapped (TradeStampIsAtMostLast t.last) (trade_of_row t) (done_rows t)
             (All-map (done_rows t) (λ r d. early_of t r (list_all_true (is_well_formed_history_row t) t.history p.history) d) done));
-        moments = subst HasDistinctStatusStamps (sym (filter-map is_completed (trade_of_row t) t.trades))
+        moments = subst HasDistinctLastStatusStamps (sym (filter-map is_completed (trade_of_row t) t.trades))
             (moments_apart t (done_rows t) apart_stamps.first (climbs_filter trade_key (λ r. is_completed (trade_of_row t r)) t.trades k.trades) done);
         clock = clock_of t.last p.clock;
       };

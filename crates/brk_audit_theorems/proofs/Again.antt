@@ -16,7 +16,7 @@ use Rattle.brk_model.specs.Sheets.{sheets, tables_sorted_by_key}
 use Rattle.brk_model.specs.Keys.{number, word, rows_sorted_by_key, is_row_key_less, account_key, broker_key, history_key, security_key}
 use Rattle.brk_model.specs.Adopted.{account_of_row, base_of_tables, is_posting_of_trade, status_changes_of_trade, movement_of_row, zero_last_trade_row, posting_of_cash_row, posting_of_move_row, postings_of_tables, security_of_row, security_of_rows, trade_of_row}
 use Rattle.brk_model.specs.Ways.{is_strictly_ascending}
-use Rattle.brk_model.specs.Names.{AreNumberedFrom}
+use Rattle.brk_model.specs.Names.{TradesAreNumberedFrom}
 use Rattle.brk_book_theorems.specs.Books.{HasDistinctSymbols, BooksInvariant}
 use Rattle.brk_book_theorems.proofs.Order.{Sorted, Splits, by_key-filter, by_key-map, insert_commute, sort_sorted}
 use Rattle.brk_book_theorems.proofs.Same.{All-map, All-of, NonePass, filter-none, flat_map-append}
@@ -28,7 +28,7 @@ use Rattle.brk_book_theorems.proofs.TermReading.{reads_last_trade}
 use Rattle.brk_book_theorems.proofs.TradeReading.{trades_in_order}
 use Rattle.brk_book_theorems.proofs.MoveReading.{movements_back, rows_posted, turn_filter}
 use Rattle.brk_book_theorems.proofs.Each.{AllCommute, Commute, each, each_map, each_sort}
-use Rattle.brk_audit_theorems.specs.Told.{HasNoStrayTexts, HasValidHistories, HasAscendingStamps, base_sorted_by_keys}
+use Rattle.brk_audit_theorems.specs.Told.{HasNoStrayTexts, HasValidHistories, HasAscendingStatusStamps, base_sorted_by_keys}
 use Rattle.brk_audit_theorems.proofs.Members.{map-map, map_back}
 
 -- ---- statuses
@@ -179,11 +179,11 @@ own_history xs t ys g h =
     ∙ append_none (history_rows t)
 
 -- what holds of each trade between those before and those after it
-each_place : (P : Trade → Type 0) (n : ℕ) (all xs ys : List Trade) → all ≡ xs ++ ys → AreNumberedFrom n all
+each_place : (P : Trade → Type 0) (n : ℕ) (all xs ys : List Trade) → all ≡ xs ++ ys → TradesAreNumberedFrom n all
     → ((as' : List Trade) (t : Trade) (bs : List Trade) → all ≡ as' ++ t ∷ bs → NonePass (λ u. u.id == t.id) as' → NonePass (λ u. u.id == t.id) bs → P t) → AllByRecursion P ys
 each_place P n all xs [] e k f = tt
 each_place P n all xs (t ∷ ys) e k f =
-    let m : AreNumberedFrom n (xs ++ t ∷ ys) = subst (AreNumberedFrom n) e k in (
+    let m : TradesAreNumberedFrom n (xs ++ t ∷ ys) = subst (TradesAreNumberedFrom n) e k in (
       f xs t ys e (numbered_before n xs t ys m) (numbered_after n xs t ys m),
       each_place P n all (xs ++ t ∷ []) ys (e ∙ sym (append_assoc xs (t ∷ []) ys)) k f,
     )
@@ -209,7 +209,7 @@ filter-filter {X = X} p q (x ∷ xs) = by_test (q x) (p x) refl (filter-filter p
     by_test true c e h = ap (λ ys. cond (p x) (x ∷ ys) ys) h
     by_test false c e h = h
 
-pub reads : (base : Base) → AreNumberedFrom 1 base.trades → AllByRecursion (IsRead base) base.trades
+pub reads : (base : Base) → TradesAreNumberedFrom 1 base.trades → AllByRecursion (IsRead base) base.trades
 reads base k = each_place (IsRead base) 1 base.trades [] base.trades refl k (λ xs t ys e g h. record {
   history = ap (λ ts. filter (λ h. h.trade == t.id) (flat_map history_rows ts)) e ∙ own_history xs t ys g h;
   done = ap (λ ts. find (λ u. u.id == t.id) (filter is_completed ts)) e ∙ found_among is_completed xs t ys g h;
@@ -217,7 +217,7 @@ reads base k = each_place (IsRead base) 1 base.trades [] base.trades refl k (λ 
       ∙ alone_among (λ u. is_completed u && u.is_cash) xs t ys g h;
 })
 
-pub marks_again : (base : Base) (t : Trade) → IsRead base t → HasAscendingStamps t → status_changes_of_trade (sheets base) t.id ≡ t.marks
+pub marks_again : (base : Base) (t : Trade) → IsRead base t → HasAscendingStatusStamps t → status_changes_of_trade (sheets base) t.id ≡ t.marks
 unfolding tables_sorted_by_key tables_of_base_in_schema
 marks_again base t r e =
     ap (λ rows. sort_by_key (λ m. m.stamp) (map mark_of rows))
@@ -295,7 +295,7 @@ cash_name_again base t r w =
     by_test true e = refl
     by_test false e = sym (w.moved e)
 
-trade_again : (base : Base) (t : Trade) → IsRead base t → HasAscendingStamps t → HasNoStrayTexts t → trade_of_row (sheets base) (trade_row t) ≡ t
+trade_again : (base : Base) (t : Trade) → IsRead base t → HasAscendingStatusStamps t → HasNoStrayTexts t → trade_of_row (sheets base) (trade_row t) ≡ t
 trade_again base t r s w = λ i. record t {
   marks = marks_again base t r s i;
   cash_type = cash_type_again base t r w i;
@@ -307,7 +307,7 @@ trades_again base books told =
     ap (map (trade_of_row (sheets base))) (trades_in_order base books.numbered) ∙ map-map (trade_of_row (sheets base)) trade_row base.trades
     ∙ map_back (λ t. trade_of_row (sheets base) (trade_row t)) base.trades
     (All-map base.trades (λ t h. trade_again base t h.0 h.1.0 h.1.1)
-    (both_all (IsRead base) (λ t. HasAscendingStamps t × HasNoStrayTexts t) base.trades (reads base books.numbered) (both_all HasAscendingStamps HasNoStrayTexts base.trades told.stamps told.words)))
+    (both_all (IsRead base) (λ t. HasAscendingStatusStamps t × HasNoStrayTexts t) base.trades (reads base books.numbered) (both_all HasAscendingStatusStamps HasNoStrayTexts base.trades told.stamps told.words)))
 
 -- ---- securities
 

@@ -15,14 +15,14 @@ use Rattle.brk_model.specs.Sheets.{sheets, tables_sorted_by_key}
 use Rattle.brk_model.specs.Keys.{rows_sorted_by_key, is_row_key_less, history_key}
 use Rattle.brk_model.specs.Adopted.{movement_of_row}
 use Rattle.brk_model.specs.Ways.{completion_stamps, satisfies_status_condition, movement_stamps, matches_last_status_change, is_strictly_ascending, is_valid_status_sequence, has_valid_status_history}
-use Rattle.brk_book_theorems.specs.Books.{BooksInvariant, HasDistinctStatusStamps, HasDistinctMovementStamps}
+use Rattle.brk_book_theorems.specs.Books.{BooksInvariant, HasDistinctLastStatusStamps, HasDistinctMovementStamps}
 use Rattle.brk_book_theorems.proofs.Bools.{numbers_back}
 use Rattle.brk_book_theorems.proofs.Order.{by_key-filter}
 use Rattle.brk_book_theorems.proofs.LotReading.{All-sort}
 use Rattle.brk_book_theorems.proofs.Same.{All-of}
 use Rattle.brk_book_theorems.proofs.Places.{filter-append, map-append}
 use Rattle.brk_book_theorems.proofs.TradeReading.{trades_in_order}
-use Rattle.brk_audit_theorems.specs.Told.{HasValidTransitions, HasValidHistories, HasAscendingStamps}
+use Rattle.brk_audit_theorems.specs.Told.{HasValidStatusSequence, HasValidHistories, HasAscendingStatusStamps}
 use Rattle.brk_audit_theorems.proofs.Marks.{no_more_ways, three_ways}
 use Rattle.brk_audit_theorems.proofs.Again.{IsRead, both_all, marks_again, movements_again, reads}
 use Rattle.brk_audit_theorems.proofs.AdoptedBooks.{contains_both, of_mapped}
@@ -62,7 +62,7 @@ last_row t (m ∷ ms) e w =
     let k : last_or None t.marks ≡ Some l.0 = ap (last_or None) e ∙ l.1 in
     last_is (trade_row t) m ms l.0 l.1 (ap (λ o. option_map_or (λ m. m.status) o Canceled) k) (ap (λ o. option_map_or (λ m. m.stamp) o 0) k)
 
-each_right : (base : Base) (t : Trade) → IsRead base t → HasAscendingStamps t → HasValidTransitions t → has_valid_status_history (sheets base) (trade_row t) ≡ true
+each_right : (base : Base) (t : Trade) → IsRead base t → HasAscendingStatusStamps t → HasValidStatusSequence t → has_valid_status_history (sheets base) (trade_row t) ≡ true
 each_right base t r s w =
     ap (λ ms. is_valid_status_sequence (map (λ m. m.status) ms) && is_strictly_ascending (map (λ m. m.stamp) ms) && matches_last_status_change (trade_row t) ms) (marks_again base t r s)
     ∙ and_from (is_valid_status_sequence (map (λ m. m.status) t.marks) && is_strictly_ascending (map (λ m. m.stamp) t.marks)) (matches_last_status_change (trade_row t) t.marks)
@@ -122,7 +122,7 @@ own_stamp id (m ∷ n ∷ o ∷ []) w =
     ∙ one_stamp id o
 own_stamp id (m ∷ n ∷ o ∷ p ∷ ms) w = absurd (no_more_ways m.status n.status o.status p.status (map (λ m. m.status) ms) w)
 
-stamps_are : (ts : List Trade) → AllByRecursion HasValidTransitions ts
+stamps_are : (ts : List Trade) → AllByRecursion HasValidStatusSequence ts
     → map (λ h. h.stamp) (filter (λ h. is_same_trade_status h.status Completed) (flat_map history_rows ts)) ≡ map last_status_stamp_of_trade (filter is_completed ts)
 stamps_are [] w = refl
 stamps_are (t ∷ ts) w =
@@ -189,7 +189,7 @@ none_contained : (n : ℕ) (ts : List Trade) → AllByRecursion (λ u. (last_sta
 none_contained n [] h = refl
 none_contained n (t ∷ ts) h = ap (λ b. b || contains_number n (map last_status_stamp_of_trade ts)) h.0 ∙ none_contained n ts h.1
 
-apart_distinct : (ts : List Trade) → HasDistinctStatusStamps ts → all_distinct (map last_status_stamp_of_trade ts) ≡ true
+apart_distinct : (ts : List Trade) → HasDistinctLastStatusStamps ts → all_distinct (map last_status_stamp_of_trade ts) ≡ true
 apart_distinct [] a = refl
 apart_distinct (t ∷ ts) a =
     ap (λ b. not b && all_distinct (map last_status_stamp_of_trade ts)) (none_contained (last_status_stamp_of_trade t) ts a.0) ∙ apart_distinct ts a.1
@@ -262,6 +262,6 @@ status_again base books told =
     (all_list (has_valid_status_history (sheets base)) (sheets base).trades
     (subst (AllByRecursion (λ r. has_valid_status_history (sheets base) r ≡ true)) (sym (trades_in_order base books.numbered))
     (mapped (λ r. has_valid_status_history (sheets base) r ≡ true) trade_row base.trades
-    (each_of (λ t. IsRead base t × (HasAscendingStamps t × HasValidTransitions t)) (λ t. has_valid_status_history (sheets base) (trade_row t) ≡ true) base.trades (λ t h. each_right base t h.0 h.1.0 h.1.1)
-    (both_all (IsRead base) (λ t. HasAscendingStamps t × HasValidTransitions t) base.trades (reads base books.numbered) (both_all HasAscendingStamps HasValidTransitions base.trades told.stamps told.ways))))))
+    (each_of (λ t. IsRead base t × (HasAscendingStatusStamps t × HasValidStatusSequence t)) (λ t. has_valid_status_history (sheets base) (trade_row t) ≡ true) base.trades (λ t h. each_right base t h.0 h.1.0 h.1.1)
+    (both_all (IsRead base) (λ t. HasAscendingStatusStamps t × HasValidStatusSequence t) base.trades (reads base books.numbered) (both_all HasAscendingStatusStamps HasValidStatusSequence base.trades told.stamps told.ways))))))
     (stamps_apart base books told)

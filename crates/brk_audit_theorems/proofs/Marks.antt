@@ -13,7 +13,7 @@ use Rattle.brk_model.specs.Tables.{Tables, TradeRow, HistoryRow}
 use Rattle.brk_model.specs.Joins.{history_rows_with_trade_id}
 use Rattle.brk_model.specs.Adopted.{status_changes_of_trade, trade_of_row}
 use Rattle.brk_model.specs.Ways.{is_valid_status_sequence, matches_last_status_change, is_strictly_ascending, has_valid_status_history}
-use Rattle.brk_book_theorems.specs.Books.{HasOneChangeIfPending, HasNoCompletionIfSubmitted, IsNotCompletion, HasOneStatusChange}
+use Rattle.brk_book_theorems.specs.Books.{HasOneStatusChangeIfPending, HasNoCompletionIfSubmitted, IsNotCompletion, HasOneStatusChange}
 use Rattle.brk_book_theorems.proofs.Same.{All-map, All-mapped}
 use Rattle.brk_book_theorems.proofs.LotReading.{All-sort}
 use Rattle.brk_audit_theorems.proofs.Climbs.{In, each_in}
@@ -146,7 +146,7 @@ last_of : (t : Tables) (row : TradeRow) → has_valid_status_history t row ≡ t
 last_of t row e =
     (parts3 (is_valid_status_sequence (map (λ m. m.status) (status_changes_of_trade t row.id))) (is_strictly_ascending (map (λ m. m.stamp) (status_changes_of_trade t row.id))) (matches_last_status_change row (status_changes_of_trade t row.id)) e).2
 
-pub waits_first : (t : Tables) (row : TradeRow) → has_valid_status_history t row ≡ true → HasOneChangeIfPending (trade_of_row t row)
+pub waits_first : (t : Tables) (row : TradeRow) → has_valid_status_history t row ≡ true → HasOneStatusChangeIfPending (trade_of_row t row)
 waits_first t row e h = pending_is_one (status_changes_of_trade t row.id) (way_of t row e) h
 
 pub completes_first : (t : Tables) (row : TradeRow) → has_valid_status_history t row ≡ true → HasNoCompletionIfSubmitted (trade_of_row t row)

@@ -34,12 +34,12 @@ use Rattle.brk_audit_theorems.proofs.Members.{map-map}
 pub turned_twice : (ps : List Posting) → postings_sorted_by_stamp (postings_sorted_by_stamp ps) ≡ postings_sorted_by_stamp ps
 turned_twice ps = sort_sorted (λ a b. nat_lt a.stamp b.stamp) (postings_sorted_by_stamp ps) (sorted_sort (λ a b. nat_lt a.stamp b.stamp) ps stamp_splits stamp_one_way)
 
-cash_at : (schema : Schema) (base : Base) (b : Bool) → schema.has_moves ≡ b
+cash_at : (schema : Schema) (base : Base) (b : Bool) → schema.has_cash_move_table ≡ b
     → (sheets_in_schema schema base).cash ≡ rows_sorted_by_key cash_key (cond b [] (map (cash_row base.accounts) (cash_trades (completed_trades base))))
 unfolding tables_sorted_by_key tables_of_base_in_schema
 cash_at schema base b e = ap (λ c. rows_sorted_by_key cash_key (cond c [] (map (cash_row base.accounts) (cash_trades (completed_trades base))))) e
 
-moves_at : (schema : Schema) (base : Base) (b : Bool) → schema.has_moves ≡ b → (sheets_in_schema schema base).moves ≡ rows_sorted_by_key move_key (cond b (numbered_move_rows 1 (postings_sorted_by_stamp (postings_of_base base))) [])
+moves_at : (schema : Schema) (base : Base) (b : Bool) → schema.has_cash_move_table ≡ b → (sheets_in_schema schema base).moves ≡ rows_sorted_by_key move_key (cond b (numbered_move_rows 1 (postings_sorted_by_stamp (postings_of_base base))) [])
 unfolding tables_sorted_by_key tables_of_base_in_schema
 moves_at schema base b e = ap (λ c. rows_sorted_by_key move_key (cond c (numbered_move_rows 1 (postings_sorted_by_stamp (postings_of_base base))) [])) e
 
@@ -52,7 +52,7 @@ unfolding sort_by
 no_rows before = refl
 
 -- where they are numbered
-posted_in_moves : (schema : Schema) (base : Base) → schema.has_moves ≡ true → postings_of_tables (sheets_in_schema schema base) ≡ postings_sorted_by_stamp (postings_of_base base)
+posted_in_moves : (schema : Schema) (base : Base) → schema.has_cash_move_table ≡ true → postings_of_tables (sheets_in_schema schema base) ≡ postings_sorted_by_stamp (postings_of_base base)
 posted_in_moves schema base e =
     (λ i. map (posting_of_cash_row (sheets_in_schema schema base)) ((cash_at schema base true e ∙ no_rows (is_row_key_less cash_key)) i) ++ map posting_of_move_row ((moves_at schema base true e ∙ numbered_stay 1 (postings_sorted_by_stamp (postings_of_base base))) i))
     ∙ postings_back 1 (postings_sorted_by_stamp (postings_of_base base))
@@ -70,7 +70,7 @@ cash_found base books =
     All-filter (λ t. trade_with_id base t.id ≡ Some t) (λ t. t.is_cash) (completed_trades base)
     (All-filter (λ t. trade_with_id base t.id ≡ Some t) is_completed base.trades (found_each base.trades (rise_apart base.trades (numbered_rise 1 base.trades books.numbered))))
 
-posted_by_trades : (schema : Schema) (base : Base) → BooksInvariant base → schema.has_moves ≡ false
+posted_by_trades : (schema : Schema) (base : Base) → BooksInvariant base → schema.has_cash_move_table ≡ false
     → postings_of_tables (sheets_in_schema schema base) ≡ map (posting_of_trade base.accounts) (cash_trades (completed_trades base))
 posted_by_trades schema base books e =
     let rows : Tables = sheets_in_schema schema base in
@@ -225,12 +225,12 @@ unfolding base_of_tables
 movements_of_rows t = refl
 
 pub posted : (schema : Schema) (t : Tables) → BooksInvariant (base_of_tables t) → sheets_in_schema schema (base_of_tables t) ≡ t → IsPosted t
-posted schema t books e = by_schema schema.has_moves refl
+posted schema t books e = by_schema schema.has_cash_move_table refl
   where
     base : Base
     base = base_of_tables t
 
-    by_schema : (b : Bool) → schema.has_moves ≡ b → IsPosted t
+    by_schema : (b : Bool) → schema.has_cash_move_table ≡ b → IsPosted t
     by_schema true h =
         let all : postings_of_tables t ≡ postings_sorted_by_stamp (postings_of_base base) = ap postings_of_tables (sym e) ∙ posted_in_moves schema base h in
         let rows : t.moves ≡ (sheets base).moves = ap (λ u. u.moves) (sym e) ∙ moves_at schema base true h ∙ sym (moves_at third_schema base true refl) in
@@ -262,7 +262,7 @@ upgraded_tables schema t e p =
     ∙ (λ i. record (sheets (base_of_tables t)) { moves = sym (numbered_stay 1 (postings_sorted_by_stamp (postings_of_base (base_of_tables t)))) i })
 
 -- in a schema that numbers its cash rows a base has the tables that it has in the third
-pub same_sheets : (schema : Schema) (base : Base) → schema.has_moves ≡ true → sheets_in_schema schema base ≡ sheets base
+pub same_sheets : (schema : Schema) (base : Base) → schema.has_cash_move_table ≡ true → sheets_in_schema schema base ≡ sheets base
 unfolding tables_sorted_by_key tables_of_base_in_schema
 same_sheets schema base e = λ i. record (sheets base) {
   cash = (cash_at schema base true e ∙ sym (cash_at third_schema base true refl)) i;
@@ -271,9 +271,9 @@ same_sheets schema base e = λ i. record (sheets base) {
 
 -- so what is left of rows there are the upgraded ones
 pub upgraded_from_upgraded : (schema : Schema) (t : Tables) → sheets_in_schema schema (base_of_tables t) ≡ t → IsPosted t → tables_upgraded_from_schema schema t ≡ tables_after_upgrade t
-upgraded_from_upgraded schema t e p = by_test schema.has_moves refl
+upgraded_from_upgraded schema t e p = by_test schema.has_cash_move_table refl
   where
-    by_test : (b : Bool) → schema.has_moves ≡ b → (if b then t else tables_after_upgrade t) ≡ tables_after_upgrade t
+    by_test : (b : Bool) → schema.has_cash_move_table ≡ b → (if b then t else tables_after_upgrade t) ≡ tables_after_upgrade t
     by_test true has = sym e ∙ same_sheets schema (base_of_tables t) has ∙ sym (upgraded_tables schema t e p)
     by_test false has = refl
 

@@ -20,13 +20,13 @@ use Rattle.brk_model.specs.Lists.{all_distinct}
 use Rattle.brk_model.specs.Form.{is_well_formed_band_row, is_well_formed_cash_row, has_account, has_broker, satisfies_form_condition, tables_are_sorted_by_unique_key, has_security, has_trade, is_cash_row_name_of_trade, has_cash_row_name_of_trade, is_id, is_cash_row_number, is_movement_name_and_amount, is_price, is_quantity_in_schema, is_at_most_last_stamp, is_tier, is_well_formed_move_row, price_matches_completion, is_well_formed_request_row, is_sorted_by_unique_key, is_well_formed_summary_row, is_well_formed_trade_row, trade_ids_of_cash_rows}
 use Rattle.brk_model.specs.Forms.{is_exchange}
 use Rattle.brk_model.specs.Upgraded.{tables_after_upgrade}
-use Rattle.brk_model.specs.Names.{AreNumberedFrom}
+use Rattle.brk_model.specs.Names.{TradesAreNumberedFrom}
 use Rattle.brk_book_theorems.specs.Books.{BooksInvariant}
 use Rattle.brk_book_theorems.proofs.LotReading.{All-sort}
 use Rattle.brk_book_theorems.proofs.MoveReading.{moves_counted}
 use Rattle.brk_book_theorems.proofs.Postings.{length_sort}
 use Rattle.brk_book_theorems.proofs.Same.{All-append, All-map, All-mapped, find-All}
-use Rattle.brk_audit_theorems.specs.Upgrade.{HasNoGreaterLimits}
+use Rattle.brk_audit_theorems.specs.Upgrade.{HasLimitsWithinThirdSchema}
 use Rattle.brk_audit_theorems.proofs.AdoptedBooks.{move_parts}
 use Rattle.brk_audit_theorems.proofs.AgainStatus.{all_list}
 use Rattle.brk_audit_theorems.proofs.Climbs.{list_all_true}
@@ -43,29 +43,29 @@ mono p q xs f h = all_list q xs (All-map xs f (list_all_true p xs h))
 wider : (n low high : ℕ) → low ≤ high → nat_le n low ≡ true → nat_le n high ≡ true
 wider n low high h e = le-leb n high (let k = leb-true n low e in omega (arith, h, k))
 
-qty_wider : (schema : Schema) → HasNoGreaterLimits schema → (n : ℕ) → is_quantity_in_schema schema n ≡ true → is_quantity_in_schema third_schema n ≡ true
+qty_wider : (schema : Schema) → HasLimitsWithinThirdSchema schema → (n : ℕ) → is_quantity_in_schema schema n ≡ true → is_quantity_in_schema third_schema n ≡ true
 qty_wider schema w n e =
     let k = and_parts (nat_le 1 n) (nat_le n schema.greatest_qty) e in
     and_from (nat_le 1 n) (nat_le n third_schema.greatest_qty) k.0 (wider n schema.greatest_qty third_schema.greatest_qty w.qty k.1)
 
-band_wider : (schema : Schema) → HasNoGreaterLimits schema → (b : Band) → is_well_formed_band_row schema b ≡ true → is_well_formed_band_row third_schema b ≡ true
+band_wider : (schema : Schema) → HasLimitsWithinThirdSchema schema → (b : Band) → is_well_formed_band_row schema b ≡ true → is_well_formed_band_row third_schema b ≡ true
 band_wider schema w b e =
     let k = parts6 (is_tier b.tier) (is_exchange b.exchange) (is_quantity_in_schema schema b.from_qty) (is_quantity_in_schema schema b.to_qty) (nat_le b.from_qty b.to_qty) (nat_le b.rate greatest_commission_rate) e in
     and_from _ _ (and_from _ _ (and_from _ _ (and_from _ _ (and_from _ _ k.0 k.1) (qty_wider schema w b.from_qty k.2)) (qty_wider schema w b.to_qty k.3)) k.4) k.5
 
-trade_wider : (schema : Schema) (t : Tables) → HasNoGreaterLimits schema → (r : TradeRow) → is_well_formed_trade_row schema t r ≡ true → is_well_formed_trade_row third_schema t r ≡ true
+trade_wider : (schema : Schema) (t : Tables) → HasLimitsWithinThirdSchema schema → (r : TradeRow) → is_well_formed_trade_row schema t r ≡ true → is_well_formed_trade_row third_schema t r ≡ true
 trade_wider schema t w r e =
     let k = parts10 (is_id r.id) (is_quantity_in_schema schema r.qty) (is_price r.bid) (nat_le r.charge greatest_charge) (nat_le r.commission greatest_amount) (nat_le r.tax greatest_amount)
     (is_at_most_last_stamp t r.stamp) (has_security t r.symbol) (has_account t r.account) (price_matches_completion t r) e in
     and_from _ _ (and_from _ _ (and_from _ _ (and_from _ _ (and_from _ _ (and_from _ _ (and_from _ _ (and_from _ _ (and_from _ _ k.0
     (qty_wider schema w r.qty k.1)) k.2) k.3) k.4) k.5) k.6) k.7) k.8) k.9
 
-request_wider : (schema : Schema) (t : Tables) → HasNoGreaterLimits schema → (r : RequestRow) → is_well_formed_request_row schema t r ≡ true → is_well_formed_request_row third_schema t r ≡ true
+request_wider : (schema : Schema) (t : Tables) → HasLimitsWithinThirdSchema schema → (r : RequestRow) → is_well_formed_request_row schema t r ≡ true → is_well_formed_request_row third_schema t r ≡ true
 request_wider schema t w r e =
     let k = parts5 (has_trade t r.trade) (has_security t r.symbol) (is_quantity_in_schema schema r.qty) (is_price r.bid) (has_broker t r.broker) e in
     and_from _ _ (and_from _ _ (and_from _ _ (and_from _ _ k.0 k.1) (qty_wider schema w r.qty k.2)) k.3) k.4
 
-summary_wider : (schema : Schema) (t : Tables) → HasNoGreaterLimits schema → (s : SummaryRow) → is_well_formed_summary_row schema t s ≡ true → is_well_formed_summary_row third_schema t s ≡ true
+summary_wider : (schema : Schema) (t : Tables) → HasLimitsWithinThirdSchema schema → (s : SummaryRow) → is_well_formed_summary_row schema t s ≡ true → is_well_formed_summary_row third_schema t s ≡ true
 summary_wider schema t w s e =
     let k = parts3 (has_account t s.account) (has_security t s.symbol) (nat_le (nat_abs s.qty) schema.greatest_summary) e in
     and_from _ _ (and_from _ _ k.0 k.1) (wider (nat_abs s.qty) schema.greatest_summary third_schema.greatest_summary w.summary k.2)
@@ -115,7 +115,7 @@ numbered_form t n (p ∷ ps) l h f = (
 
 -- ---- how many rows there are
 
-numbers_low : (m : ℕ) (ts : List Trade) → AreNumberedFrom m ts → AllByRecursion (λ t. t.id ≤ greatest_id) ts → m ≤ greatest_id + 1 → m + length ts ≤ greatest_id + 1
+numbers_low : (m : ℕ) (ts : List Trade) → TradesAreNumberedFrom m ts → AllByRecursion (λ t. t.id ≤ greatest_id) ts → m ≤ greatest_id + 1 → m + length ts ≤ greatest_id + 1
 numbers_low m [] k h l = omega (arith, l)
 numbers_low m (t ∷ ts) k h l = let i = k.0 in let j = h.0 in let r = numbers_low (m + 1) ts k.1 h.1 (omega (arith, i, j)) in omega (arith, r)
 
@@ -147,7 +147,7 @@ ids_low schema t p =
     (is_at_most_last_stamp t r.stamp) (has_security t r.symbol) (has_account t r.account) (price_matches_completion t r) e in
     leb-true r.id greatest_id (and_parts (nat_le 1 r.id) (nat_le r.id greatest_id) k.0).1) (list_all_true (is_well_formed_trade_row schema t) t.trades p.trades))
 
-pub few_postings : (base : Base) → AreNumberedFrom 1 base.trades → AllByRecursion (λ u. u.id ≤ greatest_id) base.trades → length base.movements ≤ greatest_id
+pub few_postings : (base : Base) → TradesAreNumberedFrom 1 base.trades → AllByRecursion (λ u. u.id ≤ greatest_id) base.trades → length base.movements ≤ greatest_id
     → 1 + length (postings_sorted_by_stamp (postings_of_base base)) ≤ greatest_cash_row_number + 1
 few_postings base numbers ids counted =
     let P = posting_of_trade base.accounts in
@@ -197,7 +197,7 @@ counted_upgraded t e h =
     ap (λ n. nat_le n greatest_id) (ap (λ u. length (filter (λ r. is_none r.trade) u.moves)) e ∙ moves_counted (base_of_tables t) ∙ movements_are t) ∙ h
 
 -- each part, of the same tables but for those of cash
-joined : (schema : Schema) (t : Tables) → HasNoGreaterLimits schema → SatisfiesFormParts schema t → list_all (is_well_formed_move_row t) (numbered_move_rows 1 (postings_sorted_by_stamp (postings_of_tables t))) ≡ true
+joined : (schema : Schema) (t : Tables) → HasLimitsWithinThirdSchema schema → SatisfiesFormParts schema t → list_all (is_well_formed_move_row t) (numbered_move_rows 1 (postings_sorted_by_stamp (postings_of_tables t))) ≡ true
     → all_distinct (trade_ids_of_cash_rows (numbered_move_rows 1 (postings_sorted_by_stamp (postings_of_tables t)))) ≡ true
     → nat_le (length (filter (λ r. is_none r.trade) (tables_after_upgrade t).moves)) greatest_id ≡ true → SatisfiesFormParts third_schema (tables_after_upgrade t)
 unfolding tables_after_upgrade base_of_tables
@@ -234,7 +234,7 @@ joined schema t w p rows own counted = record {
   fits = refl;
 }
 
-pub upgraded_form : (schema : Schema) (t : Tables) → HasNoGreaterLimits schema → satisfies_form_condition schema t ≡ true → BooksInvariant (base_of_tables t) → IsPosted t → tables_after_upgrade t ≡ sheets (base_of_tables t) → satisfies_form_condition third_schema (tables_after_upgrade t) ≡ true
+pub upgraded_form : (schema : Schema) (t : Tables) → HasLimitsWithinThirdSchema schema → satisfies_form_condition schema t ≡ true → BooksInvariant (base_of_tables t) → IsPosted t → tables_after_upgrade t ≡ sheets (base_of_tables t) → satisfies_form_condition third_schema (tables_after_upgrade t) ≡ true
 upgraded_form schema t w f books posted e =
     let p : SatisfiesFormParts schema t = form_parts schema t f in
     let all : List Posting = postings_sorted_by_stamp (postings_of_tables t) in

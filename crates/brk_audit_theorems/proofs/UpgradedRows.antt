@@ -13,7 +13,7 @@ use Rattle.brk_model.specs.Audit.{ConditionHolds}
 use Rattle.brk_model.specs.Upgraded.{tables_after_upgrade, tables_upgraded_from_schema}
 use Rattle.brk_model.specs.Ways.{completion_stamps, satisfies_status_condition, movement_stamps, has_valid_status_history}
 use Rattle.brk_book_theorems.specs.Books.{BooksInvariant}
-use Rattle.brk_audit_theorems.specs.Upgrade.{UpgradeMatchesBase, HasNoGreaterLimits}
+use Rattle.brk_audit_theorems.specs.Upgrade.{UpgradedRowsMatchTheirBase, HasLimitsWithinThirdSchema}
 use Rattle.brk_audit_theorems.specs.Passing.{PassesAudit}
 use Rattle.brk_audit_theorems.proofs.AdoptedBooks.{adopted_books}
 use Rattle.brk_audit_theorems.proofs.Members.{map-map}
@@ -22,10 +22,10 @@ use Rattle.brk_audit_theorems.proofs.UpgradedForm.{upgraded_form}
 use Rattle.brk_audit_theorems.proofs.Passed.{same_tables_pass}
 use Rattle.brk_audit_theorems.proofs.Passing.{all_hold, passing_tables}
 
-pub first_narrower : HasNoGreaterLimits first_schema
+pub first_narrower : HasLimitsWithinThirdSchema first_schema
 first_narrower = record { qty = omega arith; summary = omega arith }
 
-pub second_narrower : HasNoGreaterLimits second_schema
+pub second_narrower : HasLimitsWithinThirdSchema second_schema
 second_narrower = record { qty = omega arith; summary = omega arith }
 
 stamps_of_base : (t : Tables) → movement_stamps t ≡ map (λ m. m.stamp) (base_of_tables t).movements
@@ -44,7 +44,7 @@ status_upgraded t e h =
 form_and_status : (schema : Schema) (t : Tables) → PassesAudit schema t → ConditionHolds schema condition.Form t × ConditionHolds schema condition.Status t
 form_and_status schema t p = let h = all_hold schema t p in (h.form, h.status)
 
-pub upgraded_rows : (schema : Schema) (t : Tables) → HasNoGreaterLimits schema → PassesAudit schema t → UpgradeMatchesBase t
+pub upgraded_rows : (schema : Schema) (t : Tables) → HasLimitsWithinThirdSchema schema → PassesAudit schema t → UpgradedRowsMatchTheirBase t
 unfolding ConditionHolds
 upgraded_rows schema t w p =
     let h = form_and_status schema t p in

@@ -8,12 +8,12 @@ use Rattle.brk_model.specs.Base.{Base, is_completed}
 use Rattle.brk_model.specs.Ways.{is_strictly_ascending, is_valid_status_sequence}
 
 -- The stamps of the trade's status changes are in strictly ascending order.
-abbrev pub HasAscendingStamps : Trade → Type 0
-HasAscendingStamps t = is_strictly_ascending (map (λ m. m.stamp) t.marks) ≡ true
+abbrev pub HasAscendingStatusStamps : Trade → Type 0
+HasAscendingStatusStamps t = is_strictly_ascending (map (λ m. m.stamp) t.marks) ≡ true
 
 -- The statuses of the trade's history form a valid status sequence.
-abbrev pub HasValidTransitions : Trade → Type 0
-HasValidTransitions t = is_valid_status_sequence (map (λ m. m.status) t.marks) ≡ true
+abbrev pub HasValidStatusSequence : Trade → Type 0
+HasValidStatusSequence t = is_valid_status_sequence (map (λ m. m.status) t.marks) ≡ true
 
 -- The trade has no settlement text if it is not completed, and no cash text if it is not a
 -- completed cash trade.
@@ -24,8 +24,8 @@ pub record HasNoStrayTexts (t : Trade) : Type 0 where
 -- Each trade has a valid status sequence in ascending order of stamps and no stray texts, and the
 -- movements are in ascending order of stamps.
 pub record HasValidHistories (base : Base) : Type 0 where
-  pub stamps : AllByRecursion HasAscendingStamps base.trades
-  pub ways : AllByRecursion HasValidTransitions base.trades
+  pub stamps : AllByRecursion HasAscendingStatusStamps base.trades
+  pub ways : AllByRecursion HasValidStatusSequence base.trades
   pub words : AllByRecursion HasNoStrayTexts base.trades
   pub movements : is_strictly_ascending (map (λ m. m.stamp) base.movements) ≡ true
 

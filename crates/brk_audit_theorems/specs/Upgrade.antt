@@ -9,13 +9,13 @@ use Rattle.brk_audit_theorems.specs.Passing.{PassesAudit}
 
 -- The greatest quantity and the greatest summary of the schema are no greater than those of the
 -- third schema.
-pub record HasNoGreaterLimits (schema : Schema) : Type 0 where
+pub record HasLimitsWithinThirdSchema (schema : Schema) : Type 0 where
   pub qty : schema.greatest_qty ≤ third_schema.greatest_qty
   pub summary : schema.greatest_summary ≤ third_schema.greatest_summary
 
 -- The upgrade of the rows equals the tables of the base that the rows describe. The upgraded rows
 -- describe this base too, and pass the audit of the third schema.
-pub record UpgradeMatchesBase (rows : Tables) : Type 0 where
+pub record UpgradedRowsMatchTheirBase (rows : Tables) : Type 0 where
   pub tables : tables_after_upgrade rows ≡ sheets (base_of_tables rows)
   pub base : base_of_tables (tables_after_upgrade rows) ≡ base_of_tables rows
   pub passes : PassesAudit third_schema (tables_after_upgrade rows)

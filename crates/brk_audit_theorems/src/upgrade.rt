@@ -7,16 +7,16 @@ ghost use Rattle.brk_model.specs.Tables.{Tables};
 ghost use Rattle.brk_model.specs.Adopted.{base_of_tables};
 ghost use Rattle.brk_model.specs.Upgraded.{tables_after_upgrade, tables_upgraded_from_schema};
 ghost use Rattle.brk_model.specs.Sheets.{sheets};
-ghost use Rattle.brk_audit_theorems.specs.Upgrade.{UpgradeMatchesBase, HasNoGreaterLimits};
+ghost use Rattle.brk_audit_theorems.specs.Upgrade.{UpgradedRowsMatchTheirBase, HasLimitsWithinThirdSchema};
 ghost use Rattle.brk_audit_theorems.specs.Passing.{PassesAudit};
 
 /// Proves that rows that pass the audit of a schema, whose limits are no greater than those of the
 /// third, are upgraded to the tables of the base that they describe. The upgraded rows pass the
 /// audit of the third schema. The first and the second schema have such limits.
 pub fn upgraded_rows_are_tables_of_their_base()
-    ensures first { (rows : Tables) → PassesAudit first_schema rows → UpgradeMatchesBase rows }
-    ensures second { (rows : Tables) → PassesAudit second_schema rows → UpgradeMatchesBase rows }
-    ensures narrower { (schema : Schema) (rows : Tables) → HasNoGreaterLimits schema → PassesAudit schema rows → UpgradeMatchesBase rows }
+    ensures first { (rows : Tables) → PassesAudit first_schema rows → UpgradedRowsMatchTheirBase rows }
+    ensures second { (rows : Tables) → PassesAudit second_schema rows → UpgradedRowsMatchTheirBase rows }
+    ensures narrower { (schema : Schema) (rows : Tables) → HasLimitsWithinThirdSchema schema → PassesAudit schema rows → UpgradedRowsMatchTheirBase rows }
 {}
 
 /// Proves that the upgrade from a schema whose audit the rows pass equals the function

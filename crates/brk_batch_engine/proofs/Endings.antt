@@ -13,35 +13,35 @@ use Rattle.brk_money.specs.declared.refusal.Refusal.TheVariants.{BadText}
 use Rattle.brk_model.specs.Answers.{Fields, RowStep}
 use Rattle.brk_model.specs.Commands.{Answer, Refused}
 use Rattle.brk_model.specs.Forms.{ReadResult}
-use Rattle.brk_model.specs.Input.{HasExactlyRecords, BeginsWithRecords, IsEndRecord, IsBatchName, end_record_after, batch_header}
+use Rattle.brk_model.specs.Input.{HasExactlyRecords, BeginsWithRecords, IsEndRecord, IsBatchName, correct_end_record, batch_header}
 use Rattle.brk_model.specs.Lines.{answer_line, batch_end_line, answer_lines_from}
 use Rattle.brk_model.specs.Run.{IsCallFault}
 use Rattle.brk_batch_engine.specs.Answers.{RowFailsWith}
 use Rattle.brk_batch_engine.specs.Batch.{IsBatchResult, BeginsWithWholeBatch, NextRowFails, BatchFailsWith, BoundsBatchCrashStates, BatchProgress}
 use Rattle.brk_batch_engine.specs.Script.{RowCallRelation}
 use Rattle.brk_io.specs.Span.{IsUnchangedEnvironment, EnvironmentChange}
-use Rattle.brk_batch_engine.specs.Counts.{counts_line}
+use Rattle.brk_batch_engine.specs.Counts.{end_line_with_counts}
 use Rattle.brk_io.specs.Moments.{ReadsClockAtMostOnce}
 use Rattle.brk_batch_engine.specs.Parts.{CutRowEndsBatchWith, EndRecordFailsWith, HeaderReadFailsWith, LineWriteFailsWith}
 use Rattle.brk_batch_engine.specs.declared.counts.Counts.{Counts}
 use Rattle.brk_io.specs.declared.batch_fault.FaultKind.{FaultKind}
 use Rattle.brk_io.specs.declared.batch_fault.FaultKind.TheVariants as kinds
-use Rattle.brk_batch_engine.proofs.Progress.{At, Progress, Start, StandsAt, counts_whole}
+use Rattle.brk_batch_engine.proofs.Progress.{BatchPositionWithBase, HasDecidedRows, BatchStartWithBase, IsReaderAfterRecords, counts_whole}
 use Rattle.brk_batch_engine.proofs.Pushes.{lines_push}
 use Rattle.brk_batch_engine.proofs.Reading.{begins_front, begins_more, begins_of}
 
 -- The change from the start of a batch to a position, with the clock and the writer's content after
 -- it.
-abbrev pub span_of : {S C R : Type 0} → Start S C R → At S C R → C → Option Text → EnvironmentChange S C
-span_of start now later new = record { base = start.base; after = now.after; clock = start.clock; later = later; old = start.old; new = new }
+abbrev pub change_from_start : {S C R : Type 0} → BatchStartWithBase S C R → BatchPositionWithBase S C R → C → Option Text → EnvironmentChange S C
+change_from_start start now later new = record { base = start.base; after = now.after; clock = start.clock; later = later; old = start.old; new = new }
 
-pub begins_at : {R : Type 0} (rem : R → Option Text) (text : Option Text) (records : List Fields) (reader : Reader R) → StandsAt rem text records reader → BeginsWithRecords text records
+pub begins_at : {R : Type 0} (rem : R → Option Text) (text : Option Text) (records : List Fields) (reader : Reader R) → IsReaderAfterRecords rem text records reader → BeginsWithRecords text records
 begins_at rem text records reader h = begins_of text records reader.state (source_of rem reader) h
 
 -- the rows that were decided, with their answers
 abbrev pub stopped_of : {S X C R : Type 0} (form : Fields → ReadResult X) (step : RowStep S X) (gives : C → ℕ → C → Type 0) (rem : R → Option Text)
-    (start : Start S C R) (now : At S C R) (later : C) (new : Option Text) (text : Option Text) → Progress form step gives rem start now
-    → StandsAt rem text (batch_header start.name ∷ []) start.reader → BatchProgress form step gives text (span_of start now later new) now.settled
+    (start : BatchStartWithBase S C R) (now : BatchPositionWithBase S C R) (later : C) (new : Option Text) (text : Option Text) → HasDecidedRows form step gives rem start now
+    → IsReaderAfterRecords rem text (batch_header start.name ∷ []) start.reader → BatchProgress form step gives text (change_from_start start now later new) now.settled
 stopped_of form step gives rem start now later new text p h = record {
   name = start.name;
   rows = p.rows;
@@ -58,17 +58,17 @@ stopped_of form step gives rem start now later new text p h = record {
 
 -- the record that was read is the right end record
 ends_right : {S X C R : Type 0} (form : Fields → ReadResult X) (step : RowStep S X) (gives : C → ℕ → C → Type 0) (rem : R → Option Text)
-    (start : Start S C R) (now : At S C R) (text : Option Text) (p : Progress form step gives rem start now) → now.row ≡ end_record_after now.settled
-    → StandsAt rem text (batch_header start.name ∷ []) start.reader → BeginsWithWholeBatch text start.name p.rows
+    (start : BatchStartWithBase S C R) (now : BatchPositionWithBase S C R) (text : Option Text) (p : HasDecidedRows form step gives rem start now) → now.row ≡ correct_end_record now.settled
+    → IsReaderAfterRecords rem text (batch_header start.name ∷ []) start.reader → BeginsWithWholeBatch text start.name p.rows
 ends_right form step gives rem start now text p right h =
-    let e : now.row ≡ end_record_after (length p.rows) = right ∙ ap end_record_after (sym p.size) in
+    let e : now.row ≡ correct_end_record (length p.rows) = right ∙ ap correct_end_record (sym p.size) in
     rw e at (begins_at rem text _ now.reader (p.stands text h))
 
 -- the batch ended with its right end record
 pub ended_well : {S X C R : Type 0} (form : Fields → ReadResult X) (step : RowStep S X) (gives : C → ℕ → C → Type 0) (rem : R → Option Text)
-    (start : Start S C R) (now : At S C R) (mid new : Option Text) (text : Option Text) (p : Progress form step gives rem start now)
-    → Appends start.old mid (answer_lines_from 1 p.answers) → now.row ≡ end_record_after now.settled → Appends mid new (counts_line now.counts)
-    → StandsAt rem text (batch_header start.name ∷ []) start.reader → IsBatchResult form step gives text (span_of start now now.later new) (Ok now.counts)
+    (start : BatchStartWithBase S C R) (now : BatchPositionWithBase S C R) (mid new : Option Text) (text : Option Text) (p : HasDecidedRows form step gives rem start now)
+    → Appends start.old mid (answer_lines_from 1 p.answers) → now.row ≡ correct_end_record now.settled → Appends mid new (end_line_with_counts now.counts)
+    → IsReaderAfterRecords rem text (batch_header start.name ∷ []) start.reader → IsBatchResult form step gives text (change_from_start start now now.later new) (Ok now.counts)
 ended_well form step gives rem start now mid new text p wrote right last h = (
   record {
     moments = p.moments;
@@ -90,9 +90,9 @@ ended_well form step gives rem start now mid new text p wrote right last h = (
 
 -- the end record is wrong, or was not answered
 pub end_failed : {S X C R : Type 0} (form : Fields → ReadResult X) (step : RowStep S X) (gives : C → ℕ → C → Type 0) (rem : R → Option Text)
-    (start : Start S C R) (now : At S C R) (mid new : Option Text) (text : Option Text) (p : Progress form step gives rem start now) (kind : FaultKind)
+    (start : BatchStartWithBase S C R) (now : BatchPositionWithBase S C R) (mid new : Option Text) (text : Option Text) (p : HasDecidedRows form step gives rem start now) (kind : FaultKind)
     → Appends start.old mid (answer_lines_from 1 p.answers) → IsEndRecord now.row → EndRecordFailsWith mid new now.row now.settled now.counts kind
-    → StandsAt rem text (batch_header start.name ∷ []) start.reader → BatchFailsWith form step gives text (span_of start now now.later new) now.settled kind
+    → IsReaderAfterRecords rem text (batch_header start.name ∷ []) start.reader → BatchFailsWith form step gives text (change_from_start start now now.later new) now.settled kind
 end_failed form step gives rem start now mid new text p kinds.BadEnd wrote ends part h = record {
   moments = p.moments;
   lines = answer_lines_from 1 p.answers;
@@ -103,7 +103,7 @@ end_failed form step gives rem start now mid new text p kinds.BadEnd wrote ends 
     answers = p.answers;
     told = p.answers;
     settled = p.settled;
-    ends = ((now.row, ends, (λ e. part.0 (e ∙ ap end_record_after p.size)), begins_at rem text _ now.reader (p.stands text h)), refl, refl);
+    ends = ((now.row, ends, (λ e. part.0 (e ∙ ap correct_end_record p.size)), begins_at rem text _ now.reader (p.stands text h)), refl, refl);
     counted = sym p.size ∙ sym p.settled.each;
   };
   written = rw append-nil at (Appends-trans _ _ _ _ _ wrote part.1);
@@ -121,9 +121,9 @@ end_failed form step gives rem start now mid new text p kinds.NoEnd wrote ends p
 
 -- the next record was not read
 pub read_failed : {S X C R : Type 0} (form : Fields → ReadResult X) (step : RowStep S X) (gives : C → ℕ → C → Type 0) (rem : R → Option Text)
-    (start : Start S C R) (now : At S C R) (new : Option Text) (text : Option Text) (p : Progress form step gives rem start now) (kind : FaultKind)
+    (start : BatchStartWithBase S C R) (now : BatchPositionWithBase S C R) (new : Option Text) (text : Option Text) (p : HasDecidedRows form step gives rem start now) (kind : FaultKind)
     → Appends start.old new (answer_lines_from 1 p.answers) → (kind ≡ kinds.Read) ⊎ (kind ≡ kinds.Desk Memory)
-    → StandsAt rem text (batch_header start.name ∷ []) start.reader → BatchFailsWith form step gives text (span_of start now now.later new) now.settled kind
+    → IsReaderAfterRecords rem text (batch_header start.name ∷ []) start.reader → BatchFailsWith form step gives text (change_from_start start now now.later new) now.settled kind
 read_failed form step gives rem start now new text p kind wrote (inl e) h =
     rw e (inr (stopped_of form step gives rem start now now.later new text p h, refl, refl, wrote))
 read_failed form step gives rem start now new text p kind wrote (inr e) h =
@@ -153,9 +153,9 @@ header_failed form step gives text base clock old kinds.BadEnd h = absurd h
 
 -- the row was not answered
 pub answer_failed : {S X C R : Type 0} (form : Fields → ReadResult X) (step : RowStep S X) (gives : C → ℕ → C → Type 0) (rem : R → Option Text)
-    (start : Start S C R) (now : At S C R) (later : C) (new : Option Text) (text : Option Text) (p : Progress form step gives rem start now) (f : Fault)
+    (start : BatchStartWithBase S C R) (now : BatchPositionWithBase S C R) (later : C) (new : Option Text) (text : Option Text) (p : HasDecidedRows form step gives rem start now) (f : Fault)
     → Appends start.old new (answer_lines_from 1 p.answers) → ReadsClockAtMostOnce gives now.later later → IsCallFault f
-    → StandsAt rem text (batch_header start.name ∷ []) start.reader → BatchFailsWith form step gives text (span_of start now later new) now.settled (kinds.Desk f)
+    → IsReaderAfterRecords rem text (batch_header start.name ∷ []) start.reader → BatchFailsWith form step gives text (change_from_start start now later new) now.settled (kinds.Desk f)
 answer_failed form step gives rem start now later new text p f wrote asked may h =
     inr (inl (stopped_of form step gives rem start now later new text p h, asked, may, refl, wrote))
 
@@ -168,11 +168,11 @@ failed_asked honest stands leaves acts step gives read batch n f old new clock l
 
 -- its call failed, after the record after it had been read
 abbrev pub failed_row : {S X C R : Type 0} (form : Fields → ReadResult X) (step : RowStep S X) (gives : C → ℕ → C → Type 0) (rem : R → Option Text)
-    (start : Start S C R) (now : At S C R) (later : C) (new : Option Text) (text : Option Text) (p : Progress form step gives rem start now) (next : Fields) (reader : Reader R) (f : Fault)
+    (start : BatchStartWithBase S C R) (now : BatchPositionWithBase S C R) (later : C) (new : Option Text) (text : Option Text) (p : HasDecidedRows form step gives rem start now) (next : Fields) (reader : Reader R) (f : Fault)
     (moment : ℕ) (command : X) → form now.row ≡ Ok command → gives now.later moment later → IsCallFault f → Appends start.old new (answer_lines_from 1 p.answers)
-    → ((text : Option Text) (before : List Fields) → StandsAt rem text before now.reader → StandsAt rem text (before ++ (next ∷ [])) reader)
-    → StandsAt rem text (batch_header start.name ∷ []) start.reader
-    → NextRowFails form step gives text (span_of start now later new) (record { rows = now.settled; kind = kinds.Desk f })
+    → ((text : Option Text) (before : List Fields) → IsReaderAfterRecords rem text before now.reader → IsReaderAfterRecords rem text (before ++ (next ∷ [])) reader)
+    → IsReaderAfterRecords rem text (batch_header start.name ∷ []) start.reader
+    → NextRowFails form step gives text (change_from_start start now later new) (record { rows = now.settled; kind = kinds.Desk f })
 failed_row form step gives rem start now later new text p next reader f moment command formed given may wrote found h = record {
   cause = f;
   kind = refl;
@@ -192,11 +192,11 @@ failed_row form step gives rem start now later new text p next reader f moment c
 -- the states that a crash exposes then
 pub answer_left : {D S X C R : Type 0} (honest : D → Type 0) (stands : D → S → Type 0) (leaves : D → S → S → Type 0) (acts : RowCallRelation D X)
     (form : Fields → ReadResult X) (step : RowStep S X) (gives : C → ℕ → C → Type 0) (rem : R → Option Text)
-    (start : Start S C R) (now : At S C R) (later : C) (new : Option Text) (text : Option Text) (p : Progress form step gives rem start now) (next : Fields) (reader : Reader R) (f : Fault) (desk last : D)
+    (start : BatchStartWithBase S C R) (now : BatchPositionWithBase S C R) (later : C) (new : Option Text) (text : Option Text) (p : HasDecidedRows form step gives rem start now) (next : Fields) (reader : Reader R) (f : Fault) (desk last : D)
     → RowFailsWith honest stands leaves acts step gives (form now.row) start.name (now.settled + 1) f desk last now.later later → IsCallFault f → Appends start.old new (answer_lines_from 1 p.answers)
-    → ((text : Option Text) (before : List Fields) → StandsAt rem text before now.reader → StandsAt rem text (before ++ (next ∷ [])) reader)
-    → StandsAt rem text (batch_header start.name ∷ []) start.reader → honest last → stands desk now.after → leaves desk now.after now.after
-    → BoundsBatchCrashStates form step gives leaves text (span_of start now later new) last (Err (record { rows = now.settled; kind = kinds.Desk f }))
+    → ((text : Option Text) (before : List Fields) → IsReaderAfterRecords rem text before now.reader → IsReaderAfterRecords rem text (before ++ (next ∷ [])) reader)
+    → IsReaderAfterRecords rem text (batch_header start.name ∷ []) start.reader → honest last → stands desk now.after → leaves desk now.after now.after
+    → BoundsBatchCrashStates form step gives leaves text (change_from_start start now later new) last (Err (record { rows = now.settled; kind = kinds.Desk f }))
 answer_left honest stands leaves acts form step gives rem start now later new text p next reader f desk last (inl same) may wrote found h good stood alone =
     inl (subst (λ d. leaves d now.after now.after) (sym same.0) alone)
 answer_left honest stands leaves acts form step gives rem start now later new text p next reader f desk last (inr way) may wrote found h good stood alone = inr (record {
@@ -206,10 +206,10 @@ answer_left honest stands leaves acts form step gives rem start now later new te
 
 -- the line of the row that was answered last was not written
 pub tell_failed : {S X C R : Type 0} (form : Fields → ReadResult X) (step : RowStep S X) (gives : C → ℕ → C → Type 0) (rem : R → Option Text)
-    (start : Start S C R) (now : At S C R) (mid new : Option Text) (text : Option Text) (p : Progress form step gives rem start now)
+    (start : BatchStartWithBase S C R) (now : BatchPositionWithBase S C R) (mid new : Option Text) (text : Option Text) (p : HasDecidedRows form step gives rem start now)
     (front : List Answer) (answer : Answer) (kind : FaultKind)
     → p.answers ≡ front ++ (answer ∷ []) → Appends start.old mid (answer_lines_from 1 front) → LineWriteFailsWith mid new (answer_line now.settled answer) kind
-    → StandsAt rem text (batch_header start.name ∷ []) start.reader → BatchFailsWith form step gives text (span_of start now now.later new) now.settled kind
+    → IsReaderAfterRecords rem text (batch_header start.name ∷ []) start.reader → BatchFailsWith form step gives text (change_from_start start now now.later new) now.settled kind
 tell_failed form step gives rem start now mid new text p front answer kinds.Write split wrote part h =
     let many : now.settled ≡ length p.answers = sym p.size ∙ sym p.settled.each in (
       stopped_of form step gives rem start now now.later new text p h,
@@ -231,8 +231,8 @@ tell_failed form step gives rem start now mid new text p front answer kinds.BadE
 
 -- the rows that were decided, with the refusal of the row that has no record after it
 abbrev pub cut_stopped : {S X C R : Type 0} (form : Fields → ReadResult X) (step : RowStep S X) (gives : C → ℕ → C → Type 0) (rem : R → Option Text)
-    (start : Start S C R) (now : At S C R) (new : Option Text) (text : Option Text) → Progress form step gives rem start now
-    → StandsAt rem text (batch_header start.name ∷ []) start.reader → BatchProgress form step gives text (span_of start now now.later new) (now.settled + 1)
+    (start : BatchStartWithBase S C R) (now : BatchPositionWithBase S C R) (new : Option Text) (text : Option Text) → HasDecidedRows form step gives rem start now
+    → IsReaderAfterRecords rem text (batch_header start.name ∷ []) start.reader → BatchProgress form step gives text (change_from_start start now now.later new) (now.settled + 1)
 cut_stopped form step gives rem start now new text p h = record {
   name = start.name;
   rows = p.rows;
@@ -249,10 +249,10 @@ cut_stopped form step gives rem start now new text p h = record {
 
 -- the row has no record after it
 pub row_cut_off : {S X C R : Type 0} (form : Fields → ReadResult X) (step : RowStep S X) (gives : C → ℕ → C → Type 0) (rem : R → Option Text)
-    (start : Start S C R) (now : At S C R) (mid new : Option Text) (text : Option Text) (p : Progress form step gives rem start now) (kind : FaultKind)
+    (start : BatchStartWithBase S C R) (now : BatchPositionWithBase S C R) (mid new : Option Text) (text : Option Text) (p : HasDecidedRows form step gives rem start now) (kind : FaultKind)
     → Appends start.old mid (answer_lines_from 1 p.answers) → ¬ (IsEndRecord now.row) → CutRowEndsBatchWith mid new (answer_line (now.settled + 1) (Refused BadText)) kind
-    → ((text : Option Text) (before : List Fields) → StandsAt rem text before now.reader → HasExactlyRecords text before)
-    → StandsAt rem text (batch_header start.name ∷ []) start.reader → BatchFailsWith form step gives text (span_of start now now.later new) (now.settled + 1) kind
+    → ((text : Option Text) (before : List Fields) → IsReaderAfterRecords rem text before now.reader → HasExactlyRecords text before)
+    → IsReaderAfterRecords rem text (batch_header start.name ∷ []) start.reader → BatchFailsWith form step gives text (change_from_start start now now.later new) (now.settled + 1) kind
 row_cut_off form step gives rem start now mid new text p kinds.NoEnd wrote other part all h =
     let place : now.settled + 1 ≡ 1 + length p.answers = omega (arith, p.size, p.settled.each) in
     record {
@@ -315,7 +315,7 @@ no_rows form step gives text name base clock old named all = record {
 
 -- the loop ran out of turns
 pub turns_over : {S X C R : Type 0} (form : Fields → ReadResult X) (step : RowStep S X) (gives : C → ℕ → C → Type 0) (rem : R → Option Text)
-    (start : Start S C R) (now : At S C R) (new : Option Text) (text : Option Text) (count : ℕ) → count ≡ now.settled
-    → (p : Progress form step gives rem start now) → Appends start.old new (answer_lines_from 1 p.answers)
-    → StandsAt rem text (batch_header start.name ∷ []) start.reader → BatchFailsWith form step gives text (span_of start now now.later new) count (kinds.Desk Memory)
+    (start : BatchStartWithBase S C R) (now : BatchPositionWithBase S C R) (new : Option Text) (text : Option Text) (count : ℕ) → count ≡ now.settled
+    → (p : HasDecidedRows form step gives rem start now) → Appends start.old new (answer_lines_from 1 p.answers)
+    → IsReaderAfterRecords rem text (batch_header start.name ∷ []) start.reader → BatchFailsWith form step gives text (change_from_start start now now.later new) count (kinds.Desk Memory)
 turns_over form step gives rem start now new text count e p wrote h = rw e (read_failed form step gives rem start now new text p (kinds.Desk Memory) wrote (inr refl) h)

@@ -10,7 +10,7 @@ use Rattle.csv.specs.declared.reader.Reader.{Reader}
 use Rattle.csv.specs.Reading.{source_of}
 use Rattle.brk_money.specs.Spelling.{Text}
 use Rattle.brk_model.specs.Answers.{Fields, RowStep}
-use Rattle.brk_model.specs.Batch.{AreDecided}
+use Rattle.brk_model.specs.Batch.{BatchRowsAreDecided}
 use Rattle.brk_model.specs.Commands.{Again, Answer, Done, Refused}
 use Rattle.brk_model.specs.Forms.{ReadResult}
 use Rattle.brk_model.specs.Input.{batch_header}
@@ -23,7 +23,7 @@ use Rattle.brk_batch_engine.proofs.Pushes.{lines_push}
 
 -- The start of a batch after its header: its name, the base, the clock, the writer's content and
 -- the reader.
-pub record Start (S C R : Type 0) : Type 0 where
+pub record BatchStartWithBase (S C R : Type 0) : Type 0 where
   pub name : Text
   pub base : S
   pub clock : C
@@ -32,7 +32,7 @@ pub record Start (S C R : Type 0) : Type 0 where
 
 -- A position in a batch: the number of decided rows, their counts, the record after them, the base,
 -- the clock and the reader.
-pub record At (S C R : Type 0) : Type 0 where
+pub record BatchPositionWithBase (S C R : Type 0) : Type 0 where
   pub settled : ℕ
   pub counts : Counts
   pub row : Fields
@@ -41,21 +41,21 @@ pub record At (S C R : Type 0) : Type 0 where
   pub reader : Reader R
 
 -- The reader is after these records of the text.
-abbrev pub StandsAt : {R : Type 0} → (R → Option Text) → Option Text → List Fields → Reader R → Type 0
-StandsAt rem text records reader = ReaderIsAfterRecords text records reader.state (source_of rem reader)
+abbrev pub IsReaderAfterRecords : {R : Type 0} → (R → Option Text) → Option Text → List Fields → Reader R → Type 0
+IsReaderAfterRecords rem text records reader = ReaderIsAfterRecords text records reader.state (source_of rem reader)
 
 -- The rows before the position `now` are decided from the start of the batch.
-pub record Progress {S X C R : Type 0} (form : Fields → ReadResult X) (step : RowStep S X) (gives : C → ℕ → C → Type 0) (rem : R → Option Text)
-    (start : Start S C R) (now : At S C R) : Type 0 where
+pub record HasDecidedRows {S X C R : Type 0} (form : Fields → ReadResult X) (step : RowStep S X) (gives : C → ℕ → C → Type 0) (rem : R → Option Text)
+    (start : BatchStartWithBase S C R) (now : BatchPositionWithBase S C R) : Type 0 where
   pub rows : List Fields
   pub answers : List Answer
   pub moments : List ℕ
   pub taken : ClockReturnsInOrder gives start.clock moments now.later
-  pub settled : AreDecided form step start.name start.base moments rows answers now.after
+  pub settled : BatchRowsAreDecided form step start.name start.base moments rows answers now.after
   pub size : length rows ≡ now.settled
   pub counts : now.counts ≡ counts_of_answers answers
-  pub stands : (text : Option Text) → StandsAt rem text (batch_header start.name ∷ []) start.reader
-      → StandsAt rem text (batch_header start.name ∷ (rows ++ (now.row ∷ []))) now.reader
+  pub stands : (text : Option Text) → IsReaderAfterRecords rem text (batch_header start.name ∷ []) start.reader
+      → IsReaderAfterRecords rem text (batch_header start.name ∷ (rows ++ (now.row ∷ []))) now.reader
 
 count_push : (test : Answer → Bool) (all : List Answer) (answer : Answer) → count_by test (all ++ (answer ∷ [])) ≡ count_by test all + cond (test answer) 1 0
 count_push test all answer = fold-append (λ (n : ℕ) (x : Answer). n + cond (test x) 1 0) 0 all (answer ∷ [])

@@ -3,7 +3,7 @@ use Rattle.std.proofs.Common.{◌≡◌, ◌+◌, ◌++◌, ◌∷◌, [], ℕ, 
 use Rattle.std.specs.Prelude.{Bool, Ok, Err}
 use Rattle.std.proofs.lemmas.List.{append-nil, length-append, map-append}
 use Rattle.brk_money.specs.Spelling.{Text}
-use Rattle.brk_model.specs.Answers.{Fields, CallsHaveAnswers, RowCall, RowStep, answer_to_row_call, calls_of_rows, well_formed_rows_from, with_well_formed_row, answers_interleaved_with_refusals, answers_from_row_on}
+use Rattle.brk_model.specs.Answers.{Fields, CallsHaveAnswers, RowCall, RowStep, answer_to_row_call, calls_of_rows, well_formed_rows_from, with_well_formed_row, answers_interleaved_with_refusals, answers_to_row_and_rest}
 use Rattle.brk_model.specs.Commands.{Answer, Refused}
 use Rattle.brk_model.specs.Forms.{ReadResult}
 use Rattle.brk_model.specs.Lines.{answer_line, answer_lines_from}
@@ -54,17 +54,17 @@ formed_push form n (x ∷ xs) row =
 
 woven_go : {X : Type 0} (o : ReadResult X) (n : ℕ) (fs : List (ℕ × X)) (rs extra end : List Answer) (more longer : List Answer → List Answer)
     → length rs ≡ length (with_well_formed_row o n fs) → ((bs : List Answer) → length bs ≡ length fs → longer (bs ++ extra) ≡ more bs ++ end)
-    → answers_from_row_on o longer (rs ++ extra) ≡ answers_from_row_on o more rs ++ end
+    → answers_to_row_and_rest o longer (rs ++ extra) ≡ answers_to_row_and_rest o more rs ++ end
 woven_go (Err k) n fs rs extra end more longer e h = ap (λ (l : List Answer). Refused k ∷ l) (h rs e)
 woven_go (Ok c) n fs [] extra end more longer e h = absurd (omega arith)
 woven_go (Ok c) n fs (a ∷ rs) extra end more longer e h = ap (λ (l : List Answer). a ∷ l) (h rs (omega arith))
 
 pub woven_push : {X : Type 0} (form : Fields → ReadResult X) (n : ℕ) (rows : List Fields) (row : Fields) (rs extra : List Answer) → length rs ≡ length (well_formed_rows_from form n rows)
-    → answers_interleaved_with_refusals form (rows ++ (row ∷ [])) (rs ++ extra) ≡ answers_interleaved_with_refusals form rows rs ++ answers_from_row_on (form row) (λ _. []) extra
+    → answers_interleaved_with_refusals form (rows ++ (row ∷ [])) (rs ++ extra) ≡ answers_interleaved_with_refusals form rows rs ++ answers_to_row_and_rest (form row) (λ _. []) extra
 woven_push form n [] row [] extra e = refl
 woven_push form n [] row (a ∷ rs) extra e = absurd (omega arith)
 woven_push form n (x ∷ xs) row rs extra e =
-    woven_go (form x) n (well_formed_rows_from form (n + 1) xs) rs extra (answers_from_row_on (form row) (λ _. []) extra) (answers_interleaved_with_refusals form xs) (answers_interleaved_with_refusals form (xs ++ (row ∷ []))) e
+    woven_go (form x) n (well_formed_rows_from form (n + 1) xs) rs extra (answers_to_row_and_rest (form row) (λ _. []) extra) (answers_interleaved_with_refusals form xs) (answers_interleaved_with_refusals form (xs ++ (row ∷ []))) e
     (λ bs h. woven_push form (n + 1) xs row bs extra h)
 
 pub lines_push : (n : ℕ) (all : List Answer) (answer : Answer) → answer_lines_from n (all ++ (answer ∷ [])) ≡ answer_lines_from n all ++ answer_line (n + length all) answer
@@ -77,29 +77,29 @@ lines_push n (x ∷ xs) answer =
 -- The calls refine steps of the model: for every base that the desk `first` represented, the calls
 -- have the answers `replies` from this base, and the desk represents the base after them. Vacuous
 -- if the disk assumption fails.
-abbrev pub Follows : {D S X : Type 0} → (D → Type 0) → (D → S → Type 0) → RowStep S X → D → D → List (RowCall X) → List Answer → Type 0
-Follows {S = S} honest stands step first desk calls replies =
+abbrev pub CallsRefineSteps : {D S X : Type 0} → (D → Type 0) → (D → S → Type 0) → RowStep S X → D → D → List (RowCall X) → List Answer → Type 0
+CallsRefineSteps {S = S} honest stands step first desk calls replies =
     honest desk → (base : S) → stands first base → (after : S) × stands desk after × CallsHaveAnswers step base calls replies after
 
 -- The call of a row as a clock reading, a command and a key.
-abbrev pub called_of : {X : Type 0} → RowCall X → ℕ × (X × Key)
-called_of call = (call.now, (call.command, call.key))
+abbrev pub desk_call_of_row_call : {X : Type 0} → RowCall X → ℕ × (X × Key)
+desk_call_of_row_call call = (call.now, (call.command, call.key))
 
 -- The desk changed from `first` to `last` only by these calls of rows, in order, with the answers
 -- `replies`.
-abbrev pub AreCalled : {D X : Type 0} → RowCallRelation D X → D → List (RowCall X) → List Answer → D → Type 0
-AreCalled acts first calls replies last = IsCallSequence acts first (map called_of calls) (map Did replies) last
+abbrev pub CallsHaveReplies : {D X : Type 0} → RowCallRelation D X → D → List (RowCall X) → List Answer → D → Type 0
+CallsHaveReplies acts first calls replies last = IsCallSequence acts first (map desk_call_of_row_call calls) (map Did replies) last
 
 -- one call more was answered
 called_push : {D X : Type 0} (acts : RowCallRelation D X) (first mid last : D) (calls : List (RowCall X)) (replies : List Answer) (call : RowCall X) (answer : Answer)
-    → AreCalled acts first calls replies mid → acts mid call.now (call.command, call.key) (Did answer) last → AreCalled acts first (calls ++ (call ∷ [])) (replies ++ (answer ∷ [])) last
+    → CallsHaveReplies acts first calls replies mid → acts mid call.now (call.command, call.key) (Did answer) last → CallsHaveReplies acts first (calls ++ (call ∷ [])) (replies ++ (answer ∷ [])) last
 called_push acts first mid last calls replies call answer made acted =
-    rw (map-append called_of calls (call ∷ []), map-append Did replies (answer ∷ []))
-    (made_then acts first mid last (map called_of calls) (called_of call ∷ []) (map Did replies) (Did answer ∷ []) made (last, acted, refl))
+    rw (map-append desk_call_of_row_call calls (call ∷ []), map-append Did replies (answer ∷ []))
+    (made_then acts first mid last (map desk_call_of_row_call calls) (desk_call_of_row_call call ∷ []) (map Did replies) (Did answer ∷ []) made (last, acted, refl))
 
 -- The rows have these answers, with one clock reading for each well-formed row, and the desk
 -- changed from `first` to `desk` only by their calls.
-pub record Answered {D S X C : Type 0} (honest : D → Type 0) (stands : Bool → D → S → Type 0) (acts : RowCallRelation D X) (form : Fields → ReadResult X) (step : RowStep S X) (gives : C → ℕ → C → Type 0)
+pub record RowsHaveAnswers {D S X C : Type 0} (honest : D → Type 0) (stands : Bool → D → S → Type 0) (acts : RowCallRelation D X) (form : Fields → ReadResult X) (step : RowStep S X) (gives : C → ℕ → C → Type 0)
     (batch : Text) (first : D) (clock : C) (rows : List Fields) (answers : List Answer) (desk : D) (later : C) : Type 0 where
   pub moments : List ℕ
   pub replies : List Answer
@@ -107,15 +107,15 @@ pub record Answered {D S X C : Type 0} (honest : D → Type 0) (stands : Bool �
   pub one_each : length moments ≡ length (well_formed_rows_from form 1 rows)
   pub replied : length replies ≡ length (well_formed_rows_from form 1 rows)
   pub all : answers ≡ answers_interleaved_with_refusals form rows replies
-  pub made : AreCalled acts first (calls_of_rows batch moments (well_formed_rows_from form 1 rows)) replies desk
-  pub follows : (sure : Bool) → Follows honest (stands sure) step first desk (calls_of_rows batch moments (well_formed_rows_from form 1 rows)) replies
+  pub made : CallsHaveReplies acts first (calls_of_rows batch moments (well_formed_rows_from form 1 rows)) replies desk
+  pub follows : (sure : Bool) → CallsRefineSteps honest (stands sure) step first desk (calls_of_rows batch moments (well_formed_rows_from form 1 rows)) replies
 
 -- one more row, answered as its form says
 pub answered_push : {D S X C : Type 0} (honest : D → Type 0) (stands : Bool → D → S → Type 0) (acts : RowCallRelation D X) (form : Fields → ReadResult X) (step : RowStep S X) (gives : C → ℕ → C → Type 0)
     (batch : Text) (first mid desk : D) (clock c later : C) (rows : List Fields) (answers : List Answer) (row : Fields) (answer : Answer)
-    → Answered honest stands acts form step gives batch first clock rows answers mid c → (honest desk → honest mid)
+    → RowsHaveAnswers honest stands acts form step gives batch first clock rows answers mid c → (honest desk → honest mid)
     → (o : ReadResult X) → form row ≡ o → RowHasAnswer honest stands acts step gives o batch (1 + length rows) answer mid desk c later
-    → Answered honest stands acts form step gives batch first clock (rows ++ (row ∷ [])) (answers ++ (answer ∷ [])) desk later
+    → RowsHaveAnswers honest stands acts form step gives batch first clock (rows ++ (row ∷ [])) (answers ++ (answer ∷ [])) desk later
 answered_push {X = X} honest stands acts form step gives batch first mid desk clock c later rows answers row answer h earlier (Err k) e a =
     let formed = formed_push form 1 rows row ∙ ap (λ (o : ReadResult X). well_formed_rows_from form 1 rows ++ with_well_formed_row o (1 + length rows) []) e ∙ append-nil (well_formed_rows_from form 1 rows) in
     let wove = rw (append-nil h.replies, e) at (woven_push form 1 rows row h.replies [] h.replied) in
@@ -155,18 +155,18 @@ answered_push {S = S} {X = X} honest stands acts form step gives batch first mid
 
 -- a desk that answers by a list of answers, one for each call, gives just these and records just those
 pub recorded_turns : {X : Type 0} (calls : List (RowCall X)) (answers : List Answer) (before : RowCalls X) → length answers ≡ length calls
-    → CallsHaveAnswers recording_step (answers, before) calls answers ([], before ++ map called_of calls)
+    → CallsHaveAnswers recording_step (answers, before) calls answers ([], before ++ map desk_call_of_row_call calls)
 recorded_turns {X} [] [] before e = ap (λ (l : RowCalls X). let both : List Answer × RowCalls X = ([], l) in both) (append-nil before)
 recorded_turns [] (a ∷ rs) before e = absurd (omega arith)
 recorded_turns (c ∷ cs) [] before e = absurd (omega arith)
 recorded_turns {X} (c ∷ cs) (a ∷ rs) before e = (
   refl,
-  subst (λ (l : RowCalls X). CallsHaveAnswers recording_step (rs, before ++ (called_of c ∷ [])) cs rs ([], l)) (append_assoc before (called_of c ∷ []) (map called_of cs))
-      (recorded_turns cs rs (before ++ (called_of c ∷ [])) (omega arith)),
+  subst (λ (l : RowCalls X). CallsHaveAnswers recording_step (rs, before ++ (desk_call_of_row_call c ∷ [])) cs rs ([], l)) (append_assoc before (desk_call_of_row_call c ∷ []) (map desk_call_of_row_call cs))
+      (recorded_turns cs rs (before ++ (desk_call_of_row_call c ∷ [])) (omega arith)),
 )
 
 -- the clock readings of the calls are those that they took
-pub calls_taken : {X : Type 0} (batch : Text) (ms : List ℕ) (fs : List (ℕ × X)) → length ms ≡ length fs → map (λ (c : ℕ × (X × Key)). c.0) (map called_of (calls_of_rows batch ms fs)) ≡ ms
+pub calls_taken : {X : Type 0} (batch : Text) (ms : List ℕ) (fs : List (ℕ × X)) → length ms ≡ length fs → map (λ (c : ℕ × (X × Key)). c.0) (map desk_call_of_row_call (calls_of_rows batch ms fs)) ≡ ms
 calls_taken batch [] [] e = refl
 calls_taken batch [] (g ∷ gs) e = absurd (omega arith)
 calls_taken batch (x ∷ xs) [] e = absurd (omega arith)

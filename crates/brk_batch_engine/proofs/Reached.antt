@@ -24,12 +24,12 @@ use Rattle.brk_io.specs.Span.{ClockAndWriterChange, EnvironmentChange, change_wi
 use Rattle.brk_batch_engine.specs.Counts.{counts_with_answer, counts_of_answers}
 use Rattle.brk_io.specs.declared.batch_fault.BatchFault.{BatchFault}
 use Rattle.brk_batch_engine.specs.declared.counts.Counts.{Counts}
-use Rattle.brk_batch_engine.proofs.Progress.{At, Progress, Start, StandsAt, all_push, counts_push}
+use Rattle.brk_batch_engine.proofs.Progress.{BatchPositionWithBase, HasDecidedRows, BatchStartWithBase, IsReaderAfterRecords, all_push, counts_push}
 use Rattle.brk_batch_engine.proofs.Endings.{failed_row}
-use Rattle.brk_batch_engine.proofs.Pushes.{Answered, answered_push, called_of, calls_length, calls_taken, moments_push, recorded_turns}
+use Rattle.brk_batch_engine.proofs.Pushes.{RowsHaveAnswers, answered_push, desk_call_of_row_call, calls_length, calls_taken, moments_push, recorded_turns}
 
 -- The start of a batch after its header: its name, the clock, the writer's content and the reader.
-pub record Head (C R : Type 0) : Type 0 where
+pub record BatchStart (C R : Type 0) : Type 0 where
   pub name : Text
   pub clock : C
   pub old : Option Text
@@ -37,7 +37,7 @@ pub record Head (C R : Type 0) : Type 0 where
 
 -- A position in a batch: the number of decided rows, their counts, the record after them, the clock
 -- and the reader.
-pub record Place (C R : Type 0) : Type 0 where
+pub record BatchPosition (C R : Type 0) : Type 0 where
   pub settled : ℕ
   pub counts : Counts
   pub row : Fields
@@ -46,24 +46,24 @@ pub record Place (C R : Type 0) : Type 0 where
 
 -- The rows before the position `place` are decided, and the desk changed from `first` to `desk`
 -- only by their calls.
-pub record Reached {D S X C R : Type 0} (honest : D → Type 0) (stands : Bool → D → S → Type 0) (acts : RowCallRelation D X) (form : Fields → ReadResult X) (step : RowStep S X) (gives : C → ℕ → C → Type 0)
-    (rem : R → Option Text) (first : D) (head : Head C R) (desk : D) (place : Place C R) : Type 0 where
+pub record HasReachedPosition {D S X C R : Type 0} (honest : D → Type 0) (stands : Bool → D → S → Type 0) (acts : RowCallRelation D X) (form : Fields → ReadResult X) (step : RowStep S X) (gives : C → ℕ → C → Type 0)
+    (rem : R → Option Text) (first : D) (head : BatchStart C R) (desk : D) (place : BatchPosition C R) : Type 0 where
   pub rows : List Fields
   pub answers : List Answer
   pub named : IsBatchName head.name
   pub rows_only : AllByRecursion (λ row. ¬ (IsEndRecord row)) rows
-  pub answered : Answered honest stands acts form step gives head.name first head.clock rows answers desk place.later
+  pub answered : RowsHaveAnswers honest stands acts form step gives head.name first head.clock rows answers desk place.later
   pub each : length answers ≡ length rows
   pub size : length rows ≡ place.settled
   pub counts : place.counts ≡ counts_of_answers answers
-  pub read : (text : Option Text) → StandsAt rem text (batch_header head.name ∷ []) head.reader
-      → StandsAt rem text (batch_header head.name ∷ (rows ++ (place.row ∷ []))) place.reader
+  pub read : (text : Option Text) → IsReaderAfterRecords rem text (batch_header head.name ∷ []) head.reader
+      → IsReaderAfterRecords rem text (batch_header head.name ∷ (rows ++ (place.row ∷ []))) place.reader
 
 -- before the first row
 pub reached_start : {D S X C R : Type 0} (honest : D → Type 0) (stands : Bool → D → S → Type 0) (acts : RowCallRelation D X) (form : Fields → ReadResult X) (step : RowStep S X) (gives : C → ℕ → C → Type 0)
-    (rem : R → Option Text) (first : D) (head : Head C R) (row : Fields) (reader : Reader R) → IsBatchName head.name
-    → ((text : Option Text) (before : List Fields) → StandsAt rem text before head.reader → StandsAt rem text (before ++ (row ∷ [])) reader)
-    → (r : Reached honest stands acts form step gives rem first head first
+    (rem : R → Option Text) (first : D) (head : BatchStart C R) (row : Fields) (reader : Reader R) → IsBatchName head.name
+    → ((text : Option Text) (before : List Fields) → IsReaderAfterRecords rem text before head.reader → IsReaderAfterRecords rem text (before ++ (row ∷ [])) reader)
+    → (r : HasReachedPosition honest stands acts form step gives rem first head first
     (record { settled = 0; counts = record { ok = 0; again = 0; no = 0 }; row = row; later = head.clock; reader = reader })) × (r.answers ≡ [])
 reached_start honest stands acts form step gives rem first head row reader named found = (
   record {
@@ -90,16 +90,16 @@ reached_start honest stands acts form step gives rem first head row reader named
 )
 
 -- The position after one more row.
-abbrev pub next_place : {C R : Type 0} → Place C R → Counts → Fields → C → Reader R → Place C R
-next_place place counts row later reader = record { settled = place.settled + 1; counts = counts; row = row; later = later; reader = reader }
+abbrev pub position_after_row : {C R : Type 0} → BatchPosition C R → Counts → Fields → C → Reader R → BatchPosition C R
+position_after_row place counts row later reader = record { settled = place.settled + 1; counts = counts; row = row; later = later; reader = reader }
 
 -- one row more was answered, after the record after it had been read
 pub reached_more : {D S X C R : Type 0} (honest : D → Type 0) (stands : Bool → D → S → Type 0) (acts : RowCallRelation D X) (form : Fields → ReadResult X) (step : RowStep S X) (gives : C → ℕ → C → Type 0)
-    (rem : R → Option Text) (first : D) (head : Head C R) (mid : D) (place : Place C R) (answer : Answer) (counts : Counts) (row : Fields) (desk : D) (later : C) (reader : Reader R)
-    → (r : Reached honest stands acts form step gives rem first head mid place) → ¬ (IsEndRecord place.row) → counts ≡ counts_with_answer place.counts answer → (honest desk → honest mid)
+    (rem : R → Option Text) (first : D) (head : BatchStart C R) (mid : D) (place : BatchPosition C R) (answer : Answer) (counts : Counts) (row : Fields) (desk : D) (later : C) (reader : Reader R)
+    → (r : HasReachedPosition honest stands acts form step gives rem first head mid place) → ¬ (IsEndRecord place.row) → counts ≡ counts_with_answer place.counts answer → (honest desk → honest mid)
     → RowHasAnswer honest stands acts step gives (form place.row) head.name (place.settled + 1) answer mid desk place.later later
-    → ((text : Option Text) (before : List Fields) → StandsAt rem text before place.reader → StandsAt rem text (before ++ (row ∷ [])) reader)
-    → (q : Reached honest stands acts form step gives rem first head desk (next_place place counts row later reader)) × (q.answers ≡ r.answers ++ (answer ∷ []))
+    → ((text : Option Text) (before : List Fields) → IsReaderAfterRecords rem text before place.reader → IsReaderAfterRecords rem text (before ++ (row ∷ [])) reader)
+    → (q : HasReachedPosition honest stands acts form step gives rem first head desk (position_after_row place counts row later reader)) × (q.answers ≡ r.answers ++ (answer ∷ []))
 reached_more honest stands acts form step gives rem first head mid place answer counts row desk later reader r other more earlier given found =
     let number : place.settled + 1 ≡ 1 + length r.rows = omega (arith, r.size) in (
       record {
@@ -118,18 +118,18 @@ reached_more honest stands acts form step gives rem first head mid place answer 
     )
 
 -- The start of a batch with the base that the desk represents there.
-abbrev pub start_of : {S C R : Type 0} → Head C R → S → Start S C R
-start_of head base = record { name = head.name; base = base; clock = head.clock; old = head.old; reader = head.reader }
+abbrev pub start_with_base : {S C R : Type 0} → BatchStart C R → S → BatchStartWithBase S C R
+start_with_base head base = record { name = head.name; base = base; clock = head.clock; old = head.old; reader = head.reader }
 
 -- The position in a batch with the base that the desk represents there.
-abbrev pub at_of : {S C R : Type 0} → Place C R → S → At S C R
-at_of place after = record { settled = place.settled; counts = place.counts; row = place.row; after = after; later = place.later; reader = place.reader }
+abbrev pub position_with_base : {S C R : Type 0} → BatchPosition C R → S → BatchPositionWithBase S C R
+position_with_base place after = record { settled = place.settled; counts = place.counts; row = place.row; after = after; later = place.later; reader = place.reader }
 
 -- the progress of a batch by some steps, over some base
 abbrev pub progress_of : {D S T X C R : Type 0} (honest : D → Type 0) (stands : Bool → D → S → Type 0) (acts : RowCallRelation D X) (form : Fields → ReadResult X) (step : RowStep S X) (gives : C → ℕ → C → Type 0)
-    (rem : R → Option Text) (first : D) (head : Head C R) (desk : D) (place : Place C R) (r : Reached honest stands acts form step gives rem first head desk place)
+    (rem : R → Option Text) (first : D) (head : BatchStart C R) (desk : D) (place : BatchPosition C R) (r : HasReachedPosition honest stands acts form step gives rem first head desk place)
     (other : RowStep T X) (base after : T) → CallsHaveAnswers other base (calls_of_rows head.name r.answered.moments (well_formed_rows_from form 1 r.rows)) r.answered.replies after
-    → Progress form other gives rem (start_of head base) (at_of place after)
+    → HasDecidedRows form other gives rem (start_with_base head base) (position_with_base place after)
 progress_of honest stands acts form step gives rem first head desk place r other base after turns = record {
   rows = r.rows;
   answers = r.answers;
@@ -154,7 +154,7 @@ alone_at form step gives leaves text span last (Err fault) alone = inl alone
 
 -- if each call was answered, the script has the calls and their answers
 pub tells_all : {D S X C R : Type 0} (honest : D → Type 0) (stands : Bool → D → S → Type 0) (acts : RowCallRelation D X) (form : Fields → ReadResult X) (step : RowStep S X) (gives : C → ℕ → C → Type 0)
-    (rem : R → Option Text) (first : D) (head : Head C R) (desk : D) (place : Place C R) (r : Reached honest stands acts form step gives rem first head desk place)
+    (rem : R → Option Text) (first : D) (head : BatchStart C R) (desk : D) (place : BatchPosition C R) (r : HasReachedPosition honest stands acts form step gives rem first head desk place)
     (text : Option Text) (was now : Option Text) (result : Result Counts BatchFault) → IfErr result (λ fault. DeskFaultIsMemory fault.kind)
     → ((T : Type 0) (other : RowStep T X) (base after : T) → CallsHaveAnswers other base (calls_of_rows head.name r.answered.moments (well_formed_rows_from form 1 r.rows)) r.answered.replies after
     → IsBatchResult form other gives text (record { base = base; after = after; clock = head.clock; later = place.later; old = was; new = now }) result)
@@ -162,14 +162,14 @@ pub tells_all : {D S X C R : Type 0} (honest : D → Type 0) (stands : Bool → 
 tells_all {X = X} honest stands acts form step gives rem first head desk place r text was now result memory so =
     let calls = calls_of_rows head.name r.answered.moments (well_formed_rows_from form 1 r.rows) in
     let each : length r.answered.replies ≡ length calls = r.answered.replied ∙ sym (calls_length head.name r.answered.moments (well_formed_rows_from form 1 r.rows) r.answered.one_each) in (
-      (map called_of calls, map Did r.answered.replies),
+      (map desk_call_of_row_call calls, map Did r.answered.replies),
       r.answered.made,
       (
         subst (λ (ms : List ℕ). ClockReturnsInOrder gives head.clock ms place.later) (sym (calls_taken head.name r.answered.moments (well_formed_rows_from form 1 r.rows) r.answered.one_each)) r.answered.taken,
         inl (
           r.answered.replies,
           refl,
-          so (List Answer × RowCalls X) recording_step (r.answered.replies, []) ([], map called_of calls) (recorded_turns calls r.answered.replies [] each),
+          so (List Answer × RowCalls X) recording_step (r.answered.replies, []) ([], map desk_call_of_row_call calls) (recorded_turns calls r.answered.replies [] each),
           memory,
         ),
       ),
@@ -177,31 +177,31 @@ tells_all {X = X} honest stands acts form step gives rem first head desk place r
 
 -- the script has also a call that failed
 pub tells_failed : {D S X C R : Type 0} (honest : D → Type 0) (stands : Bool → D → S → Type 0) (acts : RowCallRelation D X) (form : Fields → ReadResult X) (step : RowStep S X) (gives : C → ℕ → C → Type 0)
-    (rem : R → Option Text) (first : D) (head : Head C R) (desk : D) (place : Place C R) (r : Reached honest stands acts form step gives rem first head desk place)
+    (rem : R → Option Text) (first : D) (head : BatchStart C R) (desk : D) (place : BatchPosition C R) (r : HasReachedPosition honest stands acts form step gives rem first head desk place)
     (text : Option Text) (new : Option Text) (later : C) (last : D) (next : Fields) (reader : Reader R) (f : Fault) (moment : ℕ) (command : X)
     → form place.row ≡ Ok command → gives place.later moment later → acts desk moment (command, record { batch = head.name; row = place.settled + 1 }) (Failed f) last
     → IsCallFault f → Appends head.old new (answer_lines_from 1 r.answers)
-    → ((text : Option Text) (before : List Fields) → StandsAt rem text before place.reader → StandsAt rem text (before ++ (next ∷ [])) reader)
-    → StandsAt rem text (batch_header head.name ∷ []) head.reader
+    → ((text : Option Text) (before : List Fields) → IsReaderAfterRecords rem text before place.reader → IsReaderAfterRecords rem text (before ++ (next ∷ [])) reader)
+    → IsReaderAfterRecords rem text (batch_header head.name ∷ []) head.reader
     → ChangesOnlyByRowCalls acts form gives text first last (record { clock = head.clock; later = later; old = head.old; new = new }) (Err (record { rows = place.settled; kind = kinds.Desk f }))
 tells_failed {D = D} {X = X} honest stands acts form step gives rem first head desk place r text new later last next reader f moment command formed given acted may wrote found h =
     let calls = calls_of_rows head.name r.answered.moments (well_formed_rows_from form 1 r.rows) in
     let each : length r.answered.replies ≡ length calls = r.answered.replied ∙ sym (calls_length head.name r.answered.moments (well_formed_rows_from form 1 r.rows) r.answered.one_each) in
     let under : ℕ × (X × Key) = (moment, (command, record { batch = head.name; row = place.settled + 1 })) in
     let taken : ClockReturnsInOrder gives head.clock (r.answered.moments ++ (moment ∷ [])) later = moments_push gives head.clock place.later later r.answered.moments moment r.answered.taken given in
-    let are : map (λ (c : ℕ × (X × Key)). c.0) (map called_of calls ++ (under ∷ [])) ≡ r.answered.moments ++ (moment ∷ []) =
-    map-append (λ (c : ℕ × (X × Key)). c.0) (map called_of calls) (under ∷ [])
+    let are : map (λ (c : ℕ × (X × Key)). c.0) (map desk_call_of_row_call calls ++ (under ∷ [])) ≡ r.answered.moments ++ (moment ∷ []) =
+    map-append (λ (c : ℕ × (X × Key)). c.0) (map desk_call_of_row_call calls) (under ∷ [])
     ∙ ap (λ (ms : List ℕ). ms ++ (moment ∷ [])) (calls_taken head.name r.answered.moments (well_formed_rows_from form 1 r.rows) r.answered.one_each) in
-    let turns : CallsHaveAnswers recording_step (r.answered.replies, []) calls r.answered.replies ([], map called_of calls) = recorded_turns calls r.answered.replies [] each in (
-      (map called_of calls ++ (under ∷ []), map Did r.answered.replies ++ (Failed f ∷ [])),
-      made_then acts first desk last (map called_of calls) (under ∷ []) (map Did r.answered.replies) (Failed f ∷ []) r.answered.made (last, acted, refl),
+    let turns : CallsHaveAnswers recording_step (r.answered.replies, []) calls r.answered.replies ([], map desk_call_of_row_call calls) = recorded_turns calls r.answered.replies [] each in (
+      (map desk_call_of_row_call calls ++ (under ∷ []), map Did r.answered.replies ++ (Failed f ∷ [])),
+      made_then acts first desk last (map desk_call_of_row_call calls) (under ∷ []) (map Did r.answered.replies) (Failed f ∷ []) r.answered.made (last, acted, refl),
       (
         subst (λ (ms : List ℕ). ClockReturnsInOrder gives head.clock ms later) (sym are) taken,
         inr (
           r.answered.replies,
-          map called_of calls,
-          failed_row form recording_step gives rem (start_of head (r.answered.replies, [])) (at_of place ([], map called_of calls)) later new text
-              (progress_of honest stands acts form step gives rem first head desk place r recording_step (r.answered.replies, []) ([], map called_of calls) turns) next reader f moment command
+          map desk_call_of_row_call calls,
+          failed_row form recording_step gives rem (start_with_base head (r.answered.replies, [])) (position_with_base place ([], map desk_call_of_row_call calls)) later new text
+              (progress_of honest stands acts form step gives rem first head desk place r recording_step (r.answered.replies, []) ([], map desk_call_of_row_call calls) turns) next reader f moment command
               formed given may wrote found h,
           refl,
           refl,
@@ -211,13 +211,13 @@ tells_failed {D = D} {X = X} honest stands acts form step gives rem first head d
 
 -- whatever failed, the script has the calls
 pub tells_fault : {D S X C R : Type 0} (honest : D → Type 0) (stands : D → S → Type 0) (leaves : D → S → S → Type 0) (acts : RowCallRelation D X) (form : Fields → ReadResult X) (step : RowStep S X)
-    (gives : C → ℕ → C → Type 0) (rem : R → Option Text) (first : D) (head : Head C R) (desk : D) (place : Place C R)
-    (r : Reached honest (RepresentsDurably stands leaves) acts form step gives rem first head desk place)
+    (gives : C → ℕ → C → Type 0) (rem : R → Option Text) (first : D) (head : BatchStart C R) (desk : D) (place : BatchPosition C R)
+    (r : HasReachedPosition honest (RepresentsDurably stands leaves) acts form step gives rem first head desk place)
     (text : Option Text) (new : Option Text) (later : C) (last : D) (next : Fields) (reader : Reader R) (f : Fault)
     → RowFailsWith honest stands leaves acts step gives (form place.row) head.name (place.settled + 1) f desk last place.later later
     → IsCallFault f → Appends head.old new (answer_lines_from 1 r.answers)
-    → ((text : Option Text) (before : List Fields) → StandsAt rem text before place.reader → StandsAt rem text (before ++ (next ∷ [])) reader)
-    → StandsAt rem text (batch_header head.name ∷ []) head.reader
+    → ((text : Option Text) (before : List Fields) → IsReaderAfterRecords rem text before place.reader → IsReaderAfterRecords rem text (before ++ (next ∷ [])) reader)
+    → IsReaderAfterRecords rem text (batch_header head.name ∷ []) head.reader
     → ((T : Type 0) (other : RowStep T X) (base after : T) → CallsHaveAnswers other base (calls_of_rows head.name r.answered.moments (well_formed_rows_from form 1 r.rows)) r.answered.replies after
     → IsBatchResult form other gives text (record { base = base; after = after; clock = head.clock; later = later; old = head.old; new = new }) (Err (record { rows = place.settled; kind = kinds.Desk f })))
     → ChangesOnlyByRowCalls acts form gives text first last (record { clock = head.clock; later = later; old = head.old; new = new }) (Err (record { rows = place.settled; kind = kinds.Desk f }))
@@ -228,8 +228,8 @@ tells_fault honest stands leaves acts form step gives rem first head desk place 
 
 -- what holds by all steps, over all bases that they lead from and to, is the postcondition of the batch
 pub comes : {D S X C R : Type 0} (honest : D → Type 0) (stands : D → S → Type 0) (leaves : D → S → S → Type 0) (acts : RowCallRelation D X) (form : Fields → ReadResult X) (step : RowStep S X)
-    (gives : C → ℕ → C → Type 0) (rem : R → Option Text) (first : D) (head : Head C R) (desk : D) (place : Place C R)
-    (r : Reached honest (RepresentsDurably stands leaves) acts form step gives rem first head desk place)
+    (gives : C → ℕ → C → Type 0) (rem : R → Option Text) (first : D) (head : BatchStart C R) (desk : D) (place : BatchPosition C R)
+    (r : HasReachedPosition honest (RepresentsDurably stands leaves) acts form step gives rem first head desk place)
     (last : D) (text : Option Text) (outside : ClockAndWriterChange C) (result : Result Counts BatchFault) → (honest last → honest desk) → PreservesRepresentedBases honest stands desk last
     → ((T : Type 0) (other : RowStep T X) (base after : T) → CallsHaveAnswers other base (calls_of_rows head.name r.answered.moments (well_formed_rows_from form 1 r.rows)) r.answered.replies after
     → IsBatchResult form other gives text (change_with_bases base after outside) result)
@@ -238,19 +238,19 @@ pub comes : {D S X C R : Type 0} (honest : D → Type 0) (stands : D → S → T
     → BoundsBatchCrashStates form step gives leaves text (change_with_bases base after outside) last result)
     → BatchPost honest stands leaves acts form step gives text first last outside result
 comes {S = S} honest stands leaves acts form step gives rem first head desk place r last text outside result earlier keeps so told stops = record {
-  told = told;
-  kept = λ good base stood.
+  changed_only_by_calls = told;
+  refines_model = λ good base stood.
       let led = r.answered.follows false (earlier good) base stood in
       (led.0, keeps good led.0 led.1, so S step base led.0 led.2);
-  left = λ good base stood alone.
+  crash_safe = λ good base stood alone.
       let led = r.answered.follows true (earlier good) base (stood, alone) in
       (led.0, keeps good led.0 led.1.0, so S step base led.0 led.2, stops good base led.0 led.2 led.1.0 led.1.1);
 }
 
 -- the postcondition, if each call was answered
 pub comes_answered : {D S X C R : Type 0} (honest : D → Type 0) (stands : D → S → Type 0) (leaves : D → S → S → Type 0) (acts : RowCallRelation D X) (form : Fields → ReadResult X) (step : RowStep S X)
-    (gives : C → ℕ → C → Type 0) (rem : R → Option Text) (first : D) (head : Head C R) (desk : D) (place : Place C R)
-    (r : Reached honest (RepresentsDurably stands leaves) acts form step gives rem first head desk place)
+    (gives : C → ℕ → C → Type 0) (rem : R → Option Text) (first : D) (head : BatchStart C R) (desk : D) (place : BatchPosition C R)
+    (r : HasReachedPosition honest (RepresentsDurably stands leaves) acts form step gives rem first head desk place)
     (text : Option Text) (was now : Option Text) (result : Result Counts BatchFault) → IfErr result (λ fault. DeskFaultIsMemory fault.kind)
     → ((T : Type 0) (other : RowStep T X) (base after : T) → CallsHaveAnswers other base (calls_of_rows head.name r.answered.moments (well_formed_rows_from form 1 r.rows)) r.answered.replies after
     → IsBatchResult form other gives text (record { base = base; after = after; clock = head.clock; later = place.later; old = was; new = now }) result)
@@ -267,8 +267,8 @@ pub comes_at_once : {D S X C : Type 0} (honest : D → Type 0) (stands : D → S
     → ((T : Type 0) (other : RowStep T X) (base : T) → IsBatchResult form other gives text (record { base = base; after = base; clock = clock; later = clock; old = was; new = now }) result)
     → BatchPost honest stands leaves acts form step gives text desk desk (record { clock = clock; later = clock; old = was; new = now }) result
 comes_at_once {S = S} {X = X} honest stands leaves acts form step gives desk text clock was now result memory so = record {
-  told = (([], []), refl, (refl, inl ([], refl, so (List Answer × RowCalls X) recording_step ([], []), memory)));
-  kept = λ good base stood. (base, stood, so S step base);
-  left = λ good base stood alone.
+  changed_only_by_calls = (([], []), refl, (refl, inl ([], refl, so (List Answer × RowCalls X) recording_step ([], []), memory)));
+  refines_model = λ good base stood. (base, stood, so S step base);
+  crash_safe = λ good base stood alone.
       (base, stood, so S step base, alone_at form step gives leaves text (record { base = base; after = base; clock = clock; later = clock; old = was; new = now }) desk result alone);
 }

@@ -14,39 +14,39 @@ use Rattle.csv.specs.declared.parser.Action.TheVariants as act
 use Rattle.brk_model.specs.Answers.{Fields}
 
 -- The state of the CSV reader is one between two records.
-abbrev IsBetween : State → Type 0
-IsBetween s = (s ≡ st.StartRecord) ⊎ (s ≡ st.AfterCr)
+abbrev IsBetweenRecords : State → Type 0
+IsBetweenRecords s = (s ≡ st.StartRecord) ⊎ (s ≡ st.AfterCr)
 
 -- If the step ends a record, the state after it is one between two records.
-abbrev Ends : State × Action → Type 0
-Ends r = is_end r.1 ≡ true → IsBetween r.0
+abbrev EndsBetweenRecords : State × Action → Type 0
+EndsBetweenRecords r = is_end r.1 ≡ true → IsBetweenRecords r.0
 
-choose : (b : Bool) (x y : State × Action) → Ends x → Ends y → Ends (cond b x y)
+choose : (b : Bool) (x y : State × Action) → EndsBetweenRecords x → EndsBetweenRecords y → EndsBetweenRecords (cond b x y)
 choose true x y p q = p
 choose false x y p q = q
 
-after_between : (t : Terminator) (c : ℕ) → IsBetween (after_end t c)
-after_between term.CRLF c = elim (c == 13) as (λ b. IsBetween (cond b st.AfterCr st.StartRecord)) [ true ↦ inr refl | false ↦ inl refl ]
+after_between : (t : Terminator) (c : ℕ) → IsBetweenRecords (after_end t c)
+after_between term.CRLF c = elim (c == 13) as (λ b. IsBetweenRecords (cond b st.AfterCr st.StartRecord)) [ true ↦ inr refl | false ↦ inl refl ]
 after_between (term.Any t) c = inl refl
 
-quiet : (s : State) (a : Action) → is_end a ≡ false → Ends (s, a)
+quiet : (s : State) (a : Action) → is_end a ≡ false → EndsBetweenRecords (s, a)
 quiet s a n e = let no : true ≡ false = sym e ∙ n in cc
 
-between : (s : State) (a : Action) → IsBetween s → Ends (s, a)
+between : (s : State) (a : Action) → IsBetweenRecords s → EndsBetweenRecords (s, a)
 between s a h e = h
 
-in_field_ends : (cfg : Config) (c : ℕ) → Ends (in_field cfg c)
+in_field_ends : (cfg : Config) (c : ℕ) → EndsBetweenRecords (in_field cfg c)
 in_field_ends cfg c =
     choose _ _ _ (quiet st.StartField act.EndField refl)
     (choose _ _ _ (between (after_end cfg.terminator c) act.EndRecord (after_between cfg.terminator c)) (quiet st.InField act.Copy refl))
 
-start_field_ends : (cfg : Config) (c : ℕ) → Ends (start_field cfg c)
+start_field_ends : (cfg : Config) (c : ℕ) → EndsBetweenRecords (start_field cfg c)
 start_field_ends cfg c = choose _ _ _ (quiet st.InQuoted act.Skip refl) (in_field_ends cfg c)
 
-start_record_ends : (cfg : Config) (c : ℕ) → Ends (start_record cfg c)
+start_record_ends : (cfg : Config) (c : ℕ) → EndsBetweenRecords (start_record cfg c)
 start_record_ends cfg c = choose _ _ _ (quiet st.StartRecord act.Skip refl) (choose _ _ _ (quiet st.InComment act.Skip refl) (start_field_ends cfg c))
 
-step_ends : (cfg : Config) (s : State) (c : ℕ) → Ends (step cfg s c)
+step_ends : (cfg : Config) (s : State) (c : ℕ) → EndsBetweenRecords (step cfg s c)
 step_ends cfg st.StartRecord c = start_record_ends cfg c
 step_ends cfg st.StartField c = start_field_ends cfg c
 step_ends cfg st.InField c = in_field_ends cfg c
@@ -57,8 +57,8 @@ step_ends cfg st.InComment c = choose _ _ _ (quiet st.StartRecord act.Skip refl)
 step_ends cfg st.AfterCr c = choose _ _ _ (quiet st.StartRecord act.Skip refl) (start_record_ends cfg c)
 
 -- After a record the reader is between two records, and no more bytes are left than before.
-record Leaves (xs : List ℕ) (q : Read) : Type 0 where
-  between : IsBetween q.1
+record LeavesReaderBetweenRecords (xs : List ℕ) (q : Read) : Type 0 where
+  between : IsBetweenRecords q.1
   shorter : length q.2 ≤ length xs
 
 some_is : {X : Type 0} (x y : X) → Some x ≡ Some y → x ≡ y
@@ -68,7 +68,7 @@ at_end : (b : Bool) (x q : Read) → cond b (Some x) None ≡ Some q → x ≡ q
 at_end true x q e = some_is x q e
 at_end false x q e = cc
 
-next_leaves : (cfg : Config) (s : State) (fields : List (List ℕ)) (field xs : List ℕ) (q : Read) → next_record cfg s fields field xs ≡ Some q → Leaves xs q
+next_leaves : (cfg : Config) (s : State) (fields : List (List ℕ)) (field xs : List ℕ) (q : Read) → next_record cfg s fields field xs ≡ Some q → LeavesReaderBetweenRecords xs q
 unfolding next_record
 next_leaves cfg s fields field [] q e =
     let same = at_end (ends_at_end s) (fields ++ (field ∷ []), st.StartRecord, []) q e in
@@ -78,8 +78,8 @@ next_leaves cfg s fields field (c ∷ rest) q e =
   where
     go : (b : Bool) → is_end (step cfg s c).1 ≡ b
         → cond b (Some (fields_after (step cfg s c).1 fields field, (step cfg s c).0, rest)) (next_record cfg (step cfg s c).0 (fields_after (step cfg s c).1 fields field) (field_after (step cfg s c).1 c field) rest) ≡ Some q
-        → (next_record cfg (step cfg s c).0 (fields_after (step cfg s c).1 fields field) (field_after (step cfg s c).1 c field) rest ≡ Some q → Leaves rest q)
-        → Leaves (c ∷ rest) q
+        → (next_record cfg (step cfg s c).0 (fields_after (step cfg s c).1 fields field) (field_after (step cfg s c).1 c field) rest ≡ Some q → LeavesReaderBetweenRecords rest q)
+        → LeavesReaderBetweenRecords (c ∷ rest) q
     go true t e more =
         let same = some_is (fields_after (step cfg s c).1 fields field, (step cfg s c).0, rest) q e in
         rw (← same) (record { between = step_ends cfg s c t; shorter = omega arith })
@@ -88,7 +88,7 @@ next_leaves cfg s fields field (c ∷ rest) q e =
         record { between = left.between; shorter = let h = left.shorter in omega arith }
 
 -- from between two records, a record takes a byte at least
-takes_one : (cfg : Config) (s : State) (xs : List ℕ) (q : Read) → IsBetween s → next_record cfg s [] [] xs ≡ Some q → IsBetween q.1 × (length q.2 + 1 ≤ length xs)
+takes_one : (cfg : Config) (s : State) (xs : List ℕ) (q : Read) → IsBetweenRecords s → next_record cfg s [] [] xs ≡ Some q → IsBetweenRecords q.1 × (length q.2 + 1 ≤ length xs)
 unfolding next_record
 takes_one cfg s [] q (inl h) e = let no : None ≡ Some q = rw h at e in cc
 takes_one cfg s [] q (inr h) e = let no : None ≡ Some q = rw h at e in cc
@@ -97,8 +97,8 @@ takes_one cfg s (c ∷ rest) q h e =
   where
     go : (b : Bool) → is_end (step cfg s c).1 ≡ b
         → cond b (Some (fields_after (step cfg s c).1 [] [], (step cfg s c).0, rest)) (next_record cfg (step cfg s c).0 (fields_after (step cfg s c).1 [] []) (field_after (step cfg s c).1 c []) rest) ≡ Some q
-        → (next_record cfg (step cfg s c).0 (fields_after (step cfg s c).1 [] []) (field_after (step cfg s c).1 c []) rest ≡ Some q → Leaves rest q)
-        → IsBetween q.1 × (length q.2 + 1 ≤ length (c ∷ rest))
+        → (next_record cfg (step cfg s c).0 (fields_after (step cfg s c).1 [] []) (field_after (step cfg s c).1 c []) rest ≡ Some q → LeavesReaderBetweenRecords rest q)
+        → IsBetweenRecords q.1 × (length q.2 + 1 ≤ length (c ∷ rest))
     go true t e more =
         let same = some_is (fields_after (step cfg s c).1 [] [], (step cfg s c).0, rest) q e in
         rw (← same) (step_ends cfg s c t, omega arith)
@@ -107,7 +107,7 @@ takes_one cfg s (c ∷ rest) q h e =
         (left.between, let h = left.shorter in omega arith)
 
 -- there are at most as many records as bytes
-reached_few : (cfg : Config) (s : State) (xs : List ℕ) (rows : List Fields) (s2 : State) (ys : List ℕ) → IsBetween s → Reached cfg s xs rows s2 ys → length rows + length ys ≤ length xs
+reached_few : (cfg : Config) (s : State) (xs : List ℕ) (rows : List Fields) (s2 : State) (ys : List ℕ) → IsBetweenRecords s → Reached cfg s xs rows s2 ys → length rows + length ys ≤ length xs
 unfolding Reached
 reached_few cfg s xs [] s2 ys b h = let e = ap length h.1 in omega arith
 reached_few cfg s xs (r ∷ rs) s2 ys b h =

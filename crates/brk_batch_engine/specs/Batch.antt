@@ -8,7 +8,7 @@ use Rattle.brk_model.specs.Answers.{Fields, RowStep}
 use Rattle.brk_model.specs.Batch as model
 use Rattle.brk_model.specs.Commands.{Answer}
 use Rattle.brk_model.specs.Forms.{ReadResult}
-use Rattle.brk_model.specs.Input.{BeginsWithRecords, end_record_after, batch_header}
+use Rattle.brk_model.specs.Input.{BeginsWithRecords, correct_end_record, batch_header}
 use Rattle.brk_model.specs.Lines.{answer_line, batch_end_line, answer_lines_from}
 use Rattle.brk_model.specs.Run.{Did, Failed, IsCallFault}
 use Rattle.brk_batch_engine.specs.Counts.{counts_of_answers}
@@ -25,17 +25,17 @@ use Rattle.brk_batch_engine.specs.declared.counts.Counts.{Counts}
 -- timestamps `moments`, and exactly the lines of the model's batch for these timestamps were
 -- written, from the base before the batch to the base after it.
 pub record BatchEndsWith {S X C : Type 0} (form : Fields → ReadResult X) (step : RowStep S X) (gives : C → ℕ → C → Type 0)
-    (text : Option Text) (span : EnvironmentChange S C) (ending : model.Ending) (count : ℕ) : Type 0 where
+    (text : Option Text) (span : EnvironmentChange S C) (ending : model.BatchEnding) (count : ℕ) : Type 0 where
   pub moments : List ℕ
   pub lines : Text
   pub taken : ClockReturnsInOrder gives span.clock moments span.later
-  pub answered : model.IsAnswered form step span.base moments text (record { text = lines; base = span.after; ending = ending; rows = count })
+  pub answered : model.IsResultOfTextWithHeader form step span.base moments text (record { text = lines; base = span.after; ending = ending; rows = count })
   pub written : Appends span.old span.new lines
 
 -- The text begins with the header of batch `name`, these rows and the correct end record. Vacuous
 -- if the text is unknown.
 abbrev pub BeginsWithWholeBatch : Option Text → Text → List Fields → Type 0
-BeginsWithWholeBatch text name rows = BeginsWithRecords text (batch_header name ∷ (rows ++ (end_record_after (length rows) ∷ [])))
+BeginsWithWholeBatch text name rows = BeginsWithRecords text (batch_header name ∷ (rows ++ (correct_end_record (length rows) ∷ [])))
 
 -- If there are rows, the text begins with the header, the rows and one more record. Vacuous if
 -- there are no rows or the text is unknown.
@@ -54,7 +54,7 @@ pub record BatchProgress {S X C : Type 0} (form : Fields → ReadResult X) (step
   pub moments : List ℕ
   pub mid : C
   pub taken : ClockReturnsInOrder gives span.clock moments mid
-  pub settled : model.AreDecided form step name span.base moments rows answers span.after
+  pub settled : model.BatchRowsAreDecided form step name span.base moments rows answers span.after
   pub begins : BeginsWithRecords text (batch_header name ∷ rows)
   pub next : HasRecordAfterRows text name rows
   pub counted : count ≡ length told
@@ -91,7 +91,7 @@ MayAddCutRowRefusal text name rows answers told = (told ≡ answers) ⊎ model.E
 -- or of all of them but the last.
 abbrev pub BatchFailsWith : {S X C : Type 0} → (Fields → ReadResult X) → RowStep S X → (C → ℕ → C → Type 0) → Option Text → EnvironmentChange S C → ℕ → FaultKind → Type 0
 BatchFailsWith form step gives text span count kinds.BadHeader =
-    IsUnchangedEnvironment span × model.IsUnanswered span.base [] text (record { text = []; base = span.after; ending = model.BadHeader; rows = count })
+    IsUnchangedEnvironment span × model.IsResultOfTextWithoutHeader span.base [] text (record { text = []; base = span.after; ending = model.BadHeader; rows = count })
 BatchFailsWith form step gives text span count kinds.NoEnd = BatchEndsWith form step gives text span model.NoEnd count
 BatchFailsWith form step gives text span count kinds.BadEnd = BatchEndsWith form step gives text span model.BadEnd count
 BatchFailsWith form step gives text span count kinds.Read =
@@ -111,7 +111,7 @@ BatchFailsWith form step gives text span count (kinds.Desk fault) =
 -- fault with the effect that `BatchFailsWith` specifies.
 abbrev pub IsBatchResult : {S X C : Type 0} → (Fields → ReadResult X) → RowStep S X → (C → ℕ → C → Type 0) → Option Text → EnvironmentChange S C → Result Counts BatchFault → Type 0
 IsBatchResult form step gives text span (Ok counts) =
-    (c : BatchEndsWith form step gives text span model.EndedWell (counts.ok + counts.again + counts.no)) × (counts ≡ counts_of_answers c.answered.answers)
+    (c : BatchEndsWith form step gives text span model.CorrectEnd (counts.ok + counts.again + counts.no)) × (counts ≡ counts_of_answers c.answered.answers)
 IsBatchResult form step gives text span (Err fault) = BatchFailsWith form step gives text span fault.rows fault.kind
 
 -- The row after the decided rows has a record after it, and is a command, for which the clock was
@@ -208,6 +208,6 @@ IsBatchCrashSafe {S = S} honest stands leaves form step gives text first last ou
 -- refines the model, and it is crash-safe.
 pub record BatchPost {D S X C : Type 0} (honest : D → Type 0) (stands : D → S → Type 0) (leaves : D → S → S → Type 0) (acts : RowCallRelation D X) (form : Fields → ReadResult X) (step : RowStep S X)
     (gives : C → ℕ → C → Type 0) (text : Option Text) (first last : D) (outside : ClockAndWriterChange C) (result : Result Counts BatchFault) : Type 0 where
-  pub told : ChangesOnlyByRowCalls acts form gives text first last outside result
-  pub kept : BatchRefinesModel honest stands form step gives text first last outside result
-  pub left : IsBatchCrashSafe honest stands leaves form step gives text first last outside result
+  pub changed_only_by_calls : ChangesOnlyByRowCalls acts form gives text first last outside result
+  pub refines_model : BatchRefinesModel honest stands form step gives text first last outside result
+  pub crash_safe : IsBatchCrashSafe honest stands leaves form step gives text first last outside result

@@ -20,5 +20,5 @@ counts_with_answer counts answer = record {
 }
 
 -- The end line of a batch with these counts, `end,OK,AGAIN,NO` and a line feed.
-abbrev pub counts_line : Counts → Text
-counts_line counts = comma_separated_text (codes "end" ∷ decimal counts.ok ∷ decimal counts.again ∷ decimal counts.no ∷ []) ++ 10 ∷ []
+abbrev pub end_line_with_counts : Counts → Text
+end_line_with_counts counts = comma_separated_text (codes "end" ∷ decimal counts.ok ∷ decimal counts.again ∷ decimal counts.no ∷ []) ++ 10 ∷ []

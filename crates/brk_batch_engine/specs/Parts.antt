@@ -5,8 +5,8 @@ use Rattle.brk_money.specs.Spelling.{Text}
 use Rattle.brk_money.specs.declared.fault.Fault.TheVariants.{Memory}
 use Rattle.brk_model.specs.Answers.{Fields}
 use Rattle.brk_model.specs.Batch.{HasNoHeader}
-use Rattle.brk_model.specs.Input.{end_record_after}
-use Rattle.brk_batch_engine.specs.Counts.{counts_line}
+use Rattle.brk_model.specs.Input.{correct_end_record}
+use Rattle.brk_batch_engine.specs.Counts.{end_line_with_counts}
 use Rattle.brk_io.specs.declared.batch_fault.FaultKind.{FaultKind}
 use Rattle.brk_io.specs.declared.batch_fault.FaultKind.TheVariants as kinds
 use Rattle.brk_batch_engine.specs.declared.counts.Counts.{Counts}
@@ -25,8 +25,8 @@ LineWriteFailsWith old new text kinds.BadEnd = ⊥
 -- nothing was written. `Write`: the record is correct, and the writer got a prefix of the end line,
 -- perhaps all of it. `Desk`: memory ran out, and nothing was written. No other fault is possible.
 abbrev pub EndRecordFailsWith : Option Text → Option Text → Fields → ℕ → Counts → FaultKind → Type 0
-EndRecordFailsWith old new row n counts kinds.BadEnd = (row ≡ end_record_after n → ⊥) × Appends old new []
-EndRecordFailsWith old new row n counts kinds.Write = (row ≡ end_record_after n) × ((k : ℕ) × Appends old new (take k (counts_line counts)))
+EndRecordFailsWith old new row n counts kinds.BadEnd = (row ≡ correct_end_record n → ⊥) × Appends old new []
+EndRecordFailsWith old new row n counts kinds.Write = (row ≡ correct_end_record n) × ((k : ℕ) × Appends old new (take k (end_line_with_counts counts)))
 EndRecordFailsWith old new row n counts (kinds.Desk fault) = (fault ≡ Memory) × Appends old new []
 EndRecordFailsWith old new row n counts kinds.Read = ⊥
 EndRecordFailsWith old new row n counts kinds.BadHeader = ⊥

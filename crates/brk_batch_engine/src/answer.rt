@@ -42,7 +42,7 @@ fn row_key(batch: &BatchName, n: u64) -> Result<Key, Fault>
 /// Fails with `Memory` or `Store`; the clock was then read at most once, for the call that failed.
 /// The desk then represents what it represented before, but a crash may expose the row as
 /// committed.
-pub fn answer_row<C: Clock, D: Rows>(
+pub fn execute_row<C: Clock, D: Rows>(
     alloc: Global,
     desk: &mut D::Desk,
     clock: &mut C,
@@ -52,11 +52,11 @@ pub fn answer_row<C: Clock, D: Rows>(
 ) -> Result<RowAnswer<D::Reply>, Fault>
     requires first { 1 ≤ n }
     requires last { n ≤ 67108864 }
-    ensures earlier { D.honest desk.new → D.honest desk.old }
-    ensures ok { IfOk result (λ answer. RowHasAnswer D.honest (RepresentsDurably D.stands D.leaves) D.acts D.step C.gives (D.form (fields_of row.now)) batch.now n
+    ensures disk_was_clean { D.honest desk.new → D.honest desk.old }
+    ensures ok { IfOk result (λ answer. RowHasAnswer D.honest (RepresentsDurably D.stands D.stays_durable) D.acts D.step C.gives (D.form (fields_of row.now)) batch.now n
         (answer_in_model D.told answer) desk.old desk.new clock.old clock.new) }
-    ensures kept { OnErr result (PreservesRepresentedBases D.honest D.stands desk.old desk.new) }
-    ensures failed { IfErr result (λ fault. RowFailsWith D.honest D.stands D.leaves D.acts D.step C.gives (D.form (fields_of row.now)) batch.now n fault
+    ensures represented_at_error { OnErr result (PreservesRepresentedBases D.honest D.stands desk.old desk.new) }
+    ensures failed { IfErr result (λ fault. RowFailsWith D.honest D.stands D.stays_durable D.acts D.step C.gives (D.form (fields_of row.now)) batch.now n fault
         desk.old desk.new clock.old clock.new) }
     ensures fault { IfErr result IsCallFault }
 {

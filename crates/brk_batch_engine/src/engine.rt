@@ -4,19 +4,19 @@ ghost use Rattle.csv.specs.Reading.{reader_state, source_of};
 ghost use Rattle.csv.specs.Records.{fields_of};
 ghost use Rattle.brk_money.specs.declared.refusal.Refusal.TheVariants.{BadText};
 ghost use Rattle.brk_model.specs.Commands.{Refused};
-ghost use Rattle.brk_model.specs.Input.{IsBatchName, end_record_after, batch_header, input_text};
+ghost use Rattle.brk_model.specs.Input.{IsBatchName, correct_end_record, batch_header, input_text};
 ghost use Rattle.brk_model.specs.Lines.{answer_line};
 ghost use Rattle.brk_batch_engine.specs.Answers.{answer_in_model};
 ghost use Rattle.brk_batch_engine.specs.Batch.{BatchPost, BatchRefinesModel, IsBatchCrashSafe, ChangesOnlyByRowCalls};
-ghost use Rattle.brk_batch_engine.specs.Counts.{counts_line};
+ghost use Rattle.brk_batch_engine.specs.Counts.{end_line_with_counts};
 ghost use Rattle.brk_batch_engine.specs.Parts.{CutRowEndsBatchWith, EndRecordFailsWith, HeaderReadFailsWith, LineWriteFailsWith};
 ghost use Rattle.brk_batch_engine.specs.Reading.{IsBatchReader, ReaderIsAfterRecords};
 
-use crate::answer::{RowAnswer, answer_row};
+use crate::answer::{RowAnswer, execute_row};
 use crate::counts::Counts;
 use crate::lines::{end_line_of_counts, row_answer_line};
 use crate::records::{
-    MOST_BYTES, has_end_marker, header_name, is_correct_end_record, open_records, read_record,
+    MAXIMUM_INPUT_BYTES, begins_with_end_field, batch_name_in_header, is_correct_end_record, new_record_reader, read_record,
 };
 use crate::rows::Rows;
 use brk_io::{BatchFault, Clock, FaultKind, write_all_bytes};
@@ -50,7 +50,7 @@ fn write_answer_line<W: Write, D: Rows>(
 
 // Writes the line that refuses row `n`, after which the input has no record. Returns the fault that
 // ends the batch: `NoEnd`, or `Write` or `Desk(Memory)` if the line could not be written.
-fn refuse_cut_row<W: Write, D: Rows>(alloc: Global, writer: &mut W, n: u64) -> FaultKind
+fn write_refusal_of_cut_row<W: Write, D: Rows>(alloc: Global, writer: &mut W, n: u64) -> FaultKind
     ensures { CutRowEndsBatchWith (W.contents writer.old) (W.contents writer.new) (answer_line n (Refused BadText)) result }
 {
     match write_answer_line::<W, D>(alloc, writer, n, &RowAnswer::Refused(Refusal::BadText)) {
@@ -64,15 +64,15 @@ fn refuse_cut_row<W: Write, D: Rows>(alloc: Global, writer: &mut W, n: u64) -> F
 //
 // Fails with `BadEnd` or `Desk(Memory)` and nothing written, or with `Write` after a prefix of the
 // line.
-fn check_end_and_write_line<W: Write>(
+fn check_end_record_and_write_end_line<W: Write>(
     alloc: Global,
     writer: &mut W,
     row: &ByteRecord,
     n: u64,
     counts: Counts,
 ) -> Result<(), FaultKind>
-    ensures right { OnOk result (fields_of row.now ≡ end_record_after n) }
-    ensures ok { OnOk result (Appends (W.contents writer.old) (W.contents writer.new) (counts_line counts)) }
+    ensures right { OnOk result (fields_of row.now ≡ correct_end_record n) }
+    ensures ok { OnOk result (Appends (W.contents writer.old) (W.contents writer.new) (end_line_with_counts counts)) }
     ensures err { IfErr result (λ kind. EndRecordFailsWith (W.contents writer.old) (W.contents writer.new) (fields_of row.now) n counts kind) }
 {
     if !is_correct_end_record(row, n) {
@@ -90,7 +90,7 @@ fn check_end_and_write_line<W: Write>(
 // Reads the header and returns the name of the batch.
 //
 // Fails with `BadHeader`, `Read` or `Desk(Memory)`.
-fn read_header<R: Read>(alloc: Global, records: &mut Reader<R>) -> Result<BatchName, FaultKind>
+fn read_batch_name<R: Read>(alloc: Global, records: &mut Reader<R>) -> Result<BatchName, FaultKind>
     requires { IsBatchReader records.old }
     ensures setup { OnOk result (IsBatchReader records.new) }
     ensures named { IfOk result (λ name. IsBatchName name) }
@@ -103,7 +103,7 @@ fn read_header<R: Read>(alloc: Global, records: &mut Reader<R>) -> Result<BatchN
     if !read_record(records, &mut header)? {
         return Err(FaultKind::BadHeader);
     }
-    match header_name(alloc, &header) {
+    match batch_name_in_header(alloc, &header) {
         Ok(Some(name)) => Ok(name),
         Ok(None) => Err(FaultKind::BadHeader),
         Err(_) => Err(FaultKind::Desk(Fault::Memory)),
@@ -113,7 +113,7 @@ fn read_header<R: Read>(alloc: Global, records: &mut Reader<R>) -> Result<BatchN
 // Executes the rows after the header of the batch `name`, writes their lines and the end line, and
 // returns the counts of the answers. Each record has at least one byte, so the number of rows is at
 // most the number of bytes.
-fn run_rows<R: Read, W: Write, C: Clock, D: Rows>(
+fn execute_rows_and_write_lines<R: Read, W: Write, C: Clock, D: Rows>(
     alloc: Global,
     records: &mut Reader<R>,
     name: &BatchName,
@@ -124,7 +124,7 @@ fn run_rows<R: Read, W: Write, C: Clock, D: Rows>(
     requires setup { IsBatchReader records.old }
     requires named { IsBatchName name.now }
     ensures { (text : Option (List ℕ)) → ReaderIsAfterRecords text (batch_header name.now ∷ []) (reader_state records.old) (source_of R.remaining records.old)
-        → BatchPost D.honest D.stands D.leaves D.acts D.form D.step C.gives text desk.old desk.new
+        → BatchPost D.honest D.stands D.stays_durable D.acts D.form D.step C.gives text desk.old desk.new
         (record { clock = clock.old; later = clock.new; old = W.contents writer.old; new = W.contents writer.new }) result }
 {
     let mut counts = Counts::NONE;
@@ -140,9 +140,9 @@ fn run_rows<R: Read, W: Write, C: Clock, D: Rows>(
             kind: FaultKind::NoEnd,
         });
     }
-    for settled in 0..MOST_BYTES {
-        if has_end_marker(&row) {
-            if let Err(kind) = check_end_and_write_line(alloc, writer, &row, settled, counts) {
+    for settled in 0..MAXIMUM_INPUT_BYTES {
+        if begins_with_end_field(&row) {
+            if let Err(kind) = check_end_record_and_write_end_line(alloc, writer, &row, settled, counts) {
                 return Err(BatchFault {
                     rows: settled,
                     kind,
@@ -161,10 +161,10 @@ fn run_rows<R: Read, W: Write, C: Clock, D: Rows>(
         };
         let n = settled + 1;
         if !has_next {
-            let kind = refuse_cut_row::<W, D>(alloc, writer, n);
+            let kind = write_refusal_of_cut_row::<W, D>(alloc, writer, n);
             return Err(BatchFault { rows: n, kind });
         }
-        let told = match answer_row::<C, D>(alloc, desk, clock, name, n, &row) {
+        let told = match execute_row::<C, D>(alloc, desk, clock, name, n, &row) {
             Ok(told) => told,
             Err(fault) => {
                 return Err(BatchFault {
@@ -180,7 +180,7 @@ fn run_rows<R: Read, W: Write, C: Clock, D: Rows>(
         mem::swap(&mut row, &mut after);
     }
     Err(BatchFault {
-        rows: MOST_BYTES,
+        rows: MAXIMUM_INPUT_BYTES,
         kind: FaultKind::Desk(Fault::Memory),
     })
 }
@@ -190,23 +190,23 @@ fn run_rows<R: Read, W: Write, C: Clock, D: Rows>(
 ///
 /// At an error returns the fault with the number of decided rows, whose changes remain. After a
 /// fault of the desk, a crash may also expose the next row as committed.
-pub fn run<R: Read + Drop, W: Write, C: Clock, D: Rows>(
+pub fn execute_batch_on_desk<R: Read + Drop, W: Write, C: Clock, D: Rows>(
     alloc: Global,
     reader: R,
     writer: &mut W,
     clock: &mut C,
     desk: &mut D::Desk,
 ) -> Result<Counts, BatchFault>
-    ensures told { ChangesOnlyByRowCalls D.acts D.form C.gives (option_map input_text (R.remaining reader)) desk.old desk.new
+    ensures changed_only_by_calls { ChangesOnlyByRowCalls D.acts D.form C.gives (option_map input_text (R.remaining reader)) desk.old desk.new
         (record { clock = clock.old; later = clock.new; old = W.contents writer.old; new = W.contents writer.new }) result }
-    ensures kept { BatchRefinesModel D.honest D.stands D.form D.step C.gives (option_map input_text (R.remaining reader)) desk.old desk.new
+    ensures refines_model { BatchRefinesModel D.honest D.stands D.form D.step C.gives (option_map input_text (R.remaining reader)) desk.old desk.new
         (record { clock = clock.old; later = clock.new; old = W.contents writer.old; new = W.contents writer.new }) result }
-    ensures left { IsBatchCrashSafe D.honest D.stands D.leaves D.form D.step C.gives (option_map input_text (R.remaining reader)) desk.old desk.new
+    ensures crash_safe { IsBatchCrashSafe D.honest D.stands D.stays_durable D.form D.step C.gives (option_map input_text (R.remaining reader)) desk.old desk.new
         (record { clock = clock.old; later = clock.new; old = W.contents writer.old; new = W.contents writer.new }) result }
 {
-    let mut records = open_records(alloc, reader);
-    match read_header(alloc, &mut records) {
-        Ok(name) => run_rows::<Take<R>, W, C, D>(alloc, &mut records, &name, writer, clock, desk),
+    let mut records = new_record_reader(alloc, reader);
+    match read_batch_name(alloc, &mut records) {
+        Ok(name) => execute_rows_and_write_lines::<Take<R>, W, C, D>(alloc, &mut records, &name, writer, clock, desk),
         Err(kind) => Err(BatchFault { rows: 0, kind }),
     }
 }

@@ -14,6 +14,6 @@ mod rows;
 pub use answer::RowAnswer;
 pub use brk_io::{BatchFault, Clock, FaultKind};
 pub use counts::Counts;
-pub use engine::run;
-pub use records::MOST_BYTES;
+pub use engine::execute_batch_on_desk;
+pub use records::MAXIMUM_INPUT_BYTES;
 pub use rows::Rows;

@@ -2,7 +2,7 @@ ghost use Rattle.std.specs.Prelude.{◌≡◌, IfOk, string_bytes};
 ghost use Rattle.brk_model.specs.Commands.{Reply};
 ghost use Rattle.brk_model.specs.Lines.{answer_line, answer_text};
 ghost use Rattle.brk_batch_engine.specs.Answers.{answer_in_model};
-ghost use Rattle.brk_batch_engine.specs.Counts.{counts_line};
+ghost use Rattle.brk_batch_engine.specs.Counts.{end_line_with_counts};
 
 use crate::answer::RowAnswer;
 use crate::counts::Counts;
@@ -43,7 +43,7 @@ pub fn row_answer_line<D: Rows>(
 
 /// Returns the end line of a batch with these counts, with its line feed.
 pub fn end_line_of_counts(alloc: Global, counts: Counts) -> Result<Vec<u8>, AllocError>
-    ensures { IfOk result (λ line. line.items ≡ counts_line counts) }
+    ensures { IfOk result (λ line. line.items ≡ end_line_with_counts counts) }
 {
     let mut line = Vec::from_slice(alloc, b"end,")?;
     let mut buffer = Buffer::new();

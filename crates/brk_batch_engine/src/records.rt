@@ -4,7 +4,7 @@ ghost use Rattle.csv.specs.Reading.{reader_state, source_of};
 ghost use Rattle.csv.specs.Records.{field_at, fields_of};
 ghost use Rattle.brk_model.specs.Answers.{Fields};
 ghost use Rattle.brk_money.specs.declared.fault.Fault.TheVariants.{Memory};
-ghost use Rattle.brk_model.specs.Input.{HasExactlyRecords, IsEndRecord, IsBatchName, end_record_after, batch_header, input_text};
+ghost use Rattle.brk_model.specs.Input.{HasExactlyRecords, IsEndRecord, IsBatchName, correct_end_record, batch_header, input_text};
 ghost use Rattle.brk_ref.specs.Fields.{texts_of_fields};
 ghost use Rattle.brk_batch_engine.specs.Reading.{IsBatchReader, ReaderIsAfterRecords};
 
@@ -17,18 +17,18 @@ use std::alloc::{AllocError, Global};
 use std::io::{Read, Take};
 
 /// The greatest number of bytes of an input that are read. The rest of a longer input is ignored.
-pub const MOST_BYTES: u64 = 67_108_864;
+pub const MAXIMUM_INPUT_BYTES: u64 = 67_108_864;
 
-/// Returns a reader of the records in the first `MOST_BYTES` bytes of an input. Records are
+/// Returns a reader of the records in the first `MAXIMUM_INPUT_BYTES` bytes of an input. Records are
 /// comma-separated, have any number of fields, and none of them is a header row.
-pub fn open_records<R: Read + Drop>(alloc: Global, reader: R) -> Reader<Take<R>>
+pub fn new_record_reader<R: Read + Drop>(alloc: Global, reader: R) -> Reader<Take<R>>
     ensures setup { IsBatchReader result }
     ensures start { ReaderIsAfterRecords (option_map input_text (R.remaining reader)) [] (reader_state result) (source_of (take_remaining R.remaining) result) }
 {
     ReaderBuilder::new()
         .has_headers(false)
         .flexible(true)
-        .from_reader(alloc, reader.take(MOST_BYTES))
+        .from_reader(alloc, reader.take(MAXIMUM_INPUT_BYTES))
 }
 
 /// Reads the next record into `row` and returns true, or returns false if no record is left.
@@ -95,7 +95,7 @@ fn has_exactly_two_fields(row: &ByteRecord, first: &[u8], second: &[u8]) -> bool
 }
 
 /// Returns true if the first field of a record is `end`, whatever its other fields.
-pub fn has_end_marker(row: &ByteRecord) -> bool
+pub fn begins_with_end_field(row: &ByteRecord) -> bool
     ensures { IsTrue result ↔ IsEndRecord (fields_of row.now) }
 {
     field_equals(row, 0, b"end")
@@ -103,7 +103,7 @@ pub fn has_end_marker(row: &ByteRecord) -> bool
 
 /// Returns true if a record is the correct end record after `n` rows.
 pub fn is_correct_end_record(row: &ByteRecord, n: u64) -> bool
-    ensures { IsTrue result ↔ (fields_of row.now ≡ end_record_after n) }
+    ensures { IsTrue result ↔ (fields_of row.now ≡ correct_end_record n) }
 {
     let mut buffer = Buffer::new();
     has_exactly_two_fields(row, b"end", buffer.format(n).as_bytes())
@@ -112,7 +112,7 @@ pub fn is_correct_end_record(row: &ByteRecord, n: u64) -> bool
 /// Returns the name of the batch if the record is a header, otherwise `None`. Fails with `Memory`
 /// only.
 #[tactic(auto, using(crate::proofs::Reading::header_name_is))]
-pub fn header_name(alloc: Global, row: &ByteRecord) -> Result<Option<BatchName>, Fault>
+pub fn batch_name_in_header(alloc: Global, row: &ByteRecord) -> Result<Option<BatchName>, Fault>
     ensures header { IfOk result (λ found. MatchOption found
         ((name : List ℕ) → IsBatchName name → fields_of row.now ≡ batch_header name → ⊥)
         (λ name. IsBatchName name × (fields_of row.now ≡ batch_header name))) }

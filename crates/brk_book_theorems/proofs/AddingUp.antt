@@ -20,8 +20,8 @@ use Rattle.brk_model.specs.Records.{Account, Broker}
 use Rattle.brk_model.specs.Sheets.{sheets, tables_sorted_by_key}
 use Rattle.brk_model.specs.Tables.{AccountRow, BrokerRow, HoldingRow, SummaryRow, account_row, broker_row, holding_row, summary_rows, tables_of_base_in_schema, trade_row}
 use Rattle.brk_book_theorems.specs.Books.{HasDistinctAccountIds, BooksInvariant}
-use Rattle.brk_book_theorems.specs.Sums.{SumsMatch, BalanceMatchesCashRows, BrokerTotalsMatch, SummaryMatchesLots, LotHasSummary, lot_sum_of_position, is_lot_of_position}
-use Rattle.brk_book_theorems.specs.TradeReads.{holding_rows_of_position, position_lots, lot_of_row}
+use Rattle.brk_book_theorems.specs.Sums.{TableSumsMatchTheirRows, BalanceMatchesCashRows, BrokerTotalsMatch, SummaryMatchesLots, LotHasSummary, lot_row_quantity_sum_of_position, is_lot_of_position}
+use Rattle.brk_book_theorems.specs.TradeReads.{holding_rows_of_position, lots_of_position, lot_of_row}
 use Rattle.brk_book_theorems.proofs.Bools.{numbers_back}
 use Rattle.brk_book_theorems.proofs.Holding.{total_is}
 use Rattle.brk_book_theorems.proofs.LotLives.{lots_live_on}
@@ -87,13 +87,13 @@ balances_add base books =
 
 -- ---- what is held
 
-lots_held : (base : Base) (account : ℕ) (symbol : Text) → lot_quantity_sum (position_lots (sheets base) account symbol) ≡ lot_sum_of_position (sheets base) account symbol
+lots_held : (base : Base) (account : ℕ) (symbol : Text) → lot_quantity_sum (lots_of_position (sheets base) account symbol) ≡ lot_row_quantity_sum_of_position (sheets base) account symbol
 lots_held base account symbol =
     let own : List HoldingRow = filter (is_lot_of_position account symbol) (sheets base).holdings in
     total-map (λ l. l.qty) lot_of_row (holding_rows_of_position (sheets base) account symbol)
     ∙ total-sorted (λ r. number r.stamp ∷ number r.trade ∷ []) (λ h. h.qty) own
 
-pub held_is : (base : Base) (account : ℕ) (symbol : Text) → BooksInvariant base → lot_sum_of_position (sheets base) account symbol ≡ holding_summary_quantity (completed_trades base) account symbol
+pub held_is : (base : Base) (account : ℕ) (symbol : Text) → BooksInvariant base → lot_row_quantity_sum_of_position (sheets base) account symbol ≡ holding_summary_quantity (completed_trades base) account symbol
 held_is base account symbol books =
     sym (lots_held base account symbol) ∙ total_is base account symbol books
 
@@ -212,10 +212,10 @@ lots_known base books =
     (All-filter (λ t. AccountOfTradeExists base t × SecurityOfTradeExists base t) is_completed base.trades
     (All-both (AccountOfTradeExists base) (SecurityOfTradeExists base) base.trades books.accounts books.securities))))
 
-nothing_held : (base : Base) (account : ℕ) (symbol : Text) → BooksInvariant base → lot_sum_of_position (sheets base) account symbol ≡ pos 0 → filter (is_lot_of_position account symbol) (sheets base).holdings ≡ []
+nothing_held : (base : Base) (account : ℕ) (symbol : Text) → BooksInvariant base → lot_row_quantity_sum_of_position (sheets base) account symbol ≡ pos 0 → filter (is_lot_of_position account symbol) (sheets base).holdings ≡ []
 nothing_held base account symbol books e =
-    let position : position_lots (sheets base) account symbol ≡ [] =
-    no_lots (position_lots (sheets base) account symbol) (position_read base account symbol books) (lots_held base account symbol ∙ e) in
+    let position : lots_of_position (sheets base) account symbol ≡ [] =
+    no_lots (lots_of_position (sheets base) account symbol) (position_read base account symbol books) (lots_held base account symbol ∙ e) in
     none_sorted _ (filter (is_lot_of_position account symbol) (sheets base).holdings) (none_mapped lot_of_row (holding_rows_of_position (sheets base) account symbol) position)
 
 zero_is : (q : ℤ) → is_zero q ≡ true → q ≡ pos 0
@@ -243,12 +243,12 @@ all_summed base books =
 
 -- ---- all of it
 
-pub sums_add_up : (base : Base) → BooksInvariant base → SumsMatch (sheets base)
+pub sums_add_up : (base : Base) → BooksInvariant base → TableSumsMatchTheirRows (sheets base)
 sums_add_up base books = record {
   brokers = brokers_add base books;
   balances = balances_add base books;
   summaries = summaries_add base books;
   summed = all_summed base books;
   positions = λ account symbol. position_read base account symbol books;
-  lives = lots_live_on base books;
+  lot_histories = lots_live_on base books;
 }

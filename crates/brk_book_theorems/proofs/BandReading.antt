@@ -10,7 +10,7 @@ use Rattle.brk_money.specs.Kinds.{is_same_trade_type}
 use Rattle.brk_money.specs.declared.trade_type.TradeType.{TradeType}
 use Rattle.brk_model.specs.Lists.{insert_by, sort_by}
 use Rattle.brk_model.specs.Records.{Band}
-use Rattle.brk_model.specs.Base.{Base, commission_band_for}
+use Rattle.brk_model.specs.Base.{Base, commission_band_for_quantity}
 use Rattle.brk_model.specs.Keys.{KeyPart, is_row_key_less, rows_sorted_by_key, band_key}
 use Rattle.brk_model.specs.Sheets.{sheets, tables_sorted_by_key}
 use Rattle.brk_model.specs.Tables.{tables_of_base_in_schema}
@@ -113,7 +113,7 @@ only_band tier kind exchange qty (b ∷ bs) h = (
     other c apart e false g = g
     other c apart e true g = absurd (not_both (bands_overlap b c) (both_meet tier kind exchange qty b c e g) apart)
 
-pub reads_band : (base : Base) (tier : ℕ) (kind : TradeType) (exchange : Text) (qty : ℕ) → BooksInvariant base → band_of_quantity (sheets base) tier kind exchange qty ≡ commission_band_for base tier kind exchange qty
+pub reads_band : (base : Base) (tier : ℕ) (kind : TradeType) (exchange : Text) (qty : ℕ) → BooksInvariant base → band_of_quantity (sheets base) tier kind exchange qty ≡ commission_band_for_quantity base tier kind exchange qty
 unfolding tables_of_base_in_schema tables_sorted_by_key
 reads_band base tier kind exchange qty books =
     find-filter (λ r. (r.tier == tier) && is_same_trade_type r.kind kind && bytes_eq r.exchange exchange) (λ r. nat_le r.from_qty qty && nat_le qty r.to_qty) (rows_sorted_by_key band_key base.bands)

@@ -15,8 +15,8 @@ use Rattle.brk_model.specs.Commands.{Tick}
 use Rattle.brk_model.specs.Feed.{is_triggered_by_tick, is_triggering_price, base_after_tick, base_after_ticks}
 use Rattle.brk_model.specs.Tests.{stamp_of_next_command, status_check}
 use Rattle.brk_money.specs.declared.refusal.Refusal.TheVariants.{NoTrade}
-use Rattle.brk_model.specs.Names.{AreNumberedFrom}
-use Rattle.brk_book_theorems.specs.Books.{CompletionBooksInvariant, HasNoCompletionIfSubmitted, IsTradeUpToLastStamp, IsNotCompletion, HasOneStatusChange, HasOneChangeIfPending}
+use Rattle.brk_model.specs.Names.{TradesAreNumberedFrom}
+use Rattle.brk_book_theorems.specs.Books.{CompletionBooksInvariant, HasNoCompletionIfSubmitted, TradeStampIsAtMostLast, IsNotCompletion, HasOneStatusChange, HasOneStatusChangeIfPending}
 use Rattle.brk_book_theorems.proofs.Same.{All-append, All-map, All-of}
 use Rattle.brk_book_theorems.proofs.Places.{FoundAt, find-at}
 use Rattle.brk_book_theorems.proofs.Numbering.{numbered_after, pending_not_completed, status_of_marked}
@@ -24,11 +24,11 @@ use Rattle.brk_book_theorems.proofs.Tested.{not_not}
 
 -- ---- the last stamp moves on
 
-early_then : (last : Option ℕ) (now : ℕ) (t : Trade) → IsTradeUpToLastStamp last t → IsTradeUpToLastStamp (Some (option_map_or (λ l. max now (l + 1)) last now)) t
+early_then : (last : Option ℕ) (now : ℕ) (t : Trade) → TradeStampIsAtMostLast last t → TradeStampIsAtMostLast (Some (option_map_or (λ l. max now (l + 1)) last now)) t
 early_then None now t e = absurd e
 early_then (Some l) now t e = omega arith
 
-pub later : (base : Base) (now : ℕ) → AllByRecursion (IsTradeUpToLastStamp base.last) (completed_trades base) → AllByRecursion (IsTradeUpToLastStamp (Some (stamp_of_next_command base now))) (completed_trades base)
+pub later : (base : Base) (now : ℕ) → AllByRecursion (TradeStampIsAtMostLast base.last) (completed_trades base) → AllByRecursion (TradeStampIsAtMostLast (Some (stamp_of_next_command base now))) (completed_trades base)
 later base now h = All-map (completed_trades base) (λ t e. early_then base.last now t e) h
 
 -- moments stay in order where a stamp comes and no completion
@@ -63,7 +63,7 @@ waiting_mark Pending e = refl
 waiting_mark Canceled e = refl
 
 -- nor was one that waited
-pub moved_to_market : (stamp : ℕ) (t : Trade) → HasOneChangeIfPending t → has_status Pending t ≡ true → HasNoCompletionIfSubmitted (trade_with_status_change stamp Submitted t)
+pub moved_to_market : (stamp : ℕ) (t : Trade) → HasOneStatusChangeIfPending t → has_status Pending t ≡ true → HasNoCompletionIfSubmitted (trade_with_status_change stamp Submitted t)
 moved_to_market stamp t w p s = All-append IsNotCompletion t.marks (record { stamp = stamp; status = Submitted } ∷ []) (one t.marks refl (w p)) (refl, tt)
   where
     one : (marks : List StatusChange) → t.marks ≡ marks → HasOneStatusChange marks → AllByRecursion IsNotCompletion t.marks
@@ -80,12 +80,12 @@ first_mark t m e s p = rw e (s, tt)
 -- ---- a cancel
 
 -- an id of a trade that is not completed is of no completed one
-pub named_open : (base : Base) (id : ℕ) (t : Trade) → AreNumberedFrom 1 base.trades → trade_with_id base id ≡ Some t → is_completed t ≡ false
+pub named_open : (base : Base) (id : ℕ) (t : Trade) → TradesAreNumberedFrom 1 base.trades → trade_with_id base id ≡ Some t → is_completed t ≡ false
     → AllByRecursion (λ u. (u.id == id) ≡ true → is_completed u ≡ false) base.trades
 named_open base id t n e w =
     let f : FoundAt Trade (λ u. u.id == id) t base.trades = find-at (λ u. u.id == id) base.trades t e in
     let same : t.id ≡ id = eqb-true t.id id f.passes in
-    let behind = subst (λ m. AllByRecursion (λ u. (u.id == m) ≡ false) f.after) same (numbered_after 1 f.before t f.after (subst (AreNumberedFrom 1) f.stands n)) in
+    let behind = subst (λ m. AllByRecursion (λ u. (u.id == m) ≡ false) f.after) same (numbered_after 1 f.before t f.after (subst (TradesAreNumberedFrom 1) f.stands n)) in
     let others : (us : List Trade) → AllByRecursion (λ u. (u.id == id) ≡ false) us → AllByRecursion (λ u. (u.id == id) ≡ true → is_completed u ≡ false) us =
     λ us h. All-map us (λ u other same. false_true (u.id == id) other same) h in
     subst (AllByRecursion (λ u. (u.id == id) ≡ true → is_completed u ≡ false)) (sym f.stands)
@@ -95,7 +95,7 @@ named_open base id t n e w =
     false_true b other same = absurd (cc)
 
 -- the trade that a cancel names waits
-pub named_waits : (base : Base) (id : ℕ) (o : Option Trade) → AreNumberedFrom 1 base.trades → trade_with_id base id ≡ o
+pub named_waits : (base : Base) (id : ℕ) (o : Option Trade) → TradesAreNumberedFrom 1 base.trades → trade_with_id base id ≡ o
     → AllByRecursion (λ test. test.0 ≡ false) (option_map_or (λ t. status_check (has_status Pending t) t ∷ []) o ((true, NoTrade) ∷ []))
     → AllByRecursion (λ t. (t.id == id) ≡ true → is_completed t ≡ false) base.trades
 named_waits base id None n e k = let h : true ≡ false = k.0 in absurd (cc)
@@ -120,7 +120,7 @@ unfolding base_after_ticks
 completed_ticks base stamp [] = refl
 completed_ticks base stamp (tick ∷ ticks) = completed_ticks (base_after_tick stamp base tick) stamp ticks ∙ completed_tick base stamp tick
 
-pub completions_tick : (stamp : ℕ) (tick : Tick) (ts : List Trade) → AllByRecursion HasOneChangeIfPending ts → AllByRecursion HasNoCompletionIfSubmitted ts
+pub completions_tick : (stamp : ℕ) (tick : Tick) (ts : List Trade) → AllByRecursion HasOneStatusChangeIfPending ts → AllByRecursion HasNoCompletionIfSubmitted ts
     → AllByRecursion HasNoCompletionIfSubmitted (update_where (is_triggered_by_tick tick) (trade_with_status_change stamp Submitted) ts)
 completions_tick stamp tick [] w h = tt
 completions_tick stamp tick (t ∷ ts) w h = (by_test (is_triggered_by_tick tick t) refl, completions_tick stamp tick ts w.1 h.1)

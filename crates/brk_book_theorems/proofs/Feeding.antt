@@ -15,11 +15,11 @@ use Rattle.brk_model.specs.Tables.{LastTradeRow, tables_of_base_in_schema, secur
 use Rattle.brk_model.specs.Keys.{rows_sorted_by_key, security_key, last_trade_key, summary_key}
 use Rattle.brk_model.specs.Sheets.{sheets, tables_sorted_by_key}
 use Rattle.brk_model.specs.Commands.{Tick}
-use Rattle.brk_model.specs.Feed.{is_triggered_by_tick, is_triggering_price, security_after_tick, triggered_trade_ids, base_with_ticked_security, base_after_tick, base_after_ticks}
+use Rattle.brk_model.specs.Feed.{is_triggered_by_tick, is_triggering_price, security_after_tick, triggered_trade_ids, base_with_security_after_tick, base_after_tick, base_after_ticks}
 use Rattle.brk_changes.specs.Changes.{tables_with_last_trade_replaced}
-use Rattle.brk_model.specs.Names.{AreNumberedFrom}
-use Rattle.brk_book_theorems.specs.Books.{HasOneChangeIfPending, HasOneStatusChange, HasDistinctSymbols}
-use Rattle.brk_book_theorems.specs.Trading.{tables_after_cancel, with_trades_submitted, last_trade_row_after_tick, with_tick_price, tables_after_tick, tables_after_feed, ids_triggered_by_feed}
+use Rattle.brk_model.specs.Names.{TradesAreNumberedFrom}
+use Rattle.brk_book_theorems.specs.Books.{HasOneStatusChangeIfPending, HasOneStatusChange, HasDistinctSymbols}
+use Rattle.brk_book_theorems.specs.Trading.{tables_after_cancel, tables_with_trades_submitted, last_trade_row_after_tick, tables_with_last_trade_after_tick, tables_after_tick, tables_after_feed, trade_ids_triggered_by_feed}
 use Rattle.brk_book_theorems.proofs.Order.{by_key-map}
 use Rattle.brk_book_theorems.proofs.Same.{NonePass, find-All, All-map, All-mapped, All-of, flat_map-same}
 use Rattle.brk_book_theorems.proofs.Places.{FoundAt, find-at, some_of, map-append, update_where-one, All-updated, is_some-unseen, map-unseen, flat_map-unseen}
@@ -30,14 +30,14 @@ use Rattle.brk_book_theorems.proofs.TermReading.{reads_last_trade}
 
 -- ---- a cancel
 
-pub canceled_rows : (base : Base) (stamp id : ℕ) (t : Trade) → AreNumberedFrom 1 base.trades → AllByRecursion HasOneChangeIfPending base.trades
+pub canceled_rows : (base : Base) (stamp id : ℕ) (t : Trade) → TradesAreNumberedFrom 1 base.trades → AllByRecursion HasOneStatusChangeIfPending base.trades
     → trade_with_id base id ≡ Some t → has_status Pending t ≡ true
     → sheets (base_with_updated_trades (λ u. u.id == id) (trade_with_status_change stamp Canceled) base) ≡ tables_after_cancel stamp id (sheets base)
 canceled_rows base stamp id t n w e p =
     let f : FoundAt Trade (λ u. u.id == id) t base.trades = find-at (λ u. u.id == id) base.trades t e in
     let same : t.id ≡ id = eqb-true t.id id f.passes in
-    let k : AreNumberedFrom 1 (f.before ++ t ∷ f.after) = subst (AreNumberedFrom 1) f.stands n in
-    let one : HasOneStatusChange t.marks = find-All HasOneChangeIfPending (λ u. u.id == id) base.trades t w e p in
+    let k : TradesAreNumberedFrom 1 (f.before ++ t ∷ f.after) = subst (TradesAreNumberedFrom 1) f.stands n in
+    let one : HasOneStatusChange t.marks = find-All HasOneStatusChangeIfPending (λ u. u.id == id) base.trades t w e p in
     let after : NonePass (λ u. u.id == id) f.after = subst (λ m. NonePass (λ u. u.id == m) f.after) same (numbered_after 1 f.before t f.after k) in
     let moved = update_where-one (λ u. u.id == id) (trade_with_status_change stamp Canceled) f.before t f.after f.others f.passes after in
     ap (λ ts. sheets (with_list base (update_where (λ u. u.id == id) (trade_with_status_change stamp Canceled) ts))) f.stands
@@ -74,7 +74,7 @@ priced_last stamp tick xs s ys g h =
     same_key r false = refl
 
 set_rows : (base : Base) (stamp : ℕ) (tick : Tick) (s : Security) → HasDistinctSymbols base.securities → security_with_symbol base tick.symbol ≡ Some s
-    → sheets (base_with_ticked_security stamp tick base) ≡ tables_with_last_trade_replaced (last_trade_row_after_tick stamp tick (last_trade_row s)) (sheets base)
+    → sheets (base_with_security_after_tick stamp tick base) ≡ tables_with_last_trade_replaced (last_trade_row_after_tick stamp tick (last_trade_row s)) (sheets base)
 unfolding tables_of_base_in_schema tables_sorted_by_key shares_of_position holding_summary_quantity balance_of_account trade_count_of_broker commission_total_of_broker
 set_rows base stamp tick s d e =
     let p : Security → Bool = λ u. bytes_eq u.symbol tick.symbol in
@@ -100,7 +100,7 @@ set_rows base stamp tick s d e =
     }
 
 priced_rows : (base : Base) (stamp : ℕ) (tick : Tick) (s : Security) → HasDistinctSymbols base.securities → security_with_symbol base tick.symbol ≡ Some s
-    → sheets (base_with_ticked_security stamp tick base) ≡ with_tick_price stamp tick (sheets base)
+    → sheets (base_with_security_after_tick stamp tick base) ≡ tables_with_last_trade_after_tick stamp tick (sheets base)
 priced_rows base stamp tick s d e =
     set_rows base stamp tick s d e
     ∙ sym (ap (λ o. option_map_or (λ l. tables_with_last_trade_replaced (last_trade_row_after_tick stamp tick l) (sheets base)) o (sheets base)) (reads_last_trade base tick.symbol ∙ ap (option_map last_trade_row) e))
@@ -114,16 +114,16 @@ and_left false b e = e
 -- what ticks rest on, and keep
 pub record Ready (base : Base) : Type 0 where
   pub symbols : HasDistinctSymbols base.securities
-  pub numbered : AreNumberedFrom 1 base.trades
-  pub ways : AllByRecursion HasOneChangeIfPending base.trades
+  pub numbered : TradesAreNumberedFrom 1 base.trades
+  pub ways : AllByRecursion HasOneStatusChangeIfPending base.trades
 
 pub ticked_rows : (base : Base) (stamp : ℕ) (tick : Tick) (s : Security) → Ready base → security_with_symbol base tick.symbol ≡ Some s
     → sheets (base_after_tick stamp base tick) ≡ tables_after_tick stamp tick (sheets base)
 ticked_rows base stamp tick s r e =
-    submitted_all (base_with_ticked_security stamp tick base) stamp (is_triggered_by_tick tick) [] base.trades r.numbered
+    submitted_all (base_with_security_after_tick stamp tick base) stamp (is_triggered_by_tick tick) [] base.trades r.numbered
     (All-of base.trades (λ t k. and_left (has_status Pending t) (bytes_eq t.symbol tick.symbol)
     (and_left (has_status Pending t && bytes_eq t.symbol tick.symbol) (is_triggering_price t.kind t.bid tick.price) k))) r.ways
-    ∙ (λ i. with_trades_submitted stamp (sym (reads_triggered base tick r.numbered) i) (priced_rows base stamp tick s r.symbols e i))
+    ∙ (λ i. tables_with_trades_submitted stamp (sym (reads_triggered base tick r.numbered) i) (priced_rows base stamp tick s r.symbols e i))
 
 symbols_kept : (tick : Tick) (stamp : ℕ) (ss : List Security) → HasDistinctSymbols ss → HasDistinctSymbols (update_where (λ s. bytes_eq s.symbol tick.symbol) (security_after_tick stamp tick) ss)
 symbols_kept tick stamp [] d = tt
@@ -140,7 +140,7 @@ pub ready_tick : (base : Base) (stamp : ℕ) (tick : Tick) → Ready base → Re
 ready_tick base stamp tick r = record {
   symbols = symbols_kept tick stamp base.securities r.symbols;
   numbered = numbered_updated 1 (is_triggered_by_tick tick) (trade_with_status_change stamp Submitted) base.trades (λ t. refl) r.numbered;
-  ways = All-updated HasOneChangeIfPending (is_triggered_by_tick tick) (trade_with_status_change stamp Submitted) base.trades (λ t h. moved_way stamp Submitted t refl) r.ways;
+  ways = All-updated HasOneStatusChangeIfPending (is_triggered_by_tick tick) (trade_with_status_change stamp Submitted) base.trades (λ t h. moved_way stamp Submitted t refl) r.ways;
 }
 
 -- the symbols of ticks are known, and stay so
@@ -163,12 +163,12 @@ fed_rows base stamp (tick ∷ ticks) r k =
     ∙ ap (tables_after_feed stamp ticks) (ticked_rows base stamp tick found.0 r found.1)
 
 -- the trades that ticks trigger
-pub fed_triggered : (base : Base) (stamp : ℕ) (ticks : List Tick) → Ready base → KnowsTicks base ticks → triggered_trade_ids stamp base ticks ≡ ids_triggered_by_feed stamp ticks (sheets base)
+pub fed_triggered : (base : Base) (stamp : ℕ) (ticks : List Tick) → Ready base → KnowsTicks base ticks → triggered_trade_ids stamp base ticks ≡ trade_ids_triggered_by_feed stamp ticks (sheets base)
 unfolding triggered_trade_ids
 fed_triggered base stamp [] r k = refl
 fed_triggered base stamp (tick ∷ ticks) r k =
     let found = some_of (security_with_symbol base tick.symbol) k.0 in
-    let rest : triggered_trade_ids stamp (base_after_tick stamp base tick) ticks ≡ ids_triggered_by_feed stamp ticks (tables_after_tick stamp tick (sheets base)) =
+    let rest : triggered_trade_ids stamp (base_after_tick stamp base tick) ticks ≡ trade_ids_triggered_by_feed stamp ticks (tables_after_tick stamp tick (sheets base)) =
     fed_triggered (base_after_tick stamp base tick) stamp ticks (ready_tick base stamp tick r) (know_after base stamp tick ticks k.1)
-    ∙ ap (ids_triggered_by_feed stamp ticks) (ticked_rows base stamp tick found.0 r found.1) in
+    ∙ ap (trade_ids_triggered_by_feed stamp ticks) (ticked_rows base stamp tick found.0 r found.1) in
     λ i. sym (reads_triggered base tick r.numbered) i ++ rest i

@@ -18,15 +18,15 @@ use Rattle.brk_money.specs.Kinds.{side_of_trade_type}
 use Rattle.brk_money.specs.Spelling.{Text}
 use Rattle.brk_book_theorems.specs.Books.{BooksInvariant}
 use Rattle.brk_book_theorems.specs.OrderReads.{PositionLotsSatisfy}
-use Rattle.brk_book_theorems.specs.TradeReads.{position_lots, summary_quantity, summary_row_of_position}
+use Rattle.brk_book_theorems.specs.TradeReads.{lots_of_position, summary_quantity_or_zero, summary_row_of_position}
 use Rattle.brk_book_theorems.proofs.LotOrder.{position_read, shares_read}
 use Rattle.brk_book_theorems.proofs.SumReading.{total-map}
 use Rattle.brk_book_theorems.proofs.Summaries.{reads_held}
 use Rattle.brk_book_theorems.proofs.Worth.{total-insert}
 
 pub lots_given : (base : Base) (account : ℕ) (symbol : Text) (lifo : Bool) (given : List Lot → Type 0) → BooksInvariant base → PositionLotsSatisfy (sheets base) account symbol lifo given
-    → YieldsPosition given lifo (position_lots (sheets base) account symbol)
-lots_given base account symbol lifo given books k = (k, walk_of (position_lots (sheets base) account symbol) (position_read base account symbol books))
+    → YieldsPosition given lifo (lots_of_position (sheets base) account symbol)
+lots_given base account symbol lifo given books k = (k, walk_of (lots_of_position (sheets base) account symbol) (position_read base account symbol books))
 
 -- ---- in all
 
@@ -42,18 +42,18 @@ deals_summed done account symbol =
     total-map (λ d. signed_by_side d.side d.qty) deal_of_trade (sort_by_key last_status_stamp_of_trade (trades_of_position done account symbol))
     ∙ total-sort (λ t. signed_by_side (side_of_trade_type t.kind) t.qty) _ (trades_of_position done account symbol)
 
-shares_spelled : (base : Base) (account : ℕ) (symbol : Text) → BooksInvariant base → shares_of_lots (position_lots (sheets base) account symbol) ≡ replay (deals_of_position (completed_trades base) account symbol)
+shares_spelled : (base : Base) (account : ℕ) (symbol : Text) → BooksInvariant base → shares_of_lots (lots_of_position (sheets base) account symbol) ≡ replay (deals_of_position (completed_trades base) account symbol)
 unfolding shares_of_position
 shares_spelled base account symbol books = shares_read base account symbol books
 
 -- the lots add up to the trades
-pub total_is : (base : Base) (account : ℕ) (symbol : Text) → BooksInvariant base → lot_quantity_sum (position_lots (sheets base) account symbol) ≡ holding_summary_quantity (completed_trades base) account symbol
+pub total_is : (base : Base) (account : ℕ) (symbol : Text) → BooksInvariant base → lot_quantity_sum (lots_of_position (sheets base) account symbol) ≡ holding_summary_quantity (completed_trades base) account symbol
 total_is base account symbol books =
-    quantities_add_up (deals_of_position (completed_trades base) account symbol) (position_lots (sheets base) account symbol) (shares_spelled base account symbol books)
+    quantities_add_up (deals_of_position (completed_trades base) account symbol) (lots_of_position (sheets base) account symbol) (shares_spelled base account symbol books)
     ∙ deals_summed (completed_trades base) account symbol
 
 -- the number of a summary, or 0 where there is none
-number_or : (o : Option SummaryRow) → unwrap_or (option_map (λ r. r.qty) o) (pos 0) ≡ summary_quantity o
+number_or : (o : Option SummaryRow) → unwrap_or (option_map (λ r. r.qty) o) (pos 0) ≡ summary_quantity_or_zero o
 number_or None = refl
 number_or (Some r) = refl
 

@@ -22,7 +22,7 @@ use Rattle.brk_lots.proofs.History.{opened_qty}
 use Rattle.brk_lots.proofs.Plain.{lots_alike, lots_some}
 use Rattle.brk_book_theorems.specs.Books.{BooksInvariant}
 use Rattle.brk_book_theorems.specs.Results.{holding_row_of_lot}
-use Rattle.brk_book_theorems.specs.TradeReads.{position_lots}
+use Rattle.brk_book_theorems.specs.TradeReads.{lots_of_position}
 use Rattle.brk_book_theorems.proofs.Bools.{numbers_back}
 use Rattle.brk_book_theorems.proofs.Order.{NewKey, Sorted, by_key-filter, by_key-map, by_key-middle, sort_sorted, sorted_filter}
 use Rattle.brk_book_theorems.proofs.Same.{NonePass, All-filter, All-map, All-mapped}
@@ -166,7 +166,7 @@ touched_set base xs t ys c =
 pub fresh_shares : (base : Base) (xs : List Trade) (t : Trade) (ys : List Trade) → Completes base xs t ys → AllByRecursion (λ u. u.trade ≢ t.id) (shares_before base t)
 fresh_shares base xs t ys c =
     subst (AllByRecursion (λ u. u.trade ≢ t.id)) (shares_read base t.account t.symbol c.books)
-    (all_shares (λ u. u.trade ≢ t.id) (position_lots (sheets base) t.account t.symbol) (new_read base t.account t.symbol t.id c.books c.fresh))
+    (all_shares (λ u. u.trade ≢ t.id) (lots_of_position (sheets base) t.account t.symbol) (new_read base t.account t.symbol t.id c.books c.fresh))
 
 pub opened_is : (base : Base) (xs : List Trade) (t : Trade) (ys : List Trade) → Completes base xs t ys
     → lot_quantity (shares_then base t) t.id ≡ signed_by_side (deal_of_trade t).side ((deal_of_trade t).qty - closed_share_count_of_deal (deal_of_trade t) (shares_before base t))

@@ -15,13 +15,13 @@ use Rattle.brk_model.specs.Shares.{Share, lot_quantity, signed_by_side}
 use Rattle.brk_model.specs.Sheets.{sheets}
 use Rattle.brk_model.specs.Tables.{HoldingRow, holding_row}
 use Rattle.brk_lots.specs.Lots.{shares_of_lots, side_of_qty}
-use Rattle.brk_lots.specs.Position.{AreOpenedBefore, IsLaterInPosition, AreOpenedByOtherTrades, IsPosition}
+use Rattle.brk_lots.specs.Position.{AreOpenedBeforeStamp, IsLaterInPosition, AreOpenedByOtherTrades, IsPosition}
 use Rattle.brk_lots.specs.declared.lot.Lot.{Lot}
 use Rattle.brk_lots.proofs.Books.{sides_after}
 use Rattle.brk_lots.proofs.Counts.{OneSide, lot_counts}
 use Rattle.brk_lots.proofs.Runs.{count_of}
-use Rattle.brk_book_theorems.specs.Books.{BooksInvariant, HasDistinctStatusStamps}
-use Rattle.brk_book_theorems.specs.TradeReads.{shares_of_lot_row, holding_rows_of_position, position_lots, lot_of_row}
+use Rattle.brk_book_theorems.specs.Books.{BooksInvariant, HasDistinctLastStatusStamps}
+use Rattle.brk_book_theorems.specs.TradeReads.{shares_of_lot_row, holding_rows_of_position, lots_of_position, lot_of_row}
 use Rattle.brk_book_theorems.proofs.Bools.{numbers_back, same_text}
 use Rattle.brk_book_theorems.proofs.Order.{All-insert}
 use Rattle.brk_book_theorems.proofs.Same.{NonePass, All-filter, All-map}
@@ -50,7 +50,7 @@ pub both_hold : {X : Type 0} (P Q : X → Type 0) (xs : List X) → AllByRecursi
 both_hold P Q [] g h = tt
 both_hold P Q (x ∷ xs) g h = ((g.0, h.0), both_hold P Q xs g.1 h.1)
 
-all_differ : (ts : List Trade) → IdsApart ts → HasDistinctStatusStamps ts → AllDiffer ts
+all_differ : (ts : List Trade) → IdsApart ts → HasDistinctLastStatusStamps ts → AllDiffer ts
 all_differ [] d m = tt
 all_differ (t ∷ ts) d m = (both_hold (λ u. (u.id == t.id) ≡ false) (λ u. (last_status_stamp_of_trade u == last_status_stamp_of_trade t) ≡ false) ts d.0 m.0, all_differ ts d.1 m.1)
 
@@ -78,10 +78,10 @@ unfolding sort_by
 order_sort [] d = tt
 order_sort (t ∷ ts) d = order_insert t (sort_by earlier ts) (All-sort (Differs t) earlier ts d.0) (order_sort ts d.1)
 
-moments_filter : (p : Trade → Bool) (ts : List Trade) → HasDistinctStatusStamps ts → HasDistinctStatusStamps (filter p ts)
+moments_filter : (p : Trade → Bool) (ts : List Trade) → HasDistinctLastStatusStamps ts → HasDistinctLastStatusStamps (filter p ts)
 moments_filter p [] m = tt
 moments_filter p (t ∷ ts) m =
-    elim (p t) as (λ b. HasDistinctStatusStamps (cond b (t ∷ filter p ts) (filter p ts)))
+    elim (p t) as (λ b. HasDistinctLastStatusStamps (cond b (t ∷ filter p ts) (filter p ts)))
     [ true ↦ (All-filter (λ u. (last_status_stamp_of_trade u == last_status_stamp_of_trade t) ≡ false) p ts m.0, moments_filter p ts m.1) | false ↦ moments_filter p ts m.1 ]
 
 -- the trades of a position, by rising completion
@@ -178,7 +178,7 @@ pub qty_here : (done : List Trade) (account : ℕ) (symbol : Text) (t : Trade) �
 qty_here done account symbol t a s = λ i. lot_quantity (shares_of_position done (eqb-true t.account account a i) (same_text t.symbol symbol s i)) t.id
 
 pub lots_read : (base : Base) (account : ℕ) (symbol : Text) → BooksInvariant base
-    → position_lots (sheets base) account symbol ≡ lots_left (shares_of_position (completed_trades base) account symbol) (trades_held base account symbol)
+    → lots_of_position (sheets base) account symbol ≡ lots_left (shares_of_position (completed_trades base) account symbol) (trades_held base account symbol)
 lots_read base account symbol books =
     let done : List Trade = completed_trades base in
     let P : List Trade = trades_of_position done account symbol in
@@ -193,10 +193,10 @@ shares_held : (rows : List HoldingRow) → shares_of_lots (map lot_of_row rows) 
 shares_held [] = refl
 shares_held (r ∷ rows) = ap (λ shares. shares_of_lot_row r ++ shares) (shares_held rows)
 
-pub shares_read : (base : Base) (account : ℕ) (symbol : Text) → BooksInvariant base → shares_of_lots (position_lots (sheets base) account symbol) ≡ shares_of_position (completed_trades base) account symbol
+pub shares_read : (base : Base) (account : ℕ) (symbol : Text) → BooksInvariant base → shares_of_lots (lots_of_position (sheets base) account symbol) ≡ shares_of_position (completed_trades base) account symbol
 shares_read base account symbol books = shares_held (holding_rows_of_position (sheets base) account symbol) ∙ reads_lots base account symbol books
 
-pub position_read : (base : Base) (account : ℕ) (symbol : Text) → BooksInvariant base → IsPosition (position_lots (sheets base) account symbol)
+pub position_read : (base : Base) (account : ℕ) (symbol : Text) → BooksInvariant base → IsPosition (lots_of_position (sheets base) account symbol)
 unfolding shares_of_position
 position_read base account symbol books =
     let s = sides_after Buy (deals_of_position (completed_trades base) account symbol) [] tt in
@@ -210,7 +210,7 @@ left_all P shares (t ∷ ts) h =
     elim (is_some_left (lot_upon shares t)) as (λ b. AllByRecursion P (cond b (lot_upon shares t ∷ lots_left shares ts) (lots_left shares ts)))
     [ true ↦ (h.0, left_all P shares ts h.1) | false ↦ left_all P shares ts h.1 ]
 
-pub new_read : (base : Base) (account : ℕ) (symbol : Text) (id : ℕ) → BooksInvariant base → NonePass (λ t. t.id == id) (completed_trades base) → AreOpenedByOtherTrades id (position_lots (sheets base) account symbol)
+pub new_read : (base : Base) (account : ℕ) (symbol : Text) (id : ℕ) → BooksInvariant base → NonePass (λ t. t.id == id) (completed_trades base) → AreOpenedByOtherTrades id (lots_of_position (sheets base) account symbol)
 new_read base account symbol id books h =
     let S : List Share = shares_of_position (completed_trades base) account symbol in
     let ts : List Trade = trades_held base account symbol in
@@ -218,8 +218,8 @@ new_read base account symbol id books h =
     (left_all (λ l. l.trade ≢ id) S ts (All-map ts (λ t e. eqb-false t.id id e) (of_held (λ t. (t.id == id) ≡ false) base account symbol h)))
 
 pub older_read : (base : Base) (account : ℕ) (symbol : Text) (stamp : ℕ) → BooksInvariant base → AllByRecursion (λ t. last_status_stamp_of_trade t < stamp) (completed_trades base)
-    → AreOpenedBefore stamp (position_lots (sheets base) account symbol)
+    → AreOpenedBeforeStamp stamp (lots_of_position (sheets base) account symbol)
 older_read base account symbol stamp books h =
     let S : List Share = shares_of_position (completed_trades base) account symbol in
     let ts : List Trade = trades_held base account symbol in
-    subst (AreOpenedBefore stamp) (sym (lots_read base account symbol books)) (left_all (λ l. l.stamp < stamp) S ts (of_held (λ t. last_status_stamp_of_trade t < stamp) base account symbol h))
+    subst (AreOpenedBeforeStamp stamp) (sym (lots_read base account symbol books)) (left_all (λ l. l.stamp < stamp) S ts (of_held (λ t. last_status_stamp_of_trade t < stamp) base account symbol h))

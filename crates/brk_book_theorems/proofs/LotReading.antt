@@ -16,7 +16,7 @@ use Rattle.brk_model.specs.Keys.{KeyPart, number, rows_sorted_by_key, is_key_les
 use Rattle.brk_model.specs.Shares.{Share, lot_quantity, opened_share, signed_by_side}
 use Rattle.brk_model.specs.Sheets.{sheets, tables_sorted_by_key}
 use Rattle.brk_model.specs.Tables.{HoldingRow, tables_of_base_in_schema, holding_row}
-use Rattle.brk_model.specs.Names.{AreNumberedFrom}
+use Rattle.brk_model.specs.Names.{TradesAreNumberedFrom}
 use Rattle.brk_book_theorems.specs.Books.{BooksInvariant}
 use Rattle.brk_lots.specs.Lots.{side_of_qty}
 use Rattle.brk_book_theorems.specs.TradeReads.{shares_of_lot_row, holding_rows_of_position}
@@ -60,7 +60,7 @@ rise_apart (t ∷ ts) r = (All-map ts (λ u h. other t.id u.id h) r.0, rise_apar
     other : (m n : ℕ) → nat_lt m n ≡ true → (n == m) ≡ false
     other m n h = grind (arith, nat_tests)
 
-pub numbered_rise : (n : ℕ) (ts : List Trade) → AreNumberedFrom n ts → IdsRise ts
+pub numbered_rise : (n : ℕ) (ts : List Trade) → TradesAreNumberedFrom n ts → IdsRise ts
 numbered_rise n [] k = tt
 numbered_rise n (t ∷ ts) k = (ids_rise t.id (n + 1) ts (omega (arith, k.0)) k.1, numbered_rise (n + 1) ts k.1)
 
@@ -165,7 +165,7 @@ all_pass p (x ∷ xs) = by_test (p x) refl (all_pass p xs)
 abbrev pub is_left : HoldingRow → Bool
 is_left r = not (is_zero r.qty)
 
-pub holdings_in_order : (base : Base) → AreNumberedFrom 1 base.trades → (sheets base).holdings ≡ filter is_left (map (holding_row (completed_trades base)) (completed_trades base))
+pub holdings_in_order : (base : Base) → TradesAreNumberedFrom 1 base.trades → (sheets base).holdings ≡ filter is_left (map (holding_row (completed_trades base)) (completed_trades base))
 unfolding tables_of_base_in_schema tables_sorted_by_key
 holdings_in_order base n =
     by_key-filter holding_key is_left (map (holding_row (completed_trades base)) (completed_trades base))
@@ -176,12 +176,12 @@ holdings_in_order base n =
 abbrev age_row : HoldingRow → List KeyPart
 age_row r = number r.stamp ∷ number r.trade ∷ []
 
-pub position_rise : (base : Base) (account : ℕ) (symbol : Text) → AreNumberedFrom 1 base.trades → IdsRise (trades_of_position (completed_trades base) account symbol)
+pub position_rise : (base : Base) (account : ℕ) (symbol : Text) → TradesAreNumberedFrom 1 base.trades → IdsRise (trades_of_position (completed_trades base) account symbol)
 position_rise base account symbol n =
     rise_filter (λ t. bytes_eq t.symbol symbol) (trades_of_account (completed_trades base) account)
     (rise_filter (λ t. t.account == account) (completed_trades base) (rise_filter is_completed base.trades (numbered_rise 1 base.trades n)))
 
-pub lots_are : (base : Base) (account : ℕ) (symbol : Text) → AreNumberedFrom 1 base.trades
+pub lots_are : (base : Base) (account : ℕ) (symbol : Text) → TradesAreNumberedFrom 1 base.trades
     → holding_rows_of_position (sheets base) account symbol ≡ filter is_left (map (holding_row (completed_trades base)) (sort_by_key last_status_stamp_of_trade (trades_of_position (completed_trades base) account symbol)))
 lots_are base account symbol n =
     let done : List Trade = completed_trades base in

@@ -11,7 +11,7 @@ use Rattle.brk_model.specs.Keys.{rows_sorted_by_key, move_key}
 use Rattle.brk_model.specs.Adopted.{movement_of_row, posting_of_move_row}
 use Rattle.brk_model.specs.Sheets.{sheets, tables_sorted_by_key}
 use Rattle.brk_model.specs.Tables.{MoveRow, move_row, numbered_move_rows, tables_of_base_in_schema}
-use Rattle.brk_book_theorems.specs.TradeReads.{last_cash_row_number}
+use Rattle.brk_book_theorems.specs.TradeReads.{last_cash_row_number_or_zero}
 use Rattle.brk_book_theorems.proofs.Order.{OneWay, Splits, map-insert_by, nat_one_way, nat_splits, sort_filter}
 use Rattle.brk_book_theorems.proofs.Places.{filter-append}
 use Rattle.brk_book_theorems.proofs.Postings.{length_insert, length_sort, numbered_stay}
@@ -116,7 +116,7 @@ number_last m (p ∷ ps) =
 from_none : (m n : ℕ) → m ≡ n → 0 + m ≡ n
 from_none m n e = omega (arith, e)
 
-pub reads_last_move : (base : Base) → last_cash_row_number (sheets base) ≡ length (postings_of_base base)
+pub reads_last_move : (base : Base) → last_cash_row_number_or_zero (sheets base) ≡ length (postings_of_base base)
 unfolding tables_of_base_in_schema tables_sorted_by_key
 reads_last_move base =
     ap (λ rows. unwrap_or (option_map (λ r. r.id) (slice_get (reverse rows) 0)) 0) (numbered_stay 1 (postings_sorted_by_stamp (postings_of_base base))) ∙ number_last 0 (postings_sorted_by_stamp (postings_of_base base))

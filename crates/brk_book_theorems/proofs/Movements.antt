@@ -20,7 +20,7 @@ use Rattle.brk_model.specs.Tables.{Tables, account_row, numbered_move_rows, sett
 use Rattle.brk_model.specs.Tests.{stamp_of_next_command, refusal_of_command, checks_of_command}
 use Rattle.brk_changes.specs.Changes.{tables_with_last_stamp, tables_with_settlement_day}
 use Rattle.brk_book_theorems.specs.Books.{MovementBooksInvariant, BooksInvariant}
-use Rattle.brk_book_theorems.specs.Movements.{balance_including_movement, numbered_row_of_movement, tables_after_movement}
+use Rattle.brk_book_theorems.specs.Movements.{account_balance_after_movement, numbered_cash_row_of_movement, tables_after_movement}
 use Rattle.brk_book_theorems.specs.Steps.{HasTableEffect, PreservesBooksInvariant}
 use Rattle.brk_book_theorems.proofs.Bools.{numbers_back}
 use Rattle.brk_book_theorems.proofs.Completions.{later_times}

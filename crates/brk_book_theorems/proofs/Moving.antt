@@ -15,9 +15,9 @@ use Rattle.brk_model.specs.Schemas.{third_schema}
 use Rattle.brk_model.specs.Tables.{Tables, TradeRow, HistoryRow, RequestRow, tables_of_base_in_schema, tables_from_completed_trades, trade_row, history_rows, request_row}
 use Rattle.brk_model.specs.Keys.{KeyPart, number, word, rows_sorted_by_key, insert_row_by_key, trade_key, history_key, request_key}
 use Rattle.brk_model.specs.Sheets.{sheets, tables_sorted_by_key}
-use Rattle.brk_model.specs.Names.{AreNumberedFrom}
-use Rattle.brk_book_theorems.specs.Books.{HasOneChangeIfPending, HasOneStatusChange}
-use Rattle.brk_book_theorems.specs.Trading.{history_row_of_status, with_status_changed, with_trades_submitted}
+use Rattle.brk_model.specs.Names.{TradesAreNumberedFrom}
+use Rattle.brk_book_theorems.specs.Books.{HasOneStatusChangeIfPending, HasOneStatusChange}
+use Rattle.brk_book_theorems.specs.Trading.{history_row_of_status, tables_after_change_from_pending, tables_with_trades_submitted}
 use Rattle.brk_book_theorems.proofs.Order.{NewKey, by_key-middle, by_key-map, by_key-filter}
 use Rattle.brk_book_theorems.proofs.Same.{All-map, All-of, All-append, All-mapped, All-filter, flat_map-append, map-last}
 use Rattle.brk_book_theorems.proofs.Places.{map-append, append_assoc, update_where-one, filter-one, filter-not_one, filter-all}
@@ -136,7 +136,7 @@ with_list base trades = record base { trades = trades }
 
 pub moved_one : (base : Base) (stamp : ℕ) (status : Status) (xs : List Trade) (t : Trade) (ys : List Trade) → ids_other t.id xs → ids_other t.id ys
     → HasOneStatusChange t.marks → has_status Pending t ≡ true → is_same_trade_status status Pending ≡ false → is_same_trade_status status Completed ≡ false
-    → sheets (with_list base (xs ++ trade_with_status_change stamp status t ∷ ys)) ≡ with_status_changed t.id status stamp (sheets (with_list base (xs ++ t ∷ ys)))
+    → sheets (with_list base (xs ++ trade_with_status_change stamp status t ∷ ys)) ≡ tables_after_change_from_pending t.id status stamp (sheets (with_list base (xs ++ t ∷ ys)))
 unfolding tables_of_base_in_schema tables_sorted_by_key shares_of_position holding_summary_quantity balance_of_account trade_count_of_broker commission_total_of_broker
 moved_one base stamp status xs t ys g h one p s c =
     let done : filter is_completed (xs ++ trade_with_status_change stamp status t ∷ ys) ≡ filter is_completed (xs ++ t ∷ ys) =
@@ -150,10 +150,10 @@ moved_one base stamp status xs t ys g h one p s c =
     }
 
 -- several are submitted, where those that were so far stand in front
-pub submitted_all : (base : Base) (stamp : ℕ) (p : Trade → Bool) (xs ts : List Trade) → AreNumberedFrom 1 (xs ++ ts)
-    → AllByRecursion (λ t. p t ≡ true → has_status Pending t ≡ true) ts → AllByRecursion HasOneChangeIfPending ts
+pub submitted_all : (base : Base) (stamp : ℕ) (p : Trade → Bool) (xs ts : List Trade) → TradesAreNumberedFrom 1 (xs ++ ts)
+    → AllByRecursion (λ t. p t ≡ true → has_status Pending t ≡ true) ts → AllByRecursion HasOneStatusChangeIfPending ts
     → sheets (with_list base (xs ++ update_where p (trade_with_status_change stamp Submitted) ts))
-    ≡ with_trades_submitted stamp (map (λ t. t.id) (filter p ts)) (sheets (with_list base (xs ++ ts)))
+    ≡ tables_with_trades_submitted stamp (map (λ t. t.id) (filter p ts)) (sheets (with_list base (xs ++ ts)))
 submitted_all base stamp p xs [] n w h = refl
 submitted_all base stamp p xs (t ∷ ts) n w h = by_test (λ ys k. submitted_all base stamp p ys ts k w.1 h.1) (p t) refl
   where
@@ -167,9 +167,9 @@ submitted_all base stamp p xs (t ∷ ts) n w h = by_test (λ ys k. submitted_all
     ids us = map (λ t. t.id) us
 
     Rows : Bool → Type 0
-    Rows b = S (xs ++ cond b (trade_with_status_change stamp Submitted t) t ∷ U) ≡ with_trades_submitted stamp (ids (cond b (t ∷ filter p ts) (filter p ts))) (S (xs ++ t ∷ ts))
+    Rows b = S (xs ++ cond b (trade_with_status_change stamp Submitted t) t ∷ U) ≡ tables_with_trades_submitted stamp (ids (cond b (t ∷ filter p ts) (filter p ts))) (S (xs ++ t ∷ ts))
 
-    by_test : ((ys : List Trade) → AreNumberedFrom 1 (ys ++ ts) → S (ys ++ U) ≡ with_trades_submitted stamp (ids (filter p ts)) (S (ys ++ ts)))
+    by_test : ((ys : List Trade) → TradesAreNumberedFrom 1 (ys ++ ts) → S (ys ++ U) ≡ tables_with_trades_submitted stamp (ids (filter p ts)) (S (ys ++ ts)))
         → (b : Bool) → p t ≡ b → Rows (p t)
     by_test ih true e =
         let u : Trade = trade_with_status_change stamp Submitted t in
@@ -178,12 +178,12 @@ submitted_all base stamp p xs (t ∷ ts) n w h = by_test (λ ys k. submitted_all
         let rows : Rows true =
         ap S (sym (append_assoc xs (u ∷ []) U))
         ∙ ih (xs ++ u ∷ []) (numbered_moved 1 xs t u ts refl n)
-        ∙ ap (λ us. with_trades_submitted stamp (ids (filter p ts)) (S us)) (append_assoc xs (u ∷ []) ts)
-        ∙ ap (with_trades_submitted stamp (ids (filter p ts))) (moved_one base stamp Submitted xs t ts (numbered_before 1 xs t ts n) (numbered_after 1 xs t ts n) one waits refl refl) in
+        ∙ ap (λ us. tables_with_trades_submitted stamp (ids (filter p ts)) (S us)) (append_assoc xs (u ∷ []) ts)
+        ∙ ap (tables_with_trades_submitted stamp (ids (filter p ts))) (moved_one base stamp Submitted xs t ts (numbered_before 1 xs t ts n) (numbered_after 1 xs t ts n) one waits refl refl) in
         subst Rows (sym e) rows
     by_test ih false e =
         let rows : Rows false =
         ap S (sym (append_assoc xs (t ∷ []) U))
         ∙ ih (xs ++ t ∷ []) (numbered_moved 1 xs t t ts refl n)
-        ∙ ap (λ us. with_trades_submitted stamp (ids (filter p ts)) (S us)) (append_assoc xs (t ∷ []) ts) in
+        ∙ ap (λ us. tables_with_trades_submitted stamp (ids (filter p ts)) (S us)) (append_assoc xs (t ∷ []) ts) in
         subst Rows (sym e) rows

@@ -10,8 +10,8 @@ use Rattle.brk_money.specs.declared.status.Status.TheVariants.{Completed, Active
 use Rattle.brk_model.specs.Lists.{update_where}
 use Rattle.brk_model.specs.Records.{StatusChange, Trade}
 use Rattle.brk_model.specs.Base.{has_status, is_completed, trade_with_status_change, last_status_change}
-use Rattle.brk_model.specs.Names.{AreNumberedFrom}
-use Rattle.brk_book_theorems.specs.Books.{HasOneChangeIfPending}
+use Rattle.brk_model.specs.Names.{TradesAreNumberedFrom}
+use Rattle.brk_book_theorems.specs.Books.{HasOneStatusChangeIfPending}
 use Rattle.brk_book_theorems.proofs.Same.{NonePass}
 
 -- ---- the last mark
@@ -42,7 +42,7 @@ pub pending_not_completed : (t : Trade) → has_status Pending t ≡ true → is
 pending_not_completed t h = waits_not_done (last_status_change t) h
 
 -- a trade that came to another status does not wait
-pub moved_way : (stamp : ℕ) (status : Status) (t : Trade) → is_same_trade_status status Pending ≡ false → HasOneChangeIfPending (trade_with_status_change stamp status t)
+pub moved_way : (stamp : ℕ) (status : Status) (t : Trade) → is_same_trade_status status Pending ≡ false → HasOneStatusChangeIfPending (trade_with_status_change stamp status t)
 moved_way stamp status t s p = let k : has_status Pending (trade_with_status_change stamp status t) ≡ false = status_of_marked stamp status Pending t ∙ s in absurd (cc)
 
 -- ---- ids
@@ -51,11 +51,11 @@ moved_way stamp status t s p = let k : has_status Pending (trade_with_status_cha
 abbrev pub ids_other : ℕ → List Trade → Type 0
 ids_other id ts = NonePass (λ t. t.id == id) ts
 
-numbered_above : (n id : ℕ) (ts : List Trade) → id < n → AreNumberedFrom n ts → ids_other id ts
+numbered_above : (n id : ℕ) (ts : List Trade) → id < n → TradesAreNumberedFrom n ts → ids_other id ts
 numbered_above n id [] h k = tt
 numbered_above n id (t ∷ ts) h k = (let e : t.id ≡ n = k.0 in grind (arith, nat_tests), numbered_above (n + 1) id ts (omega arith) k.1)
 
-pub numbered_below : (n : ℕ) (ts : List Trade) → AreNumberedFrom n ts → ids_other (n + length ts) ts
+pub numbered_below : (n : ℕ) (ts : List Trade) → TradesAreNumberedFrom n ts → ids_other (n + length ts) ts
 numbered_below n [] k = tt
 numbered_below n (t ∷ ts) k = (
   let e : t.id ≡ n = k.0 in grind (arith, nat_tests),
@@ -63,31 +63,31 @@ numbered_below n (t ∷ ts) k = (
 )
 
 -- the ids of those around one
-pub numbered_after : (n : ℕ) (xs : List Trade) (t : Trade) (ys : List Trade) → AreNumberedFrom n (xs ++ t ∷ ys) → ids_other t.id ys
+pub numbered_after : (n : ℕ) (xs : List Trade) (t : Trade) (ys : List Trade) → TradesAreNumberedFrom n (xs ++ t ∷ ys) → ids_other t.id ys
 numbered_after n [] t ys k = let e : t.id ≡ n = k.0 in numbered_above (n + 1) t.id ys (omega arith) k.1
 numbered_after n (x ∷ xs) t ys k = numbered_after (n + 1) xs t ys k.1
 
-numbered_at : (n : ℕ) (xs : List Trade) (t : Trade) (ys : List Trade) → AreNumberedFrom n (xs ++ t ∷ ys) → t.id ≡ n + length xs
+numbered_at : (n : ℕ) (xs : List Trade) (t : Trade) (ys : List Trade) → TradesAreNumberedFrom n (xs ++ t ∷ ys) → t.id ≡ n + length xs
 numbered_at n [] t ys k = let e : t.id ≡ n = k.0 in omega arith
 numbered_at n (x ∷ xs) t ys k = let e = numbered_at (n + 1) xs t ys k.1 in omega arith
 
-numbered_front : (n : ℕ) (xs ys : List Trade) → AreNumberedFrom n (xs ++ ys) → AreNumberedFrom n xs
+numbered_front : (n : ℕ) (xs ys : List Trade) → TradesAreNumberedFrom n (xs ++ ys) → TradesAreNumberedFrom n xs
 numbered_front n [] ys k = tt
 numbered_front n (x ∷ xs) ys k = (k.0, numbered_front (n + 1) xs ys k.1)
 
-pub numbered_before : (n : ℕ) (xs : List Trade) (t : Trade) (ys : List Trade) → AreNumberedFrom n (xs ++ t ∷ ys) → ids_other t.id xs
+pub numbered_before : (n : ℕ) (xs : List Trade) (t : Trade) (ys : List Trade) → TradesAreNumberedFrom n (xs ++ t ∷ ys) → ids_other t.id xs
 numbered_before n xs t ys k = subst (λ m. ids_other m xs) (sym (numbered_at n xs t ys k)) (numbered_below n xs (numbered_front n xs (t ∷ ys) k))
 
 -- one trade more, and trades changed that keep their ids
-pub numbered_more : (n : ℕ) (ts : List Trade) (t : Trade) → t.id ≡ n + length ts → AreNumberedFrom n ts → AreNumberedFrom n (ts ++ t ∷ [])
+pub numbered_more : (n : ℕ) (ts : List Trade) (t : Trade) → t.id ≡ n + length ts → TradesAreNumberedFrom n ts → TradesAreNumberedFrom n (ts ++ t ∷ [])
 numbered_more n [] t e k = (omega arith, tt)
 numbered_more n (u ∷ ts) t e k = (k.0, numbered_more (n + 1) ts t (omega arith) k.1)
 
-pub numbered_moved : (n : ℕ) (xs : List Trade) (t u : Trade) (ys : List Trade) → u.id ≡ t.id → AreNumberedFrom n (xs ++ t ∷ ys) → AreNumberedFrom n ((xs ++ u ∷ []) ++ ys)
+pub numbered_moved : (n : ℕ) (xs : List Trade) (t u : Trade) (ys : List Trade) → u.id ≡ t.id → TradesAreNumberedFrom n (xs ++ t ∷ ys) → TradesAreNumberedFrom n ((xs ++ u ∷ []) ++ ys)
 numbered_moved n [] t u ys e k = (e ∙ k.0, k.1)
 numbered_moved n (x ∷ xs) t u ys e k = (k.0, numbered_moved (n + 1) xs t u ys e k.1)
 
-pub numbered_updated : (n : ℕ) (p : Trade → Bool) (f : Trade → Trade) (ts : List Trade) → ((t : Trade) → (f t).id ≡ t.id) → AreNumberedFrom n ts → AreNumberedFrom n (update_where p f ts)
+pub numbered_updated : (n : ℕ) (p : Trade → Bool) (f : Trade → Trade) (ts : List Trade) → ((t : Trade) → (f t).id ≡ t.id) → TradesAreNumberedFrom n ts → TradesAreNumberedFrom n (update_where p f ts)
 numbered_updated n p f [] e k = tt
 numbered_updated n p f (t ∷ ts) e k = (same (p t) ∙ k.0, numbered_updated (n + 1) p f ts e k.1)
   where

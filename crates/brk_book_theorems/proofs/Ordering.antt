@@ -14,8 +14,8 @@ use Rattle.brk_model.specs.Tables.{HistoryRow, Tables, tables_of_base_in_schema,
 use Rattle.brk_model.specs.Keys.{rows_sorted_by_key, insert_row_by_key, trade_key, history_key, request_key}
 use Rattle.brk_model.specs.Sheets.{sheets, tables_sorted_by_key}
 use Rattle.brk_model.specs.Commands.{Order}
-use Rattle.brk_model.specs.Orders.{ordered_trade, first_status, base_after_order}
-use Rattle.brk_model.specs.Names.{AreNumberedFrom}
+use Rattle.brk_model.specs.Orders.{trade_of_order, first_status, base_after_order}
+use Rattle.brk_model.specs.Names.{TradesAreNumberedFrom}
 use Rattle.brk_book_theorems.specs.Trading.{tables_after_order, history_row_of_status}
 use Rattle.brk_book_theorems.proofs.Order.{by_key-append}
 use Rattle.brk_book_theorems.proofs.Same.{All-mapped, All-filter, flat_map-append}
@@ -33,18 +33,18 @@ first_not_completed LimitBuy = refl
 
 -- the rows of an order
 abbrev pub rows_ordered : Base → ℕ → Order → Bool → Tables
-rows_ordered base stamp o waits = tables_after_order (trade_row (ordered_trade base stamp o)) waits (broker_id_of_account base o.account) (sheets base)
+rows_ordered base stamp o waits = tables_after_order (trade_row (trade_of_order base stamp o)) waits (broker_id_of_account base o.account) (sheets base)
 
 -- an order completes nothing
 pub ordered_done : (base : Base) (stamp : ℕ) (o : Order) → completed_trades (base_after_order base stamp o) ≡ completed_trades base
-ordered_done base stamp o = filter-not_one is_completed base.trades (ordered_trade base stamp o) [] (first_not_completed (trade_type_of_order o.order_type)) ∙ append_nil (filter is_completed base.trades)
+ordered_done base stamp o = filter-not_one is_completed base.trades (trade_of_order base stamp o) [] (first_not_completed (trade_type_of_order o.order_type)) ∙ append_nil (filter is_completed base.trades)
 
-pub ordered_rows : (base : Base) (stamp : ℕ) (o : Order) → AreNumberedFrom 1 base.trades → sheets (base_after_order base stamp o) ≡ rows_ordered base stamp o (not (is_market_type (trade_type_of_order o.order_type)))
+pub ordered_rows : (base : Base) (stamp : ℕ) (o : Order) → TradesAreNumberedFrom 1 base.trades → sheets (base_after_order base stamp o) ≡ rows_ordered base stamp o (not (is_market_type (trade_type_of_order o.order_type)))
 unfolding tables_of_base_in_schema tables_sorted_by_key shares_of_position holding_summary_quantity balance_of_account trade_count_of_broker commission_total_of_broker
 ordered_rows base stamp o n = by_market (is_market_type (trade_type_of_order o.order_type)) refl
   where
     t : Trade
-    t = ordered_trade base stamp o
+    t = trade_of_order base stamp o
 
     row : HistoryRow
     row = history_row_of_status (length base.trades + 1) (first_status (trade_type_of_order o.order_type)) stamp

@@ -5,11 +5,11 @@ use Rattle.std.specs.List.{AllByRecursion, list_any}
 use Rattle.std.proofs.lemmas.Bool.{eqb-true, eq-eqb}
 use Rattle.brk_money.specs.Spelling.{Text}
 use Rattle.brk_model.specs.Base.{Base}
-use Rattle.brk_model.specs.Orders.{executor_has_identity, permitted}
+use Rattle.brk_model.specs.Orders.{executor_has_identity, is_customer_or_has_permission}
 use Rattle.brk_model.specs.Records.{Customer, Executor, Permission}
 use Rattle.brk_model.specs.Sheets.{sheets}
 use Rattle.brk_book_theorems.specs.Books.{BooksInvariant, HasDistinctPermissions}
-use Rattle.brk_book_theorems.specs.TradeReads.{permission_for_tax_id}
+use Rattle.brk_book_theorems.specs.TradeReads.{permission_list_for_tax_id}
 use Rattle.brk_book_theorems.proofs.Bools.{same_text, texts_back}
 use Rattle.brk_book_theorems.proofs.NewKeys.{and_both, both, not_both, same_bytes}
 use Rattle.brk_book_theorems.proofs.Same.{NonePass, All-map}
@@ -87,7 +87,7 @@ named_by_one account e (p ∷ ps) h = by_test (named_by_one account e ps h.1) (i
     by_test ih false k = past ih (p.account == account) refl k
 
 pub reads_named : (base : Base) (account : ℕ) (c : Customer) (e : Executor) → BooksInvariant base
-    → permitted c (permission_for_tax_id (sheets base) account e.tax_id) e ≡ permitted c (filter (λ p. p.account == account) base.permissions) e
+    → is_customer_or_has_permission c (permission_list_for_tax_id (sheets base) account e.tax_id) e ≡ is_customer_or_has_permission c (filter (λ p. p.account == account) base.permissions) e
 reads_named base account c e books =
     ap (λ b. executor_has_identity e c.first_name c.last_name c.tax_id || b)
     (ap (λ o. list_any (names e) (option_to_list o)) (reads_permission base account e.tax_id)

@@ -15,11 +15,11 @@ use Rattle.brk_model.specs.Sheets.{sheets}
 use Rattle.brk_model.specs.Step.{base_after_command_unstamped, base_after_result_by_id}
 use Rattle.brk_model.specs.Tests.{stamp_of_next_command, refusal_of_command, checks_of_result, checks_of_command}
 use Rattle.brk_lots.specs.Position.{AreOpenedByOtherTrades}
-use Rattle.brk_model.specs.Names.{AccountOfTradeExists, SecurityOfTradeExists, AreNumberedFrom}
-use Rattle.brk_book_theorems.specs.Books.{HasNoCompletionIfSubmitted, BooksInvariant, IsTradeUpToLastStamp, IsNotCompletion, HasDistinctStatusStamps, HasOneChangeIfPending}
+use Rattle.brk_model.specs.Names.{AccountOfTradeExists, SecurityOfTradeExists, TradesAreNumberedFrom}
+use Rattle.brk_book_theorems.specs.Books.{HasNoCompletionIfSubmitted, BooksInvariant, TradeStampIsAtMostLast, IsNotCompletion, HasDistinctLastStatusStamps, HasOneStatusChangeIfPending}
 use Rattle.brk_book_theorems.specs.Steps.{HasTableEffect, PreservesBooksInvariant}
 use Rattle.brk_book_theorems.specs.Results.{tables_after_result, result_rows_of_trade}
-use Rattle.brk_book_theorems.specs.TradeReads.{position_lots}
+use Rattle.brk_book_theorems.specs.TradeReads.{lots_of_position}
 use Rattle.brk_book_theorems.proofs.MovementOrder.{movements_before, movements_beside, movements_completion, movements_later}
 use Rattle.brk_book_theorems.proofs.Same.{NonePass, All-append, All-filter, All-map, find-All}
 use Rattle.brk_book_theorems.proofs.Places.{All-updated, FoundAt, filter-not_one, find-at, some_of}
@@ -32,7 +32,7 @@ use Rattle.brk_book_theorems.proofs.ResultRows.{IsResult, done_now, done_then, m
 
 -- ---- what an accepted result finds
 
-before_next : (last : Option ℕ) (now : ℕ) (t : Trade) → IsTradeUpToLastStamp last t → last_status_stamp_of_trade t < option_map_or (λ l. max now (l + 1)) last now
+before_next : (last : Option ℕ) (now : ℕ) (t : Trade) → TradeStampIsAtMostLast last t → last_status_stamp_of_trade t < option_map_or (λ l. max now (l + 1)) last now
 before_next None now t e = absurd e
 before_next (Some l) now t e = omega arith
 
@@ -42,11 +42,11 @@ all_before base now books = All-map (completed_trades base) (λ t e. before_next
 
 -- a trade that is not completed opened no lot
 pub new_of_waiting : (base : Base) (id account : ℕ) (symbol : Text) (t : Trade) → BooksInvariant base → trade_with_id base id ≡ Some t → is_completed t ≡ false
-    → AreOpenedByOtherTrades id (position_lots (sheets base) account symbol)
+    → AreOpenedByOtherTrades id (lots_of_position (sheets base) account symbol)
 new_of_waiting base id account symbol t books e w =
     let f : FoundAt Trade (λ u. u.id == id) t base.trades = find-at (λ u. u.id == id) base.trades t e in
     let same : t.id ≡ id = eqb-true t.id id f.passes in
-    let behind : NonePass (λ u. u.id == id) f.after = subst (λ (m : ℕ). NonePass (λ u. u.id == m) f.after) same (numbered_after 1 f.before t f.after (subst (AreNumberedFrom 1) f.stands books.numbered)) in
+    let behind : NonePass (λ u. u.id == id) f.after = subst (λ (m : ℕ). NonePass (λ u. u.id == m) f.after) same (numbered_after 1 f.before t f.after (subst (TradesAreNumberedFrom 1) f.stands books.numbered)) in
     let done : completed_trades base ≡ filter is_completed f.before ++ filter is_completed f.after = ap (filter is_completed) f.stands ∙ filter-not_one is_completed f.before t f.after w in
     new_read base account symbol id books
     (subst (NonePass (λ u. u.id == id)) (sym done)
@@ -111,7 +111,7 @@ other_moment m n h = grind (arith, nat_tests)
 same_moment : (m n : ℕ) → m < n → (m == n) ≡ false
 same_moment m n h = grind (arith, nat_tests)
 
-moments_more : (xs : List Trade) (t : Trade) (ys : List Trade) → AllByRecursion (λ u. last_status_stamp_of_trade u < last_status_stamp_of_trade t) (xs ++ ys) → HasDistinctStatusStamps (xs ++ ys) → HasDistinctStatusStamps (xs ++ t ∷ ys)
+moments_more : (xs : List Trade) (t : Trade) (ys : List Trade) → AllByRecursion (λ u. last_status_stamp_of_trade u < last_status_stamp_of_trade t) (xs ++ ys) → HasDistinctLastStatusStamps (xs ++ ys) → HasDistinctLastStatusStamps (xs ++ t ∷ ys)
 moments_more [] t ys h m = (All-map ys (λ u k. same_moment (last_status_stamp_of_trade u) (last_status_stamp_of_trade t) k) h, m)
 moments_more (x ∷ xs) t ys h m = (
   All-append (λ u. (last_status_stamp_of_trade u == last_status_stamp_of_trade x) ≡ false) xs (t ∷ ys) (All-front (λ u. (last_status_stamp_of_trade u == last_status_stamp_of_trade x) ≡ false) xs ys m.0)
@@ -119,7 +119,7 @@ moments_more (x ∷ xs) t ys h m = (
   moments_more xs t ys h.1 m.1,
 )
 
-not_waiting : (base : Base) (stamp price : ℕ) (t : Trade) → HasOneChangeIfPending (completed_trade base stamp price t)
+not_waiting : (base : Base) (stamp price : ℕ) (t : Trade) → HasOneStatusChangeIfPending (completed_trade base stamp price t)
 not_waiting base stamp price t p = let k : has_status Pending (completed_trade base stamp price t) ≡ false = status_then base stamp price t Pending in absurd (cc)
 
 not_at_market : (base : Base) (stamp price : ℕ) (t : Trade) → HasNoCompletionIfSubmitted (completed_trade base stamp price t)
@@ -151,7 +151,7 @@ books_then base now id price t k e accepted =
     let done : completed_trades base ≡ A ++ Z = done_now base stamp price t f.front f.back f.result in
     let after : completed_trades (base_after_result base stamp price t) ≡ A ++ u ∷ Z = done_then base stamp price t f.front f.back f.result in
     let moment : last_status_stamp_of_trade u ≡ stamp = moment_then base stamp price t in
-    let early : AllByRecursion (IsTradeUpToLastStamp (Some stamp)) (A ++ Z) = subst (AllByRecursion (IsTradeUpToLastStamp (Some stamp))) done (later base now k.early) in
+    let early : AllByRecursion (TradeStampIsAtMostLast (Some stamp)) (A ++ Z) = subst (AllByRecursion (TradeStampIsAtMostLast (Some stamp))) done (later base now k.early) in
     let last : AllByRecursion (λ v. last_status_stamp_of_trade v < last_status_stamp_of_trade u) (A ++ Z) =
     subst (λ (m : ℕ). AllByRecursion (λ v. last_status_stamp_of_trade v < m) (A ++ Z)) (sym moment) (subst (AllByRecursion (λ v. last_status_stamp_of_trade v < stamp)) done (all_before base now k)) in
     record {
@@ -161,13 +161,13 @@ books_then base now id price t k e accepted =
         accounts = All-updated (AccountOfTradeExists base) (λ v. v.id == t.id) (completed_trade base stamp price) base.trades (λ v h. same_account base stamp price v h) k.accounts;
         securities = All-updated (SecurityOfTradeExists base) (λ v. v.id == t.id) (completed_trade base stamp price) base.trades (λ v h. same_security base stamp price v h) k.securities;
         numbered = numbered_updated 1 (λ v. v.id == t.id) (completed_trade base stamp price) base.trades (λ v. same_id base stamp price v) k.numbered;
-        ways = All-updated HasOneChangeIfPending (λ v. v.id == t.id) (completed_trade base stamp price) base.trades (λ v h. not_waiting base stamp price v) k.ways;
+        ways = All-updated HasOneStatusChangeIfPending (λ v. v.id == t.id) (completed_trade base stamp price) base.trades (λ v h. not_waiting base stamp price v) k.ways;
         completions = All-updated HasNoCompletionIfSubmitted (λ v. v.id == t.id) (completed_trade base stamp price) base.trades (λ v h. not_at_market base stamp price v) k.completions;
       };
       times = record {
-        early = subst (AllByRecursion (IsTradeUpToLastStamp (Some stamp))) (sym after)
-            (All-append (IsTradeUpToLastStamp (Some stamp)) A (u ∷ Z) (All-front (IsTradeUpToLastStamp (Some stamp)) A Z early) (no_later (last_status_stamp_of_trade u) stamp moment, All-back (IsTradeUpToLastStamp (Some stamp)) A Z early));
-        moments = subst HasDistinctStatusStamps (sym after) (moments_more A u Z last (subst HasDistinctStatusStamps done k.moments));
+        early = subst (AllByRecursion (TradeStampIsAtMostLast (Some stamp))) (sym after)
+            (All-append (TradeStampIsAtMostLast (Some stamp)) A (u ∷ Z) (All-front (TradeStampIsAtMostLast (Some stamp)) A Z early) (no_later (last_status_stamp_of_trade u) stamp moment, All-back (TradeStampIsAtMostLast (Some stamp)) A Z early));
+        moments = subst HasDistinctLastStatusStamps (sym after) (moments_more A u Z last (subst HasDistinctLastStatusStamps done k.moments));
         clock = in_time base now (CompleteTrade id price) accepted;
       };
       movements = movements_beside (sym after) (movements_completion A u Z base.movements

@@ -17,9 +17,9 @@ use Rattle.brk_model.specs.Shares.{Touch}
 use Rattle.brk_model.specs.Tables.{BrokerRow, HistoryRow, MoveRow, SummaryRow, Tables, TradeRow, account_row, broker_row, history_rows, holding_row, holding_history_rows_of_lot, move_row as numbered_row, numbered_move_rows, request_row, settlement_row, tables_of_base_in_schema, trade_row}
 use Rattle.brk_model.specs.Keys.{number, word, account_key, broker_key, rows_sorted_by_key, history_key, holding_history_key, holding_key, insert_row_by_key, move_key, request_key, settlement_key, summary_key, trade_key}
 use Rattle.brk_model.specs.Sheets.{sheets, tables_sorted_by_key}
-use Rattle.brk_model.specs.Names.{AreNumberedFrom}
+use Rattle.brk_model.specs.Names.{TradesAreNumberedFrom}
 use Rattle.brk_book_theorems.specs.Books.{BooksInvariant, IsNotCompletion}
-use Rattle.brk_book_theorems.specs.Results.{ResultRows, with_cash_posted, history_row_of_touch, with_trade_completed, with_lot_reduced, with_lots_opened, tables_after_result, result_rows_of_trade, result_rows_of_deal, with_summary_changed, with_lots_touched}
+use Rattle.brk_book_theorems.specs.Results.{ResultRows, tables_with_cash_row_if_cash_trade, history_row_of_touch, tables_with_trade_completed_and_history, tables_with_lot_reduced, tables_with_lots_opened, tables_after_result, result_rows_of_trade, result_rows_of_deal, tables_with_summary_changed, tables_with_lots_touched}
 use Rattle.brk_changes.specs.Changes.{tables_with_broker_totals, tables_with_lot_change, tables_with_settlement}
 use Rattle.brk_book_theorems.specs.Trading.{history_row_of_status}
 use Rattle.brk_book_theorems.proofs.Order.{NewKey, by_key-map, by_key-middle}
@@ -139,7 +139,7 @@ history_after base stamp price xs t ys g h =
 
 -- ---- the rows of a result, table by table
 
-left_is : (touch : Touch) (t : Tables) → with_lot_reduced touch t ≡ record t { holdings = set_lot touch t.holdings }
+left_is : (touch : Touch) (t : Tables) → tables_with_lot_reduced touch t ≡ record t { holdings = set_lot touch t.holdings }
 left_is touch t = by_test (is_zero touch.after)
   where
     by_test : (b : Bool)
@@ -148,18 +148,18 @@ left_is touch t = by_test (is_zero touch.after)
     by_test true = refl
     by_test false = refl
 
-touched_are : (id : ℕ) (touched : List Touch) (t : Tables) → with_lots_touched id touched t ≡ record t { holdings = set_lots touched t.holdings; holding_history = put_changes id touched t.holding_history }
+touched_are : (id : ℕ) (touched : List Touch) (t : Tables) → tables_with_lots_touched id touched t ≡ record t { holdings = set_lots touched t.holdings; holding_history = put_changes id touched t.holding_history }
 touched_are id [] t = refl
 touched_are id (touch ∷ touched) t =
-    ap (λ t. with_lots_touched id touched (tables_with_lot_change (history_row_of_touch id touch) t)) (left_is touch t)
+    ap (λ t. tables_with_lots_touched id touched (tables_with_lot_change (history_row_of_touch id touch) t)) (left_is touch t)
     ∙ touched_are id touched (tables_with_lot_change (history_row_of_touch id touch) (record t { holdings = set_lot touch t.holdings }))
 
 opened_are : (u : Trade) (opened : List model.Lot) (t : Tables)
-    → with_lots_opened (trade_row u) opened t ≡ record t { holdings = open_lots u opened t.holdings; holding_history = put_openings opened t.holding_history }
+    → tables_with_lots_opened (trade_row u) opened t ≡ record t { holdings = open_lots u opened t.holdings; holding_history = put_openings opened t.holding_history }
 opened_are u [] t = refl
 opened_are u (lot ∷ opened) t = opened_are u opened _
 
-summary_is : (before after : ℤ) (row : SummaryRow) (t : Tables) → with_summary_changed before after row t ≡ record t { summaries = move_row before after row t.summaries }
+summary_is : (before after : ℤ) (row : SummaryRow) (t : Tables) → tables_with_summary_changed before after row t ≡ record t { summaries = move_row before after row t.summaries }
 summary_is before after row t = by_test (is_zero after) (is_zero before)
   where
     F : Tables
@@ -176,11 +176,11 @@ summary_is before after row t = by_test (is_zero after) (is_zero before)
     by_test false true = refl
     by_test false false = refl
 
-cash_is : (u : Trade) (c : ResultRows) (t : Tables) → with_cash_posted u.is_cash c.cash u.account c.balance t
+cash_is : (u : Trade) (c : ResultRows) (t : Tables) → tables_with_cash_row_if_cash_trade u.is_cash c.cash u.account c.balance t
     ≡ record t { accounts = cond u.is_cash (map (with_other_balance u.account c.balance) t.accounts) t.accounts; moves = cond u.is_cash (insert_row_by_key move_key c.cash t.moves) t.moves }
 cash_is u c t = by_test u.is_cash
   where
-    by_test : (b : Bool) → with_cash_posted b c.cash u.account c.balance t
+    by_test : (b : Bool) → tables_with_cash_row_if_cash_trade b c.cash u.account c.balance t
         ≡ record t { accounts = cond b (map (with_other_balance u.account c.balance) t.accounts) t.accounts; moves = cond b (insert_row_by_key move_key c.cash t.moves) t.moves }
     by_test true = refl
     by_test false = refl
@@ -199,7 +199,7 @@ pub record IsResult (base : Base) (stamp price : ℕ) (t : Trade) (xs ys : List 
 pub trades_then : (base : Base) (stamp price : ℕ) (t : Trade) (xs ys : List Trade) → IsResult base stamp price t xs ys
     → update_where (λ u. u.id == t.id) (completed_trade base stamp price) base.trades ≡ xs ++ completed_trade base stamp price t ∷ ys
 trades_then base stamp price t xs ys k =
-    let n : AreNumberedFrom 1 (xs ++ t ∷ ys) = subst (AreNumberedFrom 1) k.stands k.books.numbered in
+    let n : TradesAreNumberedFrom 1 (xs ++ t ∷ ys) = subst (TradesAreNumberedFrom 1) k.stands k.books.numbered in
     ap (update_where (λ u. u.id == t.id) (completed_trade base stamp price)) k.stands
     ∙ update_where-one (λ u. u.id == t.id) (completed_trade base stamp price) xs t ys (numbered_before 1 xs t ys n) (eq-eqb t.id t.id refl) (numbered_after 1 xs t ys n)
 
@@ -215,7 +215,7 @@ pub completes : (base : Base) (stamp price : ℕ) (t : Trade) (xs ys : List Trad
     → Completes base (filter is_completed xs) (completed_trade base stamp price t) (filter is_completed ys)
 unfolding completed_trade
 completes base stamp price t xs ys k =
-    let n : AreNumberedFrom 1 (xs ++ t ∷ ys) = subst (AreNumberedFrom 1) k.stands k.books.numbered in
+    let n : TradesAreNumberedFrom 1 (xs ++ t ∷ ys) = subst (TradesAreNumberedFrom 1) k.stands k.books.numbered in
     record {
       books = k.books;
       split = done_now base stamp price t xs ys k;
@@ -241,7 +241,7 @@ rows_set u c t = record t {
 
 rows_are : (u : Trade) (c : ResultRows) (t : Tables) → tables_after_result (record c { trade = trade_row u }) t ≡ rows_set u c t
 rows_are u c t =
-    ap (λ x. C (S (B (M (with_lots_opened (trade_row u) c.opened x))))) (touched_are u.id c.touched (with_trade_completed (trade_row u) t))
+    ap (λ x. C (S (B (M (tables_with_lots_opened (trade_row u) c.opened x))))) (touched_are u.id c.touched (tables_with_trade_completed_and_history (trade_row u) t))
     ∙ ap (λ x. C (S (B (M x)))) (opened_are u c.opened touched)
     ∙ ap (λ x. C (S (B x))) (summary_is c.before c.after row opened)
     ∙ cash_is u c (S (B (record opened { summaries = move_row c.before c.after row opened.summaries })))
@@ -250,7 +250,7 @@ rows_are u c t =
     B x = tables_with_broker_totals c.broker c.trades c.commissions x
 
     C : Tables → Tables
-    C x = with_cash_posted u.is_cash c.cash u.account c.balance x
+    C x = tables_with_cash_row_if_cash_trade u.is_cash c.cash u.account c.balance x
 
     S : Tables → Tables
     S x = tables_with_settlement c.settlement x
@@ -259,10 +259,10 @@ rows_are u c t =
     row = record { account = u.account; symbol = u.symbol; qty = c.after }
 
     M : Tables → Tables
-    M x = with_summary_changed c.before c.after row x
+    M x = tables_with_summary_changed c.before c.after row x
 
     done : Tables
-    done = with_trade_completed (trade_row u) t
+    done = tables_with_trade_completed_and_history (trade_row u) t
 
     touched : Tables
     touched = record done { holdings = set_lots c.touched done.holdings; holding_history = put_changes u.id c.touched done.holding_history }
@@ -307,8 +307,8 @@ sheets_then base stamp price t xs ys k a s ea es marks =
     m : Completes base A u Z
     m = completes base stamp price t xs ys k
 
-    n : AreNumberedFrom 1 (xs ++ t ∷ ys)
-    n = subst (AreNumberedFrom 1) k.stands k.books.numbered
+    n : TradesAreNumberedFrom 1 (xs ++ t ∷ ys)
+    n = subst (TradesAreNumberedFrom 1) k.stands k.books.numbered
 
     front : ids_other t.id xs
     front = numbered_before 1 xs t ys n

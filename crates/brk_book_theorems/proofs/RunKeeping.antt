@@ -19,7 +19,7 @@ use Rattle.brk_model.specs.Step.{base_after_accepted_command, base_after_command
 use Rattle.brk_model.specs.Tests.{stamp_of_next_command, refusal_of_command}
 use Rattle.brk_model.specs.Updates.{updated_cash_row_name, updated_cash_type, updated_executor_name, selected_ids_of_account, selected_ids_of_symbol}
 use Rattle.brk_model.specs.Names.{AccountOfTradeExists, SecurityOfTradeExists}
-use Rattle.brk_book_theorems.specs.Books.{HasNoCompletionIfSubmitted, BooksInvariant, IsTradeUpToLastStamp, HasOtherStatusStamp, HasDistinctStatusStamps, HasDistinctMovementStamps, HasOneChangeIfPending}
+use Rattle.brk_book_theorems.specs.Books.{HasNoCompletionIfSubmitted, BooksInvariant, TradeStampIsAtMostLast, HasLastStatusAtOtherStamp, HasDistinctLastStatusStamps, HasDistinctMovementStamps, HasOneStatusChangeIfPending}
 use Rattle.brk_book_theorems.specs.Steps.{PreservesBooksInvariant, base_after_command}
 use Rattle.brk_book_theorems.proofs.MovementOrder.{movements_later}
 use Rattle.brk_book_theorems.proofs.Completions.{later}
@@ -72,21 +72,21 @@ done_changed P p f (t ∷ ts) s c h =
     by_test true k h ih = (c t (cond (p t) (f t) t) k h.0, ih h.1)
     by_test false k h ih = ih h
 
-early_same : (last : Option ℕ) (t u : Trade) → IsSame t u → IsTradeUpToLastStamp last t → IsTradeUpToLastStamp last u
+early_same : (last : Option ℕ) (t u : Trade) → IsSame t u → TradeStampIsAtMostLast last t → TradeStampIsAtMostLast last u
 early_same None t u s e = absurd e
 early_same (Some l) t u s e = subst (λ (m : ℕ). m ≤ l) (sym (same_moment t u s)) e
 
-moments_changed : (p : Trade → Bool) (f : Trade → Trade) (ts : List Trade) → ((t : Trade) → IsSame t (f t)) → HasDistinctStatusStamps (filter is_completed ts)
-    → HasDistinctStatusStamps (filter is_completed (update_where p f ts))
+moments_changed : (p : Trade → Bool) (f : Trade → Trade) (ts : List Trade) → ((t : Trade) → IsSame t (f t)) → HasDistinctLastStatusStamps (filter is_completed ts)
+    → HasDistinctLastStatusStamps (filter is_completed (update_where p f ts))
 moments_changed p f [] s m = tt
 moments_changed p f (t ∷ ts) s m =
     let k : IsSame t (cond (p t) (f t) t) = changed_or p f s t in
-    subst (λ b. HasDistinctStatusStamps (cond b (cond (p t) (f t) t ∷ filter is_completed (update_where p f ts)) (filter is_completed (update_where p f ts)))) (sym (same_status_of Completed t (cond (p t) (f t) t) k))
+    subst (λ b. HasDistinctLastStatusStamps (cond b (cond (p t) (f t) t ∷ filter is_completed (update_where p f ts)) (filter is_completed (update_where p f ts)))) (sym (same_status_of Completed t (cond (p t) (f t) t) k))
     (by_test (is_completed t) k m (moments_changed p f ts s))
   where
-    by_test : (b : Bool) → IsSame t (cond (p t) (f t) t) → HasDistinctStatusStamps (cond b (t ∷ filter is_completed ts) (filter is_completed ts))
-        → (HasDistinctStatusStamps (filter is_completed ts) → HasDistinctStatusStamps (filter is_completed (update_where p f ts)))
-        → HasDistinctStatusStamps (cond b (cond (p t) (f t) t ∷ filter is_completed (update_where p f ts)) (filter is_completed (update_where p f ts)))
+    by_test : (b : Bool) → IsSame t (cond (p t) (f t) t) → HasDistinctLastStatusStamps (cond b (t ∷ filter is_completed ts) (filter is_completed ts))
+        → (HasDistinctLastStatusStamps (filter is_completed ts) → HasDistinctLastStatusStamps (filter is_completed (update_where p f ts)))
+        → HasDistinctLastStatusStamps (cond b (cond (p t) (f t) t ∷ filter is_completed (update_where p f ts)) (filter is_completed (update_where p f ts)))
     by_test true k m ih = (
       done_changed (λ v. (last_status_stamp_of_trade v == last_status_stamp_of_trade (cond (p t) (f t) t)) ≡ false) p f ts s
           (λ v w same e. ap (λ (n : ℕ). n == last_status_stamp_of_trade (cond (p t) (f t) t)) (same_moment v w same) ∙ e)
@@ -99,7 +99,7 @@ apart_changed : (p : Trade → Bool) (f : Trade → Trade) (ts : List Trade) →
     → HasDistinctMovementStamps (filter is_completed (update_where p f ts)) ms
 apart_changed p f ts s [] h = tt
 apart_changed p f ts s (m ∷ ms) h =
-    (done_changed (HasOtherStatusStamp m.stamp) p f ts s (λ v w same e. ap (λ (n : ℕ). n == m.stamp) (same_moment v w same) ∙ e) h.0, h.1, apart_changed p f ts s ms h.2)
+    (done_changed (HasLastStatusAtOtherStamp m.stamp) p f ts s (λ v w same e. ap (λ (n : ℕ). n == m.stamp) (same_moment v w same) ∙ e) h.0, h.1, apart_changed p f ts s ms h.2)
 
 books_changed : (base : Base) (now : ℕ) (command : Command) (p : Trade → Bool) (f : Trade → Trade) → ((t : Trade) → IsSame t (f t)) → BooksInvariant base → refusal_of_command base now command ≡ None
     → BooksInvariant (record (base_with_updated_trades p f base) { last = Some (stamp_of_next_command base now) })
@@ -110,11 +110,11 @@ books_changed base now command p f s k e = record {
     accounts = All-updated (AccountOfTradeExists base) p f base.trades (λ t h. subst (λ (a : ℕ). AccountOfTradeExists base (record t { account = a })) (sym (s t).account) h) k.accounts;
     securities = All-updated (SecurityOfTradeExists base) p f base.trades (λ t h. subst (λ (a : Text). SecurityOfTradeExists base (record t { symbol = a })) (sym (s t).symbol) h) k.securities;
     numbered = numbered_updated 1 p f base.trades (λ t. (s t).id) k.numbered;
-    ways = All-updated HasOneChangeIfPending p f base.trades (λ t h. subst (λ ms. HasOneChangeIfPending (record t { marks = ms })) (sym (s t).marks) h) k.ways;
+    ways = All-updated HasOneStatusChangeIfPending p f base.trades (λ t h. subst (λ ms. HasOneStatusChangeIfPending (record t { marks = ms })) (sym (s t).marks) h) k.ways;
     completions = All-updated HasNoCompletionIfSubmitted p f base.trades (λ t h. subst (λ ms. HasNoCompletionIfSubmitted (record t { marks = ms })) (sym (s t).marks) h) k.completions;
   };
   times = record {
-    early = done_changed (IsTradeUpToLastStamp (Some (stamp_of_next_command base now))) p f base.trades s (early_same (Some (stamp_of_next_command base now))) (later base now k.early);
+    early = done_changed (TradeStampIsAtMostLast (Some (stamp_of_next_command base now))) p f base.trades s (early_same (Some (stamp_of_next_command base now))) (later base now k.early);
     moments = moments_changed p f base.trades s k.moments;
     clock = in_time base now command e;
   };

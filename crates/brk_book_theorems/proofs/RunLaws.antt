@@ -20,7 +20,7 @@ use Rattle.brk_model.specs.Derived.{deal_of_trade, deals_of_position, shares_of_
 use Rattle.brk_model.specs.Feed.{is_triggered_by_tick, base_after_tick, base_after_ticks}
 use Rattle.brk_model.specs.Keyed.{base_with_stored_reply}
 use Rattle.brk_model.specs.Lists.{contains_number, update_where}
-use Rattle.brk_model.specs.Orders.{ordered_trade, tax_on_deal}
+use Rattle.brk_model.specs.Orders.{trade_of_order, tax_on_deal}
 use Rattle.brk_model.specs.Records.{Key, Trade}
 use Rattle.brk_model.specs.Results.{completed_trade, deal_of_result, base_after_result}
 use Rattle.brk_model.specs.Run.{Call, Outcome, Run}
@@ -33,7 +33,7 @@ use Rattle.brk_model.specs.Updates.{updated_cash_row_name, updated_cash_type, up
 use Rattle.brk_book_theorems.specs.Books.{BooksInvariant}
 use Rattle.brk_book_theorems.specs.Steps.{base_after_command}
 use Rattle.brk_book_theorems.specs.Runs.{TradeRowHasTax, CompletedTradeHasTax, tax_at_completion}
-use Rattle.brk_book_theorems.specs.TradeReads.{position_lots}
+use Rattle.brk_book_theorems.specs.TradeReads.{lots_of_position}
 use Rattle.brk_book_theorems.proofs.Completions.{named_open, named_waits, triggered_waits}
 use Rattle.brk_book_theorems.proofs.Keepers.{books_kept}
 use Rattle.brk_book_theorems.proofs.LotOrder.{InOrder, held_in_order, position_read, shares_read}
@@ -58,21 +58,21 @@ deals_of (t ∷ ts) o = (
 pub deals_are : (base : Base) (account : ℕ) (symbol : Text) → BooksInvariant base → AreAscendingDeals (deals_of_position (completed_trades base) account symbol)
 deals_are base account symbol books = deals_of _ (held_in_order base account symbol books)
 
-pub shares_spelled : (base : Base) (account : ℕ) (symbol : Text) → BooksInvariant base → shares_of_lots (position_lots (sheets base) account symbol) ≡ replay (deals_of_position (completed_trades base) account symbol)
+pub shares_spelled : (base : Base) (account : ℕ) (symbol : Text) → BooksInvariant base → shares_of_lots (lots_of_position (sheets base) account symbol) ≡ replay (deals_of_position (completed_trades base) account symbol)
 unfolding shares_of_position
 shares_spelled base account symbol books = shares_read base account symbol books
 
-pub lots_spelled : (base : Base) (account : ℕ) (symbol : Text) → BooksInvariant base → map abstract_lot (position_lots (sheets base) account symbol) ≡ lots_of_shares (shares_of_position (completed_trades base) account symbol)
+pub lots_spelled : (base : Base) (account : ℕ) (symbol : Text) → BooksInvariant base → map abstract_lot (lots_of_position (sheets base) account symbol) ≡ lots_of_shares (shares_of_position (completed_trades base) account symbol)
 lots_spelled base account symbol books =
-    sym (lots_walk (position_lots (sheets base) account symbol) (walk_of (position_lots (sheets base) account symbol) (position_read base account symbol books)))
+    sym (lots_walk (lots_of_position (sheets base) account symbol) (walk_of (lots_of_position (sheets base) account symbol) (position_read base account symbol books)))
     ∙ ap lots_of_shares (shares_read base account symbol books)
 
-pub quantities_sum : (base : Base) (account : ℕ) (symbol : Text) → BooksInvariant base → lot_quantity_sum (position_lots (sheets base) account symbol) ≡ deal_quantity_sum (deals_of_position (completed_trades base) account symbol)
-quantities_sum base account symbol books = quantities_add_up (deals_of_position (completed_trades base) account symbol) (position_lots (sheets base) account symbol) (shares_spelled base account symbol books)
+pub quantities_sum : (base : Base) (account : ℕ) (symbol : Text) → BooksInvariant base → lot_quantity_sum (lots_of_position (sheets base) account symbol) ≡ deal_quantity_sum (deals_of_position (completed_trades base) account symbol)
+quantities_sum base account symbol books = quantities_add_up (deals_of_position (completed_trades base) account symbol) (lots_of_position (sheets base) account symbol) (shares_spelled base account symbol books)
 
 pub costs_sum : (base : Base) (account : ℕ) (symbol : Text) → BooksInvariant base
-    → lot_cost_basis (position_lots (sheets base) account symbol) ≡ realised_gain_sum (deals_of_position (completed_trades base) account symbol) [] +ℤ purchases_minus_sales (deals_of_position (completed_trades base) account symbol)
-costs_sum base account symbol books = costs_add_up (deals_of_position (completed_trades base) account symbol) (position_lots (sheets base) account symbol) (shares_spelled base account symbol books)
+    → lot_cost_basis (lots_of_position (sheets base) account symbol) ≡ realised_gain_sum (deals_of_position (completed_trades base) account symbol) [] +ℤ purchases_minus_sales (deals_of_position (completed_trades base) account symbol)
+costs_sum base account symbol books = costs_add_up (deals_of_position (completed_trades base) account symbol) (lots_of_position (sheets base) account symbol) (shares_spelled base account symbol books)
 
 pub lot_lives : (base : Base) (account : ℕ) (symbol : Text) (lot : ℕ) → BooksInvariant base
     → IsLotHistory (changes_of_lot lot (deals_of_position (completed_trades base) account symbol) []) (lot_quantity (replay (deals_of_position (completed_trades base) account symbol)) lot)
@@ -197,7 +197,7 @@ taxed_command base now id tax (AddCharge c) books e k = same_trades base (base_a
 taxed_command base now id tax (AddBand b) books e k = same_trades base (base_after_command base now (AddBand b)) id tax refl k
 taxed_command base now id tax (AddTaxRate r) books e k = same_trades base (base_after_command base now (AddTaxRate r)) id tax refl k
 taxed_command base now id tax (AddCustomerTax x) books e k = same_trades base (base_after_command base now (AddCustomerTax x)) id tax refl k
-taxed_command base now id tax (PlaceOrder o) books e k = taxed_order base (base_after_command base now (PlaceOrder o)) id tax (ordered_trade base (stamp_of_next_command base now) o) refl k
+taxed_command base now id tax (PlaceOrder o) books e k = taxed_order base (base_after_command base now (PlaceOrder o)) id tax (trade_of_order base (stamp_of_next_command base now) o) refl k
 taxed_command base now id tax (FeedTicks ticks) books e k = taxed_feed base now id tax ticks k
 taxed_command base now id tax (CancelTrade other) books e k = taxed_cancel base now id tax other books e k
 taxed_command base now id tax (CompleteTrade other price) books e k = taxed_result base now id tax other price books e k

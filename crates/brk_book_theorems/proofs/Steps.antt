@@ -14,7 +14,7 @@ use Rattle.brk_model.specs.Tables.{tables_of_base_in_schema, tables_without_rows
 use Rattle.brk_model.specs.Sheets.{sheets, tables_sorted_by_key}
 use Rattle.brk_changes.specs.Changes.{tables_with_broker, tables_with_customer, tables_with_account, tables_with_permission, tables_with_charge, tables_with_band, tables_with_tax_rate, tables_with_customer_tax}
 use Rattle.brk_book_theorems.specs.Books.{BooksInvariant}
-use Rattle.brk_book_theorems.specs.Steps.{HasTableEffect, with_listing}
+use Rattle.brk_book_theorems.specs.Steps.{HasTableEffect, tables_with_listing}
 use Rattle.brk_book_theorems.proofs.Same.{any-none, find-none}
 use Rattle.brk_book_theorems.proofs.References.{broker_rows, customer_rows, account_rows, new_number}
 use Rattle.brk_book_theorems.proofs.NewKeys.{permission_new, security_new, charge_new, band_new, customer_tax_new, unused}
@@ -55,7 +55,7 @@ step_permission base now p books e =
     permission_rows base (stamp_of_next_command base now) p
     (permission_new p base.permissions (any-none (λ q. (q.account == p.account) && bytes_eq q.tax_id p.tax_id) base.permissions k.1.0))
 
-pub step_security : (base : Base) (now : ℕ) (l : Listing) → HasTableEffect base now (AddSecurity l) (with_listing (stamp_of_next_command base now) l)
+pub step_security : (base : Base) (now : ℕ) (l : Listing) → HasTableEffect base now (AddSecurity l) (tables_with_listing (stamp_of_next_command base now) l)
 unfolding checks_of_command
 step_security base now l books e =
     let k = passed base now (AddSecurity l) e in

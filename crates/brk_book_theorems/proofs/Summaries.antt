@@ -13,7 +13,7 @@ use Rattle.brk_model.specs.Keys.{number, word, rows_sorted_by_key, insert_row_by
 use Rattle.brk_model.specs.Sheets.{sheets, tables_sorted_by_key}
 use Rattle.brk_model.specs.Tables.{SummaryRow, summary_rows, tables_of_base_in_schema}
 use Rattle.brk_book_theorems.specs.Books.{HasDistinctSymbols, BooksInvariant}
-use Rattle.brk_book_theorems.specs.TradeReads.{summary_row_of_quantity, summary_quantity, summary_row_of_position}
+use Rattle.brk_book_theorems.specs.TradeReads.{summary_row_if_nonzero, summary_quantity_or_zero, summary_row_of_position}
 use Rattle.brk_book_theorems.proofs.Bools.{numbers_back, same_text, texts_back}
 use Rattle.brk_book_theorems.proofs.NewKeys.{and_both}
 use Rattle.brk_book_theorems.proofs.Order.{by_key-filter, map-insert_by}
@@ -127,21 +127,21 @@ reads_summary base account symbol a s books e f =
     ∙ find_one q account symbol
 
 pub reads_summary_row : (base : Base) (account : ℕ) (symbol : Text) → BooksInvariant base → is_some (account_with_id base account) ≡ true → is_some (security_with_symbol base symbol) ≡ true
-    → summary_row_of_position (sheets base) account symbol ≡ summary_row_of_quantity account symbol (holding_summary_quantity (completed_trades base) account symbol)
+    → summary_row_of_position (sheets base) account symbol ≡ summary_row_if_nonzero account symbol (holding_summary_quantity (completed_trades base) account symbol)
 reads_summary_row base account symbol books e f =
     let a : (a : Account) × (account_with_id base account ≡ Some a) = some_of (account_with_id base account) e in
     let s : (s : Security) × (security_with_symbol base symbol ≡ Some s) = some_of (security_with_symbol base symbol) f in
     reads_summary base account symbol a.0 s.0 books a.1 s.1
 
-held_of : (account : ℕ) (symbol : Text) (q : ℤ) → summary_quantity (summary_row_of_quantity account symbol q) ≡ q
+held_of : (account : ℕ) (symbol : Text) (q : ℤ) → summary_quantity_or_zero (summary_row_if_nonzero account symbol q) ≡ q
 held_of account symbol (pos zero) = refl
 held_of account symbol (pos (suc n)) = refl
 held_of account symbol (negsuc n) = refl
 
 pub reads_held : (base : Base) (account : ℕ) (symbol : Text) → BooksInvariant base → is_some (account_with_id base account) ≡ true → is_some (security_with_symbol base symbol) ≡ true
-    → summary_quantity (summary_row_of_position (sheets base) account symbol) ≡ holding_summary_quantity (completed_trades base) account symbol
+    → summary_quantity_or_zero (summary_row_of_position (sheets base) account symbol) ≡ holding_summary_quantity (completed_trades base) account symbol
 reads_held base account symbol books e f =
-    ap summary_quantity (reads_summary_row base account symbol books e f) ∙ held_of account symbol (holding_summary_quantity (completed_trades base) account symbol)
+    ap summary_quantity_or_zero (reads_summary_row base account symbol books e f) ∙ held_of account symbol (holding_summary_quantity (completed_trades base) account symbol)
 
 -- ---- after a result
 

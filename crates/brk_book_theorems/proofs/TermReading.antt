@@ -12,7 +12,7 @@ use Rattle.brk_money.specs.declared.trade_type.TradeType.{TradeType}
 use Rattle.brk_model.specs.Lists.{insert_by, sort_by}
 use Rattle.brk_model.specs.Records.{Band, CustomerTax, TaxRate}
 use Rattle.brk_model.specs.Base as base_spec
-use Rattle.brk_model.specs.Base.{Base, security_with_symbol, charge_for_type_and_tier, tax_rate_of_id}
+use Rattle.brk_model.specs.Base.{Base, security_with_symbol, charge_for_type_and_tier, tax_rate_record_with_id}
 use Rattle.brk_model.specs.Keys.{KeyPart, number, word, is_row_key_less, rows_sorted_by_key, permission_key, charge_key, customer_tax_key, band_key}
 use Rattle.brk_model.specs.Tables.{Tables, tables_of_base, security_row, last_trade_row, tables_of_base_in_schema}
 use Rattle.brk_model.specs.Sheets.{sheets, tables_sorted_by_key}
@@ -20,7 +20,7 @@ use Rattle.brk_model.specs.Tests.{bands_overlap}
 use Rattle.brk_ref.specs.Records.{abstract_tax_rate}
 use Rattle.brk_ref.specs.declared.tax.Tax.{Tax}
 use Rattle.brk_model.specs.Form.{has_security}
-use Rattle.brk_book_theorems.specs.Reads.{contains_permission, contains_charge, overlaps_some_band, tax_rate_with_id, rate_by_tax_id, contains_tax_rate, pays_tax, rate_sum_of_customer}
+use Rattle.brk_book_theorems.specs.Reads.{contains_permission, contains_charge, overlaps_some_band, tax_rate_with_id, rate_of_tax_rate_with_id, contains_tax_rate, contains_customer_tax, customer_tax_rate_sum}
 use Rattle.brk_book_theorems.proofs.Order.{by_key-filter}
 use Rattle.brk_book_theorems.proofs.Reading.{find-key, find-id, find-map, is_some-map, some-is-any, any-sorted}
 use Rattle.brk_book_theorems.proofs.NewKeys.{same_bytes, code_same, same_codes, both, and_both}
@@ -60,7 +60,7 @@ reads_charge base kind tier =
     let n : c.tier ≡ tier = eqb-true c.tier tier h.1 in
     λ i. word (s i) ∷ number (n i) ∷ [])
 
-pub reads_tax_rate : (base : Base) (id : ℕ) → find (λ r. r.id == id) (sheets base).tax_rates ≡ tax_rate_of_id base id
+pub reads_tax_rate : (base : Base) (id : ℕ) → find (λ r. r.id == id) (sheets base).tax_rates ≡ tax_rate_record_with_id base id
 unfolding tables_of_base_in_schema tables_sorted_by_key
 reads_tax_rate base id = find-id (λ r. r.id) id base.tax_rates
 
@@ -87,15 +87,15 @@ reads_has_security base symbol = ap is_some (reads_security base symbol) ∙ is_
 pub reads_has_charge : (base : Base) (kind : TradeType) (tier : ℕ) → contains_charge (sheets base) kind tier ≡ is_some (charge_for_type_and_tier base kind tier)
 reads_has_charge base kind tier = ap is_some (reads_charge base kind tier)
 
-pub reads_has_tax_rate : (base : Base) (id : ℕ) → contains_tax_rate (sheets base) id ≡ is_some (tax_rate_of_id base id)
+pub reads_has_tax_rate : (base : Base) (id : ℕ) → contains_tax_rate (sheets base) id ≡ is_some (tax_rate_record_with_id base id)
 reads_has_tax_rate base id = ap is_some (reads_tax_rate base id)
 
 pub reads_pays_tax : (base : Base) (customer tax : ℕ)
-    → pays_tax (sheets base) customer tax ≡ list_any (λ y. (y.customer == customer) && (y.tax == tax)) base.customer_taxes
+    → contains_customer_tax (sheets base) customer tax ≡ list_any (λ y. (y.customer == customer) && (y.tax == tax)) base.customer_taxes
 reads_pays_tax base customer tax =
     ap is_some (reads_customer_tax base customer tax) ∙ some-is-any (λ y. (y.customer == customer) && (y.tax == tax)) base.customer_taxes
 
-pub reads_rate : (base : Base) (id : ℕ) → rate_by_tax_id (sheets base) id ≡ option_map (λ r. r.rate) (tax_rate_of_id base id)
+pub reads_rate : (base : Base) (id : ℕ) → rate_of_tax_rate_with_id (sheets base) id ≡ option_map (λ r. r.rate) (tax_rate_record_with_id base id)
 reads_rate base id = ap (option_map (λ r. r.rate)) (reads_tax_rate base id)
 
 -- ---- bands that meet
@@ -150,29 +150,29 @@ pub map-or : (o : Option TaxRate) → unwrap_or (option_map (λ r. r.rate) o) 0 
 map-or None = refl
 map-or (Some r) = refl
 
-pub reads_rates : (base : Base) (customer : ℕ) → rate_sum_of_customer (sheets base) customer ≡ base_spec.tax_rate_sum_of_customer base customer
+pub reads_rates : (base : Base) (customer : ℕ) → customer_tax_rate_sum (sheets base) customer ≡ base_spec.tax_rate_sum_of_customer base customer
 unfolding tables_of_base_in_schema tables_sorted_by_key
 reads_rates base customer =
-    ap (sum_by (λ r. unwrap_or (rate_by_tax_id (sheets base) r.tax) 0)) (sym (by_key-filter customer_tax_key (λ r. r.customer == customer) base.customer_taxes))
-    ∙ sum-sorted customer_tax_key (λ r. unwrap_or (rate_by_tax_id (sheets base) r.tax) 0) (filter (λ r. r.customer == customer) base.customer_taxes)
-    ∙ sum-same _ _ (filter (λ r. r.customer == customer) base.customer_taxes) (λ x. ap (λ o. unwrap_or o 0) (reads_rate base x.tax) ∙ map-or (tax_rate_of_id base x.tax))
+    ap (sum_by (λ r. unwrap_or (rate_of_tax_rate_with_id (sheets base) r.tax) 0)) (sym (by_key-filter customer_tax_key (λ r. r.customer == customer) base.customer_taxes))
+    ∙ sum-sorted customer_tax_key (λ r. unwrap_or (rate_of_tax_rate_with_id (sheets base) r.tax) 0) (filter (λ r. r.customer == customer) base.customer_taxes)
+    ∙ sum-same _ _ (filter (λ r. r.customer == customer) base.customer_taxes) (λ x. ap (λ o. unwrap_or o 0) (reads_rate base x.tax) ∙ map-or (tax_rate_record_with_id base x.tax))
 
 -- the rates of taxes that were found for rows, one for each
 rates_found : (t : Tables) (rows : List CustomerTax) (taxes : List Tax) → map (λ tax. Some (abstract_tax_rate tax)) taxes ≡ map (λ r. tax_rate_with_id t r.tax) rows
-    → sum_by (λ tax. tax.rate) taxes ≡ sum_by (λ r. unwrap_or (rate_by_tax_id t r.tax) 0) rows
+    → sum_by (λ tax. tax.rate) taxes ≡ sum_by (λ r. unwrap_or (rate_of_tax_rate_with_id t r.tax) 0) rows
 rates_found t [] [] e = refl
 rates_found t [] (x ∷ taxes) e = absurd (cc)
 rates_found t (r ∷ rows) [] e = absurd (cc)
 rates_found t (r ∷ rows) (x ∷ taxes) e =
     let first : Some (abstract_tax_rate x) ≡ tax_rate_with_id t r.tax = cc in
     let rest : map (λ tax. Some (abstract_tax_rate tax)) taxes ≡ map (λ r. tax_rate_with_id t r.tax) rows = cc in
-    let rate : x.rate ≡ unwrap_or (rate_by_tax_id t r.tax) 0 = ap (λ o. unwrap_or (option_map (λ r. r.rate) o) 0) first in
+    let rate : x.rate ≡ unwrap_or (rate_of_tax_rate_with_id t r.tax) 0 = ap (λ o. unwrap_or (option_map (λ r. r.rate) o) 0) first in
     let a = sum_by-cons (λ tax. tax.rate) x taxes in
-    let b = sum_by-cons (λ r. unwrap_or (rate_by_tax_id t r.tax) 0) r rows in
+    let b = sum_by-cons (λ r. unwrap_or (rate_of_tax_rate_with_id t r.tax) 0) r rows in
     let c = rates_found t rows taxes rest in
     omega arith
 
 pub taxes_found : (t : Tables) (customer : ℕ) (taxes : List Tax)
     → map (λ tax. Some (abstract_tax_rate tax)) taxes ≡ map (λ r. tax_rate_with_id t r.tax) (filter (λ r. r.customer == customer) t.customer_taxes)
-    → sum_by (λ tax. tax.rate) taxes ≡ rate_sum_of_customer t customer
+    → sum_by (λ tax. tax.rate) taxes ≡ customer_tax_rate_sum t customer
 taxes_found t customer taxes e = rates_found t (filter (λ r. r.customer == customer) t.customer_taxes) taxes e

@@ -11,7 +11,7 @@ use Rattle.brk_model.specs.Sheets.{sheets, tables_sorted_by_key}
 use Rattle.brk_model.specs.Commands.{Listing, AddPermission, AddSecurity, AddCharge, AddBand, AddTaxRate, AddCustomerTax}
 use Rattle.brk_model.specs.Step.{security_of_listing, base_after_command_unstamped, base_after_accepted_command}
 use Rattle.brk_changes.specs.Changes.{tables_with_permission, tables_with_charge, tables_with_band, tables_with_tax_rate, tables_with_customer_tax, tables_with_last_stamp}
-use Rattle.brk_book_theorems.specs.Steps.{with_listing}
+use Rattle.brk_book_theorems.specs.Steps.{tables_with_listing}
 use Rattle.brk_book_theorems.proofs.Order.{NewKey, by_key-append}
 use Rattle.brk_book_theorems.proofs.Same.{NonePass, All-of, All-mapped, All-filter, filter-none, flat_map-append, flat_map-same}
 use Rattle.brk_book_theorems.proofs.References.{row_last, no_summary, append_nil}
@@ -56,7 +56,7 @@ no_summary_of_symbol base account symbol h =
 
 pub security_rows : (base : Base) (stamp : ℕ) (l : Listing) → NewKey (λ r. word r.symbol ∷ []) (security_of_listing stamp l) base.securities
     → NonePass (λ t. bytes_eq t.symbol l.symbol) base.trades
-    → sheets (base_after_accepted_command base stamp (AddSecurity l)) ≡ tables_with_last_stamp stamp (with_listing stamp l (sheets base))
+    → sheets (base_after_accepted_command base stamp (AddSecurity l)) ≡ tables_with_last_stamp stamp (tables_with_listing stamp l (sheets base))
 unfolding tables_of_base_in_schema tables_sorted_by_key base_after_command_unstamped shares_of_position holding_summary_quantity balance_of_account trade_count_of_broker commission_total_of_broker
 security_rows base stamp l h unused =
     let s : Security = security_of_listing stamp l in

@@ -14,7 +14,7 @@ use Rattle.brk_model.specs.Tables.{Tables, LastTradeRow, RequestRow}
 use Rattle.brk_changes.specs.Changes.{tables_with_last_trade_replaced}
 use Rattle.brk_book_theorems.specs.Books.{BooksInvariant}
 use Rattle.brk_book_theorems.specs.TradeReads.{last_trade_row_of_symbol, requests_of_symbol}
-use Rattle.brk_book_theorems.specs.Trading.{ids_triggered_by_tick, triggers_request, with_status_changed, last_trade_row_after_tick, with_trades_submitted, tables_after_tick, with_tick_price}
+use Rattle.brk_book_theorems.specs.Trading.{trade_ids_triggered_by_tick, triggers_request, tables_after_change_from_pending, last_trade_row_after_tick, tables_with_trades_submitted, tables_after_tick, tables_with_last_trade_after_tick}
 use Rattle.brk_book_theorems.proofs.Bools.{numbers_back}
 use Rattle.brk_book_theorems.proofs.Same.{All-map, filter-same}
 use Rattle.brk_book_theorems.proofs.Places.{filter-all}
@@ -24,16 +24,16 @@ use Rattle.brk_book_theorems.proofs.Volumes.{find-updated}
 
 -- ---- the last trade
 
-lasts_kept : (stamp : ℕ) (ids : List ℕ) (t : Tables) → (with_trades_submitted stamp ids t).last_trades ≡ t.last_trades
+lasts_kept : (stamp : ℕ) (ids : List ℕ) (t : Tables) → (tables_with_trades_submitted stamp ids t).last_trades ≡ t.last_trades
 lasts_kept stamp [] t = refl
-lasts_kept stamp (id ∷ ids) t = lasts_kept stamp ids (with_status_changed id Submitted stamp t)
+lasts_kept stamp (id ∷ ids) t = lasts_kept stamp ids (tables_after_change_from_pending id Submitted stamp t)
 
 -- where the tick's symbol has a last trade, this one takes the price and grows
 pub tick_last : (t : Tables) (stamp : ℕ) (tick : Tick) (l : LastTradeRow) (symbol : Text) → last_trade_row_of_symbol t tick.symbol ≡ Some l
     → last_trade_row_of_symbol (tables_after_tick stamp tick t) symbol
     ≡ option_map (λ r. cond (bytes_eq r.symbol l.symbol) (record r { stamp = stamp; price = tick.price; volume = l.volume + tick.qty }) r) (last_trade_row_of_symbol t symbol)
 tick_last t stamp tick l symbol e =
-    ap (find (λ r. bytes_eq r.symbol symbol)) (lasts_kept stamp (ids_triggered_by_tick tick t) (with_tick_price stamp tick t)
+    ap (find (λ r. bytes_eq r.symbol symbol)) (lasts_kept stamp (trade_ids_triggered_by_tick tick t) (tables_with_last_trade_after_tick stamp tick t)
     ∙ ap (λ o. (option_map_or (λ l. tables_with_last_trade_replaced (last_trade_row_after_tick stamp tick l) t) o t).last_trades) e)
     ∙ find-updated (λ r. bytes_eq r.symbol symbol) (λ r. bytes_eq r.symbol l.symbol)
     (λ r. record r { stamp = stamp; price = tick.price; volume = l.volume + tick.qty }) t.last_trades (λ r. refl)
@@ -50,14 +50,14 @@ filter-filter {X = X} q p (x ∷ xs) = by_test (q x) (filter-filter q p xs)
     by_test false e = e
 
 -- those of these trades are gone
-gone : (stamp : ℕ) (ids : List ℕ) (t : Tables) → (with_trades_submitted stamp ids t).requests ≡ filter (λ r. not (contains_number r.trade ids)) t.requests
+gone : (stamp : ℕ) (ids : List ℕ) (t : Tables) → (tables_with_trades_submitted stamp ids t).requests ≡ filter (λ r. not (contains_number r.trade ids)) t.requests
 gone stamp [] t = sym (filter-all _ t.requests (each t.requests))
   where
     each : (rs : List RequestRow) → AllByRecursion (λ r. not (contains_number r.trade []) ≡ true) rs
     each [] = tt
     each (r ∷ rs) = (refl, each rs)
 gone stamp (id ∷ ids) t =
-    gone stamp ids (with_status_changed id Submitted stamp t)
+    gone stamp ids (tables_after_change_from_pending id Submitted stamp t)
     ∙ filter-filter (λ r. not (r.trade == id)) (λ r. not (contains_number r.trade ids)) t.requests
     ∙ filter-same _ _ t.requests (each t.requests)
   where
@@ -124,9 +124,9 @@ requests_kept t stamp tick (Some l) = refl
 
 tick_requests : (t : Tables) (stamp : ℕ) (tick : Tick) → AreApart t.requests → (tables_after_tick stamp tick t).requests ≡ filter (λ r. not (triggers_request tick r)) t.requests
 tick_requests t stamp tick d =
-    gone stamp (ids_triggered_by_tick tick t) (with_tick_price stamp tick t)
-    ∙ ap (filter (λ r. not (contains_number r.trade (ids_triggered_by_tick tick t)))) (requests_kept t stamp tick (last_trade_row_of_symbol t tick.symbol))
-    ∙ filter-same (λ r. not (contains_number r.trade (ids_triggered_by_tick tick t))) (λ r. not (triggers_request tick r)) t.requests
+    gone stamp (trade_ids_triggered_by_tick tick t) (tables_with_last_trade_after_tick stamp tick t)
+    ∙ ap (filter (λ r. not (contains_number r.trade (trade_ids_triggered_by_tick tick t)))) (requests_kept t stamp tick (last_trade_row_of_symbol t tick.symbol))
+    ∙ filter-same (λ r. not (contains_number r.trade (trade_ids_triggered_by_tick tick t))) (λ r. not (triggers_request tick r)) t.requests
     (All-map t.requests (λ r e. ap not e) (own_trades (triggers_request tick) t.requests d))
 
 -- of a symbol

@@ -18,7 +18,7 @@ use Rattle.brk_lots.proofs.Counts.{OneSide, net_of}
 use Rattle.brk_lots.proofs.Deals.{all_after}
 use Rattle.brk_lots.proofs.Ends.{walk_of}
 use Rattle.brk_book_theorems.specs.Books.{BooksInvariant}
-use Rattle.brk_book_theorems.specs.TradeReads.{position_lots}
+use Rattle.brk_book_theorems.specs.TradeReads.{lots_of_position}
 use Rattle.brk_book_theorems.proofs.LotOrder.{lot_upon, lots_left, lots_read, position_read, shares_read, trades_held}
 
 -- ---- lots without shares
@@ -103,7 +103,7 @@ pub touches_read : (base : Base) (account : ℕ) (symbol : Text) (d : Deal) → 
 unfolding touches_of_existing_lots
 touches_read base account symbol d books h =
     let S : List Share = shares_of_position (completed_trades base) account symbol in
-    let ls : List Lot = position_lots (sheets base) account symbol in
+    let ls : List Lot = lots_of_position (sheets base) account symbol in
     ap (λ us. filter changes_lot_quantity (map (touch_of_lot_with_share d S) us))
     (ap first_shares_of_lots (sym (shares_read base account symbol books)) ∙ firsts_walk ls (walk_of ls (position_read base account symbol books)) ∙ ap (map share_of_lot) (lots_read base account symbol books))
     ∙ touched_by base account symbol d (trades_held base account symbol) h

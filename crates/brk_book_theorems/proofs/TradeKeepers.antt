@@ -9,12 +9,12 @@ use Rattle.brk_model.specs.Limits.{greatest_amount}
 use Rattle.brk_model.specs.Records.{Security, Trade}
 use Rattle.brk_model.specs.Base.{Base, account_with_id, completed_trades, security_with_symbol, trade_with_status_change, trade_with_id, base_with_updated_trades}
 use Rattle.brk_model.specs.Commands.{Order, Tick, PlaceOrder, FeedTicks, CancelTrade}
-use Rattle.brk_model.specs.Orders.{first_status, ordered_trade}
+use Rattle.brk_model.specs.Orders.{first_status, trade_of_order}
 use Rattle.brk_model.specs.Feed.{is_triggered_by_tick, base_after_tick, base_after_ticks}
 use Rattle.brk_model.specs.Tests.{checks_of_command, stamp_of_next_command}
 use Rattle.brk_model.specs.Step.{base_after_command_unstamped}
 use Rattle.brk_model.specs.Names.{AccountOfTradeExists, SecurityOfTradeExists}
-use Rattle.brk_book_theorems.specs.Books.{CompletionBooksInvariant, MovementBooksInvariant, AccountBooksInvariant, TradeBooksInvariant, HasDisjointBands, HasNoCompletionIfSubmitted, HasDistinctSymbols, HasOrderedBounds, HasVolumeWithinLimit, HasOneChangeIfPending}
+use Rattle.brk_book_theorems.specs.Books.{CompletionBooksInvariant, MovementBooksInvariant, AccountBooksInvariant, TradeBooksInvariant, HasDisjointBands, HasNoCompletionIfSubmitted, HasDistinctSymbols, HasOrderedBounds, HasVolumeWithinLimit, HasOneStatusChangeIfPending}
 use Rattle.brk_book_theorems.specs.Steps.{PreservesBooksInvariant}
 use Rattle.brk_book_theorems.proofs.Same.{All-append, All-map, any-none}
 use Rattle.brk_book_theorems.proofs.Places.{All-updated}
@@ -34,7 +34,7 @@ pub books_order : (base : Base) (now : ℕ) (o : Order) → PreservesBooksInvari
 unfolding base_after_command_unstamped checks_of_command
 books_order base now o k e =
     let p = passed base now (PlaceOrder o) e in
-    let t : Trade = ordered_trade base (stamp_of_next_command base now) o in
+    let t : Trade = trade_of_order base (stamp_of_next_command base now) o in
     record {
       parties = k.parties;
       market = k.market;
@@ -42,7 +42,7 @@ books_order base now o k e =
         accounts = All-append (AccountOfTradeExists base) base.trades (t ∷ []) k.accounts (not_not (is_some (account_with_id base o.account)) p.0, tt);
         securities = All-append (SecurityOfTradeExists base) base.trades (t ∷ []) k.securities (not_not (is_some (security_with_symbol base o.symbol)) p.1.0, tt);
         numbered = numbered_more 1 base.trades t (next_number (length base.trades)) k.numbered;
-        ways = All-append HasOneChangeIfPending base.trades (t ∷ []) k.ways ((λ waits. tt), tt);
+        ways = All-append HasOneStatusChangeIfPending base.trades (t ∷ []) k.ways ((λ waits. tt), tt);
         completions = All-append HasNoCompletionIfSubmitted base.trades (t ∷ []) k.completions (first_mark t (record { stamp = stamp_of_next_command base now; status = first_status (trade_type_of_order o.order_type) }) refl (first_not_completed (trade_type_of_order o.order_type)), tt);
       };
       times = subst (CompletionBooksInvariant (Some (stamp_of_next_command base now))) (sym (ordered_done base (stamp_of_next_command base now) o)) (later_times base now (in_time base now (PlaceOrder o) e) k.times);
@@ -65,7 +65,7 @@ books_cancel base now id k e =
         accounts = All-updated (AccountOfTradeExists base) (λ t. t.id == id) (trade_with_status_change stamp Canceled) base.trades (λ t h. h) k.accounts;
         securities = All-updated (SecurityOfTradeExists base) (λ t. t.id == id) (trade_with_status_change stamp Canceled) base.trades (λ t h. h) k.securities;
         numbered = numbered_updated 1 (λ t. t.id == id) (trade_with_status_change stamp Canceled) base.trades (λ t. refl) k.numbered;
-        ways = All-updated HasOneChangeIfPending (λ t. t.id == id) (trade_with_status_change stamp Canceled) base.trades (λ t h. moved_way stamp Canceled t refl) k.ways;
+        ways = All-updated HasOneStatusChangeIfPending (λ t. t.id == id) (trade_with_status_change stamp Canceled) base.trades (λ t h. moved_way stamp Canceled t refl) k.ways;
         completions = All-updated HasNoCompletionIfSubmitted (λ t. t.id == id) (trade_with_status_change stamp Canceled) base.trades (λ t h. moved_elsewhere stamp Canceled t refl) k.completions;
       };
       times = subst (CompletionBooksInvariant (Some stamp)) (sym done) (later_times base now (in_time base now (CancelTrade id) e) k.times);

@@ -12,16 +12,16 @@ use Rattle.brk_model.specs.Records.{Account, Customer, Executor, Permission, Sec
 use Rattle.brk_model.specs.Base.{Base, security_with_symbol, trade_with_id, has_status}
 use Rattle.brk_model.specs.Derived.{pending_trades}
 use Rattle.brk_model.specs.Commands.{Tick}
-use Rattle.brk_model.specs.Orders.{executor_has_identity, permitted}
+use Rattle.brk_model.specs.Orders.{executor_has_identity, is_customer_or_has_permission}
 use Rattle.brk_model.specs.Feed.{is_triggered_by_tick, is_triggering_price}
 use Rattle.brk_model.specs.Tables.{RequestRow, TradeRow, tables_of_base_in_schema, trade_row, request_row, last_trade_row}
 use Rattle.brk_model.specs.Keys.{number, is_key_less, is_row_key_less, permission_key, trade_key, request_key}
 use Rattle.brk_model.specs.Sheets.{sheets, tables_sorted_by_key}
 use Rattle.brk_model.specs.Ways.{is_strictly_ascending}
-use Rattle.brk_model.specs.Names.{AreNumberedFrom}
+use Rattle.brk_model.specs.Names.{TradesAreNumberedFrom}
 use Rattle.brk_book_theorems.specs.Books.{BooksInvariant}
-use Rattle.brk_book_theorems.specs.TradeReads.{last_trade_number, permissions_of_account, volume_of_symbol}
-use Rattle.brk_book_theorems.specs.Trading.{ids_triggered_by_tick, triggers_request}
+use Rattle.brk_book_theorems.specs.TradeReads.{trade_id_in_last_row_or_zero, permissions_of_account, volume_of_symbol}
+use Rattle.brk_book_theorems.specs.Trading.{trade_ids_triggered_by_tick, triggers_request}
 use Rattle.brk_book_theorems.proofs.Order.{Sorted, by_key-filter, by_key-map, sort_sorted, sorted_filter}
 use Rattle.brk_book_theorems.proofs.Same.{All-filter, All-mapped}
 use Rattle.brk_book_theorems.proofs.Numbering.{numbered_after}
@@ -34,24 +34,24 @@ reads_trade base id = find-id (λ r. r.id) id (map trade_row base.trades) ∙ fi
 
 -- ---- trades and requests stand in the order of acceptance
 
-ids_above : (n : ℕ) (ts : List Trade) → AreNumberedFrom n ts → (m : ℕ) → m < n → AllByRecursion (λ t. is_key_less (number t.id ∷ []) (number m ∷ []) ≡ false) ts
+ids_above : (n : ℕ) (ts : List Trade) → TradesAreNumberedFrom n ts → (m : ℕ) → m < n → AllByRecursion (λ t. is_key_less (number t.id ∷ []) (number m ∷ []) ≡ false) ts
 ids_above n [] k m h = tt
 ids_above n (t ∷ ts) k m h = (above t.id (omega (arith, k.0)), ids_above (n + 1) ts k.1 m (omega arith))
   where
     above : (i : ℕ) → m < i → is_key_less (number i ∷ []) (number m ∷ []) ≡ false
     above i h = grind (arith, nat_tests)
 
-pub trades_stand : (n : ℕ) (ts : List Trade) → AreNumberedFrom n ts → Sorted (is_row_key_less (λ t. number t.id ∷ [])) ts
+pub trades_stand : (n : ℕ) (ts : List Trade) → TradesAreNumberedFrom n ts → Sorted (is_row_key_less (λ t. number t.id ∷ [])) ts
 trades_stand n [] k = tt
 trades_stand n (t ∷ ts) k = (ids_above (n + 1) ts k.1 t.id (omega (arith, k.0)), trades_stand (n + 1) ts k.1)
 
-pub trades_in_order : (base : Base) → AreNumberedFrom 1 base.trades → (sheets base).trades ≡ map trade_row base.trades
+pub trades_in_order : (base : Base) → TradesAreNumberedFrom 1 base.trades → (sheets base).trades ≡ map trade_row base.trades
 unfolding tables_of_base_in_schema tables_sorted_by_key
 trades_in_order base n =
     by_key-map (λ t. number t.id ∷ []) trade_key trade_row base.trades (λ t. refl)
     ∙ ap (map trade_row) (sort_sorted (is_row_key_less (λ t. number t.id ∷ [])) base.trades (trades_stand 1 base.trades n))
 
-pub requests_in_order : (base : Base) → AreNumberedFrom 1 base.trades → (sheets base).requests ≡ map (request_row base.accounts) (pending_trades base.trades)
+pub requests_in_order : (base : Base) → TradesAreNumberedFrom 1 base.trades → (sheets base).requests ≡ map (request_row base.accounts) (pending_trades base.trades)
 unfolding tables_of_base_in_schema tables_sorted_by_key
 requests_in_order base n =
     by_key-map (λ t. number t.id ∷ []) request_key (request_row base.accounts) (pending_trades base.trades) (λ t. refl)
@@ -86,7 +86,7 @@ hits accounts tick (t ∷ ts) = by_pending (has_status Pending t) refl (hits acc
         ap (λ b. map (λ r. r.trade) (filter (triggers_request tick) (map (request_row accounts) (cond b (t ∷ pending_trades ts) (pending_trades ts))))) f ∙ e
         ∙ ap (λ b. map (λ t. t.id) (cond (b && bytes_eq t.symbol tick.symbol && is_triggering_price t.kind t.bid tick.price) (t ∷ T) T)) (sym f)
 
-pub reads_triggered : (base : Base) (tick : Tick) → AreNumberedFrom 1 base.trades → ids_triggered_by_tick tick (sheets base) ≡ map (λ t. t.id) (filter (is_triggered_by_tick tick) base.trades)
+pub reads_triggered : (base : Base) (tick : Tick) → TradesAreNumberedFrom 1 base.trades → trade_ids_triggered_by_tick tick (sheets base) ≡ map (λ t. t.id) (filter (is_triggered_by_tick tick) base.trades)
 reads_triggered base tick n = ap (λ rows. map (λ r. r.trade) (filter (triggers_request tick) rows)) (requests_in_order base n) ∙ hits base.accounts tick base.trades
 
 -- ---- the volume of a symbol
@@ -108,7 +108,7 @@ id_or : (o : Option TradeRow) (r : TradeRow) → (unwrap_or o r).id ≡ unwrap_o
 id_or None r = refl
 id_or (Some q) r = refl
 
-numbered_last : (m : ℕ) (ts : List Trade) → AreNumberedFrom (m + 1) ts → unwrap_or (option_map (λ r. r.id) (slice_get (reverse (map trade_row ts)) 0)) m ≡ m + length ts
+numbered_last : (m : ℕ) (ts : List Trade) → TradesAreNumberedFrom (m + 1) ts → unwrap_or (option_map (λ r. r.id) (slice_get (reverse (map trade_row ts)) 0)) m ≡ m + length ts
 numbered_last m [] k = omega arith
 numbered_last m (t ∷ ts) k =
     let rows : List TradeRow = reverse (map trade_row ts) in
@@ -121,14 +121,14 @@ numbered_last m (t ∷ ts) k =
 from_none : (n : ℕ) → 0 + n ≡ n
 from_none n = omega arith
 
-pub reads_number : (base : Base) → BooksInvariant base → last_trade_number (sheets base) ≡ length base.trades
+pub reads_number : (base : Base) → BooksInvariant base → trade_id_in_last_row_or_zero (sheets base) ≡ length base.trades
 reads_number base books =
     ap (λ rows. unwrap_or (option_map (λ r. r.id) (slice_get (reverse rows) 0)) 0) (trades_in_order base books.numbered) ∙ numbered_last 0 base.trades books.numbered ∙ from_none (length base.trades)
 
 -- ---- the permissions of an account
 
 pub reads_permitted : (base : Base) (account : ℕ) (c : Customer) (e : Executor)
-    → permitted c (permissions_of_account (sheets base) account) e ≡ permitted c (filter (λ p. p.account == account) base.permissions) e
+    → is_customer_or_has_permission c (permissions_of_account (sheets base) account) e ≡ is_customer_or_has_permission c (filter (λ p. p.account == account) base.permissions) e
 unfolding tables_of_base_in_schema tables_sorted_by_key
 reads_permitted base account c e =
     let person : Permission → Bool = λ p. executor_has_identity e p.first_name p.last_name p.tax_id in
@@ -137,7 +137,7 @@ reads_permitted base account c e =
     ∙ any-sorted permission_key person (filter (λ p. p.account == account) base.permissions))
 
 -- a base that is in order
-pub triggered_found : (base : Base) (tick : Tick) → BooksInvariant base → ids_triggered_by_tick tick (sheets base) ≡ map (λ t. t.id) (filter (is_triggered_by_tick tick) base.trades)
+pub triggered_found : (base : Base) (tick : Tick) → BooksInvariant base → trade_ids_triggered_by_tick tick (sheets base) ≡ map (λ t. t.id) (filter (is_triggered_by_tick tick) base.trades)
 triggered_found base tick books = reads_triggered base tick books.numbered
 
 -- ---- they rise
@@ -146,14 +146,14 @@ rising_more : (m : ℕ) (ns : List ℕ) → AllByRecursion (λ n. nat_lt m n ≡
 rising_more m [] h e = refl
 rising_more m (n ∷ ns) h e = ap (λ b. b && is_strictly_ascending (n ∷ ns)) h.0 ∙ e
 
-pub ids_rise : (m n : ℕ) (ts : List Trade) → m < n → AreNumberedFrom n ts → AllByRecursion (λ t. nat_lt m t.id ≡ true) ts
+pub ids_rise : (m n : ℕ) (ts : List Trade) → m < n → TradesAreNumberedFrom n ts → AllByRecursion (λ t. nat_lt m t.id ≡ true) ts
 ids_rise m n [] h k = tt
 ids_rise m n (t ∷ ts) h k = (above t.id (omega (arith, k.0)), ids_rise m (n + 1) ts (omega arith) k.1)
   where
     above : (i : ℕ) → m < i → nat_lt m i ≡ true
     above i h = grind (arith, nat_tests)
 
-filtered_rise : (p : Trade → Bool) (n : ℕ) (ts : List Trade) → AreNumberedFrom n ts → is_strictly_ascending (map (λ t. t.id) (filter p ts)) ≡ true
+filtered_rise : (p : Trade → Bool) (n : ℕ) (ts : List Trade) → TradesAreNumberedFrom n ts → is_strictly_ascending (map (λ t. t.id) (filter p ts)) ≡ true
 filtered_rise p n [] k = refl
 filtered_rise p n (t ∷ ts) k = by_test (p t) (filtered_rise p (n + 1) ts k.1)
   where
@@ -163,7 +163,7 @@ filtered_rise p n (t ∷ ts) k = by_test (p t) (filtered_rise p (n + 1) ts k.1)
         (All-mapped (λ i. nat_lt t.id i ≡ true) (λ t. t.id) (filter p ts) (All-filter (λ u. nat_lt t.id u.id ≡ true) p ts (ids_rise t.id (n + 1) ts (omega (arith, k.0)) k.1))) e
     by_test false e = e
 
-pub triggered_rise : (base : Base) (tick : Tick) → BooksInvariant base → is_strictly_ascending (ids_triggered_by_tick tick (sheets base)) ≡ true
+pub triggered_rise : (base : Base) (tick : Tick) → BooksInvariant base → is_strictly_ascending (trade_ids_triggered_by_tick tick (sheets base)) ≡ true
 triggered_rise base tick books = ap is_strictly_ascending (reads_triggered base tick books.numbered) ∙ filtered_rise (is_triggered_by_tick tick) 1 base.trades books.numbered
 
 -- ---- no two requests are of one trade
@@ -172,7 +172,7 @@ apart_from : (id : ℕ) (rows : List RequestRow) → AllByRecursion (λ r. (r.tr
 apart_from id [] h = refl
 apart_from id (r ∷ rows) h = ap (λ b. b || contains_number id (map (λ r. r.trade) rows)) h.0 ∙ apart_from id rows h.1
 
-filtered_apart : (accounts : List Account) (p : Trade → Bool) (n : ℕ) (ts : List Trade) → AreNumberedFrom n ts → all_distinct (map (λ r. r.trade) (map (request_row accounts) (filter p ts))) ≡ true
+filtered_apart : (accounts : List Account) (p : Trade → Bool) (n : ℕ) (ts : List Trade) → TradesAreNumberedFrom n ts → all_distinct (map (λ r. r.trade) (map (request_row accounts) (filter p ts))) ≡ true
 filtered_apart accounts p n [] k = refl
 filtered_apart accounts p n (t ∷ ts) k = by_test (p t) (filtered_apart accounts p (n + 1) ts k.1)
   where

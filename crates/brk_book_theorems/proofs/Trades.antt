@@ -13,14 +13,14 @@ use Rattle.brk_model.specs.Derived.{shares_of_position, holding_summary_quantity
 use Rattle.brk_model.specs.Tables.{Tables, tables_of_base_in_schema, trade_row}
 use Rattle.brk_model.specs.Sheets.{sheets, tables_sorted_by_key}
 use Rattle.brk_model.specs.Commands.{Order, Tick, PlaceOrder, FeedTicks, CancelTrade}
-use Rattle.brk_model.specs.Orders.{ordered_trade, base_after_order}
+use Rattle.brk_model.specs.Orders.{trade_of_order, base_after_order}
 use Rattle.brk_model.specs.Feed.{triggered_trade_ids, base_after_ticks}
 use Rattle.brk_model.specs.Tests.{checks_of_command, refusal_of_command, stamp_of_next_command, status_check}
 use Rattle.brk_model.specs.Step.{base_after_command_unstamped}
 use Rattle.brk_changes.specs.Changes.{tables_with_last_stamp}
 use Rattle.brk_book_theorems.specs.Books.{BooksInvariant}
 use Rattle.brk_book_theorems.specs.Steps.{HasTableEffect}
-use Rattle.brk_book_theorems.specs.Trading.{tables_after_cancel, tables_after_feed, ids_triggered_by_feed, tables_after_order}
+use Rattle.brk_book_theorems.specs.Trading.{tables_after_cancel, tables_after_feed, trade_ids_triggered_by_feed, tables_after_order}
 use Rattle.brk_book_theorems.proofs.Same.{All-map, any-none}
 use Rattle.brk_book_theorems.proofs.Tested.{passed, not_not}
 use Rattle.brk_book_theorems.proofs.Ordering.{ordered_rows}
@@ -36,7 +36,7 @@ pub whole : (after : Base) (stamp : ℕ) (t : Tables) → sheets after ≡ t →
 whole after stamp t e = last_set after stamp ∙ ap (tables_with_last_stamp stamp) e
 
 pub step_order : (base : Base) (now : ℕ) (o : Order)
-    → HasTableEffect base now (PlaceOrder o) (tables_after_order (trade_row (ordered_trade base (stamp_of_next_command base now) o)) (not (is_market_type (trade_type_of_order o.order_type))) (broker_id_of_account base o.account))
+    → HasTableEffect base now (PlaceOrder o) (tables_after_order (trade_row (trade_of_order base (stamp_of_next_command base now) o)) (not (is_market_type (trade_type_of_order o.order_type))) (broker_id_of_account base o.account))
 unfolding base_after_command_unstamped
 step_order base now o books e =
     whole (base_after_order base (stamp_of_next_command base now) o) (stamp_of_next_command base now) _ (ordered_rows base (stamp_of_next_command base now) o books.numbered)
@@ -72,5 +72,5 @@ step_feed base now ticks books e =
     whole (base_after_ticks (stamp_of_next_command base now) base ticks) (stamp_of_next_command base now) _ (fed_rows base (stamp_of_next_command base now) ticks (ready base books) (known_ticks base now ticks e))
 
 pub step_triggered : (base : Base) (now : ℕ) (ticks : List Tick) → BooksInvariant base → refusal_of_command base now (FeedTicks ticks) ≡ None
-    → triggered_trade_ids (stamp_of_next_command base now) base ticks ≡ ids_triggered_by_feed (stamp_of_next_command base now) ticks (sheets base)
+    → triggered_trade_ids (stamp_of_next_command base now) base ticks ≡ trade_ids_triggered_by_feed (stamp_of_next_command base now) ticks (sheets base)
 step_triggered base now ticks books e = fed_triggered base (stamp_of_next_command base now) ticks (ready base books) (known_ticks base now ticks e)

@@ -17,7 +17,7 @@ use Rattle.brk_model.specs.Feed.{security_after_tick, base_after_tick, base_afte
 use Rattle.brk_book_theorems.specs.Books.{BooksInvariant, HasDistinctSymbols, HasVolumeWithinLimit}
 use Rattle.brk_book_theorems.specs.TradeReads.{volume_of_symbol}
 use Rattle.brk_book_theorems.specs.Trading.{tables_after_feed}
-use Rattle.brk_book_theorems.specs.Ticks.{exceeds_symbol_volume_limit, tick_quantity_of_symbol}
+use Rattle.brk_book_theorems.specs.Ticks.{exceeds_symbol_volume_limit, tick_quantity_sum_of_symbol}
 use Rattle.brk_book_theorems.proofs.Bools.{both_ways, same_text, texts_back}
 use Rattle.brk_book_theorems.proofs.Places.{FoundAt, find-at, some_of}
 use Rattle.brk_book_theorems.proofs.TradeReading.{reads_volume}
@@ -65,7 +65,7 @@ any-found {X = X} r p (y ∷ xs) x e f = by_test (any-found r p xs x) (r y) refl
 -- ---- the volumes after ticks
 
 -- how much of a symbol a tick and those after it trade
-fed_next : (symbol : Text) (tick : Tick) (ticks : List Tick) (b : Bool) → bytes_eq tick.symbol symbol ≡ b → tick_quantity_of_symbol symbol (tick ∷ ticks) ≡ cond b (tick.qty + tick_quantity_of_symbol symbol ticks) (tick_quantity_of_symbol symbol ticks)
+fed_next : (symbol : Text) (tick : Tick) (ticks : List Tick) (b : Bool) → bytes_eq tick.symbol symbol ≡ b → tick_quantity_sum_of_symbol symbol (tick ∷ ticks) ≡ cond b (tick.qty + tick_quantity_sum_of_symbol symbol ticks) (tick_quantity_sum_of_symbol symbol ticks)
 fed_next symbol tick ticks true e =
     ap (λ b. sum_by (λ u. u.qty) (cond b (tick ∷ filter (λ u. bytes_eq u.symbol symbol) ticks) (filter (λ u. bytes_eq u.symbol symbol) ticks))) e
     ∙ sum_by-cons (λ u. u.qty) tick (filter (λ u. bytes_eq u.symbol symbol) ticks)
@@ -73,7 +73,7 @@ fed_next symbol tick ticks false e = ap (λ b. sum_by (λ u. u.qty) (cond b (tic
 
 -- the volume of a security with all ticks
 abbrev volume_with : List Tick → Security → ℕ
-volume_with ticks s = s.volume + tick_quantity_of_symbol s.symbol ticks
+volume_with ticks s = s.volume + tick_quantity_sum_of_symbol s.symbol ticks
 
 grown : (stamp : ℕ) (tick : Tick) (ticks : List Tick) (s : Security) → volume_with ticks (cond (bytes_eq s.symbol tick.symbol) (security_after_tick stamp tick s) s) ≡ volume_with (tick ∷ ticks) s
 grown stamp tick ticks s = by_test (bytes_eq s.symbol tick.symbol) refl
@@ -81,7 +81,7 @@ grown stamp tick ticks s = by_test (bytes_eq s.symbol tick.symbol) refl
     by_test : (b : Bool) → bytes_eq s.symbol tick.symbol ≡ b → volume_with ticks (cond (bytes_eq s.symbol tick.symbol) (security_after_tick stamp tick s) s) ≡ volume_with (tick ∷ ticks) s
     by_test true e =
         let f = fed_next s.symbol tick ticks true (texts_back tick.symbol s.symbol ∙ e) in
-        ap (λ b. volume_with ticks (cond b (security_after_tick stamp tick s) s)) e ∙ added s.volume tick.qty (tick_quantity_of_symbol s.symbol ticks) ∙ ap (λ n. s.volume + n) (sym f)
+        ap (λ b. volume_with ticks (cond b (security_after_tick stamp tick s) s)) e ∙ added s.volume tick.qty (tick_quantity_sum_of_symbol s.symbol ticks) ∙ ap (λ n. s.volume + n) (sym f)
       where
         added : (a b c : ℕ) → (a + b) + c ≡ a + (b + c)
         added a b c = omega arith
@@ -121,14 +121,14 @@ All-both P Q [] g h = tt
 All-both P Q (x ∷ xs) g h = ((g.0, h.0), All-both P Q xs g.1 h.1)
 
 -- where a volume within the limit comes to exceed it, a tick is of its symbol
-tick_of : (symbol : Text) (ticks : List Tick) → 0 < tick_quantity_of_symbol symbol ticks → list_any (λ u. bytes_eq u.symbol symbol) ticks ≡ true
+tick_of : (symbol : Text) (ticks : List Tick) → 0 < tick_quantity_sum_of_symbol symbol ticks → list_any (λ u. bytes_eq u.symbol symbol) ticks ≡ true
 tick_of symbol [] h = absurd (none h)
   where
     none : 0 < 0 → ⊥
     none h = omega arith
 tick_of symbol (u ∷ us) h = by_test (tick_of symbol us) (bytes_eq u.symbol symbol) refl
   where
-    by_test : (0 < tick_quantity_of_symbol symbol us → list_any (λ u. bytes_eq u.symbol symbol) us ≡ true) → (b : Bool) → bytes_eq u.symbol symbol ≡ b
+    by_test : (0 < tick_quantity_sum_of_symbol symbol us → list_any (λ u. bytes_eq u.symbol symbol) us ≡ true) → (b : Bool) → bytes_eq u.symbol symbol ≡ b
         → bytes_eq u.symbol symbol || list_any (λ u. bytes_eq u.symbol symbol) us ≡ true
     by_test ih true e = ap (λ b. b || list_any (λ u. bytes_eq u.symbol symbol) us) e
     by_test ih false e = ap (λ b. b || list_any (λ u. bytes_eq u.symbol symbol) us) e ∙ ih (subst (λ n. 0 < n) (fed_next symbol u us false e) h)
@@ -155,11 +155,11 @@ reads_exceeds base stamp ticks books known =
         let one = any-one _ E base.securities (All-both HasVolumeWithinLimit (λ s. security_with_symbol base s.symbol ≡ Some s) base.securities books.volumes (each_found base.securities books.symbols)) e in
         let s : Security = one.0 in
         let volume : volume_of_symbol (sheets base) s.symbol ≡ s.volume = volume_found base s one.1.0.1 in
-        let exceeds : nat_lt greatest_amount (volume_of_symbol (sheets base) s.symbol + tick_quantity_of_symbol s.symbol ticks) ≡ true =
-        ap (λ n. nat_lt greatest_amount (n + tick_quantity_of_symbol s.symbol ticks)) volume ∙ one.1.1 in
+        let exceeds : nat_lt greatest_amount (volume_of_symbol (sheets base) s.symbol + tick_quantity_sum_of_symbol s.symbol ticks) ≡ true =
+        ap (λ n. nat_lt greatest_amount (n + tick_quantity_sum_of_symbol s.symbol ticks)) volume ∙ one.1.1 in
         any-more (λ u. bytes_eq u.symbol s.symbol) (exceeds_symbol_volume_limit (sheets base) ticks) ticks
-        (λ u same. ap (λ symbol. nat_lt greatest_amount (volume_of_symbol (sheets base) symbol + tick_quantity_of_symbol symbol ticks)) (same_text u.symbol s.symbol same) ∙ exceeds)
-        (tick_of s.symbol ticks (some_fed s.volume (tick_quantity_of_symbol s.symbol ticks) one.1.0.0 one.1.1))
+        (λ u same. ap (λ symbol. nat_lt greatest_amount (volume_of_symbol (sheets base) symbol + tick_quantity_sum_of_symbol symbol ticks)) (same_text u.symbol s.symbol same) ∙ exceeds)
+        (tick_of s.symbol ticks (some_fed s.volume (tick_quantity_sum_of_symbol s.symbol ticks) one.1.0.0 one.1.1))
 
     to_securities : list_any (exceeds_symbol_volume_limit (sheets base) ticks) ticks ≡ true → list_any E base.securities ≡ true
     to_securities e =
@@ -170,7 +170,7 @@ reads_exceeds base stamp ticks books known =
         let at : FoundAt Security (λ s. bytes_eq s.symbol u.symbol) s base.securities = find-at (λ s. bytes_eq s.symbol u.symbol) base.securities s found.1 in
         let symbol : s.symbol ≡ u.symbol = same_text s.symbol u.symbol at.passes in
         let volume : volume_of_symbol (sheets base) u.symbol ≡ s.volume = reads_volume base u.symbol ∙ ap (λ o. option_map_or (λ s. s.volume) o 0) found.1 in
-        let exceeds : E s ≡ true = (λ i. nat_lt greatest_amount (sym volume i + tick_quantity_of_symbol (symbol i) ticks)) ∙ one.1.1 in
+        let exceeds : E s ≡ true = (λ i. nat_lt greatest_amount (sym volume i + tick_quantity_sum_of_symbol (symbol i) ticks)) ∙ one.1.1 in
         any-found (λ s. bytes_eq s.symbol u.symbol) E base.securities s found.1 exceeds
 
 -- ---- the volume of a symbol after ticks
@@ -203,7 +203,7 @@ volume_after base stamp (tick ∷ ticks) symbol s e =
     ∙ grown stamp tick ticks s
 
 pub volumes_grow : (base : Base) (stamp : ℕ) (ticks : List Tick) (symbol : Text) → BooksInvariant base → KnowsTicks base ticks → is_some (security_with_symbol base symbol) ≡ true
-    → volume_of_symbol (tables_after_feed stamp ticks (sheets base)) symbol ≡ volume_of_symbol (sheets base) symbol + tick_quantity_of_symbol symbol ticks
+    → volume_of_symbol (tables_after_feed stamp ticks (sheets base)) symbol ≡ volume_of_symbol (sheets base) symbol + tick_quantity_sum_of_symbol symbol ticks
 volumes_grow base stamp ticks symbol books known there =
     let found = some_of (security_with_symbol base symbol) there in
     let s : Security = found.0 in
@@ -212,4 +212,4 @@ volumes_grow base stamp ticks symbol books known there =
     let volume : volume_of_symbol (sheets base) symbol ≡ s.volume = reads_volume base symbol ∙ ap (λ o. option_map_or (λ s. s.volume) o 0) found.1 in
     ap (λ t. volume_of_symbol t symbol) (sym (fed_rows base stamp ticks (record { symbols = books.symbols; numbered = books.numbered; ways = books.ways }) known))
     ∙ reads_volume (base_after_ticks stamp base ticks) symbol ∙ volume_after base stamp ticks symbol s found.1
-    ∙ (λ i. sym volume i + tick_quantity_of_symbol (same i) ticks)
+    ∙ (λ i. sym volume i + tick_quantity_sum_of_symbol (same i) ticks)

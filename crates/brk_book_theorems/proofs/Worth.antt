@@ -13,7 +13,7 @@ use Rattle.brk_model.specs.Derived.{balance_of_account, holdings_market_value, p
 use Rattle.brk_model.specs.Joins.{account_row_with_id, last_price_in_tables}
 use Rattle.brk_model.specs.Keys.{KeyPart, rows_sorted_by_key, is_row_key_less, summary_key}
 use Rattle.brk_model.specs.Orders.{assets_of_account}
-use Rattle.brk_model.specs.PositionView.{asset_total}
+use Rattle.brk_model.specs.PositionView.{market_value_of_account_row}
 use Rattle.brk_model.specs.Sheets.{sheets, tables_sorted_by_key}
 use Rattle.brk_model.specs.Tables.{AccountRow, SummaryRow, Tables, tables_of_base_in_schema, account_row, last_trade_row, summary_rows}
 use Rattle.brk_book_theorems.specs.Books.{BooksInvariant, HasDistinctAccountIds}
@@ -147,13 +147,13 @@ summaries_read base id a books e =
     ∙ ap (total_by (worth (sheets base))) (of_all done base.securities base.accounts id ∙ of_account_alone done base.securities base.accounts id a books.owners e)
     ∙ worth_of base id base.securities (each_found base.securities books.symbols)
 
-pub reads_assets : (base : Base) (id : ℕ) (r : AccountRow) → BooksInvariant base → account_row_with_id (sheets base) id ≡ Some r → r.balance +ℤ asset_total (sheets base) r ≡ assets_of_account base id
+pub reads_assets : (base : Base) (id : ℕ) (r : AccountRow) → BooksInvariant base → account_row_with_id (sheets base) id ≡ Some r → r.balance +ℤ market_value_of_account_row (sheets base) r ≡ assets_of_account base id
 reads_assets base id r books e = by_account (account_with_id base id) refl
   where
     same_row : (x y : AccountRow) → Some x ≡ Some y → x ≡ y
     same_row x y e = cc
 
-    by_account : (o : Option Account) → account_with_id base id ≡ o → r.balance +ℤ asset_total (sheets base) r ≡ assets_of_account base id
+    by_account : (o : Option Account) → account_with_id base id ≡ o → r.balance +ℤ market_value_of_account_row (sheets base) r ≡ assets_of_account base id
     by_account None f =
         let k : Some r ≡ None = sym e ∙ reads_account base id ∙ ap (option_map (account_row base.accounts (postings_of_base base))) f in
         absurd (cc)
@@ -162,6 +162,6 @@ reads_assets base id r books e = by_account (account_with_id base id) refl
         let same : a.id ≡ id = eqb-true a.id id g.passes in
         let row : r ≡ account_row base.accounts (postings_of_base base) a =
         same_row r (account_row base.accounts (postings_of_base base) a) (sym e ∙ reads_account base id ∙ ap (option_map (account_row base.accounts (postings_of_base base))) f) in
-        ap (λ r. r.balance +ℤ asset_total (sheets base) r) row
+        ap (λ r. r.balance +ℤ market_value_of_account_row (sheets base) r) row
         ∙ (λ i. balance_of_account base.accounts (postings_of_base base) (same i) +ℤ total_by (worth (sheets base)) (filter (λ row. row.account == same i) (sheets base).summaries))
         ∙ ap (λ n. balance_of_account base.accounts (postings_of_base base) id +ℤ n) (summaries_read base id a books f)

@@ -8,7 +8,7 @@ use Rattle.brk_money.specs.declared.status.Status.TheVariants.{Completed, Pendin
 use Rattle.brk_model.specs.Limits.{greatest_amount}
 use Rattle.brk_model.specs.Records.{Account, Band, Broker, Customer, StatusChange, Movement, Permission, Security, Trade}
 use Rattle.brk_model.specs.Base.{Base, completed_trades, account_with_id_in_list, has_status, last_status_stamp_of_trade, broker_with_id_in_list, customer_with_id_in_list, security_with_symbol_in_list}
-use Rattle.brk_model.specs.Names.{AreNumberedFrom}
+use Rattle.brk_model.specs.Names.{TradesAreNumberedFrom}
 use Rattle.brk_model.specs.Tests.{bands_overlap}
 
 -- No two accounts of the list have the same id.
@@ -38,8 +38,8 @@ HasOneStatusChange (m ∷ n ∷ marks) = ⊥
 
 -- If the trade is pending, its history has exactly one status change. Vacuous for a trade of
 -- another status.
-abbrev pub HasOneChangeIfPending : Trade → Type 0
-HasOneChangeIfPending t = has_status Pending t ≡ true → HasOneStatusChange t.marks
+abbrev pub HasOneStatusChangeIfPending : Trade → Type 0
+HasOneStatusChangeIfPending t = has_status Pending t ≡ true → HasOneStatusChange t.marks
 
 -- The status of the status change is not `Completed`.
 abbrev pub IsNotCompletion : StatusChange → Type 0
@@ -52,33 +52,33 @@ HasNoCompletionIfSubmitted t = has_status Submitted t ≡ true → AllByRecursio
 
 -- The stamp of the trade's last status change is at most the last stamp `last`. False if `last` is
 -- `None`.
-abbrev pub IsTradeUpToLastStamp : Option ℕ → Trade → Type 0
-IsTradeUpToLastStamp None t = ⊥
-IsTradeUpToLastStamp (Some last) t = last_status_stamp_of_trade t ≤ last
+abbrev pub TradeStampIsAtMostLast : Option ℕ → Trade → Type 0
+TradeStampIsAtMostLast None t = ⊥
+TradeStampIsAtMostLast (Some last) t = last_status_stamp_of_trade t ≤ last
 
 -- No two trades of the list have the same stamp of their last status change.
-abbrev pub HasDistinctStatusStamps : List Trade → Type 0
-HasDistinctStatusStamps [] = ⊤
-HasDistinctStatusStamps (t ∷ ts) = AllByRecursion (λ u. (last_status_stamp_of_trade u == last_status_stamp_of_trade t) ≡ false) ts × HasDistinctStatusStamps ts
+abbrev pub HasDistinctLastStatusStamps : List Trade → Type 0
+HasDistinctLastStatusStamps [] = ⊤
+HasDistinctLastStatusStamps (t ∷ ts) = AllByRecursion (λ u. (last_status_stamp_of_trade u == last_status_stamp_of_trade t) ≡ false) ts × HasDistinctLastStatusStamps ts
 
 -- The account of the movement is one of `accounts`.
 abbrev pub MovementAccountExists : List Account → Movement → Type 0
 MovementAccountExists accounts m = is_some (account_with_id_in_list accounts m.account) ≡ true
 
 -- The stamp of the movement is at most the last stamp `last`. False if `last` is `None`.
-abbrev pub IsMovementUpToLastStamp : Option ℕ → Movement → Type 0
-IsMovementUpToLastStamp None m = ⊥
-IsMovementUpToLastStamp (Some last) m = m.stamp ≤ last
+abbrev pub MovementStampIsAtMostLast : Option ℕ → Movement → Type 0
+MovementStampIsAtMostLast None m = ⊥
+MovementStampIsAtMostLast (Some last) m = m.stamp ≤ last
 
 -- The stamp of the trade's last status change is not `stamp`.
-abbrev pub HasOtherStatusStamp : ℕ → Trade → Type 0
-HasOtherStatusStamp stamp t = (last_status_stamp_of_trade t == stamp) ≡ false
+abbrev pub HasLastStatusAtOtherStamp : ℕ → Trade → Type 0
+HasLastStatusAtOtherStamp stamp t = (last_status_stamp_of_trade t == stamp) ≡ false
 
 -- No two movements of the list have the same stamp, and no movement has the stamp of the last
 -- status change of a trade of `done`.
 abbrev pub HasDistinctMovementStamps : List Trade → List Movement → Type 0
 HasDistinctMovementStamps done [] = ⊤
-HasDistinctMovementStamps done (m ∷ ms) = AllByRecursion (HasOtherStatusStamp m.stamp) done × AllByRecursion (λ n. (n.stamp == m.stamp) ≡ false) ms × HasDistinctMovementStamps done ms
+HasDistinctMovementStamps done (m ∷ ms) = AllByRecursion (HasLastStatusAtOtherStamp m.stamp) done × AllByRecursion (λ n. (n.stamp == m.stamp) ≡ false) ms × HasDistinctMovementStamps done ms
 
 -- The part of the books invariant that concerns movements. The accounts of `all_movements` exist.
 -- Their stamps are at most the last stamp `last`, and differ from one another and from the stamps
@@ -87,7 +87,7 @@ pub record MovementBooksInvariant (all_accounts : List Account) (last : Option �
   -- The account of each movement exists.
   pub holders : AllByRecursion (MovementAccountExists all_accounts) all_movements
   -- None has a stamp after the last stamp, so the next cash row is the last one.
-  pub early : AllByRecursion (IsMovementUpToLastStamp last) all_movements
+  pub early : AllByRecursion (MovementStampIsAtMostLast last) all_movements
   -- Each has a stamp of its own, so the order of the cash rows is unique.
   pub apart : HasDistinctMovementStamps done all_movements
 
@@ -147,9 +147,9 @@ pub record TradeBooksInvariant (all_accounts : List Account) (all_securities : L
   pub accounts : AllByRecursion (TradeAccountExists all_accounts) all_trades
   pub securities : AllByRecursion (TradeSecurityExists all_securities) all_trades
   -- Trades are numbered from 1, in the order of their acceptance, so the next number is new.
-  pub numbered : AreNumberedFrom 1 all_trades
+  pub numbered : TradesAreNumberedFrom 1 all_trades
   -- A pending trade has one status change in its history, so the next one is new.
-  pub ways : AllByRecursion HasOneChangeIfPending all_trades
+  pub ways : AllByRecursion HasOneStatusChangeIfPending all_trades
   -- A submitted trade was never completed, so its completion is new in its history.
   pub completions : AllByRecursion HasNoCompletionIfSubmitted all_trades
 
@@ -158,9 +158,9 @@ pub record TradeBooksInvariant (all_accounts : List Account) (all_securities : L
 pub record CompletionBooksInvariant (last : Option ℕ) (done : List Trade) : Type 0 where
   -- No trade was completed after the last stamp, so the next completion is the last of its
   -- position.
-  pub early : AllByRecursion (IsTradeUpToLastStamp last) done
+  pub early : AllByRecursion (TradeStampIsAtMostLast last) done
   -- No two trades were completed at one stamp, so the order of a position's lots is unique.
-  pub moments : HasDistinctStatusStamps done
+  pub moments : HasDistinctLastStatusStamps done
   -- The last stamp, if there is one, is within the range of stamps.
   pub clock : IfSome last (λ last. last ≤ greatest_stamp)
 

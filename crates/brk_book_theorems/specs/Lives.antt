@@ -17,16 +17,16 @@ remaining_lot_quantity t lot = option_map_or (λ h. h.qty) (find (λ h. h.trade 
 
 -- The first of the rows is a change by the trade `lot`, which is the trade that opened the lot.
 -- Vacuous if there is no row.
-abbrev pub BeginsWithOwnTrade : ℕ → List HoldingHistoryRow → Type 0
-BeginsWithOwnTrade lot [] = ⊤
-BeginsWithOwnTrade lot (row ∷ rows) = row.trade ≡ lot
+abbrev pub BeginsWithTradeOfLot : ℕ → List HoldingHistoryRow → Type 0
+BeginsWithTradeOfLot lot [] = ⊤
+BeginsWithTradeOfLot lot (row ∷ rows) = row.trade ≡ lot
 
 -- The rows of HOLDING_HISTORY of the lot `lot` form a chain. The first row is a change by the lot's
 -- own trade and starts at 0. Each later row starts where the row before it ended and ends strictly
 -- nearer to 0. The last row ends at the quantity in HOLDING. If there are no rows, that quantity is
 -- 0.
 pub record LotChangesFormChain (t : Tables) (lot : ℕ) : Type 0 where
-  pub opened : BeginsWithOwnTrade lot (lot_changes_by_stamp t lot)
+  pub opened : BeginsWithTradeOfLot lot (lot_changes_by_stamp t lot)
   pub life : IsLotHistory (map touch_of_row (lot_changes_by_stamp t lot)) (remaining_lot_quantity t lot)
 
 -- The rows of HOLDING_HISTORY of every lot form a chain (`LotChangesFormChain`).

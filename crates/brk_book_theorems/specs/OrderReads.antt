@@ -9,7 +9,7 @@ use Rattle.brk_money.specs.Kinds.{is_same_trade_type}
 use Rattle.brk_money.specs.Spelling.{Text}
 use Rattle.brk_money.specs.declared.trade_type.TradeType.{TradeType}
 use Rattle.brk_changes.specs.declared.holding_row.HoldingRow.{HoldingRow}
-use Rattle.brk_book_theorems.specs.TradeReads.{position_lots}
+use Rattle.brk_book_theorems.specs.TradeReads.{lots_of_position}
 
 -- ---- lookups
 
@@ -23,8 +23,8 @@ abbrev pub charge_of_type_and_tier : Tables → TradeType → ℕ → Option ℕ
 charge_of_type_and_tier t kind tier = option_map (λ r. r.amount) (find (λ r. is_same_trade_type r.kind kind && (r.tier == tier)) t.charges)
 
 -- The number of the last row of TRADE, or `None` if there are no trades.
-abbrev pub last_trade_row_id : Tables → Option ℕ
-last_trade_row_id t = option_map (λ r. r.id) (slice_get (reverse t.trades) 0)
+abbrev pub trade_id_in_last_row : Tables → Option ℕ
+trade_id_in_last_row t = option_map (λ r. r.id) (slice_get (reverse t.trades) 0)
 
 -- `holds` is true of the customer of the account. Vacuous if the account or its customer does not
 -- exist.
@@ -40,4 +40,4 @@ lot_of_typed_row r = record { trade = r.trade; price = r.price; qty = r.qty; sta
 -- `given` holds of the lots of the account in the symbol, listed from the oldest on, or from the
 -- newest on if `lifo` is true.
 abbrev pub PositionLotsSatisfy : Tables → ℕ → Text → Bool → (List Lot → Type 0) → Type 0
-PositionLotsSatisfy t account symbol lifo given = given (list_in_closing_order lifo (position_lots t account symbol))
+PositionLotsSatisfy t account symbol lifo given = given (list_in_closing_order lifo (lots_of_position t account symbol))

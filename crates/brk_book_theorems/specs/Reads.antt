@@ -26,13 +26,13 @@ abbrev pub contains_charge : Tables → TradeType → ℕ → Bool
 contains_charge t kind tier = is_some (find (λ r. is_same_trade_type r.kind kind && (r.tier == tier)) t.charges)
 
 -- The bands of the customer tier, the trade type and the exchange, in the order of the table.
-abbrev pub matching_bands : Tables → ℕ → TradeType → Text → List Band
-matching_bands t tier kind exchange = filter (λ r. (r.tier == tier) && is_same_trade_type r.kind kind && bytes_eq r.exchange exchange) t.bands
+abbrev pub bands_of_tier_type_and_exchange : Tables → ℕ → TradeType → Text → List Band
+bands_of_tier_type_and_exchange t tier kind exchange = filter (λ r. (r.tier == tier) && is_same_trade_type r.kind kind && bytes_eq r.exchange exchange) t.bands
 
 -- True if a band in the tables with the tier, type and exchange of the band `b` shares a quantity
 -- with `b`.
 abbrev pub overlaps_some_band : Tables → Band → Bool
-overlaps_some_band t b = list_any (bands_overlap b) (matching_bands t b.tier b.kind b.exchange)
+overlaps_some_band t b = list_any (bands_overlap b) (bands_of_tier_type_and_exchange t b.tier b.kind b.exchange)
 
 -- The row of the tax rate with the id `id`, or `None` if there is none.
 abbrev pub tax_rate_with_id : Tables → ℕ → Option TaxRate
@@ -43,14 +43,14 @@ abbrev pub contains_tax_rate : Tables → ℕ → Bool
 contains_tax_rate t id = is_some (tax_rate_with_id t id)
 
 -- The rate of the tax rate with the id `tax`, or `None` if there is none.
-abbrev pub rate_by_tax_id : Tables → ℕ → Option ℕ
-rate_by_tax_id t tax = option_map (λ r. r.rate) (tax_rate_with_id t tax)
+abbrev pub rate_of_tax_rate_with_id : Tables → ℕ → Option ℕ
+rate_of_tax_rate_with_id t tax = option_map (λ r. r.rate) (tax_rate_with_id t tax)
 
 -- True if CUSTOMER_TAXRATE has a row with the customer and the tax rate `tax`.
-abbrev pub pays_tax : Tables → ℕ → ℕ → Bool
-pays_tax t customer tax = is_some (find (λ r. (r.customer == customer) && (r.tax == tax)) t.customer_taxes)
+abbrev pub contains_customer_tax : Tables → ℕ → ℕ → Bool
+contains_customer_tax t customer tax = is_some (find (λ r. (r.customer == customer) && (r.tax == tax)) t.customer_taxes)
 
 -- The sum of the rates of the taxes that the customer pays. A tax rate that does not exist counts
 -- 0.
-abbrev pub rate_sum_of_customer : Tables → ℕ → ℕ
-rate_sum_of_customer t customer = sum_by (λ r. unwrap_or (rate_by_tax_id t r.tax) 0) (filter (λ r. r.customer == customer) t.customer_taxes)
+abbrev pub customer_tax_rate_sum : Tables → ℕ → ℕ
+customer_tax_rate_sum t customer = sum_by (λ r. unwrap_or (rate_of_tax_rate_with_id t r.tax) 0) (filter (λ r. r.customer == customer) t.customer_taxes)

@@ -36,8 +36,8 @@ pub record ResultRows : Type 0 where
 
 -- The tables with the trade of the row `r` completed at its stamp, price, commission and tax, and
 -- with its completion added to TRADE_HISTORY.
-abbrev pub with_trade_completed : TradeRow → Tables → Tables
-with_trade_completed r t = tables_with_history_row (history_row_of_status r.id Completed r.stamp) (tables_with_trade_completed r.id r.stamp (unwrap_or r.price 0) r.commission r.tax t)
+abbrev pub tables_with_trade_completed_and_history : TradeRow → Tables → Tables
+tables_with_trade_completed_and_history r t = tables_with_history_row (history_row_of_status r.id Completed r.stamp) (tables_with_trade_completed r.id r.stamp (unwrap_or r.price 0) r.commission r.tax t)
 
 -- ---- its lots
 
@@ -47,13 +47,13 @@ history_row_of_touch trade touch = record { lot = touch.lot; trade = trade; befo
 
 -- The tables with the quantity of the touched lot set to `touch.after`, or without the lot if that
 -- is 0.
-abbrev pub with_lot_reduced : Touch → Tables → Tables
-with_lot_reduced touch t = if is_zero touch.after then tables_without_lot touch.lot t else tables_with_lot_quantity touch.lot touch.after t
+abbrev pub tables_with_lot_reduced : Touch → Tables → Tables
+tables_with_lot_reduced touch t = if is_zero touch.after then tables_without_lot touch.lot t else tables_with_lot_quantity touch.lot touch.after t
 
 -- The tables with each lot of `touched` reduced or deleted, in order, and a row of HOLDING_HISTORY
 -- by the trade `trade` added for it.
-abbrev pub with_lots_touched : ℕ → List Touch → Tables → Tables
-with_lots_touched trade touched t = fold (λ t touch. tables_with_lot_change (history_row_of_touch trade touch) (with_lot_reduced touch t)) t touched
+abbrev pub tables_with_lots_touched : ℕ → List Touch → Tables → Tables
+tables_with_lots_touched trade touched t = fold (λ t touch. tables_with_lot_change (history_row_of_touch trade touch) (tables_with_lot_reduced touch t)) t touched
 
 -- The row of HOLDING of the lot `lot`, with the account and the symbol of the trade `r`.
 abbrev pub holding_row_of_lot : TradeRow → Lot → HoldingRow
@@ -65,23 +65,23 @@ opening_history_row lot = record { lot = lot.trade; trade = lot.trade; before = 
 
 -- The tables with the lots `opened` added in order, each with its row of HOLDING_HISTORY. A trade
 -- opens at most one lot.
-abbrev pub with_lots_opened : TradeRow → List Lot → Tables → Tables
-with_lots_opened r opened t = fold (λ t lot. tables_with_lot_change (opening_history_row lot) (tables_with_lot (holding_row_of_lot r lot) t)) t opened
+abbrev pub tables_with_lots_opened : TradeRow → List Lot → Tables → Tables
+tables_with_lots_opened r opened t = fold (λ t lot. tables_with_lot_change (opening_history_row lot) (tables_with_lot (holding_row_of_lot r lot) t)) t opened
 
 -- ---- its summary, which has no row if it is 0
 
 -- The tables with a summary changed from the quantity `before` to the quantity `after`. Its row is
 -- deleted if `after` is 0, added if only `before` is 0, and set to `row` otherwise.
-abbrev pub with_summary_changed : (before after : ℤ) → SummaryRow → Tables → Tables
-with_summary_changed before after row t =
+abbrev pub tables_with_summary_changed : (before after : ℤ) → SummaryRow → Tables → Tables
+tables_with_summary_changed before after row t =
     if is_zero after then tables_without_summary row.account row.symbol t else if is_zero before then tables_with_summary row t else tables_with_summary_quantity row t
 
 -- ---- its cash
 
 -- If `is_cash` is true, the tables with the cash row `cash` added and the balance of `account` set
 -- to `balance`; otherwise the tables unchanged.
-abbrev pub with_cash_posted : (is_cash : Bool) → MoveRow → (account : ℕ) → (balance : ℤ) → Tables → Tables
-with_cash_posted is_cash cash account balance t = if is_cash then tables_with_balance account balance (tables_with_cash_row cash t) else t
+abbrev pub tables_with_cash_row_if_cash_trade : (is_cash : Bool) → MoveRow → (account : ℕ) → (balance : ℤ) → Tables → Tables
+tables_with_cash_row_if_cash_trade is_cash cash account balance t = if is_cash then tables_with_balance account balance (tables_with_cash_row cash t) else t
 
 -- ---- the whole result
 
@@ -90,11 +90,11 @@ with_cash_posted is_cash cash account balance t = if is_cash then tables_with_ba
 -- the balance.
 abbrev pub tables_after_result : ResultRows → Tables → Tables
 tables_after_result c t =
-    with_cash_posted c.trade.is_cash c.cash c.trade.account c.balance
+    tables_with_cash_row_if_cash_trade c.trade.is_cash c.cash c.trade.account c.balance
     (tables_with_settlement c.settlement
     (tables_with_broker_totals c.broker c.trades c.commissions
-    (with_summary_changed c.before c.after (record { account = c.trade.account; symbol = c.trade.symbol; qty = c.after })
-    (with_lots_opened c.trade c.opened (with_lots_touched c.trade.id c.touched (with_trade_completed c.trade t))))))
+    (tables_with_summary_changed c.before c.after (record { account = c.trade.account; symbol = c.trade.symbol; qty = c.after })
+    (tables_with_lots_opened c.trade c.opened (tables_with_lots_touched c.trade.id c.touched (tables_with_trade_completed_and_history c.trade t))))))
 
 -- The rows and figures of a result, computed from the base before the result, the completed trades
 -- `after` it, the deal `d` of the trade, and the completed trade `t`.

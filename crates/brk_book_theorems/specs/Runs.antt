@@ -12,7 +12,7 @@ use Rattle.brk_model.specs.Sheets.{sheets}
 use Rattle.brk_model.specs.Tables.{Tables, TradeRow}
 use Rattle.brk_model.specs.Tests.{stamp_of_next_command}
 use Rattle.brk_book_theorems.specs.Books.{BooksInvariant}
-use Rattle.brk_book_theorems.specs.Sums.{SumsMatch}
+use Rattle.brk_book_theorems.specs.Sums.{TableSumsMatchTheirRows}
 
 -- The trade with the number `id` exists in the base, is completed, and has the tax `tax`, in cents.
 pub record CompletedTradeHasTax (id tax : ℕ) (base : Base) : Type 0 where
@@ -57,5 +57,5 @@ RecordsTaxesOfResults later base calls outcomes = ⊤
 pub record IsRunWithSumsAndTaxes (base : Base) (calls : List (ℕ × Call)) (outcomes : List Outcome) (after : Base) : Type 0 where
   pub run : Run base calls outcomes after
   pub order : BooksInvariant after
-  pub sums : SumsMatch (sheets after)
+  pub sums : TableSumsMatchTheirRows (sheets after)
   pub taxes : RecordsTaxesOfResults (sheets after) base calls outcomes

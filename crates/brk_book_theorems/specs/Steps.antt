@@ -29,8 +29,8 @@ HasTableEffect base now command change =
 
 -- The tables with the security of the listing `l` and its row of LAST_TRADE at the stamp `stamp`
 -- added.
-abbrev pub with_listing : ℕ → Listing → Tables → Tables
-with_listing stamp l t = tables_with_last_trade (last_trade_row (security_of_listing stamp l)) (tables_with_security (security_row (security_of_listing stamp l)) t)
+abbrev pub tables_with_listing : ℕ → Listing → Tables → Tables
+tables_with_listing stamp l t = tables_with_last_trade (last_trade_row (security_of_listing stamp l)) (tables_with_security (security_row (security_of_listing stamp l)) t)
 
 -- The row of KEPT that stores the text of the command and of its reply under `key`.
 abbrev pub stored_reply_row : Key → Command → Reply → Kept
@@ -42,4 +42,4 @@ stored_reply_row key command reply = record { key = key; row_text = row_text com
 pub record IsAcceptedWithEffect (base : Base) (now : ℕ) (command : Command) (stamp : ℕ) (reply : Reply) (change : Tables → Tables) : Type 0 where
   pub steps : step base now command ≡ Ok (reply, base_after_command base now command)
   pub rows : sheets (base_after_command base now command) ≡ tables_with_last_stamp stamp (change (sheets base))
-  pub kept : BooksInvariant (base_after_command base now command)
+  pub books_after : BooksInvariant (base_after_command base now command)

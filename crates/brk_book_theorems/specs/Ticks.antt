@@ -7,8 +7,8 @@ use Rattle.brk_model.specs.Commands.{Tick}
 use Rattle.brk_book_theorems.specs.TradeReads.{volume_of_symbol}
 
 -- The sum of the quantities of the ticks of the symbol.
-abbrev pub tick_quantity_of_symbol : Text → List Tick → ℕ
-tick_quantity_of_symbol symbol ticks = sum_by (λ tick. tick.qty) (filter (λ tick. bytes_eq tick.symbol symbol) ticks)
+abbrev pub tick_quantity_sum_of_symbol : Text → List Tick → ℕ
+tick_quantity_sum_of_symbol symbol ticks = sum_by (λ tick. tick.qty) (filter (λ tick. bytes_eq tick.symbol symbol) ticks)
 
 -- True if the symbol of the tick has no row of LAST_TRADE.
 abbrev pub is_tick_of_unknown_symbol : Tables → Tick → Bool
@@ -17,4 +17,4 @@ is_tick_of_unknown_symbol t tick = is_none (find (λ r. bytes_eq r.symbol tick.s
 -- True if the volume of the tick's symbol plus the quantities of all `ticks` of this symbol exceeds
 -- the greatest amount.
 abbrev pub exceeds_symbol_volume_limit : Tables → List Tick → Tick → Bool
-exceeds_symbol_volume_limit t ticks tick = nat_lt greatest_amount (volume_of_symbol t tick.symbol + tick_quantity_of_symbol tick.symbol ticks)
+exceeds_symbol_volume_limit t ticks tick = nat_lt greatest_amount (volume_of_symbol t tick.symbol + tick_quantity_sum_of_symbol tick.symbol ticks)

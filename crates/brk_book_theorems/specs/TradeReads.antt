@@ -11,15 +11,15 @@ use Rattle.brk_model.specs.Shares.{Share}
 use Rattle.brk_lots.specs.Lots.{side_of_qty}
 use Rattle.brk_lots.specs.declared.lot.Lot.{Lot}
 use Rattle.brk_model.specs.Tables.{Tables, HoldingRow, LastTradeRow, RequestRow, SummaryRow}
-use Rattle.brk_book_theorems.specs.Reads.{matching_bands}
+use Rattle.brk_book_theorems.specs.Reads.{bands_of_tier_type_and_exchange}
 
 -- The number of the last row of TRADE, or 0 if there are no trades.
-abbrev pub last_trade_number : Tables → ℕ
-last_trade_number t = unwrap_or (option_map (λ r. r.id) (slice_get (reverse t.trades) 0)) 0
+abbrev pub trade_id_in_last_row_or_zero : Tables → ℕ
+trade_id_in_last_row_or_zero t = unwrap_or (option_map (λ r. r.id) (slice_get (reverse t.trades) 0)) 0
 
 -- The number of the last row of CASH_MOVE, or 0 if there are no cash rows.
-abbrev pub last_cash_row_number : Tables → ℕ
-last_cash_row_number t = unwrap_or (option_map (λ r. r.id) (slice_get (reverse t.moves) 0)) 0
+abbrev pub last_cash_row_number_or_zero : Tables → ℕ
+last_cash_row_number_or_zero t = unwrap_or (option_map (λ r. r.id) (slice_get (reverse t.moves) 0)) 0
 
 -- The permissions of the account, in the order of the table.
 abbrev pub permissions_of_account : Tables → ℕ → List Permission
@@ -27,13 +27,13 @@ permissions_of_account t account = filter (λ r. r.account == account) t.permiss
 
 -- The permission of the account with the tax id `tax_id`, as a list of one element, or the empty
 -- list if there is none.
-abbrev pub permission_for_tax_id : Tables → ℕ → Text → List Permission
-permission_for_tax_id t account tax_id = option_to_list (find (λ r. (r.account == account) && bytes_eq r.tax_id tax_id) t.permissions)
+abbrev pub permission_list_for_tax_id : Tables → ℕ → Text → List Permission
+permission_list_for_tax_id t account tax_id = option_to_list (find (λ r. (r.account == account) && bytes_eq r.tax_id tax_id) t.permissions)
 
 -- The band of the tier, the type and the exchange that contains the quantity `qty`, or `None` if
 -- there is none.
 abbrev pub band_of_quantity : Tables → ℕ → TradeType → Text → ℕ → Option Band
-band_of_quantity t tier kind exchange qty = find (λ r. nat_le r.from_qty qty && nat_le qty r.to_qty) (matching_bands t tier kind exchange)
+band_of_quantity t tier kind exchange qty = find (λ r. nat_le r.from_qty qty && nat_le qty r.to_qty) (bands_of_tier_type_and_exchange t tier kind exchange)
 
 -- The volume of the symbol in LAST_TRADE, or 0 if the symbol has no row there.
 abbrev pub volume_of_symbol : Tables → Text → ℕ
@@ -60,18 +60,18 @@ abbrev pub lot_of_row : HoldingRow → Lot
 lot_of_row r = record { trade = r.trade; price = r.price; qty = r.qty; stamp = r.stamp }
 
 -- The lots of the account in the symbol, the oldest first.
-abbrev pub position_lots : Tables → ℕ → Text → List Lot
-position_lots t account symbol = map lot_of_row (holding_rows_of_position t account symbol)
+abbrev pub lots_of_position : Tables → ℕ → Text → List Lot
+lots_of_position t account symbol = map lot_of_row (holding_rows_of_position t account symbol)
 
 -- The row of HOLDING_SUMMARY of the account in the symbol, or `None` if there is none.
 abbrev pub summary_row_of_position : Tables → ℕ → Text → Option SummaryRow
 summary_row_of_position t account symbol = find (λ r. (r.account == account) && bytes_eq r.symbol symbol) t.summaries
 
 -- The quantity of the summary, or 0 if it is `None`.
-abbrev pub summary_quantity : Option SummaryRow → ℤ
-summary_quantity row = option_map_or (λ r. r.qty) row (pos 0)
+abbrev pub summary_quantity_or_zero : Option SummaryRow → ℤ
+summary_quantity_or_zero row = option_map_or (λ r. r.qty) row (pos 0)
 
 -- The row of HOLDING_SUMMARY of the account and the symbol with the quantity `qty`, or `None` if
 -- `qty` is 0.
-abbrev pub summary_row_of_quantity : ℕ → Text → ℤ → Option SummaryRow
-summary_row_of_quantity account symbol qty = if is_zero qty then None else Some (record { account = account; symbol = symbol; qty = qty })
+abbrev pub summary_row_if_nonzero : ℕ → Text → ℤ → Option SummaryRow
+summary_row_if_nonzero account symbol qty = if is_zero qty then None else Some (record { account = account; symbol = symbol; qty = qty })

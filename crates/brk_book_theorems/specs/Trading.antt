@@ -15,29 +15,29 @@ history_row_of_status trade status stamp = record { trade = trade; status = stat
 -- ---- an order
 
 -- The row of TRADE_REQUEST of the trade `r`, with the broker `broker` of its account.
-abbrev pub request_of_trade : TradeRow → ℕ → RequestRow
-request_of_trade r broker = record { trade = r.id; kind = r.kind; symbol = r.symbol; qty = r.qty; bid = r.bid; broker = broker }
+abbrev pub request_row_of_pending_trade : TradeRow → ℕ → RequestRow
+request_row_of_pending_trade r broker = record { trade = r.id; kind = r.kind; symbol = r.symbol; qty = r.qty; bid = r.bid; broker = broker }
 
 -- The tables with the request `r` added if `waits` is true, and unchanged otherwise.
-abbrev pub with_request_if : (waits : Bool) → RequestRow → Tables → Tables
-with_request_if waits r t = if waits then tables_with_request r t else t
+abbrev pub tables_with_request_if_pending : (waits : Bool) → RequestRow → Tables → Tables
+tables_with_request_if_pending waits r t = if waits then tables_with_request r t else t
 
 -- The tables with the trade `r` and its first status added, and also its request if it is pending
 -- (`waits`).
 abbrev pub tables_after_order : TradeRow → (waits : Bool) → (broker : ℕ) → Tables → Tables
-tables_after_order r waits broker t = with_request_if waits (request_of_trade r broker) (tables_with_history_row (history_row_of_status r.id r.status r.stamp) (tables_with_trade r t))
+tables_after_order r waits broker t = tables_with_request_if_pending waits (request_row_of_pending_trade r broker) (tables_with_history_row (history_row_of_status r.id r.status r.stamp) (tables_with_trade r t))
 
 -- ---- a trade that is no longer pending
 
 -- The tables with the trade's status set to `status` at the stamp `stamp`, the row of TRADE_HISTORY
 -- added, and its request deleted.
-abbrev pub with_status_changed : ℕ → Status → ℕ → Tables → Tables
-with_status_changed id status stamp t = tables_without_request id (tables_with_history_row (history_row_of_status id status stamp) (tables_with_trade_status id status stamp t))
+abbrev pub tables_after_change_from_pending : ℕ → Status → ℕ → Tables → Tables
+tables_after_change_from_pending id status stamp t = tables_without_request id (tables_with_history_row (history_row_of_status id status stamp) (tables_with_trade_status id status stamp t))
 
 -- The tables with the trade canceled at the stamp `stamp`: its status set, a row of TRADE_HISTORY
 -- added, and its request deleted.
 abbrev pub tables_after_cancel : ℕ → ℕ → Tables → Tables
-tables_after_cancel stamp id t = with_status_changed id Canceled stamp t
+tables_after_cancel stamp id t = tables_after_change_from_pending id Canceled stamp t
 
 -- ---- a feed
 
@@ -48,8 +48,8 @@ last_trade_row_after_tick stamp tick l = record l { stamp = stamp; price = tick.
 
 -- The tables with the row of LAST_TRADE of the tick's symbol updated by the tick. They are
 -- unchanged if the symbol has no such row.
-abbrev pub with_tick_price : ℕ → Tick → Tables → Tables
-with_tick_price stamp tick t =
+abbrev pub tables_with_last_trade_after_tick : ℕ → Tick → Tables → Tables
+tables_with_last_trade_after_tick stamp tick t =
     option_map_or (λ l. tables_with_last_trade_replaced (last_trade_row_after_tick stamp tick l) t) (find (λ l. bytes_eq l.symbol tick.symbol) t.last_trades) t
 
 -- True if the request has the symbol of the tick, and the tick's price triggers it.
@@ -57,17 +57,17 @@ abbrev pub triggers_request : Tick → RequestRow → Bool
 triggers_request tick r = bytes_eq r.symbol tick.symbol && is_triggering_price r.kind r.bid tick.price
 
 -- The numbers of the trades whose requests the tick triggers, in the order of the requests.
-abbrev pub ids_triggered_by_tick : Tick → Tables → List ℕ
-ids_triggered_by_tick tick t = map (λ r. r.trade) (filter (triggers_request tick) t.requests)
+abbrev pub trade_ids_triggered_by_tick : Tick → Tables → List ℕ
+trade_ids_triggered_by_tick tick t = map (λ r. r.trade) (filter (triggers_request tick) t.requests)
 
 -- The tables with the trades of the list submitted at the stamp `stamp`, in order.
-abbrev pub with_trades_submitted : ℕ → List ℕ → Tables → Tables
-with_trades_submitted stamp trades t = fold (λ t id. with_status_changed id Submitted stamp t) t trades
+abbrev pub tables_with_trades_submitted : ℕ → List ℕ → Tables → Tables
+tables_with_trades_submitted stamp trades t = fold (λ t id. tables_after_change_from_pending id Submitted stamp t) t trades
 
 -- The tables after the tick: the row of LAST_TRADE of its symbol is updated, and the trades that
 -- the tick triggers are submitted.
 abbrev pub tables_after_tick : ℕ → Tick → Tables → Tables
-tables_after_tick stamp tick t = with_trades_submitted stamp (ids_triggered_by_tick tick t) (with_tick_price stamp tick t)
+tables_after_tick stamp tick t = tables_with_trades_submitted stamp (trade_ids_triggered_by_tick tick t) (tables_with_last_trade_after_tick stamp tick t)
 
 -- The tables after all ticks of the feed, executed in order.
 abbrev pub tables_after_feed : ℕ → List Tick → Tables → Tables
@@ -75,6 +75,6 @@ tables_after_feed stamp ticks t = fold (λ t tick. tables_after_tick stamp tick 
 
 -- The numbers of the trades that the ticks trigger, tick by tick, each tick against the tables
 -- after the ticks before it.
-abbrev pub ids_triggered_by_feed : ℕ → List Tick → Tables → List ℕ
-ids_triggered_by_feed stamp [] t = []
-ids_triggered_by_feed stamp (tick ∷ ticks) t = ids_triggered_by_tick tick t ++ ids_triggered_by_feed stamp ticks (tables_after_tick stamp tick t)
+abbrev pub trade_ids_triggered_by_feed : ℕ → List Tick → Tables → List ℕ
+trade_ids_triggered_by_feed stamp [] t = []
+trade_ids_triggered_by_feed stamp (tick ∷ ticks) t = trade_ids_triggered_by_tick tick t ++ trade_ids_triggered_by_feed stamp ticks (tables_after_tick stamp tick t)

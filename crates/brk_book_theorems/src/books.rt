@@ -15,7 +15,7 @@ pub fn empty_base_satisfies_books_invariant()
 
 /// Proves that each accepted command that adds a record of reference data preserves the books
 /// invariant.
-pub fn records_preserve_books_invariant()
+pub fn reference_records_preserve_books_invariant()
     ensures broker { (base : Base) (now : ℕ) (b : Broker) → PreservesBooksInvariant base now (AddBroker b) }
     ensures customer { (base : Base) (now : ℕ) (c : Customer) → PreservesBooksInvariant base now (AddCustomer c) }
     ensures account { (base : Base) (now : ℕ) (a : Account) → PreservesBooksInvariant base now (AddAccount a) }
@@ -49,7 +49,7 @@ pub fn results_preserve_books_invariant()
 
 /// Proves that an accepted deposit, an accepted withdrawal and an accepted settlement day preserve
 /// the books invariant.
-pub fn movements_preserve_books_invariant()
+pub fn movements_and_settlement_day_preserve_books_invariant()
     ensures deposit { (base : Base) (now account amount : ℕ) → PreservesBooksInvariant base now (DepositCash account amount) }
     ensures withdrawal { (base : Base) (now account amount : ℕ) → PreservesBooksInvariant base now (WithdrawCash account amount) }
     ensures one_day { (base : Base) (now day : ℕ) → PreservesBooksInvariant base now (SetOneDay day) }

@@ -10,31 +10,31 @@ ghost use Rattle.brk_model.specs.Derived.{due_day};
 ghost use Rattle.brk_model.specs.Feed.{triggered_trade_ids};
 ghost use Rattle.brk_model.specs.Keyed.{base_with_stored_reply, stored_row_with_key};
 ghost use Rattle.brk_model.specs.Movements.{deposit_movement, withdrawal_movement};
-ghost use Rattle.brk_model.specs.Orders.{ordered_trade};
+ghost use Rattle.brk_model.specs.Orders.{trade_of_order};
 ghost use Rattle.brk_model.specs.Records.{Account, Band, Broker, Charge, Customer, CustomerTax, Key, Permission, TaxRate, Trade};
 ghost use Rattle.brk_model.specs.Sheets.{sheets};
 ghost use Rattle.brk_model.specs.Tables.{tables_without_rows, trade_row};
 ghost use Rattle.brk_model.specs.Tests.{stamp_of_next_command, refusal_of_command};
 ghost use Rattle.brk_changes.specs.Changes.{tables_with_account, tables_with_band, tables_with_broker, tables_with_charge, tables_with_customer, tables_with_customer_tax, tables_with_stored_reply, tables_with_permission, tables_with_settlement_day, tables_with_tax_rate};
 ghost use Rattle.brk_book_theorems.specs.Books.{BooksInvariant};
-ghost use Rattle.brk_book_theorems.specs.Steps.{HasTableEffect, stored_reply_row, with_listing};
+ghost use Rattle.brk_book_theorems.specs.Steps.{HasTableEffect, stored_reply_row, tables_with_listing};
 ghost use Rattle.brk_book_theorems.specs.Movements.{tables_after_movement};
 ghost use Rattle.brk_book_theorems.specs.Results.{tables_after_result, result_rows_of_trade};
-ghost use Rattle.brk_book_theorems.specs.Trading.{tables_after_cancel, ids_triggered_by_feed, tables_after_feed, tables_after_order};
+ghost use Rattle.brk_book_theorems.specs.Trading.{tables_after_cancel, trade_ids_triggered_by_feed, tables_after_feed, tables_after_order};
 
 /// Proves that the tables of the empty base have no rows.
-pub fn the_empty_base_has_no_rows()
+pub fn empty_base_has_no_rows()
     ensures { sheets empty_base ≡ tables_without_rows }
 {}
 
 /// Proves that an accepted command of reference data adds one row, a security two, and sets the
 /// last stamp. No other row changes, if the base satisfies the books invariant.
-pub fn records_add_only_their_rows()
+pub fn reference_records_add_only_their_rows()
     ensures broker { (base : Base) (now : ℕ) (b : Broker) → HasTableEffect base now (AddBroker b) (tables_with_broker b) }
     ensures customer { (base : Base) (now : ℕ) (c : Customer) → HasTableEffect base now (AddCustomer c) (tables_with_customer c) }
     ensures account { (base : Base) (now : ℕ) (a : Account) → HasTableEffect base now (AddAccount a) (tables_with_account a) }
     ensures permission { (base : Base) (now : ℕ) (p : Permission) → HasTableEffect base now (AddPermission p) (tables_with_permission p) }
-    ensures security { (base : Base) (now : ℕ) (l : Listing) → HasTableEffect base now (AddSecurity l) (with_listing (stamp_of_next_command base now) l) }
+    ensures security { (base : Base) (now : ℕ) (l : Listing) → HasTableEffect base now (AddSecurity l) (tables_with_listing (stamp_of_next_command base now) l) }
     ensures charge { (base : Base) (now : ℕ) (c : Charge) → HasTableEffect base now (AddCharge c) (tables_with_charge c) }
     ensures band { (base : Base) (now : ℕ) (b : Band) → HasTableEffect base now (AddBand b) (tables_with_band b) }
     ensures tax_rate { (base : Base) (now : ℕ) (r : TaxRate) → HasTableEffect base now (AddTaxRate r) (tables_with_tax_rate r) }
@@ -46,7 +46,7 @@ pub fn records_add_only_their_rows()
 /// other row changes, if the base satisfies the books invariant.
 pub fn orders_change_only_their_rows()
     ensures { (base : Base) (now : ℕ) (o : Order)
-        → HasTableEffect base now (PlaceOrder o) (tables_after_order (trade_row (ordered_trade base (stamp_of_next_command base now) o)) (not (is_market_type (trade_type_of_order o.order_type))) (broker_id_of_account base o.account)) }
+        → HasTableEffect base now (PlaceOrder o) (tables_after_order (trade_row (trade_of_order base (stamp_of_next_command base now) o)) (not (is_market_type (trade_type_of_order o.order_type))) (broker_id_of_account base o.account)) }
 {}
 
 /// Proves that an accepted cancel sets its trade's status, adds a row of TRADE_HISTORY, deletes the
@@ -62,7 +62,7 @@ pub fn cancels_change_only_their_rows()
 pub fn feeds_change_only_their_rows()
     ensures rows { (base : Base) (now : ℕ) (ticks : List Tick) → HasTableEffect base now (FeedTicks ticks) (tables_after_feed (stamp_of_next_command base now) ticks) }
     ensures triggered { (base : Base) (now : ℕ) (ticks : List Tick) → BooksInvariant base → refusal_of_command base now (FeedTicks ticks) ≡ None
-        → triggered_trade_ids (stamp_of_next_command base now) base ticks ≡ ids_triggered_by_feed (stamp_of_next_command base now) ticks (sheets base) }
+        → triggered_trade_ids (stamp_of_next_command base now) base ticks ≡ trade_ids_triggered_by_feed (stamp_of_next_command base now) ticks (sheets base) }
 {}
 
 /// Proves that an accepted result completes its trade and adds the completion to its history. It

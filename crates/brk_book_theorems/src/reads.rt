@@ -6,17 +6,17 @@ ghost use Rattle.brk_money.specs.Kinds.{is_same_trade_type};
 ghost use Rattle.brk_money.specs.Spelling.{Text};
 ghost use Rattle.brk_money.specs.declared.trade_type.TradeType.{TradeType};
 ghost use Rattle.brk_lots.specs.Lots.{shares_of_lots};
-ghost use Rattle.brk_lots.specs.Position.{AreOpenedBefore, AreOpenedByOtherTrades, IsPosition};
+ghost use Rattle.brk_lots.specs.Position.{AreOpenedBeforeStamp, AreOpenedByOtherTrades, IsPosition};
 ghost use Rattle.brk_model.specs.Base as base_spec;
-ghost use Rattle.brk_model.specs.Base.{Base, account_with_id, commission_band_for, broker_with_id, charge_for_type_and_tier, completed_trades, customer_with_id, is_completed, security_with_symbol, tax_rate_of_id, trade_with_id};
+ghost use Rattle.brk_model.specs.Base.{Base, account_with_id, commission_band_for_quantity, broker_with_id, charge_for_type_and_tier, completed_trades, customer_with_id, is_completed, security_with_symbol, tax_rate_record_with_id, trade_with_id};
 ghost use Rattle.brk_model.specs.Commands.{Tick};
 ghost use Rattle.brk_model.specs.Derived.{postings_of_base, shares_of_position, holding_summary_quantity};
 ghost use Rattle.brk_model.specs.Feed.{is_triggered_by_tick};
 ghost use Rattle.brk_model.specs.Joins.{account_row_with_id, trade_row_with_id, move_rows_of_account};
 ghost use Rattle.brk_model.specs.Keyed.{stored_row_with_key};
 ghost use Rattle.brk_model.specs.Lists.{all_distinct, total_by};
-ghost use Rattle.brk_model.specs.Orders.{assets_of_account, permitted};
-ghost use Rattle.brk_model.specs.PositionView.{asset_total};
+ghost use Rattle.brk_model.specs.Orders.{assets_of_account, is_customer_or_has_permission};
+ghost use Rattle.brk_model.specs.PositionView.{market_value_of_account_row};
 ghost use Rattle.brk_model.specs.Records.{Band, Customer, Executor, Key, Trade};
 ghost use Rattle.brk_model.specs.Sheets.{sheets};
 ghost use Rattle.brk_model.specs.Tests.{bands_overlap, stamp_of_next_command};
@@ -25,10 +25,10 @@ ghost use Rattle.brk_model.specs.Ways.{is_strictly_ascending};
 ghost use Rattle.brk_ref.specs.Records.{abstract_tax_rate};
 ghost use Rattle.brk_ref.specs.declared.tax.Tax.{Tax};
 ghost use Rattle.brk_book_theorems.specs.Books.{BooksInvariant};
-ghost use Rattle.brk_book_theorems.specs.Reads.{account_count_of_customer, overlaps_some_band, contains_tax_id, rate_sum_of_customer, tax_rate_with_id};
-ghost use Rattle.brk_book_theorems.specs.Sums.{completed_rows_of_broker};
-ghost use Rattle.brk_book_theorems.specs.TradeReads.{band_of_quantity, last_cash_row_number, last_trade_number, shares_of_lot_row, holding_rows_of_position, permission_for_tax_id, permissions_of_account, position_lots, summary_row_of_quantity, summary_quantity, summary_row_of_position};
-ghost use Rattle.brk_book_theorems.specs.Trading.{ids_triggered_by_tick};
+ghost use Rattle.brk_book_theorems.specs.Reads.{account_count_of_customer, overlaps_some_band, contains_tax_id, customer_tax_rate_sum, tax_rate_with_id};
+ghost use Rattle.brk_book_theorems.specs.Sums.{completed_trade_rows_of_broker};
+ghost use Rattle.brk_book_theorems.specs.TradeReads.{band_of_quantity, last_cash_row_number_or_zero, trade_id_in_last_row_or_zero, shares_of_lot_row, holding_rows_of_position, permission_list_for_tax_id, permissions_of_account, lots_of_position, summary_row_if_nonzero, summary_quantity_or_zero, summary_row_of_position};
+ghost use Rattle.brk_book_theorems.specs.Trading.{trade_ids_triggered_by_tick};
 
 /// Proves that the row with an id, of a broker, a customer, an account or a tax rate, is the row of
 /// the base's record with this id, and that neither exists without the other.
@@ -36,7 +36,7 @@ pub fn rows_by_id_match_records()
     ensures broker { (base : Base) (id : ℕ) → find (λ r. r.id == id) (sheets base).brokers ≡ option_map (broker_row base.accounts (completed_trades base)) (broker_with_id base id) }
     ensures customer { (base : Base) (id : ℕ) → find (λ r. r.id == id) (sheets base).customers ≡ customer_with_id base id }
     ensures account { (base : Base) (id : ℕ) → find (λ r. r.id == id) (sheets base).accounts ≡ option_map (account_row base.accounts (postings_of_base base)) (account_with_id base id) }
-    ensures tax_rate { (base : Base) (id : ℕ) → find (λ r. r.id == id) (sheets base).tax_rates ≡ tax_rate_of_id base id }
+    ensures tax_rate { (base : Base) (id : ℕ) → find (λ r. r.id == id) (sheets base).tax_rates ≡ tax_rate_record_with_id base id }
 {}
 
 /// Proves that the row with a key is the row of the base's record with this key, and that neither
@@ -62,13 +62,13 @@ pub fn band_overlaps_match_the_base()
 /// of the list sum to the customer's rates in the tables.
 pub fn tax_rates_sum_to_customer_rates()
     ensures { (t : Tables) (customer : ℕ) (taxes : List Tax) → map (λ tax. Some (abstract_tax_rate tax)) taxes ≡ map (λ r. tax_rate_with_id t r.tax) (filter (λ r. r.customer == customer) t.customer_taxes)
-        → sum_by (λ tax. tax.rate) taxes ≡ rate_sum_of_customer t customer }
+        → sum_by (λ tax. tax.rate) taxes ≡ customer_tax_rate_sum t customer }
 {}
 
 /// Proves that the sum of a customer's rates in the tables equals the sum of the customer's rates
 /// in the base.
-pub fn customer_rates_match_the_base()
-    ensures { (base : Base) (customer : ℕ) → rate_sum_of_customer (sheets base) customer ≡ base_spec.tax_rate_sum_of_customer base customer }
+pub fn customer_tax_rates_match_the_base()
+    ensures { (base : Base) (customer : ℕ) → customer_tax_rate_sum (sheets base) customer ≡ base_spec.tax_rate_sum_of_customer base customer }
 {}
 
 /// Proves that the tables contain a tax id if and only if a customer of the base has it.
@@ -100,22 +100,22 @@ pub fn trade_rows_match_trades()
 
 /// Proves that the number of the last row of TRADE, or 0 without trades, equals the number of
 /// trades of a base that satisfies the books invariant.
-pub fn last_trade_number_is_trade_count()
-    ensures { (base : Base) → BooksInvariant base → last_trade_number (sheets base) ≡ length base.trades }
+pub fn trade_id_in_last_row_is_trade_count()
+    ensures { (base : Base) → BooksInvariant base → trade_id_in_last_row_or_zero (sheets base) ≡ length base.trades }
 {}
 
 /// Proves that the number of the last cash row, or 0 without cash rows, equals the number of
 /// postings, and that the cash rows without a trade are as many as the movements.
 pub fn cash_row_counts_match_the_base()
-    ensures rows { (base : Base) → last_cash_row_number (sheets base) ≡ length (postings_of_base base) }
+    ensures rows { (base : Base) → last_cash_row_number_or_zero (sheets base) ≡ length (postings_of_base base) }
     ensures movements { (base : Base) → length (filter (λ r. is_none r.trade) (sheets base).moves) ≡ length base.movements }
 {}
 
 /// Proves that the requests that a tick triggers belong to the trades that the tick triggers in the
 /// base, in ascending order of their numbers, if the base satisfies the books invariant.
 pub fn triggered_requests_match_trades()
-    ensures trades { (base : Base) (tick : Tick) → BooksInvariant base → ids_triggered_by_tick tick (sheets base) ≡ map (λ t. t.id) (filter (is_triggered_by_tick tick) base.trades) }
-    ensures rising { (base : Base) (tick : Tick) → BooksInvariant base → is_strictly_ascending (ids_triggered_by_tick tick (sheets base)) ≡ true }
+    ensures trades { (base : Base) (tick : Tick) → BooksInvariant base → trade_ids_triggered_by_tick tick (sheets base) ≡ map (λ t. t.id) (filter (is_triggered_by_tick tick) base.trades) }
+    ensures ascending { (base : Base) (tick : Tick) → BooksInvariant base → is_strictly_ascending (trade_ids_triggered_by_tick tick (sheets base)) ≡ true }
 {}
 
 /// Proves that no two requests belong to the same trade, if the base satisfies the books invariant.
@@ -127,26 +127,26 @@ pub fn requests_belong_to_distinct_trades()
 /// is permitted, if the base satisfies the books invariant.
 pub fn one_permission_decides_on_executor()
     ensures { (base : Base) (account : ℕ) (c : Customer) (e : Executor) → BooksInvariant base
-        → permitted c (permission_for_tax_id (sheets base) account e.tax_id) e ≡ permitted c (filter (λ p. p.account == account) base.permissions) e }
+        → is_customer_or_has_permission c (permission_list_for_tax_id (sheets base) account e.tax_id) e ≡ is_customer_or_has_permission c (filter (λ p. p.account == account) base.permissions) e }
 {}
 
 /// Proves that an executor is permitted by the permissions of an account in the tables if and only
 /// if by its permissions in the base.
 pub fn account_permissions_match_the_base()
     ensures { (base : Base) (account : ℕ) (c : Customer) (e : Executor)
-        → permitted c (permissions_of_account (sheets base) account) e ≡ permitted c (filter (λ p. p.account == account) base.permissions) e }
+        → is_customer_or_has_permission c (permissions_of_account (sheets base) account) e ≡ is_customer_or_has_permission c (filter (λ p. p.account == account) base.permissions) e }
 {}
 
 /// Proves that the band of a quantity in the tables, by tier, type and exchange, equals the band in
 /// the base, if the base satisfies the books invariant.
-pub fn bands_match_the_base()
-    ensures { (base : Base) (tier : ℕ) (kind : TradeType) (exchange : Text) (qty : ℕ) → BooksInvariant base → band_of_quantity (sheets base) tier kind exchange qty ≡ commission_band_for base tier kind exchange qty }
+pub fn commission_bands_match_the_base()
+    ensures { (base : Base) (tier : ℕ) (kind : TradeType) (exchange : Text) (qty : ℕ) → BooksInvariant base → band_of_quantity (sheets base) tier kind exchange qty ≡ commission_band_for_quantity base tier kind exchange qty }
 {}
 
 /// Proves that the assets of an account in the base equal the balance of its row plus the market
 /// value of its summaries at last prices, if the base satisfies the books invariant.
 pub fn assets_equal_balance_plus_holdings()
-    ensures { (base : Base) (id : ℕ) (r : AccountRow) → BooksInvariant base → account_row_with_id (sheets base) id ≡ Some r → r.balance +ℤ asset_total (sheets base) r ≡ assets_of_account base id }
+    ensures { (base : Base) (id : ℕ) (r : AccountRow) → BooksInvariant base → account_row_with_id (sheets base) id ≡ Some r → r.balance +ℤ market_value_of_account_row (sheets base) r ≡ assets_of_account base id }
 {}
 
 /// Proves that the shares of the lots of an account in a symbol, the oldest first, equal the shares
@@ -159,20 +159,20 @@ pub fn lot_shares_match_the_base()
 /// are those of the base, if the base satisfies the books invariant. Each lot was opened before the
 /// next stamp, and none by a trade that is not completed.
 pub fn lots_form_a_position()
-    ensures position { (base : Base) (account : ℕ) (symbol : Text) → BooksInvariant base → IsPosition (position_lots (sheets base) account symbol) }
-    ensures shares { (base : Base) (account : ℕ) (symbol : Text) → BooksInvariant base → shares_of_lots (position_lots (sheets base) account symbol) ≡ shares_of_position (completed_trades base) account symbol }
-    ensures later { (base : Base) (now account : ℕ) (symbol : Text) → BooksInvariant base → AreOpenedBefore (stamp_of_next_command base now) (position_lots (sheets base) account symbol) }
+    ensures position { (base : Base) (account : ℕ) (symbol : Text) → BooksInvariant base → IsPosition (lots_of_position (sheets base) account symbol) }
+    ensures shares { (base : Base) (account : ℕ) (symbol : Text) → BooksInvariant base → shares_of_lots (lots_of_position (sheets base) account symbol) ≡ shares_of_position (completed_trades base) account symbol }
+    ensures later { (base : Base) (now account : ℕ) (symbol : Text) → BooksInvariant base → AreOpenedBeforeStamp (stamp_of_next_command base now) (lots_of_position (sheets base) account symbol) }
     ensures fresh { (base : Base) (id account : ℕ) (symbol : Text) (t : Trade) → BooksInvariant base → trade_with_id base id ≡ Some t → is_completed t ≡ false
-        → AreOpenedByOtherTrades id (position_lots (sheets base) account symbol) }
+        → AreOpenedByOtherTrades id (lots_of_position (sheets base) account symbol) }
 {}
 
 /// Proves that the summary row of an existing account in an existing symbol has the quantity of the
 /// base, and that there is no row if that is 0, if the base satisfies the books invariant.
 pub fn summary_rows_match_the_base()
     ensures row { (base : Base) (account : ℕ) (symbol : Text) → BooksInvariant base → is_some (account_with_id base account) ≡ true → is_some (security_with_symbol base symbol) ≡ true
-        → summary_row_of_position (sheets base) account symbol ≡ summary_row_of_quantity account symbol (holding_summary_quantity (completed_trades base) account symbol) }
+        → summary_row_of_position (sheets base) account symbol ≡ summary_row_if_nonzero account symbol (holding_summary_quantity (completed_trades base) account symbol) }
     ensures number { (base : Base) (account : ℕ) (symbol : Text) → BooksInvariant base → is_some (account_with_id base account) ≡ true → is_some (security_with_symbol base symbol) ≡ true
-        → summary_quantity (summary_row_of_position (sheets base) account symbol) ≡ holding_summary_quantity (completed_trades base) account symbol }
+        → summary_quantity_or_zero (summary_row_of_position (sheets base) account symbol) ≡ holding_summary_quantity (completed_trades base) account symbol }
 {}
 
 /// Proves that the balance of an account's row equals its opening balance plus its cash rows, if
@@ -186,7 +186,7 @@ pub fn balances_equal_cash_row_sums()
 /// accounts and the sum of their commissions, if the base satisfies the books invariant.
 pub fn broker_totals_equal_trade_sums()
     ensures trades { (base : Base) (id : ℕ) (r : BrokerRow) → BooksInvariant base → find (λ r. r.id == id) (sheets base).brokers ≡ Some r
-        → r.trades ≡ pos (length (completed_rows_of_broker (sheets base) id)) }
+        → r.trades ≡ pos (length (completed_trade_rows_of_broker (sheets base) id)) }
     ensures commissions { (base : Base) (id : ℕ) (r : BrokerRow) → BooksInvariant base → find (λ r. r.id == id) (sheets base).brokers ≡ Some r
-        → r.commissions ≡ sum_by (λ t. t.commission) (completed_rows_of_broker (sheets base) id) }
+        → r.commissions ≡ sum_by (λ t. t.commission) (completed_trade_rows_of_broker (sheets base) id) }
 {}

@@ -19,8 +19,8 @@ ghost use Rattle.brk_model.specs.Tests.{refusal_of_command};
 ghost use Rattle.brk_book_theorems.specs.Books.{BooksInvariant};
 ghost use Rattle.brk_book_theorems.specs.Steps.{PreservesBooksInvariant, base_after_command};
 ghost use Rattle.brk_book_theorems.specs.Runs.{TradeRowHasTax, CompletedTradeHasTax, IsRunWithSumsAndTaxes, RecordsTaxesOfResults, tax_at_completion};
-ghost use Rattle.brk_book_theorems.specs.Sums.{SumsMatch};
-ghost use Rattle.brk_book_theorems.specs.TradeReads.{position_lots};
+ghost use Rattle.brk_book_theorems.specs.Sums.{TableSumsMatchTheirRows};
+ghost use Rattle.brk_book_theorems.specs.TradeReads.{lots_of_position};
 
 /// Proves that every accepted command and every run of calls preserves the books invariant. A base
 /// that a run reaches from the empty base satisfies it.
@@ -36,16 +36,16 @@ pub fn runs_preserve_books_invariant()
 /// in a symbol, the oldest first, form a position. The shares of the lots are the shares that the
 /// completed trades leave, replayed in the order of their completion. The lots are the lots of
 /// these shares, and the changes of each lot form a chain.
-pub fn lots_match_the_shares()
+pub fn lots_match_replayed_shares()
     ensures position { (base after : Base) (calls : List (ℕ × Call)) (outcomes : List Outcome) (account : ℕ) (symbol : Text)
-        → BooksInvariant base → Run base calls outcomes after → IsPosition (position_lots (sheets after) account symbol) }
+        → BooksInvariant base → Run base calls outcomes after → IsPosition (lots_of_position (sheets after) account symbol) }
     ensures shares { (base after : Base) (calls : List (ℕ × Call)) (outcomes : List Outcome) (account : ℕ) (symbol : Text)
         → BooksInvariant base → Run base calls outcomes after
-        → shares_of_lots (position_lots (sheets after) account symbol) ≡ replay (deals_of_position (completed_trades after) account symbol) }
+        → shares_of_lots (lots_of_position (sheets after) account symbol) ≡ replay (deals_of_position (completed_trades after) account symbol) }
     ensures lots { (base after : Base) (calls : List (ℕ × Call)) (outcomes : List Outcome) (account : ℕ) (symbol : Text)
         → BooksInvariant base → Run base calls outcomes after
-        → map abstract_lot (position_lots (sheets after) account symbol) ≡ lots_of_shares (shares_of_position (completed_trades after) account symbol) }
-    ensures lives { (base after : Base) (calls : List (ℕ × Call)) (outcomes : List Outcome) (account : ℕ) (symbol : Text) (lot : ℕ)
+        → map abstract_lot (lots_of_position (sheets after) account symbol) ≡ lots_of_shares (shares_of_position (completed_trades after) account symbol) }
+    ensures histories { (base after : Base) (calls : List (ℕ × Call)) (outcomes : List Outcome) (account : ℕ) (symbol : Text) (lot : ℕ)
         → BooksInvariant base → Run base calls outcomes after
         → IsLotHistory (changes_of_lot lot (deals_of_position (completed_trades after) account symbol) [])
         (lot_quantity (replay (deals_of_position (completed_trades after) account symbol)) lot) }
@@ -57,19 +57,19 @@ pub fn lots_match_the_shares()
 pub fn lot_sums_match_deals()
     ensures quantities { (base after : Base) (calls : List (ℕ × Call)) (outcomes : List Outcome) (account : ℕ) (symbol : Text)
         → BooksInvariant base → Run base calls outcomes after
-        → lot_quantity_sum (position_lots (sheets after) account symbol) ≡ deal_quantity_sum (deals_of_position (completed_trades after) account symbol) }
+        → lot_quantity_sum (lots_of_position (sheets after) account symbol) ≡ deal_quantity_sum (deals_of_position (completed_trades after) account symbol) }
     ensures costs { (base after : Base) (calls : List (ℕ × Call)) (outcomes : List Outcome) (account : ℕ) (symbol : Text)
         → BooksInvariant base → Run base calls outcomes after
-        → lot_cost_basis (position_lots (sheets after) account symbol)
+        → lot_cost_basis (lots_of_position (sheets after) account symbol)
         ≡ realised_gain_sum (deals_of_position (completed_trades after) account symbol) [] +ℤ purchases_minus_sales (deals_of_position (completed_trades after) account symbol) }
 {}
 
 /// Proves that the sums in the tables of a base that satisfies the books invariant match their
 /// rows, and also those after any run from such a base.
 pub fn table_sums_match_their_rows()
-    ensures base { (base : Base) → BooksInvariant base → SumsMatch (sheets base) }
+    ensures base { (base : Base) → BooksInvariant base → TableSumsMatchTheirRows (sheets base) }
     ensures run { (base after : Base) (calls : List (ℕ × Call)) (outcomes : List Outcome)
-        → BooksInvariant base → Run base calls outcomes after → SumsMatch (sheets after) }
+        → BooksInvariant base → Run base calls outcomes after → TableSumsMatchTheirRows (sheets after) }
 {}
 
 /// Proves that an accepted result, with or without a key, is taxed on exactly the shares that it
@@ -82,7 +82,7 @@ pub fn results_are_taxed_on_closed_shares()
     ensures called { (base after : Base) (now id price : ℕ) (key : Option Key) (reply : Reply)
         → BooksInvariant base → keyed_step base now (CompleteTrade id price) key ≡ (Done reply, after)
         → (t : Trade) × (trade_with_id base id ≡ Some t) × CompletedTradeHasTax id (tax_at_completion base now price t) after }
-    ensures stays { (base : Base) (calls : List (ℕ × Call)) (outcomes : List Outcome) (after : Base) (id tax : ℕ)
+    ensures preserved { (base : Base) (calls : List (ℕ × Call)) (outcomes : List Outcome) (after : Base) (id tax : ℕ)
         → BooksInvariant base → Run base calls outcomes after → CompletedTradeHasTax id tax base → CompletedTradeHasTax id tax after }
     ensures row { (base : Base) (id tax : ℕ) → CompletedTradeHasTax id tax base → TradeRowHasTax (sheets base) id tax }
     ensures run { (base after : Base) (calls : List (ℕ × Call)) (outcomes : List Outcome)

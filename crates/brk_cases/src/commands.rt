@@ -12,7 +12,7 @@ use brk_import::{Clock, FaultKind, run_batch};
 use brk_money::{Fault, Refusal, Stamp, parse_day};
 use brk_orders::parse_stamp;
 use brk_ref::parse_id;
-use brk_report::{ReportFault, statement};
+use brk_report::{ReportFault, write_statement};
 use sqlite::{Connection, MemStore};
 use std::alloc::{AllocError, Global};
 
@@ -130,7 +130,7 @@ fn execute_statement_command(
         return append_refusal_line(out, Refusal::BadText);
     };
     let mut lines = Vec::new(alloc);
-    let ended = statement(alloc, desk, account, from, to, &mut lines);
+    let ended = write_statement(alloc, desk, account, from, to, &mut lines);
     append_written_bytes(out, &lines)?;
     match ended {
         Ok(()) => Ok(()),
@@ -187,14 +187,14 @@ fn execute_audit_command(alloc: Global, out: &mut String, place: Place) -> Resul
         Place::Database(conn) => {
             let (place, audited) = adopt_database(alloc, conn);
             append_audit_result(out, audited)?;
-            Ok(place_without_desk(place))
+            Ok(database_without_desk(place))
         }
         Place::Nothing => Ok(Place::Nothing),
     }
 }
 
 // Returns the open database without its desk.
-fn place_without_desk(place: Place) -> Place {
+fn database_without_desk(place: Place) -> Place {
     match place.into_conn() {
         Some(conn) => Place::Database(conn),
         None => Place::Nothing,

@@ -14,7 +14,7 @@ pub enum Failed {
 
 impl Failed {
     /// Returns the line for standard error.
-    pub fn word(self) -> &'static str {
+    pub fn stderr_line(self) -> &'static str {
         match self {
             Failed::Input => "brk_cases: input\n",
             Failed::Output => "brk_cases: output\n",

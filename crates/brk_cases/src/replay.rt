@@ -55,7 +55,7 @@ impl<'a> Replay<'a> {
 
     // Executes the pending command, copies the line, and makes it the pending command unless it is
     // a comment or empty.
-    fn start_next_command(
+    fn execute_pending_and_start_next(
         self,
         alloc: Global,
         out: &mut String,
@@ -91,7 +91,7 @@ impl<'a> Replay<'a> {
                 writeln!(out, "{line}")?;
                 self.with_input_line(alloc, text)
             }
-            None => self.start_next_command(alloc, out, line),
+            None => self.execute_pending_and_start_next(alloc, out, line),
         }
     }
 }

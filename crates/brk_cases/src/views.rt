@@ -52,7 +52,7 @@ fn bytes_of_input_lines(alloc: Global, pieces: &[Piece]) -> Result<Vec<&[u8]>, A
 
 // Parses a query from a view's name and its arguments, and executes it on a desk. Returns the view
 // or the refusal.
-fn append_query_answer(
+fn parse_and_execute_query(
     alloc: Global,
     desk: &mut Desk<MemStore>,
     view: &str,
@@ -74,7 +74,7 @@ pub fn execute_ask_command(
     pieces: &[Piece],
 ) -> Result<(), Failed> {
     let arguments = bytes_of_input_lines(alloc, pieces)?;
-    match append_query_answer(alloc, desk, view, &arguments) {
+    match parse_and_execute_query(alloc, desk, view, &arguments) {
         Ok(Ok(view)) => append_view_lines(alloc, out, &view),
         Ok(Err(refusal)) => append_refusal_line(out, refusal),
         Err(_) => append_output_line(out, "! fault"),
@@ -83,7 +83,7 @@ pub fn execute_ask_command(
 
 // Returns the form of a printed view: as JSON for `json` and `json-heads`, with the names of the
 // fields for `csv-heads` and `json-heads`.
-fn form_from_word(word: &str) -> Form {
+fn form_of_printed_view(word: &str) -> Form {
     Form {
         json: word == "json" || word == "json-heads",
         heads: word == "csv-heads" || word == "json-heads",
@@ -102,12 +102,12 @@ pub fn execute_print_command(
     let (form, view) = words.split_once(' ').unwrap_or((words, ""));
     let arguments = bytes_of_input_lines(alloc, pieces)?;
     let mut printed = Vec::new(alloc);
-    let ended = brk_ask::ask(
+    let ended = brk_ask::parse_query_and_write_view(
         alloc,
         desk,
         view,
         &arguments,
-        form_from_word(form),
+        form_of_printed_view(form),
         &mut printed,
     );
     append_written_bytes(out, &printed)?;

@@ -11,7 +11,7 @@ use Rattle.brk_model.specs.LookupView.{is_cash_row_of_trade}
 use Rattle.brk_ref.specs.Records.{abstract_broker, abstract_customer, abstract_account, abstract_permission, abstract_security_row, abstract_last_trade_row, abstract_charge, abstract_band, abstract_tax_rate, abstract_customer_tax, abstract_kept_row}
 use Rattle.brk_changes.specs.Rows.{abstract_trade_row, abstract_history_row, abstract_request_row, abstract_holding_row, abstract_summary_row, abstract_lot_change_row, cash_type_text, abstract_settlement_row, abstract_move_row}
 use Rattle.brk_changes.specs.declared.change.Change.{Change}
-use Rattle.brk_changes.specs.declared.change.Change.TheVariants.{AddBroker, AddCustomer, AddAccount, AddPermission, AddSecurity, AddLastTrade, AddCharge, AddBand, AddTaxRate, AddCustomerTax, AddTrade, SetStatus, AddHistory, AddRequest, RemoveRequest, SetLastTrade, CompleteTrade, AddLot, SetLot, RemoveLot, AddLotChange, AddSummary, SetSummary, RemoveSummary, AddSettlement, AddMove, SetBalance, SetBrokerNumbers, SetExecutor, SetCashType, SetCashName, SetRule, Keep, SetLast}
+use Rattle.brk_changes.specs.declared.change.Change.TheVariants.{AddBroker, AddCustomer, AddAccount, AddPermission, AddSecurity, AddLastTrade, AddCharge, AddBand, AddTaxRate, AddCustomerTax, AddTrade, SetStatus, AddHistory, AddRequest, RemoveRequest, SetLastTrade, CompleteTrade, AddLot, SetLot, RemoveLot, AddLotChange, AddSummary, SetSummary, RemoveSummary, AddSettlement, AddMove, SetBalance, SetBrokerTotals, SetExecutor, SetCashType, SetCashName, SetSettlementDay, AddStoredReply, SetLastStamp}
 
 -- The tables `t` with the broker `b` inserted, with 0 completed trades and no commissions.
 abbrev pub tables_with_broker : Broker → Tables → Tables
@@ -199,13 +199,13 @@ tables_after_change (RemoveSummary account symbol) = tables_without_summary acco
 tables_after_change (AddSettlement row) = tables_with_settlement (abstract_settlement_row row)
 tables_after_change (AddMove row) = tables_with_cash_row (abstract_move_row row)
 tables_after_change (SetBalance account balance) = tables_with_balance account balance
-tables_after_change (SetBrokerNumbers broker trades commissions) = tables_with_broker_totals broker trades commissions
+tables_after_change (SetBrokerTotals broker trades commissions) = tables_with_broker_totals broker trades commissions
 tables_after_change (SetExecutor trade executor) = tables_with_executor_name trade (string_bytes executor)
 tables_after_change (SetCashType trade cash_type) = tables_with_cash_type trade (cash_type_text cash_type)
 tables_after_change (SetCashName trade name) = tables_with_cash_text trade (string_bytes name)
-tables_after_change (SetRule day) = tables_with_settlement_day day
-tables_after_change (Keep kept) = tables_with_stored_reply (abstract_kept_row kept)
-tables_after_change (SetLast stamp) = tables_with_last_stamp stamp
+tables_after_change (SetSettlementDay day) = tables_with_settlement_day day
+tables_after_change (AddStoredReply kept) = tables_with_stored_reply (abstract_kept_row kept)
+tables_after_change (SetLastStamp stamp) = tables_with_last_stamp stamp
 
 -- The tables `t` after the row changes `changes`, applied in sequence.
 abbrev pub tables_after_changes : List Change → Tables → Tables

@@ -80,5 +80,5 @@ abbrev pub lot_age_key : HoldingRow → List KeyPart
 lot_age_key r = number r.stamp ∷ number r.trade ∷ []
 
 -- The lots sorted by age (`lot_age_key`), ascending: the oldest first.
-abbrev pub oldest_lots_first : List HoldingRow → List HoldingRow
-oldest_lots_first = rows_sorted_by_key lot_age_key
+abbrev pub lots_oldest_first : List HoldingRow → List HoldingRow
+lots_oldest_first = rows_sorted_by_key lot_age_key

@@ -6,8 +6,8 @@ use Rattle.brk_changes.specs.Rows.{abstract_trade_row, abstract_history_row, abs
 use Rattle.brk_changes.specs.declared.sheets.Sheets.{Sheets}
 
 -- The model's tables with the values of the typed rows `s`.
-abbrev pub tables_in_sheets : Sheets → Tables
-tables_in_sheets s = record {
+abbrev pub abstract_sheets : Sheets → Tables
+abstract_sheets s = record {
   last = s.last;
   kept = map abstract_kept_row s.kept.items;
   brokers = map abstract_broker_row s.brokers.items;

@@ -3,7 +3,7 @@ use brk_money::Amount;
 
 /// The totals of a broker: its completed trades and their commissions.
 #[derive(Clone, Copy, PartialEq, Eq)]
-pub struct BrokerNumbers {
+pub struct BrokerTotals {
     /// The number of completed trades of the broker's accounts (B_NUM_TRADES).
     pub trades: TradeCount,
     /// The sum of their commissions (B_COMM_TOTAL).

@@ -90,7 +90,7 @@ pub enum Change {
         balance: Cents,
     },
     /// Sets a broker's totals: the number of its completed trades and the sum of their commissions.
-    SetBrokerNumbers {
+    SetBrokerTotals {
         broker: Id,
         trades: i64,
         commissions: Amount,
@@ -111,9 +111,9 @@ pub enum Change {
         name: String,
     },
     /// Sets the settlement day, the first day whose completions settle after one day (SR_DAY).
-    SetRule(Day),
+    SetSettlementDay(Day),
     /// Inserts an accepted row under its key, with the stored reply.
-    Keep(Kept),
+    AddStoredReply(Kept),
     /// Sets the stamp of the last accepted command (D_LAST).
-    SetLast(Stamp),
+    SetLastStamp(Stamp),
 }

@@ -6,7 +6,7 @@ use brk_money::{Day, Stamp, day_of};
 
 /// Returns the number of days after `day` on which a trade that is completed on `day` settles: one
 /// if a settlement day is set and is not later than `day`, otherwise two.
-pub fn settlement_days(rule: Option<Day>, day: Day) -> u16
+pub fn days_to_settlement(rule: Option<Day>, day: Day) -> u16
     ensures { result ≡ derived.days_to_settlement rule day }
 {
     match rule {
@@ -21,5 +21,5 @@ pub fn due_day_after_completion(rule: Option<Day>, stamp: Stamp) -> Option<Day>
     ensures { SomeIff result (derived.due_day_of_completion_stamp rule stamp ≤ greatest_day) (derived.due_day_of_completion_stamp rule stamp) }
 {
     let day = day_of(stamp);
-    day.days_later(settlement_days(rule, day))
+    day.days_later(days_to_settlement(rule, day))
 }

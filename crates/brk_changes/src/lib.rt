@@ -20,11 +20,11 @@ pub mod trade_count;
 pub mod trade_row;
 
 pub use brk_money::Amount;
-pub use broker_numbers::BrokerNumbers;
+pub use broker_numbers::BrokerTotals;
 pub use cash_row::CashRow;
 pub use cash_type::CashType;
 pub use change::Change;
-pub use due::{due_day_after_completion, settlement_days};
+pub use due::{due_day_after_completion, days_to_settlement};
 pub use history_row::HistoryRow;
 pub use holding_row::HoldingRow;
 pub use lot_change::LotChange;

@@ -29,8 +29,8 @@ impl Schema {
     }
 
     /// Returns true if cash rows are numbered and may have no trade (CASH_MOVE).
-    pub fn has_moves(self) -> bool
-        ensures { result ≡ (abstract_schema self).has_moves }
+    pub fn has_cash_move_table(self) -> bool
+        ensures { result ≡ (abstract_schema self).has_cash_move_table }
     {
         match self {
             Schema::First => false,
@@ -39,8 +39,8 @@ impl Schema {
     }
 
     /// Returns true if a settlement day can be set (SETTLE_RULE).
-    pub fn has_rule(self) -> bool
-        ensures { result ≡ (abstract_schema self).has_rule }
+    pub fn has_settle_rule_table(self) -> bool
+        ensures { result ≡ (abstract_schema self).has_settle_rule_table }
     {
         match self {
             Schema::First | Schema::Second => false,

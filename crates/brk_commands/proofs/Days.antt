@@ -4,7 +4,7 @@ use Rattle.std.specs.Str.{IsUtf8, IsAscii}
 use Rattle.std.proofs.lemmas.Str.{IsUtf8-from_ascii}
 use Rattle.std.proofs.lemmas.Str.Ascii.{IsAscii-cons, IsAscii-nil}
 use Rattle.brk_money.specs.Moments.{civil_date_of_day}
-use Rattle.brk_money.specs.Spelling.{Text, digits_of_date, day_text}
+use Rattle.brk_money.specs.Spelling.{Text, date_text_by_digits, day_text}
 use Rattle.brk_money.proofs.Calendar.{is_short}
 use Rattle.brk_money.proofs.DayTexts.{day_text-digits}
 
@@ -20,7 +20,7 @@ hyphen : (after : Text) → IsAscii after → IsAscii (45 ∷ after)
 hyphen after k = IsAscii-cons 45 after (omega arith) k
 
 -- the digits of a date
-date_ascii : (y m d : ℕ) → y < 10000 → m < 100 → d < 100 → IsAscii (digits_of_date y m d)
+date_ascii : (y m d : ℕ) → y < 10000 → m < 100 → d < 100 → IsAscii (date_text_by_digits y m d)
 date_ascii y m d hy hm hd =
     let day : Text = (48 + d / 10) ∷ (48 + d % 10) ∷ [] in
     let month : Text = (48 + m / 10) ∷ (48 + m % 10) ∷ 45 ∷ day in

@@ -63,7 +63,7 @@ fn ordered_reply_text(alloc: Global, ordered: &Ordered) -> Result<String, AllocE
 }
 
 // Appends a comma and the id of a trade. Fails if memory runs out.
-fn append_trade_after_comma(line: &mut String, trade: Id) -> Result<(), AllocError>
+fn append_trade_id_after_comma(line: &mut String, trade: Id) -> Result<(), AllocError>
     ensures { OnOk result (string_bytes line.new ≡ string_bytes line.old ++ (44 ∷ decimal trade)) }
 {
     write!(line, ",{}", trade.get())
@@ -76,7 +76,7 @@ fn ticked_reply_text(alloc: Global, stamp: Stamp, triggered: &[Id]) -> Result<St
 {
     let mut line = booked_reply_text(alloc, stamp)?;
     for trade in triggered {
-        append_trade_after_comma(&mut line, *trade)?;
+        append_trade_id_after_comma(&mut line, *trade)?;
     }
     Ok(line)
 }

@@ -52,7 +52,7 @@ pub fn movement_row_text(alloc: Global, movement: &Movement) -> Result<String, A
 }
 
 // Returns the kind `oneday` and the text of a day, joined by byte 31. Fails if memory runs out.
-fn join_oneday_fields(alloc: Global, day: &str) -> Result<String, AllocError>
+fn oneday_row_of_day_text(alloc: Global, day: &str) -> Result<String, AllocError>
     ensures { IfOk result (λ row. string_bytes row ≡ join_with_byte 31 (codes "oneday" ∷ day.now ∷ [])) }
 {
     format!(in alloc; "oneday\x1f{day}")
@@ -65,6 +65,6 @@ pub fn settlement_day_row_text(alloc: Global, day: Day) -> Result<String, Fault>
     ensures fault { OnErr result (result ≡ Err Memory) }
 {
     let text = day_text(alloc, day)?;
-    let row = join_oneday_fields(alloc, text.as_str())?;
+    let row = oneday_row_of_day_text(alloc, text.as_str())?;
     Ok(row)
 }

@@ -17,7 +17,7 @@ use std::alloc::Global;
 
 // Parses the command that adds a broker, or returns the refusal of malformed fields. Fails with
 // `Memory` only.
-fn parse_broker(alloc: Global, fields: &[&[u8]]) -> Planned<Command>
+fn parse_broker_command(alloc: Global, fields: &[&[u8]]) -> Planned<Command>
     ensures read { IfOk result (λ read. ParsesAs abstract_command read (read_and_wrap AddBroker read_broker (texts_of_fields fields.now))) }
     ensures fault { OnErr result (result ≡ Err Memory) }
 {
@@ -29,7 +29,7 @@ fn parse_broker(alloc: Global, fields: &[&[u8]]) -> Planned<Command>
 
 // Parses the command that adds a customer, or returns the refusal of malformed fields. Fails with
 // `Memory` only.
-fn parse_customer(alloc: Global, fields: &[&[u8]]) -> Planned<Command>
+fn parse_customer_command(alloc: Global, fields: &[&[u8]]) -> Planned<Command>
     ensures read { IfOk result (λ read. ParsesAs abstract_command read (read_and_wrap AddCustomer read_customer (texts_of_fields fields.now))) }
     ensures fault { OnErr result (result ≡ Err Memory) }
 {
@@ -41,7 +41,7 @@ fn parse_customer(alloc: Global, fields: &[&[u8]]) -> Planned<Command>
 
 // Parses the command that adds an account, or returns the refusal of malformed fields. Fails with
 // `Memory` only.
-fn parse_account(alloc: Global, fields: &[&[u8]]) -> Planned<Command>
+fn parse_account_command(alloc: Global, fields: &[&[u8]]) -> Planned<Command>
     ensures read { IfOk result (λ read. ParsesAs abstract_command read (read_and_wrap AddAccount read_account (texts_of_fields fields.now))) }
     ensures fault { OnErr result (result ≡ Err Memory) }
 {
@@ -53,7 +53,7 @@ fn parse_account(alloc: Global, fields: &[&[u8]]) -> Planned<Command>
 
 // Parses the command that adds a permission, or returns the refusal of malformed fields. Fails with
 // `Memory` only.
-fn parse_permission(alloc: Global, fields: &[&[u8]]) -> Planned<Command>
+fn parse_permission_command(alloc: Global, fields: &[&[u8]]) -> Planned<Command>
     ensures read { IfOk result (λ read. ParsesAs abstract_command read (read_and_wrap AddPermission read_permission (texts_of_fields fields.now))) }
     ensures fault { OnErr result (result ≡ Err Memory) }
 {
@@ -65,7 +65,7 @@ fn parse_permission(alloc: Global, fields: &[&[u8]]) -> Planned<Command>
 
 // Parses the command that lists a security, or returns the refusal of malformed fields. Fails with
 // `Memory` only.
-fn parse_security(alloc: Global, fields: &[&[u8]]) -> Planned<Command>
+fn parse_listing_command(alloc: Global, fields: &[&[u8]]) -> Planned<Command>
     ensures read { IfOk result (λ read. ParsesAs abstract_command read (read_and_wrap AddSecurity read_listing (texts_of_fields fields.now))) }
     ensures fault { OnErr result (result ≡ Err Memory) }
 {
@@ -76,7 +76,7 @@ fn parse_security(alloc: Global, fields: &[&[u8]]) -> Planned<Command>
 }
 
 // Parses the command that adds a charge, or returns the refusal of malformed fields.
-fn parse_charge(fields: &[&[u8]]) -> Result<Command, Refusal>
+fn parse_charge_command(fields: &[&[u8]]) -> Result<Command, Refusal>
     ensures { ParsesAs abstract_command result (read_and_wrap AddCharge read_charge (texts_of_fields fields.now)) }
 {
     match check_charge(fields) {
@@ -87,7 +87,7 @@ fn parse_charge(fields: &[&[u8]]) -> Result<Command, Refusal>
 
 // Parses the command that adds a commission band, or returns the refusal of malformed fields. Fails
 // with `Memory` only.
-fn parse_band(alloc: Global, fields: &[&[u8]]) -> Planned<Command>
+fn parse_band_command(alloc: Global, fields: &[&[u8]]) -> Planned<Command>
     ensures read { IfOk result (λ read. ParsesAs abstract_command read (read_and_wrap AddBand read_commission_band (texts_of_fields fields.now))) }
     ensures fault { OnErr result (result ≡ Err Memory) }
 {
@@ -99,7 +99,7 @@ fn parse_band(alloc: Global, fields: &[&[u8]]) -> Planned<Command>
 
 // Parses the command that adds a tax with its rate, or returns the refusal of malformed fields.
 // Fails with `Memory` only.
-fn parse_tax_rate(alloc: Global, fields: &[&[u8]]) -> Planned<Command>
+fn parse_tax_rate_command(alloc: Global, fields: &[&[u8]]) -> Planned<Command>
     ensures read { IfOk result (λ read. ParsesAs abstract_command read (read_and_wrap AddTaxRate read_tax_rate (texts_of_fields fields.now))) }
     ensures fault { OnErr result (result ≡ Err Memory) }
 {
@@ -110,7 +110,7 @@ fn parse_tax_rate(alloc: Global, fields: &[&[u8]]) -> Planned<Command>
 }
 
 // Parses the command that adds a tax of a customer, or returns the refusal of malformed fields.
-fn parse_customer_tax(fields: &[&[u8]]) -> Result<Command, Refusal>
+fn parse_customer_tax_command(fields: &[&[u8]]) -> Result<Command, Refusal>
     ensures { ParsesAs abstract_command result (read_and_wrap AddCustomerTax read_customer_tax (texts_of_fields fields.now)) }
 {
     match check_customer_tax(fields) {
@@ -122,27 +122,27 @@ fn parse_customer_tax(fields: &[&[u8]]) -> Result<Command, Refusal>
 // Parses a command of the kind `permission`, `security`, `charge`, `band`, `taxrate` or `custtax`,
 // or of a kind of `parse_trading_or_later_kind`. Refuses any other kind with `BadText`. Fails with
 // `Memory` only.
-fn parse_terms_or_later_kind(alloc: Global, kind: &[u8], fields: &[&[u8]]) -> Planned<Command>
+fn parse_other_reference_or_later_kind(alloc: Global, kind: &[u8], fields: &[&[u8]]) -> Planned<Command>
     ensures read { IfOk result (λ read. ParsesAs abstract_command read (parse_by_first_field (other_reference_row_parsers ++ order_row_parsers ++ result_row_parsers ++ update_row_parsers ++ movement_row_parsers) (kind.now ∷ texts_of_fields fields.now))) }
     ensures fault { OnErr result (result ≡ Err Memory) }
 {
     if kind == b"permission".as_slice() {
-        return parse_permission(alloc, fields);
+        return parse_permission_command(alloc, fields);
     }
     if kind == b"security".as_slice() {
-        return parse_security(alloc, fields);
+        return parse_listing_command(alloc, fields);
     }
     if kind == b"charge".as_slice() {
-        return Ok(parse_charge(fields));
+        return Ok(parse_charge_command(fields));
     }
     if kind == b"band".as_slice() {
-        return parse_band(alloc, fields);
+        return parse_band_command(alloc, fields);
     }
     if kind == b"taxrate".as_slice() {
-        return parse_tax_rate(alloc, fields);
+        return parse_tax_rate_command(alloc, fields);
     }
     if kind == b"custtax".as_slice() {
-        return Ok(parse_customer_tax(fields));
+        return Ok(parse_customer_tax_command(fields));
     }
     parse_trading_or_later_kind(alloc, kind, fields)
 }
@@ -154,15 +154,15 @@ fn parse_command_of_kind(alloc: Global, kind: &[u8], fields: &[&[u8]]) -> Planne
     ensures fault { OnErr result (result ≡ Err Memory) }
 {
     if kind == b"broker".as_slice() {
-        return parse_broker(alloc, fields);
+        return parse_broker_command(alloc, fields);
     }
     if kind == b"customer".as_slice() {
-        return parse_customer(alloc, fields);
+        return parse_customer_command(alloc, fields);
     }
     if kind == b"account".as_slice() {
-        return parse_account(alloc, fields);
+        return parse_account_command(alloc, fields);
     }
-    parse_terms_or_later_kind(alloc, kind, fields)
+    parse_other_reference_or_later_kind(alloc, kind, fields)
 }
 
 /// Parses the command of a row from its fields, the kind first, or returns the refusal of malformed

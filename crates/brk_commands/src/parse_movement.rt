@@ -7,23 +7,23 @@ ghost use Rattle.brk_commands.specs.Commands.{abstract_command};
 
 use crate::command::Command;
 use brk_money::Refusal;
-use brk_orders::{Direction, check_move, check_oneday};
+use brk_orders::{Direction, parse_cash_movement, parse_requested_settlement_day};
 
 // Parses the command of a deposit or a withdrawal, or returns the refusal of malformed fields.
-fn parse_deposit_or_withdrawal(direction: Direction, fields: &[&[u8]]) -> Result<Command, Refusal>
+fn parse_movement_command(direction: Direction, fields: &[&[u8]]) -> Result<Command, Refusal>
     ensures { ParsesAs abstract_command result (read_movement_command (cash_movement_command direction) (texts_of_fields fields.now)) }
 {
-    match check_move(direction, fields) {
+    match parse_cash_movement(direction, fields) {
         Ok(movement) => Ok(Command::Move(movement)),
         Err(refusal) => Err(refusal),
     }
 }
 
 // Parses the command that sets the settlement day, or returns the refusal of malformed fields.
-fn parse_settlement_day(fields: &[&[u8]]) -> Result<Command, Refusal>
+fn parse_settlement_day_command(fields: &[&[u8]]) -> Result<Command, Refusal>
     ensures { ParsesAs abstract_command result (read_and_wrap SetOneDay read_settlement_day (texts_of_fields fields.now)) }
 {
-    match check_oneday(fields) {
+    match parse_requested_settlement_day(fields) {
         Ok(day) => Ok(Command::OneDay(day)),
         Err(refusal) => Err(refusal),
     }
@@ -38,13 +38,13 @@ pub(crate) fn parse_movement_or_settlement_day(
     ensures { ParsesAs abstract_command result (parse_by_first_field movement_row_parsers (kind.now ∷ texts_of_fields fields.now)) }
 {
     if kind == b"deposit".as_slice() {
-        return parse_deposit_or_withdrawal(Direction::Deposit, fields);
+        return parse_movement_command(Direction::Deposit, fields);
     }
     if kind == b"withdraw".as_slice() {
-        return parse_deposit_or_withdrawal(Direction::Withdrawal, fields);
+        return parse_movement_command(Direction::Withdrawal, fields);
     }
     if kind == b"oneday".as_slice() {
-        return parse_settlement_day(fields);
+        return parse_settlement_day_command(fields);
     }
     Err(Refusal::BadText)
 }

@@ -8,16 +8,16 @@ ghost use Rattle.brk_commands.specs.Commands.{abstract_command};
 use crate::command::Command;
 use crate::parse_update::parse_update_or_later_kind;
 use brk_money::{Planned, Refusal};
-use brk_orders::{check_cancel, check_feed, check_order, check_result};
+use brk_orders::{parse_canceled_trade_id, parse_market_feed, parse_trade_order, parse_completion};
 use std::alloc::Global;
 
 // Parses the command of an order, or returns the refusal of malformed fields. Fails with `Memory`
 // only.
-fn parse_order(alloc: Global, fields: &[&[u8]]) -> Planned<Command>
+fn parse_order_command(alloc: Global, fields: &[&[u8]]) -> Planned<Command>
     ensures read { IfOk result (λ read. ParsesAs abstract_command read (read_and_wrap PlaceOrder read_order (texts_of_fields fields.now))) }
     ensures fault { OnErr result (result ≡ Err Memory) }
 {
-    match check_order(alloc, fields)? {
+    match parse_trade_order(alloc, fields)? {
         Ok(order) => Ok(Ok(Command::Order(order))),
         Err(refusal) => Ok(Err(refusal)),
     }
@@ -25,31 +25,31 @@ fn parse_order(alloc: Global, fields: &[&[u8]]) -> Planned<Command>
 
 // Parses the command of a market feed, or returns the refusal of malformed fields. Fails with
 // `Memory` only.
-fn parse_feed(alloc: Global, fields: &[&[u8]]) -> Planned<Command>
+fn parse_feed_command(alloc: Global, fields: &[&[u8]]) -> Planned<Command>
     ensures read { IfOk result (λ read. ParsesAs abstract_command read (read_and_wrap FeedTicks read_feed (texts_of_fields fields.now))) }
     ensures fault { OnErr result (result ≡ Err Memory) }
 {
-    match check_feed(alloc, fields)? {
+    match parse_market_feed(alloc, fields)? {
         Ok(feed) => Ok(Ok(Command::Feed(feed))),
         Err(refusal) => Ok(Err(refusal)),
     }
 }
 
 // Parses the command of a cancel, or returns the refusal of malformed fields.
-fn parse_cancel(fields: &[&[u8]]) -> Result<Command, Refusal>
+fn parse_cancel_command(fields: &[&[u8]]) -> Result<Command, Refusal>
     ensures { ParsesAs abstract_command result (read_and_wrap CancelTrade read_canceled_trade_id (texts_of_fields fields.now)) }
 {
-    match check_cancel(fields) {
+    match parse_canceled_trade_id(fields) {
         Ok(trade) => Ok(Command::Cancel(trade)),
         Err(refusal) => Err(refusal),
     }
 }
 
 // Parses the command that completes a trade, or returns the refusal of malformed fields.
-fn parse_result(fields: &[&[u8]]) -> Result<Command, Refusal>
+fn parse_completion_command(fields: &[&[u8]]) -> Result<Command, Refusal>
     ensures { ParsesAs abstract_command result (read_result_command (texts_of_fields fields.now)) }
 {
-    match check_result(fields) {
+    match parse_completion(fields) {
         Ok(completion) => Ok(Command::Complete(completion)),
         Err(refusal) => Err(refusal),
     }
@@ -66,16 +66,16 @@ pub(crate) fn parse_trading_or_later_kind(
     ensures fault { OnErr result (result ≡ Err Memory) }
 {
     if kind == b"order".as_slice() {
-        return parse_order(alloc, fields);
+        return parse_order_command(alloc, fields);
     }
     if kind == b"feed".as_slice() {
-        return parse_feed(alloc, fields);
+        return parse_feed_command(alloc, fields);
     }
     if kind == b"cancel".as_slice() {
-        return Ok(parse_cancel(fields));
+        return Ok(parse_cancel_command(fields));
     }
     if kind == b"result".as_slice() {
-        return Ok(parse_result(fields));
+        return Ok(parse_completion_command(fields));
     }
     parse_update_or_later_kind(alloc, kind, fields)
 }

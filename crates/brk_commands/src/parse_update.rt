@@ -9,26 +9,26 @@ ghost use Rattle.brk_commands.specs.Commands.{abstract_command};
 use crate::command::Command;
 use crate::parse_movement::parse_movement_or_settlement_day;
 use brk_money::{Planned, Refusal};
-use brk_orders::{check_upcash, check_upname, check_uptext};
+use brk_orders::{parse_update_of_cash_types, parse_update_of_executor_names, parse_update_of_cash_texts};
 use std::alloc::Global;
 
 // Parses the command that updates executors' names, or returns the refusal of malformed fields.
 // Fails with `Memory` only.
-fn parse_executor_update(alloc: Global, fields: &[&[u8]]) -> Planned<Command>
+fn parse_executor_update_command(alloc: Global, fields: &[&[u8]]) -> Planned<Command>
     ensures read { IfOk result (λ read. ParsesAs abstract_command read (read_and_wrap ChangeExecutors read_distinct_ids (texts_of_fields fields.now))) }
     ensures fault { OnErr result (result ≡ Err Memory) }
 {
-    match check_upname(alloc, fields)? {
+    match parse_update_of_executor_names(alloc, fields)? {
         Ok(update) => Ok(Ok(Command::Update(update))),
         Err(refusal) => Ok(Err(refusal)),
     }
 }
 
 // Parses the command that updates cash types, or returns the refusal of malformed fields.
-fn parse_cash_type_update(fields: &[&[u8]]) -> Result<Command, Refusal>
+fn parse_cash_type_update_command(fields: &[&[u8]]) -> Result<Command, Refusal>
     ensures { ParsesAs abstract_command result (read_cash_type_update (texts_of_fields fields.now)) }
 {
-    match check_upcash(fields) {
+    match parse_update_of_cash_types(fields) {
         Ok(update) => Ok(Command::Update(update)),
         Err(refusal) => Err(refusal),
     }
@@ -36,11 +36,11 @@ fn parse_cash_type_update(fields: &[&[u8]]) -> Result<Command, Refusal>
 
 // Parses the command that updates cash texts, or returns the refusal of malformed fields. Fails
 // with `Memory` only.
-fn parse_cash_text_update(alloc: Global, fields: &[&[u8]]) -> Planned<Command>
+fn parse_cash_text_update_command(alloc: Global, fields: &[&[u8]]) -> Planned<Command>
     ensures read { IfOk result (λ read. ParsesAs abstract_command read (read_cash_name_update (texts_of_fields fields.now))) }
     ensures fault { OnErr result (result ≡ Err Memory) }
 {
-    match check_uptext(alloc, fields)? {
+    match parse_update_of_cash_texts(alloc, fields)? {
         Ok(update) => Ok(Ok(Command::Update(update))),
         Err(refusal) => Ok(Err(refusal)),
     }
@@ -58,13 +58,13 @@ pub(crate) fn parse_update_or_later_kind(
     ensures fault { OnErr result (result ≡ Err Memory) }
 {
     if kind == b"upname".as_slice() {
-        return parse_executor_update(alloc, fields);
+        return parse_executor_update_command(alloc, fields);
     }
     if kind == b"upcash".as_slice() {
-        return Ok(parse_cash_type_update(fields));
+        return Ok(parse_cash_type_update_command(fields));
     }
     if kind == b"uptext".as_slice() {
-        return parse_cash_text_update(alloc, fields);
+        return parse_cash_text_update_command(alloc, fields);
     }
     Ok(parse_movement_or_settlement_day(kind, fields))
 }

@@ -12,7 +12,7 @@ use brk_ref::Symbol;
 use std::alloc::{AllocError, Global};
 
 // Appends byte 31 and the id of a trade. Fails if memory runs out.
-fn append_trade_after_separator(row: &mut String, trade: Id) -> Result<(), AllocError>
+fn append_trade_id_after_separator(row: &mut String, trade: Id) -> Result<(), AllocError>
     ensures { OnOk result (string_bytes row.new ≡ string_bytes row.old ++ 31 ∷ decimal trade) }
 {
     write!(row, "\x1f{}", trade.get())
@@ -25,7 +25,7 @@ fn executor_update_row_text(alloc: Global, trades: &[Id]) -> Result<String, Allo
 {
     let mut row = String::from_str(alloc, "upname")?;
     for trade in trades {
-        append_trade_after_separator(&mut row, *trade)?;
+        append_trade_id_after_separator(&mut row, *trade)?;
     }
     Ok(row)
 }

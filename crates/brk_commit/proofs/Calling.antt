@@ -33,28 +33,28 @@ use Rattle.brk_book_theorems.proofs.Keepers.{books_kept}
 use Rattle.brk_invariant_theorems.specs.InForm.{MeetsAuditFormats, IsWellFormedKey}
 use Rattle.brk_invariant_theorems.specs.Sound.{AuditInvariant}
 use Rattle.brk_invariant_theorems.proofs.SoundSteps.{keyed_sound}
-use Rattle.brk_store.specs.Holds.{AreTreesOfRows, HoldsRows, ApplyPost, ReadPost}
-use Rattle.brk_decisions.specs.Decisions.{Decides}
+use Rattle.brk_store.specs.Holds.{IsDiskContentOfRows, HoldsRows, ApplyPost, ReadPost}
+use Rattle.brk_decisions.specs.Decisions.{DecidesCommand}
 use Rattle.brk_decisions.proofs.Looking.{none_then, same_then}
-use Rattle.brk_commit.specs.Answers.{BooksCommand, model_answer}
-use Rattle.brk_commit.specs.Booked.{CallPost, MayBeCommitted, base_after_call}
+use Rattle.brk_commit.specs.Answers.{IsDoneResult, model_answer}
+use Rattle.brk_commit.specs.Booked.{CallPost, IsDiskContentAfterCommand, base_after_call}
 use Rattle.brk_store.specs.Audited.{Represents}
-use Rattle.brk_commit.specs.Keys.{ReadKeptRowPost, kept_row_under_key, with_stored_command}
+use Rattle.brk_commit.specs.Keys.{ReadStoredReplyPost, stored_reply_under_key, with_stored_command}
 use Rattle.brk_commit.specs.declared.answer.Answer as booked
 use Rattle.brk_commit.specs.declared.answer.Answer.TheVariants as given
 use Rattle.brk_commit.proofs.Kept.{rows_with_key, steps_again, steps_anew}
 use Rattle.brk_commit.proofs.RowTexts.{changes_keep_texts}
-use Rattle.brk_commit.proofs.Seen.{still_kept, IsSeen, seen, seen_both, sought_none}
+use Rattle.brk_commit.proofs.Seen.{still_kept, HoldsWithoutChange, seen, seen_both, sought_none}
 
 -- No reply is stored under the key, and `planned` is the decision of the model on the command.
-abbrev pub Known : ℕ → Command → Option Key → Result Plan Refusal → Tables → Type 0
-Known now command key planned t = (None ≡ kept_row_under_key t key) × Decides now command planned t
+abbrev pub DecidesCommandOfNewKey : ℕ → Command → Option Key → Result Plan Refusal → Tables → Type 0
+DecidesCommandOfNewKey now command key planned t = (None ≡ stored_reply_under_key t key) × DecidesCommand now command planned t
 
 -- it is known after two reads
-pub known : {S E : Type 0} (g : Ghosts S) (old first mid : Held S) (now : ℕ) (command : Command) (key : Option Key) (planned : Result Plan Refusal) → ReadKeptRowPost g old first key (Ok None)
-    → ReadPost {E = E} g first mid (Ok planned) (Decides now command) → IsSeen g old mid (Known now command key planned)
+pub known : {S E : Type 0} (g : Ghosts S) (old first mid : Held S) (now : ℕ) (command : Command) (key : Option Key) (planned : Result Plan Refusal) → ReadStoredReplyPost g old first key (Ok None)
+    → ReadPost {E = E} g first mid (Ok planned) (DecidesCommand now command) → HoldsWithoutChange g old mid (DecidesCommandOfNewKey now command key planned)
 known g old first mid now command key planned sought decided =
-    seen_both g old first mid (λ t. None ≡ kept_row_under_key t key) (Decides now command planned) (sought_none g old first key sought) (seen g first mid planned (Decides now command) decided)
+    seen_both g old first mid (λ t. None ≡ stored_reply_under_key t key) (DecidesCommand now command planned) (sought_none g old first key sought) (seen g first mid planned (DecidesCommand now command) decided)
 
 pub same_fault : {V : Type 0} (fault other : Fault) (result : Result V Fault) → result ≡ Err fault → result ≡ Err other → fault ≡ other
 same_fault fault other result is was = cc
@@ -64,7 +64,7 @@ not_done true line reply e = absurd (let f = e in cc)
 not_done false line reply e = absurd (let f = e in cc)
 
 -- what a kept key is answered with is never that it was done now
-never_done : (base : Base) (command : Command) (k : Kept) (answer : booked.Answer) → answer_to_repeated_row base command k ≡ (model_answer answer, base) → BooksCommand (Ok answer) → ⊥
+never_done : (base : Base) (command : Command) (k : Kept) (answer : booked.Answer) → answer_to_repeated_row base command k ≡ (model_answer answer, base) → IsDoneResult (Ok answer) → ⊥
 never_done base command k (given.Done reply) e done = not_done (bytes_eq k.row_text (row_text command)) k.line (abstract_reply reply) (ap (λ (x : Answer × Base). x.0) e)
 never_done base command k (given.Again line) e done = done
 never_done base command k (given.Refused refusal) e done = done
@@ -75,10 +75,10 @@ module _ {S : Type 0} (g : Ghosts S) (old mid : Held S) (now : ℕ) (command : C
   sound_after base keeps after answer e = subst AuditInvariant (ap (λ (x : Answer × Base). x.1) e) (keyed_sound base now command key keeps.sound keeps.books formed.0 formed.1)
 
   -- what was read is of no use
-  pub fails : (P : Tables → Type 0) → IsSeen g old mid P → (fault : Fault) → IsCallFault fault → CallPost g old mid now command key (Err fault)
+  pub fails : (P : Tables → Type 0) → HoldsWithoutChange g old mid P → (fault : Fault) → IsCallFault fault → CallPost g old mid now command key (Err fault)
   fails P seen fault may = record {
     answered = λ clean. tt;
-    kept = λ base keeps. still_kept g old mid base (seen.kept (sheets base)) keeps;
+    same_bases_at_error = λ base keeps. still_kept g old mid base (seen.kept (sheets base)) keeps;
     fault = may;
     survives = survives_weaker (state g old) (state g mid) (λ _. ⊥) _ (λ _ db none. absurd none) seen.survives;
     durable = λ clean done. absurd done;
@@ -89,7 +89,7 @@ module _ {S : Type 0} (g : Ghosts S) (old mid : Held S) (now : ℕ) (command : C
   }
 
   -- its key is kept
-  pub repeats : (k : Kept) (answer : booked.Answer) → ((base : Base) → answer_to_repeated_row base command k ≡ (model_answer answer, base)) → IsSeen g old mid (λ t. Some k ≡ kept_row_under_key t key)
+  pub repeats : (k : Kept) (answer : booked.Answer) → ((base : Base) → answer_to_repeated_row base command k ≡ (model_answer answer, base)) → HoldsWithoutChange g old mid (λ t. Some k ≡ stored_reply_under_key t key)
       → CallPost g old mid now command key (Ok answer)
   repeats k answer told seen = record {
     answered = λ clean base keeps. (
@@ -97,7 +97,7 @@ module _ {S : Type 0} (g : Ghosts S) (old mid : Held S) (now : ℕ) (command : C
       still_kept g old mid base (seen.kept (sheets base)) keeps,
       steps_again base now command key k (model_answer answer, base) (seen.told clean (sheets base) keeps.rows) (told base),
     );
-    kept = tt;
+    same_bases_at_error = tt;
     fault = tt;
     survives = survives_weaker (state g old) (state g mid) (λ _. ⊥) _ (λ _ db none. absurd none) seen.survives;
     durable = λ clean done base keeps. absurd (never_done base command k answer (told base) done);
@@ -109,12 +109,12 @@ module _ {S : Type 0} (g : Ghosts S) (old mid : Held S) (now : ℕ) (command : C
 
   -- its key is kept, and the answer may find no memory
   pub repeats_or_fails : (k : Kept) (result : Result booked.Answer Fault) → IfOk result (λ answer. (base : Base) → answer_to_repeated_row base command k ≡ (model_answer answer, base))
-      → OnErr result (result ≡ Err Memory) → IsSeen g old mid (λ t. Some k ≡ kept_row_under_key t key) → CallPost g old mid now command key result
+      → OnErr result (result ≡ Err Memory) → HoldsWithoutChange g old mid (λ t. Some k ≡ stored_reply_under_key t key) → CallPost g old mid now command key result
   repeats_or_fails k (Ok answer) told none seen = repeats k answer told seen
-  repeats_or_fails k (Err fault) none e seen = fails (λ t. Some k ≡ kept_row_under_key t key) seen fault (inl (same_fault fault Memory (Err fault) refl e))
+  repeats_or_fails k (Err fault) none e seen = fails (λ t. Some k ≡ stored_reply_under_key t key) seen fault (inl (same_fault fault Memory (Err fault) refl e))
 
   -- it is refused
-  pub refuses : (refusal : Refusal) → IsSeen g old mid (Known now command key (Err refusal)) → CallPost g old mid now command key (Ok (given.Refused refusal))
+  pub refuses : (refusal : Refusal) → HoldsWithoutChange g old mid (DecidesCommandOfNewKey now command key (Err refusal)) → CallPost g old mid now command key (Ok (given.Refused refusal))
   refuses refusal seen = record {
     answered = λ clean base keeps.
         let known = seen.told clean (sheets base) keeps.rows in
@@ -123,7 +123,7 @@ module _ {S : Type 0} (g : Ghosts S) (old mid : Held S) (now : ℕ) (command : C
           still_kept g old mid base (seen.kept (sheets base)) keeps,
           steps_anew base now command key known.0 ∙ ap (answer_and_base_of_step base key command) refused,
         );
-    kept = tt;
+    same_bases_at_error = tt;
     fault = tt;
     survives = survives_weaker (state g old) (state g mid) (λ _. ⊥) _ (λ _ db none. absurd none) seen.survives;
     durable = λ clean done. absurd done;
@@ -134,7 +134,7 @@ module _ {S : Type 0} (g : Ghosts S) (old mid : Held S) (now : ℕ) (command : C
   }
 
   -- it is planned, and is kept with its plan
-  module _ (plan : Plan) (seen : IsSeen g old mid (Known now command key (Ok plan))) (end : Held S) (kept : Plan) (reply : kept.reply ≡ plan.reply)
+  module _ (plan : Plan) (seen : HoldsWithoutChange g old mid (DecidesCommandOfNewKey now command key (Ok plan))) (end : Held S) (kept : Plan) (reply : kept.reply ≡ plan.reply)
       (rows : (t : Tables) → tables_after_changes kept.changes.items t ≡ with_stored_command key command (abstract_reply plan.reply) (tables_after_changes plan.changes.items t)) where
     clean_then : {r : Result (Unit {0}) Fault} → ApplyPost g mid end r (tables_after_changes kept.changes.items) → HasCleanDisk (state g end) → HasCleanDisk (state g mid)
     clean_then applied = clean_before (state g mid) (state g end) _ applied.survives
@@ -152,26 +152,26 @@ module _ {S : Type 0} (g : Ghosts S) (old mid : Held S) (now : ℕ) (command : C
         rows (sheets base) ∙ ap (with_stored_command key command told) (sym does.rows) ∙ sym (rows_with_key base (stamp_of_next_command base now) command key told new) in (
           base_with_stored_reply key command told after,
           sym all,
-          books_kept after key command told does.kept,
+          books_kept after key command told does.books_after,
           steps_anew base now command key new ∙ ap (answer_and_base_of_step base key command) does.steps ∙ ap (λ reply. (model_answer (given.Done reply), base_with_stored_reply key command told after)) (sym reply),
           ap has_utf8_texts (sym all) ∙ changes_keep_texts (sheets base) kept.changes.items keeps.texts,
         )
 
     -- and so do the trees that a crash may leave
-    comes : HasCleanDisk (state g mid) → (base : Base) → Represents g old base → (trees : Trees) → AreTreesOfRows (tables_after_changes kept.changes.items (sheets base)) trees
-        → AreTreesOfRows (sheets (base_after_call base now command key)) trees
+    comes : HasCleanDisk (state g mid) → (base : Base) → Represents g old base → (trees : Trees) → IsDiskContentOfRows (tables_after_changes kept.changes.items (sheets base)) trees
+        → IsDiskContentOfRows (sheets (base_after_call base now command key)) trees
     comes clean base keeps trees are =
         let l = lands clean base keeps in
-        subst (λ t. AreTreesOfRows t trees) (sym l.1 ∙ ap (λ (x : Answer × Base). sheets x.1) (sym l.3)) are
+        subst (λ t. IsDiskContentOfRows t trees) (sym l.1 ∙ ap (λ (x : Answer × Base). sheets x.1) (sym l.3)) are
 
     texts_come : HasCleanDisk (state g mid) → (base : Base) → Represents g old base → has_utf8_texts (sheets (base_after_call base now command key)) ≡ true
     texts_come clean base keeps =
         let l = lands clean base keeps in
         ap (λ (x : Answer × Base). has_utf8_texts (sheets x.1)) l.3 ∙ l.4
 
-    come : {r : Result (Unit {0}) Fault} → (applied : ApplyPost g mid end r (tables_after_changes kept.changes.items)) → Survives (state g old) (state g end) (MayBeCommitted g old now command key)
+    come : {r : Result (Unit {0}) Fault} → (applied : ApplyPost g mid end r (tables_after_changes kept.changes.items)) → Survives (state g old) (state g end) (IsDiskContentAfterCommand g old now command key)
     come applied =
-        none_then (state g old) (state g mid) (state g end) (MayBeCommitted g old now command key) seen.survives
+        none_then (state g old) (state g mid) (state g end) (IsDiskContentAfterCommand g old now command key) seen.survives
         (survives_weaker (state g mid) (state g end) _ _ (λ clean trees may.
         let was = seen.same (clean_then applied clean) may.0 in (
           was.was_open,
@@ -185,7 +185,7 @@ module _ {S : Type 0} (g : Ghosts S) (old mid : Held S) (now : ℕ) (command : C
         let clean_mid = clean_before (state g mid) (state g end) _ applied.survives in
         record {
           answered = λ clean. tt;
-          kept = λ base keeps. still_kept g old end base (λ rows. applied.kept (sheets base) (seen.kept (sheets base) rows)) keeps;
+          same_bases_at_error = λ base keeps. still_kept g old end base (λ rows. applied.same_rows_at_error (sheets base) (seen.kept (sheets base) rows)) keeps;
           fault = may;
           survives = come applied;
           durable = λ clean done. absurd done;
@@ -202,8 +202,8 @@ module _ {S : Type 0} (g : Ghosts S) (old mid : Held S) (now : ℕ) (command : C
         record {
           answered = λ clean base keeps.
               let l = lands (clean_mid clean) base keeps in
-              (l.0, record { rows = subst (HoldsRows g end) (sym l.1) (applied.made (sheets base) (seen.kept (sheets base) keeps.rows)); consistent = record { books = l.2; sound = sound_after base keeps l.0 (model_answer (given.Done kept.reply)) l.3; texts = l.4 } }, l.3);
-          kept = tt;
+              (l.0, record { rows = subst (HoldsRows g end) (sym l.1) (applied.applied (sheets base) (seen.kept (sheets base) keeps.rows)); consistent = record { books = l.2; sound = sound_after base keeps l.0 (model_answer (given.Done kept.reply)) l.3; texts = l.4 } }, l.3);
+          same_bases_at_error = tt;
           fault = tt;
           survives = come applied;
           durable = λ clean done base keeps trees may. comes (clean_mid clean) base keeps trees (applied.durable clean (sheets base) (seen.kept (sheets base) keeps.rows) trees may);

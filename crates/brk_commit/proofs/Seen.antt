@@ -14,7 +14,7 @@ use Rattle.brk_sql.proofs.Inside.{clean_before}
 use Rattle.brk_store.specs.Holds.{HoldsRows, ReadPost, WasOpenAndIsUnchanged}
 use Rattle.brk_decisions.proofs.Looking.{none_then, same_then}
 use Rattle.brk_store.specs.Audited.{Represents}
-use Rattle.brk_commit.specs.Keys.{ReadKeptRowPost, kept_row_under_key}
+use Rattle.brk_commit.specs.Keys.{ReadStoredReplyPost, stored_reply_under_key}
 
 -- a call that does nothing
 pub still : (s : State) → Survives s s (λ _. ⊥)
@@ -27,18 +27,18 @@ module _ {S : Type 0} (g : Ghosts S) where
 
   -- The store is unchanged between the states `old` and `new`, and the rows that it held satisfy
   -- `P`. The latter is vacuous if the disk assumption fails.
-  pub record IsSeen (old new : Held S) (P : Tables → Type 0) : Type 0 where
+  pub record HoldsWithoutChange (old new : Held S) (P : Tables → Type 0) : Type 0 where
     pub told : HasCleanDisk (state g new) → (t : Tables) → HoldsRows g old t → P t
     pub kept : (t : Tables) → HoldsRows g old t → HoldsRows g new t
     pub same : HasCleanDisk (state g new) → IsTrue (state g new).is_open → WasOpenAndIsUnchanged (state g old) (state g new)
     pub clean : HasCleanDisk (state g new) → HasCleanDisk (state g old)
     pub survives : Survives (state g old) (state g new) (λ _. ⊥)
 
-  pub seen : {V E : Type 0} (old new : Held S) (v : V) (P : V → Tables → Type 0) → ReadPost {E = E} g old new (Ok v) P → IsSeen old new (P v)
+  pub seen : {V E : Type 0} (old new : Held S) (v : V) (P : V → Tables → Type 0) → ReadPost {E = E} g old new (Ok v) P → HoldsWithoutChange old new (P v)
   seen old new v P read =
-      record { told = read.told; kept = read.kept; same = read.same; clean = clean_before (state g old) (state g new) (λ _. ⊥) read.survives; survives = read.survives }
+      record { told = read.answered; kept = read.same_rows; same = read.same; clean = clean_before (state g old) (state g new) (λ _. ⊥) read.survives; survives = read.survives }
 
-  pub seen_both : (old mid new : Held S) (P Q : Tables → Type 0) → IsSeen old mid P → IsSeen mid new Q → IsSeen old new (λ t. P t × Q t)
+  pub seen_both : (old mid new : Held S) (P Q : Tables → Type 0) → HoldsWithoutChange old mid P → HoldsWithoutChange mid new Q → HoldsWithoutChange old new (λ t. P t × Q t)
   seen_both old mid new P Q first second = record {
     told = λ clean t holds. (first.told (second.clean clean) t holds, second.told clean t (first.kept t holds));
     kept = λ t holds. second.kept t (first.kept t holds);
@@ -47,16 +47,16 @@ module _ {S : Type 0} (g : Ghosts S) where
     survives = none_then (state g old) (state g mid) (state g new) (λ _. ⊥) first.survives second.survives;
   }
 
-  seen_still : (store : Held S) (P : Tables → Type 0) → ((t : Tables) → P t) → IsSeen store store P
+  seen_still : (store : Held S) (P : Tables → Type 0) → ((t : Tables) → P t) → HoldsWithoutChange store store P
   seen_still store P all =
       record { told = λ clean t holds. all t; kept = λ t holds. holds; same = λ clean o. record { was_open = o; now = refl; committed = refl }; clean = λ clean. clean; survives = still (state g store) }
 
   -- nothing is kept under the key
-  pub sought_none : (old new : Held S) (key : Option Key) → ReadKeptRowPost g old new key (Ok None) → IsSeen old new (λ t. None ≡ kept_row_under_key t key)
-  sought_none old new None s = subst (λ n. IsSeen old n (λ t. None ≡ kept_row_under_key t None)) (sym s.0) (seen_still old (λ t. None ≡ kept_row_under_key t None) (λ t. refl))
-  sought_none old new (Some key) s = seen old new None (λ kept t. option_map abstract_kept_row kept ≡ kept_row_under_key t (Some key)) s
+  pub sought_none : (old new : Held S) (key : Option Key) → ReadStoredReplyPost g old new key (Ok None) → HoldsWithoutChange old new (λ t. None ≡ stored_reply_under_key t key)
+  sought_none old new None s = subst (λ n. HoldsWithoutChange old n (λ t. None ≡ stored_reply_under_key t None)) (sym s.0) (seen_still old (λ t. None ≡ stored_reply_under_key t None) (λ t. refl))
+  sought_none old new (Some key) s = seen old new None (λ kept t. option_map abstract_kept_row kept ≡ stored_reply_under_key t (Some key)) s
 
   -- this row is
-  pub sought_some : (old new : Held S) (key : Option Key) (k : row.Kept) → ReadKeptRowPost g old new key (Ok (Some k)) → IsSeen old new (λ t. Some (abstract_kept_row k) ≡ kept_row_under_key t key)
+  pub sought_some : (old new : Held S) (key : Option Key) (k : row.Kept) → ReadStoredReplyPost g old new key (Ok (Some k)) → HoldsWithoutChange old new (λ t. Some (abstract_kept_row k) ≡ stored_reply_under_key t key)
   sought_some old new None k s = let other = s.1 in absurd (cc)
-  sought_some old new (Some key) k s = seen old new (Some k) (λ kept t. option_map abstract_kept_row kept ≡ kept_row_under_key t (Some key)) s
+  sought_some old new (Some key) k s = seen old new (Some k) (λ kept t. option_map abstract_kept_row kept ≡ stored_reply_under_key t (Some key)) s

@@ -14,15 +14,15 @@ model_answer (given.Again line) = Again (string_bytes line)
 model_answer (given.Refused refusal) = Refused refusal
 
 -- The result is a refusal, a stored reply or a fault: any result but `Done`.
-abbrev pub BooksNothing : Result booked.Answer Fault → Type 0
-BooksNothing (Ok (given.Done reply)) = ⊥
-BooksNothing (Ok (given.Again line)) = Unit {0}
-BooksNothing (Ok (given.Refused refusal)) = Unit {0}
-BooksNothing (Err fault) = Unit {0}
+abbrev pub IsNotDoneResult : Result booked.Answer Fault → Type 0
+IsNotDoneResult (Ok (given.Done reply)) = ⊥
+IsNotDoneResult (Ok (given.Again line)) = Unit {0}
+IsNotDoneResult (Ok (given.Refused refusal)) = Unit {0}
+IsNotDoneResult (Err fault) = Unit {0}
 
 -- The result is `Done`: the call accepted the command and committed it.
-abbrev pub BooksCommand : Result booked.Answer Fault → Type 0
-BooksCommand (Ok (given.Done reply)) = Unit {0}
-BooksCommand (Ok (given.Again line)) = ⊥
-BooksCommand (Ok (given.Refused refusal)) = ⊥
-BooksCommand (Err fault) = ⊥
+abbrev pub IsDoneResult : Result booked.Answer Fault → Type 0
+IsDoneResult (Ok (given.Done reply)) = Unit {0}
+IsDoneResult (Ok (given.Again line)) = ⊥
+IsDoneResult (Ok (given.Refused refusal)) = ⊥
+IsDoneResult (Err fault) = ⊥

@@ -14,8 +14,8 @@ use Rattle.brk_model.specs.Keyed.{keyed_step}
 use Rattle.brk_model.specs.Run.{IsCallFault}
 use Rattle.brk_invariant_theorems.specs.InForm.{MeetsAuditFormats, IsWellFormedKey}
 use Rattle.brk_store.specs.Audited.{Represents}
-use Rattle.brk_store.specs.Holds.{AreTreesOfRows, WasOpenAndIsUnchanged, CrashStatesSatisfy}
-use Rattle.brk_commit.specs.Answers.{BooksNothing, BooksCommand, model_answer}
+use Rattle.brk_store.specs.Holds.{IsDiskContentOfRows, WasOpenAndIsUnchanged, CrashStatesSatisfy}
+use Rattle.brk_commit.specs.Answers.{IsNotDoneResult, IsDoneResult, model_answer}
 use Rattle.brk_commit.specs.declared.answer.Answer as booked
 
 -- For every base that the store represented before the call, `answer` is the answer of the model's
@@ -37,9 +37,9 @@ base_after_call base now command key = (keyed_step base now command key).1
 -- The store was open, and for every base that it represented, `trees` are the disk contents of a
 -- database that contains the tables of the base after the command, and the texts of these tables
 -- are UTF-8.
-abbrev pub MayBeCommitted : {S : Type 0} → Ghosts S → Held S → ℕ → Command → Option Key → Trees → Type 0
-MayBeCommitted g old now command key trees =
-    IsTrue (state g old).is_open × ((base : Base) → Represents g old base → AreTreesOfRows (sheets (base_after_call base now command key)) trees)
+abbrev pub IsDiskContentAfterCommand : {S : Type 0} → Ghosts S → Held S → ℕ → Command → Option Key → Trees → Type 0
+IsDiskContentAfterCommand g old now command key trees =
+    IsTrue (state g old).is_open × ((base : Base) → Represents g old base → IsDiskContentOfRows (sheets (base_after_call base now command key)) trees)
     × ((base : Base) → Represents g old base → IsTrue (has_utf8_texts (sheets (base_after_call base now command key))))
 
 -- The postcondition of a call that executes a command. At `Ok` the call refines the model's step
@@ -49,19 +49,19 @@ pub record CallPost {S : Type 0} (g : Ghosts S) (old new : Held S) (now : ℕ) (
   -- At `Ok` the call refines the model's step. Vacuous if the disk assumption fails.
   pub answered : HasCleanDisk (state g new) → IfOk result (RefinesStep g old new now command key)
   -- At an error the store represents every base that it represented.
-  pub kept : OnErr result (PreservesRepresentation g old new)
+  pub same_bases_at_error : OnErr result (PreservesRepresentation g old new)
   -- The error is `Memory` or `Store`.
   pub fault : IfErr result IsCallFault
   -- A crash exposes a state that a crash before the call could expose, or the tables after the
   -- command.
-  pub survives : Survives (state g old) (state g new) (MayBeCommitted g old now command key)
+  pub survives : Survives (state g old) (state g new) (IsDiskContentAfterCommand g old now command key)
   -- At `Done` a crash exposes only the tables after the command.
-  pub durable : HasCleanDisk (state g new) → BooksCommand result → (base : Base) → Represents g old base → CrashStatesSatisfy g new (AreTreesOfRows (sheets (base_after_call base now command key)))
+  pub durable : HasCleanDisk (state g new) → IsDoneResult result → (base : Base) → Represents g old base → CrashStatesSatisfy g new (IsDiskContentOfRows (sheets (base_after_call base now command key)))
   -- At `Done` the store was open, is open, and has committed its current state.
-  pub opened : HasCleanDisk (state g new) → BooksCommand result → IsTrue (state g old).is_open × IsTrue (state g new).is_open × ((state g new).committed ≡ (state g new).now)
+  pub opened : HasCleanDisk (state g new) → IsDoneResult result → IsTrue (state g old).is_open × IsTrue (state g new).is_open × ((state g new).committed ≡ (state g new).now)
   -- If the result is a refusal, a stored reply or a fault, and the database is open after the call,
   -- it was open before and is unchanged.
-  pub same : HasCleanDisk (state g new) → IsTrue (state g new).is_open → BooksNothing result → WasOpenAndIsUnchanged (state g old) (state g new)
+  pub same : HasCleanDisk (state g new) → IsTrue (state g new).is_open → IsNotDoneResult result → WasOpenAndIsUnchanged (state g old) (state g new)
   -- If the disk assumption holds after the call, it held before.
   pub clean : HasCleanDisk (state g new) → HasCleanDisk (state g old)
   -- The command and its key are well-formed.

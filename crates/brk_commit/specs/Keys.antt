@@ -18,9 +18,9 @@ abbrev pub optional_model_key : Option given.Key → Option Key
 optional_model_key key = option_map abstract_key key
 
 -- The row of KEPT under the key, or `None` if there is no key or no such row.
-abbrev pub kept_row_under_key : Tables → Option Key → Option Kept
-kept_row_under_key t None = None
-kept_row_under_key t (Some key) = find (λ k. bytes_eq k.key.batch key.batch && (k.key.row == key.row)) t.kept
+abbrev pub stored_reply_under_key : Tables → Option Key → Option Kept
+stored_reply_under_key t None = None
+stored_reply_under_key t (Some key) = find (λ k. bytes_eq k.key.batch key.batch && (k.key.row == key.row)) t.kept
 
 -- The tables `t` with one more row of KEPT, which stores the command and its reply under the key.
 -- Without a key, `t` unchanged.
@@ -31,6 +31,6 @@ with_stored_command (Some key) command reply t = tables_with_stored_reply (store
 -- The postcondition of reading the row of KEPT under a key. With a key it is a read, and the result
 -- is the row under the key, or `None` if there is none. Without a key the result is `None` and the
 -- store is unchanged.
-abbrev pub ReadKeptRowPost : {S : Type 0} → Ghosts S → Held S → Held S → Option Key → Result (Option row.Kept) Fault → Type 0
-ReadKeptRowPost g old new None result = (new ≡ old) × (result ≡ Ok None)
-ReadKeptRowPost g old new (Some key) result = ReadPost g old new result (λ kept t. option_map abstract_kept_row kept ≡ kept_row_under_key t (Some key))
+abbrev pub ReadStoredReplyPost : {S : Type 0} → Ghosts S → Held S → Held S → Option Key → Result (Option row.Kept) Fault → Type 0
+ReadStoredReplyPost g old new None result = (new ≡ old) × (result ≡ Ok None)
+ReadStoredReplyPost g old new (Some key) result = ReadPost g old new result (λ kept t. option_map abstract_kept_row kept ≡ stored_reply_under_key t (Some key))

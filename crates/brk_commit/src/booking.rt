@@ -10,8 +10,8 @@ ghost use Rattle.brk_invariant_theorems.specs.InForm.{MeetsAuditFormats, IsWellF
 
 use crate::answer::Answer;
 use crate::deciding::decide_command;
-use crate::in_form::{command_is_well_formed, key_is_well_formed};
-use crate::keeping::{answer_retry, read_kept_row, store_under_key};
+use crate::in_form::{prove_command_is_well_formed, prove_key_is_well_formed};
+use crate::keeping::{answer_retry, read_stored_reply, plan_with_stored_reply};
 use brk_commands::Command;
 use brk_money::{Fault, Stamp};
 use brk_ref::Key;
@@ -20,13 +20,13 @@ use sqlite::Alter;
 use std::alloc::Global;
 
 // Proves that a command and its key, if it has one, are well-formed. Does nothing at run time.
-fn command_and_key_are_well_formed(command: &Command, key: Option<&Key>)
+fn prove_command_and_key_are_well_formed(command: &Command, key: Option<&Key>)
     ensures command { MeetsAuditFormats (abstract_command command.now) }
     ensures key { IfSome (optional_model_key (option_copied key.entry)) IsWellFormedKey }
 {
-    command_is_well_formed(command);
+    prove_command_is_well_formed(command);
     if let Some(key) = key {
-        key_is_well_formed(key);
+        prove_key_is_well_formed(key);
     }
 }
 
@@ -47,7 +47,7 @@ fn command_and_key_are_well_formed(command: &Command, key: Option<&Key>)
 /// After a fault, too, a crash may expose the command as committed. With a key, retry under the
 /// same key: the command is then executed at most once. Without a key a retry may execute it twice,
 /// so read the tables before it.
-pub fn book<S: Alter>(
+pub fn execute_and_commit_command<S: Alter>(
     alloc: Global,
     store: &mut Store<S>,
     now: Stamp,
@@ -56,14 +56,14 @@ pub fn book<S: Alter>(
 ) -> Result<Answer, Fault>
     ensures called { CallPost S.Store store.old store.new now (abstract_command command.now) (optional_model_key (option_copied key.entry)) result }
 {
-    command_and_key_are_well_formed(command, key);
-    if let Some(kept) = read_kept_row(store, key)? {
+    prove_command_and_key_are_well_formed(command, key);
+    if let Some(kept) = read_stored_reply(store, key)? {
         return answer_retry(alloc, command, kept);
     }
     match decide_command(alloc, store, now, command)? {
         Ok(plan) => {
-            let plan = store_under_key(alloc, plan, command, key)?;
-            store.apply(&plan.changes)?;
+            let plan = plan_with_stored_reply(alloc, plan, command, key)?;
+            store.apply_changes(&plan.changes)?;
             Ok(Answer::Done(plan.reply))
         }
         Err(refusal) => Ok(Answer::Refused(refusal)),

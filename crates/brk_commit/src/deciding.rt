@@ -2,13 +2,13 @@
 
 ghost use Rattle.std.specs.Prelude.{IfErr};
 ghost use Rattle.brk_commands.specs.Commands.{abstract_command};
-ghost use Rattle.brk_decisions.specs.Decisions.{Decides};
+ghost use Rattle.brk_decisions.specs.Decisions.{DecidesCommand};
 ghost use Rattle.brk_model.specs.Run.{IsCallFault};
 ghost use Rattle.brk_store.specs.Holds.{ReadPost};
 
 use brk_commands::Command;
 use brk_decisions::{
-    decide_cancel, decide_feed, decide_move, decide_oneday, decide_order, decide_reference,
+    decide_cancel, decide_feed, decide_movement, decide_settlement_day, decide_order, decide_reference_record,
     decide_result,
 };
 use brk_money::{Planned, Stamp};
@@ -26,17 +26,17 @@ pub(crate) fn decide_command<S: Alter>(
     now: Stamp,
     command: &Command,
 ) -> Planned<Plan>
-    ensures read { ReadPost S.Store store.old store.new result (Decides now (abstract_command command.now)) }
+    ensures read { ReadPost S.Store store.old store.new result (DecidesCommand now (abstract_command command.now)) }
     ensures fault { IfErr result IsCallFault }
 {
     match command {
-        Command::Add(reference) => decide_reference(alloc, store, now, reference),
+        Command::Add(reference) => decide_reference_record(alloc, store, now, reference),
         Command::Order(order) => decide_order(alloc, store, now, order),
         Command::Feed(feed) => decide_feed(alloc, store, now, feed),
         Command::Cancel(trade) => decide_cancel(alloc, store, now, *trade),
         Command::Complete(completion) => decide_result(alloc, store, now, completion),
         Command::Update(update) => decide_update(alloc, store, now, update),
-        Command::Move(movement) => decide_move(alloc, store, now, movement),
-        Command::OneDay(day) => decide_oneday(alloc, store, now, *day),
+        Command::Move(movement) => decide_movement(alloc, store, now, movement),
+        Command::OneDay(day) => decide_settlement_day(alloc, store, now, *day),
     }
 }

@@ -16,56 +16,56 @@ use brk_plans::Reference;
 use brk_ref::{Account, Band, Broker, Charge, Customer, Key, Listing, Permission, Tax};
 
 // Proves that the command that adds a broker is well-formed. Does nothing at run time.
-fn broker_is_well_formed(broker: &Broker)
+fn prove_broker_is_well_formed(broker: &Broker)
     ensures { MeetsAuditFormats (AddBroker (abstract_broker broker.now)) }
 {
     let _ = broker.id.get();
-    broker.name.state_text_format();
+    broker.name.prove_text_has_its_format();
 }
 
 // Proves that the command that adds a customer is well-formed. Does nothing at run time.
-fn customer_is_well_formed(customer: &Customer)
+fn prove_customer_is_well_formed(customer: &Customer)
     ensures { MeetsAuditFormats (AddCustomer (abstract_customer customer.now)) }
 {
     let _ = customer.id.get();
     let _ = customer.tier.get();
-    customer.tax_id.state_text_format();
-    customer.last_name.state_text_format();
-    customer.first_name.state_text_format();
+    customer.tax_id.prove_text_has_its_format();
+    customer.last_name.prove_text_has_its_format();
+    customer.first_name.prove_text_has_its_format();
 }
 
 // Proves that the command that adds an account is well-formed. Does nothing at run time.
-fn account_is_well_formed(account: &Account)
+fn prove_account_is_well_formed(account: &Account)
     ensures { MeetsAuditFormats (AddAccount (abstract_account account.now)) }
 {
     let _ = account.id.get();
-    account.name.state_text_format();
+    account.name.prove_text_has_its_format();
     let _ = account.opening.get();
 }
 
 // Proves that the command that adds a permission is well-formed. Does nothing at run time.
-fn permission_is_well_formed(permission: &Permission)
+fn prove_permission_is_well_formed(permission: &Permission)
     ensures { MeetsAuditFormats (AddPermission (abstract_permission permission.now)) }
 {
-    permission.acl.state_text_format();
-    permission.tax_id.state_text_format();
-    permission.last_name.state_text_format();
-    permission.first_name.state_text_format();
+    permission.acl.prove_text_has_its_format();
+    permission.tax_id.prove_text_has_its_format();
+    permission.last_name.prove_text_has_its_format();
+    permission.first_name.prove_text_has_its_format();
 }
 
 // Proves that the command that adds a listing is well-formed. Does nothing at run time.
-fn listing_is_well_formed(listing: &Listing)
+fn prove_listing_is_well_formed(listing: &Listing)
     ensures { MeetsAuditFormats (AddSecurity (abstract_listing listing.now)) }
 {
-    listing.security.symbol.state_text_format();
-    listing.security.name.state_text_format();
-    listing.security.exchange.state_text_format();
-    listing.security.sector.state_text_format();
+    listing.security.symbol.prove_text_has_its_format();
+    listing.security.name.prove_text_has_its_format();
+    listing.security.exchange.prove_text_has_its_format();
+    listing.security.sector.prove_text_has_its_format();
     let _ = listing.price.get();
 }
 
 // Proves that the command that adds a charge is well-formed. Does nothing at run time.
-fn charge_is_well_formed(charge: &Charge)
+fn prove_charge_is_well_formed(charge: &Charge)
     ensures { MeetsAuditFormats (AddCharge (abstract_charge charge.now)) }
 {
     let _ = charge.tier.get();
@@ -73,44 +73,44 @@ fn charge_is_well_formed(charge: &Charge)
 }
 
 // Proves that the command that adds a band is well-formed. Does nothing at run time.
-fn band_is_well_formed(band: &Band)
+fn prove_band_is_well_formed(band: &Band)
     ensures { MeetsAuditFormats (AddBand (abstract_band band.now)) }
 {
     let _ = band.tier.get();
-    band.exchange.state_text_format();
+    band.exchange.prove_text_has_its_format();
     let _ = band.from_qty.get();
     let _ = band.to_qty.get();
     let _ = band.rate.get();
 }
 
 // Proves that the command that adds a tax is well-formed. Does nothing at run time.
-fn tax_is_well_formed(tax: &Tax)
+fn prove_tax_is_well_formed(tax: &Tax)
     ensures { MeetsAuditFormats (AddTaxRate (abstract_tax_rate tax.now)) }
 {
     let _ = tax.id.get();
-    tax.name.state_text_format();
+    tax.name.prove_text_has_its_format();
     let _ = tax.rate.get();
 }
 
 // Proves that the command that adds a reference record is well-formed. Does nothing at run time.
-fn reference_is_well_formed(reference: &Reference)
+fn prove_reference_is_well_formed(reference: &Reference)
     ensures { MeetsAuditFormats (books.command_adding_record reference.now) }
 {
     match reference {
-        Reference::Broker(broker) => broker_is_well_formed(broker),
-        Reference::Customer(customer) => customer_is_well_formed(customer),
-        Reference::Account(account) => account_is_well_formed(account),
-        Reference::Permission(permission) => permission_is_well_formed(permission),
-        Reference::Security(listing) => listing_is_well_formed(listing),
-        Reference::Charge(charge) => charge_is_well_formed(charge),
-        Reference::Band(band) => band_is_well_formed(band),
-        Reference::TaxRate(tax) => tax_is_well_formed(tax),
+        Reference::Broker(broker) => prove_broker_is_well_formed(broker),
+        Reference::Customer(customer) => prove_customer_is_well_formed(customer),
+        Reference::Account(account) => prove_account_is_well_formed(account),
+        Reference::Permission(permission) => prove_permission_is_well_formed(permission),
+        Reference::Security(listing) => prove_listing_is_well_formed(listing),
+        Reference::Charge(charge) => prove_charge_is_well_formed(charge),
+        Reference::Band(band) => prove_band_is_well_formed(band),
+        Reference::TaxRate(tax) => prove_tax_is_well_formed(tax),
         Reference::CustomerTax(_) => (),
     }
 }
 
 // Proves that an order is well-formed. Does nothing at run time.
-fn order_is_well_formed(order: &Order)
+fn prove_order_is_well_formed(order: &Order)
     ensures { OrderMeetsAuditFormats (abstract_order order.now) }
 {
     let _ = order.qty.get();
@@ -120,7 +120,7 @@ fn order_is_well_formed(order: &Order)
 }
 
 // Proves that each of the ticks is well-formed. Does nothing at run time.
-fn ticks_are_well_formed(ticks: &[Tick])
+fn prove_ticks_are_well_formed(ticks: &[Tick])
     ensures { AllByRecursion TickMeetsAuditFormats (abstract_ticks ticks.now) }
 {
     for tick in ticks {
@@ -129,7 +129,7 @@ fn ticks_are_well_formed(ticks: &[Tick])
 }
 
 // Proves that a text update is well-formed. Does nothing at run time.
-fn update_is_well_formed(update: &Update)
+fn prove_update_is_well_formed(update: &Update)
     ensures { MeetsAuditFormats (text_update_command update.now) }
 {
     match update {
@@ -138,7 +138,7 @@ fn update_is_well_formed(update: &Update)
 }
 
 // Proves that a deposit or a withdrawal is well-formed. Does nothing at run time.
-fn movement_is_well_formed(movement: &Movement)
+fn prove_movement_is_well_formed(movement: &Movement)
     ensures { MeetsAuditFormats (movement_command movement.now) }
 {
     let _ = movement.amount.get();
@@ -148,19 +148,19 @@ fn movement_is_well_formed(movement: &Movement)
 }
 
 /// Proves that a command is well-formed. Does nothing at run time.
-pub fn command_is_well_formed(command: &Command)
+pub fn prove_command_is_well_formed(command: &Command)
     ensures { MeetsAuditFormats (abstract_command command.now) }
 {
     match command {
-        Command::Add(reference) => reference_is_well_formed(reference),
-        Command::Order(order) => order_is_well_formed(order),
-        Command::Feed(feed) => ticks_are_well_formed(feed.ticks()),
+        Command::Add(reference) => prove_reference_is_well_formed(reference),
+        Command::Order(order) => prove_order_is_well_formed(order),
+        Command::Feed(feed) => prove_ticks_are_well_formed(feed.ticks()),
         Command::Cancel(_) => (),
         Command::Complete(completion) => {
             let _ = completion.price.get();
         }
-        Command::Update(update) => update_is_well_formed(update),
-        Command::Move(movement) => movement_is_well_formed(movement),
+        Command::Update(update) => prove_update_is_well_formed(update),
+        Command::Move(movement) => prove_movement_is_well_formed(movement),
         Command::OneDay(day) => {
             let _ = day.get();
         }
@@ -168,9 +168,9 @@ pub fn command_is_well_formed(command: &Command)
 }
 
 /// Proves that a key is well-formed. Does nothing at run time.
-pub fn key_is_well_formed(key: &Key)
+pub fn prove_key_is_well_formed(key: &Key)
     ensures { IsWellFormedKey (abstract_key key.now) }
 {
-    key.batch.state_text_format();
+    key.batch.prove_text_has_its_format();
     let _ = key.row.get();
 }

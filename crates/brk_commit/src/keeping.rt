@@ -6,7 +6,7 @@ ghost use Rattle.std.specs.Option.{option_copied};
 ghost use Rattle.brk_commands.specs.Commands.{abstract_command};
 ghost use Rattle.brk_commit.specs.Answers.{model_answer};
 ghost use Rattle.brk_commit.specs.Keys.{optional_model_key};
-ghost use Rattle.brk_commit.specs.Keys.{ReadKeptRowPost, with_stored_command};
+ghost use Rattle.brk_commit.specs.Keys.{ReadStoredReplyPost, with_stored_command};
 ghost use Rattle.brk_model.specs.Base.{Base};
 ghost use Rattle.brk_model.specs.Keyed.{answer_to_repeated_row};
 ghost use Rattle.brk_model.specs.Run.{IsCallFault};
@@ -27,15 +27,15 @@ use std::alloc::Global;
 
 // Returns the row of KEPT under a key, with the stored request and the stored reply, or `None` if
 // there is no key or no such row. Changes nothing. Fails with `Memory` or `Store` only.
-pub(crate) fn read_kept_row<S: Alter>(
+pub(crate) fn read_stored_reply<S: Alter>(
     store: &mut Store<S>,
     key: Option<&Key>,
 ) -> Result<Option<Kept>, Fault>
-    ensures sought { ReadKeptRowPost S.Store store.old store.new (optional_model_key (option_copied key.entry)) result }
+    ensures read { ReadStoredReplyPost S.Store store.old store.new (optional_model_key (option_copied key.entry)) result }
     ensures fault { IfErr result IsCallFault }
 {
     match key {
-        Some(key) => store.kept(key),
+        Some(key) => store.stored_reply_by_key(key),
         None => Ok(None),
     }
 }
@@ -56,7 +56,7 @@ pub(crate) fn answer_retry(alloc: Global, command: &Command, kept: Kept) -> Resu
 
 // Returns the plan with one more change, which adds the row of KEPT with the command and its reply
 // under the key. Without a key, returns the plan unchanged. Fails with `Memory` only.
-pub(crate) fn store_under_key(
+pub(crate) fn plan_with_stored_reply(
     alloc: Global,
     plan: Plan,
     command: &Command,
@@ -74,7 +74,7 @@ pub(crate) fn store_under_key(
     let row_text = row_text(alloc, command)?;
     let line = line_text(alloc, &plan.reply)?;
     let mut plan = plan;
-    plan.changes.push(Change::Keep(Kept {
+    plan.changes.push(Change::AddStoredReply(Kept {
         key,
         row_text,
         line,

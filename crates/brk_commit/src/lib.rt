@@ -9,5 +9,5 @@ pub mod in_form;
 mod keeping;
 
 pub use answer::Answer;
-pub use booking::book;
-pub use in_form::{command_is_well_formed, key_is_well_formed};
+pub use booking::execute_and_commit_command;
+pub use in_form::{prove_command_is_well_formed, prove_key_is_well_formed};

@@ -7,7 +7,7 @@ use Rattle.sqlite.specs.State.{HasCleanDisk}
 use Rattle.brk_money.specs.declared.fault.Fault.{Fault}
 use Rattle.brk_model.specs.Tables.{Tables}
 use Rattle.brk_store.specs.Holds.{HoldsRows, ReadPost}
-use Rattle.brk_store.specs.Kept.{IsUnchangedByReads, clean_at}
+use Rattle.brk_store.specs.ReadSequences.{IsUnchangedByReads, disk_was_clean_before_reads}
 use Rattle.brk_store.proofs.Retelling.{retold}
 use Rattle.brk_decisions.proofs.Looking.{none_then, same_then}
 
@@ -17,21 +17,21 @@ module _ {S : Type 0} (g : Ghosts S) (old mid : Held S) where
       → IfOk result (λ x. (t : Tables) → P v t → R x t) → ReadPost g old mid result R
   decided v P R (Ok x) read tell = retold g old mid v x P R tell read
   decided v P R (Err fault) read none =
-      record { told = λ clean. tt; opened = λ clean. tt; kept = read.kept; same = read.same; survives = read.survives }
+      record { answered = λ clean. tt; opened = λ clean. tt; same_rows = read.same_rows; same = read.same; survives = read.survives }
 
 module _ {S : Type 0} (g : Ghosts S) (old mid end : Held S) where
   -- an answer that follows from what was read, and from what was read on in a store that is kept
   pub decided_on : {V X E : Type 0} (v : V) (P : V → Tables → Type 0) (R : X → Tables → Type 0) (result : Result X Fault) → ReadPost {E = E} g old mid (Ok v) P → IsUnchangedByReads g mid end
       → (HasCleanDisk (state g end) → IfOk result (λ x. (t : Tables) → HoldsRows g mid t → P v t → R x t)) → ReadPost g old end result R
   decided_on {V} {X} v P R result read on tell = record {
-    told = λ clean. answered (clean_at mid end on clean) result (tell clean);
-    opened = λ clean. was_open (read.opened (clean_at mid end on clean)) result;
-    kept = λ t h. on.kept t (read.kept t h);
-    same = λ clean o. let s = on.same clean o in same_then (state g old) (state g mid) (state g end) (read.same (clean_at mid end on clean) s.was_open) s;
+    answered = λ clean. answered (disk_was_clean_before_reads mid end on clean) result (tell clean);
+    opened = λ clean. was_open (read.opened (disk_was_clean_before_reads mid end on clean)) result;
+    same_rows = λ t h. on.same_rows t (read.same_rows t h);
+    same = λ clean o. let s = on.same clean o in same_then (state g old) (state g mid) (state g end) (read.same (disk_was_clean_before_reads mid end on clean) s.was_open) s;
     survives = none_then (state g old) (state g mid) (state g end) (λ _. ⊥) read.survives on.survives;
   } where
     answered : HasCleanDisk (state g mid) → (r : Result X Fault) → IfOk r (λ x. (t : Tables) → HoldsRows g mid t → P v t → R x t) → IfOk r (λ x. (t : Tables) → HoldsRows g old t → R x t)
-    answered clean (Ok x) tell = λ t h. tell t (read.kept t h) (read.told clean t h)
+    answered clean (Ok x) tell = λ t h. tell t (read.kept t h) (read.answered clean t h)
     answered clean (Err fault) tell = tt
 
     was_open : {Q : Type 0} → Q → (r : Result X Fault) → OnOk r Q

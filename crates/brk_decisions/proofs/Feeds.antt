@@ -31,17 +31,17 @@ use Rattle.brk_trade_theorems.proofs.FeedPlanning.{feed_plan_does, feed_refused}
 use Rattle.brk_trade_theorems.proofs.Quotes.{quoted_before, not_listed, quote_read, read_quote}
 use Rattle.brk_trade_theorems.proofs.Waiting.{limit_buys, limit_sells, may, selected, stop_losses}
 use Rattle.brk_book_theorems.proofs.Tested.{not_not}
-use Rattle.brk_decisions.specs.Decisions.{Decides}
+use Rattle.brk_decisions.specs.Decisions.{DecidesCommand}
 
 -- `quote` has the last trade of the tick's symbol and the requests that a price of the ticks `all`
 -- may trigger. It is `None` if the symbol has no last trade.
-abbrev pub IsQuoteOf : List Tick → Tick → Option Quote → Tables → Type 0
-IsQuoteOf all tick quote t = (option_map (λ q. abstract_last_trade_row q.last) quote ≡ last_trade_row_of_symbol t tick.symbol) × IfSome quote (λ q. IsQuoteOfTick t tick all (state_of_quote q))
+abbrev pub IsQuoteOfTickOrNone : List Tick → Tick → Option Quote → Tables → Type 0
+IsQuoteOfTickOrNone all tick quote t = (option_map (λ q. abstract_last_trade_row q.last) quote ≡ last_trade_row_of_symbol t tick.symbol) × IfSome quote (λ q. IsQuoteOfTick t tick all (state_of_quote q))
 
 -- `last` is the last stamp of the tables, and `quotes` are the quotes of the symbols of `ticks`,
 -- for the prices of the ticks `all`.
-abbrev pub Known : (all ticks : List Tick) → List SymbolState → Option ℕ → Tables → Type 0
-Known all ticks quotes last t = (last ≡ t.last) × AreQuotesOfTicks t all ticks quotes
+abbrev pub QuotesAndLastStampMatch : (all ticks : List Tick) → List SymbolState → Option ℕ → Tables → Type 0
+QuotesAndLastStampMatch all ticks quotes last t = (last ≡ t.last) × AreQuotesOfTicks t all ticks quotes
 
 -- what the selections of a tick's symbol brought, merged, is its quote
 pub selected_quote : (t : Tables) (tick : Tick) (ticks : List Tick) (span : Span) (last : LastTrade) (losses sells buys : List request.RequestRow) (quote : Quote) → span ≡ price_span_of_first_symbol tick ticks
@@ -50,7 +50,7 @@ pub selected_quote : (t : Tables) (tick : Tick) (ticks : List Tick) (span : Span
     → map abstract_request_row sells ≡ limit_sells t tick.symbol span
     → map abstract_request_row buys ≡ limit_buys t tick.symbol span
     → quote.last ≡ last → IsPermutation ((losses ++ sells) ++ buys) quote.requests.items → IsNonDecreasingBy (λ (r : request.RequestRow). r.trade) quote.requests.items
-    → IsQuoteOf ticks tick (Some quote) t
+    → IsQuoteOfTickOrNone ticks tick (Some quote) t
 selected_quote t tick ticks span last losses sells buys quote is l e f g same p o =
     let listed : Some (abstract_last_trade_row quote.last) ≡ last_trade_row_of_symbol t tick.symbol = ap (λ x. Some (abstract_last_trade_row x)) same ∙ l in
     let joined : map abstract_request_row ((losses ++ sells) ++ buys) ≡ (stop_losses t tick.symbol span ++ limit_sells t tick.symbol span) ++ limit_buys t tick.symbol span =
@@ -66,14 +66,14 @@ selected_quote t tick ticks span last losses sells buys quote is l e f g same p 
 
 -- with each tick they are known of one tick more
 module _ (all ticks : List Tick) (tick : Tick) (quotes : List Quote) (last : Option ℕ) where
-  pub one_quoted : lacks_state_of_symbol (states_of_quotes quotes) tick ≡ false → (t : Tables) → Known all ticks (states_of_quotes quotes) last t → Known all (ticks ++ tick ∷ []) (states_of_quotes quotes) last t
+  pub one_quoted : lacks_state_of_symbol (states_of_quotes quotes) tick ≡ false → (t : Tables) → QuotesAndLastStampMatch all ticks (states_of_quotes quotes) last t → QuotesAndLastStampMatch all (ticks ++ tick ∷ []) (states_of_quotes quotes) last t
   one_quoted e t k = (k.0, quoted_before t all ticks tick quotes k.1 (not_not (list_any (is_state_of_symbol tick.symbol) (states_of_quotes quotes)) e))
 
-  pub one_not_listed : (t : Tables) → Known all ticks (states_of_quotes quotes) last t → IsQuoteOf all tick None t → Known all (ticks ++ tick ∷ []) (states_of_quotes quotes) last t
+  pub one_not_listed : (t : Tables) → QuotesAndLastStampMatch all ticks (states_of_quotes quotes) last t → IsQuoteOfTickOrNone all tick None t → QuotesAndLastStampMatch all (ticks ++ tick ∷ []) (states_of_quotes quotes) last t
   one_not_listed t k l = (k.0, not_listed t all ticks tick quotes k.1 (sym l.0))
 
-  pub one_read : (quote : Quote) → Contains all tick → lacks_state_of_symbol (states_of_quotes quotes) tick ≡ true → (t : Tables) → Known all ticks (states_of_quotes quotes) last t → IsQuoteOf all tick (Some quote) t
-      → Known all (ticks ++ tick ∷ []) (states_of_quotes (quotes ++ quote ∷ [])) last t
+  pub one_read : (quote : Quote) → Contains all tick → lacks_state_of_symbol (states_of_quotes quotes) tick ≡ true → (t : Tables) → QuotesAndLastStampMatch all ticks (states_of_quotes quotes) last t → IsQuoteOfTickOrNone all tick (Some quote) t
+      → QuotesAndLastStampMatch all (ticks ++ tick ∷ []) (states_of_quotes (quotes ++ quote ∷ [])) last t
   one_read quote m e t k l = (k.0, quote_read t all ticks tick quotes quote k.1 (is_false (list_any (is_state_of_symbol tick.symbol) (states_of_quotes quotes)) e) m l.1)
     where
       is_false : (b : Bool) → not b ≡ true → b ≡ false
@@ -82,7 +82,7 @@ module _ (all ticks : List Tick) (tick : Tick) (quotes : List Quote) (last : Opt
 
 -- a feed's plan does it, and its refusal is that of the command
 module _ (ticks : List Tick) (quotes : List SymbolState) (last : Option ℕ) (now : ℕ) (moment : now ≤ greatest_stamp) where
-  looked_up : (t : Tables) → Known ticks ticks quotes last t → (base : Base) → BooksInvariant base → t ≡ sheets base → PlanFeedPrecondition base ticks quotes last now
+  looked_up : (t : Tables) → QuotesAndLastStampMatch ticks ticks quotes last t → (base : Base) → BooksInvariant base → t ≡ sheets base → PlanFeedPrecondition base ticks quotes last now
   looked_up t known base books e = record {
     books = books;
     quotes_read = subst (λ x. AreQuotesOfTicks x ticks ticks quotes) e known.1;
@@ -92,7 +92,7 @@ module _ (ticks : List Tick) (quotes : List SymbolState) (last : Option ℕ) (no
 
   pub feed_decided : (result : Result (Result Plan Refusal) Fault)
       → IfOk result (λ planned. MatchResult planned (IsFeedPlan ticks quotes last now) (λ refusal. (stamp : ℕ) → first_refusal (feed_checks stamp ticks quotes ++ later_stamp_check last now ∷ []) ≡ Some refusal))
-      → IfOk result (λ planned. (t : Tables) → Known ticks ticks quotes last t → Decides now (FeedTicks (abstract_ticks ticks)) planned t)
+      → IfOk result (λ planned. (t : Tables) → QuotesAndLastStampMatch ticks ticks quotes last t → DecidesCommand now (FeedTicks (abstract_ticks ticks)) planned t)
   feed_decided (Ok (Ok plan)) p = λ t known base books e. feed_plan_does base ticks quotes last now plan (looked_up t known base books e) p
   feed_decided (Ok (Err refusal)) p = λ t known base books e. feed_refused base 0 ticks quotes last now refusal (looked_up t known base books e) (p 0)
   feed_decided (Err fault) p = tt

@@ -22,9 +22,9 @@ module _ {S : Type 0} (g : Ghosts S) where
     read_both v w x P Q R tell first second =
         let before = clean_before (state g mid) (state g end) (λ _. ⊥) second.survives in
         record {
-          told = λ clean t holds. tell t (first.told (before clean) t holds) (second.told clean t (first.kept t holds));
+          answered = λ clean t holds. tell t (first.answered (before clean) t holds) (second.answered clean t (first.same_rows t holds));
           opened = λ clean. first.opened (before clean);
-          kept = λ t holds. second.kept t (first.kept t holds);
+          same_rows = λ t holds. second.same_rows t (first.same_rows t holds);
           same = λ clean o. let s = second.same clean o in same_then (state g old) (state g mid) (state g end) (first.same (before clean) s.was_open) s;
           survives = none_then (state g old) (state g mid) (state g end) (λ _. ⊥) first.survives second.survives;
         }
@@ -35,9 +35,9 @@ module _ {S : Type 0} (g : Ghosts S) where
     read_failed v w e P Q R first second =
         let before = clean_before (state g mid) (state g end) (λ _. ⊥) second.survives in
         record {
-          told = λ clean. tt;
+          answered = λ clean. tt;
           opened = λ clean. tt;
-          kept = λ t holds. second.kept t (first.kept t holds);
+          same_rows = λ t holds. second.same_rows t (first.same_rows t holds);
           same = λ clean o. let s = second.same clean o in same_then (state g old) (state g mid) (state g end) (first.same (before clean) s.was_open) s;
           survives = none_then (state g old) (state g mid) (state g end) (λ _. ⊥) first.survives second.survives;
         }

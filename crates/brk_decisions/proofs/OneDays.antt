@@ -17,23 +17,23 @@ use Rattle.brk_book_theorems.specs.Books.{BooksInvariant}
 use Rattle.brk_trade_theorems.specs.MovePlans.{PlanSettlementDayPrecondition}
 use Rattle.brk_trade_theorems.proofs.MovePlanning.{one_day_plan_does, one_day_refused}
 use Rattle.brk_store.specs.Holds.{ReadPost}
-use Rattle.brk_decisions.specs.Decisions.{Decides}
+use Rattle.brk_decisions.specs.Decisions.{DecidesCommand}
 use Rattle.brk_decisions.proofs.Looking.{read_both}
 
 -- `last` is the last stamp of the tables, and `rule` is the settlement day, or `None` if none is
 -- set.
-abbrev pub Known : Option ℕ → Option ℕ → Tables → Type 0
-Known rule last t = (last ≡ t.last) × (rule ≡ t.rule)
+abbrev pub SettlementDayAndLastStampMatch : Option ℕ → Option ℕ → Tables → Type 0
+SettlementDayAndLastStampMatch rule last t = (last ≡ t.last) × (rule ≡ t.rule)
 
 -- they are known after two reads
 pub last_and_rule : {S E F : Type 0} (g : Ghosts S) (old mid end : Held S) (rule last : Option ℕ) → ReadPost {E = E} g old mid (Ok last) (λ last t. last ≡ t.last)
-    → ReadPost {E = F} g mid end (Ok rule) (λ rule t. rule ≡ t.rule) → ReadPost {E = Fault} g old end (Ok rule) (λ r. Known r last)
+    → ReadPost {E = F} g mid end (Ok rule) (λ rule t. rule ≡ t.rule) → ReadPost {E = Fault} g old end (Ok rule) (λ r. SettlementDayAndLastStampMatch r last)
 last_and_rule g old mid end rule last at_last at_rule =
-    read_both g old mid end {H = Fault} last rule rule (λ last t. last ≡ t.last) (λ rule t. rule ≡ t.rule) (λ r. Known r last) (λ t e f. (e, f)) at_last at_rule
+    read_both g old mid end {H = Fault} last rule rule (λ last t. last ≡ t.last) (λ rule t. rule ≡ t.rule) (λ r. SettlementDayAndLastStampMatch r last) (λ t e f. (e, f)) at_last at_rule
 
 -- a settlement day's plan sets it, and its refusal is that of the command
 module _ (day : ℕ) (rule last : Option ℕ) (now : ℕ) (moment : now ≤ greatest_stamp) where
-  looked_up : (t : Tables) → Known rule last t → (base : Base) → BooksInvariant base → t ≡ sheets base → PlanSettlementDayPrecondition base rule last now
+  looked_up : (t : Tables) → SettlementDayAndLastStampMatch rule last t → (base : Base) → BooksInvariant base → t ≡ sheets base → PlanSettlementDayPrecondition base rule last now
   looked_up t known base books e = record {
     books = books;
     rule_read = known.1 ∙ ap (λ x. x.rule) e;
@@ -43,7 +43,7 @@ module _ (day : ℕ) (rule last : Option ℕ) (now : ℕ) (moment : now ≤ grea
 
   pub one_day_decided : (result : Result (Result Plan Refusal) Fault)
       → IfOk result (λ planned. MatchResult planned (IsSettlementDayPlan day rule last now) (λ refusal. first_refusal (settlement_day_checks day rule last now) ≡ Some refusal))
-      → IfOk result (λ planned. (t : Tables) → Known rule last t → Decides now (SetOneDay day) planned t)
+      → IfOk result (λ planned. (t : Tables) → SettlementDayAndLastStampMatch rule last t → DecidesCommand now (SetOneDay day) planned t)
   one_day_decided (Ok (Ok plan)) p = λ t known base books e. one_day_plan_does base day rule last now plan (looked_up t known base books e) p
   one_day_decided (Ok (Err refusal)) p = λ t known base books e. one_day_refused base day rule last now refusal (looked_up t known base books e) p
   one_day_decided (Err fault) p = tt

@@ -6,31 +6,31 @@ use Rattle.std.specs.Prelude.{IfSome, MatchOption, option_to_list}
 use Rattle.std.specs.Option.{option_map_or}
 use Rattle.brk_model.specs.Joins.{account_row_with_id, security_row_with_symbol}
 use Rattle.brk_model.specs.Lists.{total_by}
-use Rattle.brk_model.specs.PositionView.{asset_total}
+use Rattle.brk_model.specs.PositionView.{market_value_of_account_row}
 use Rattle.brk_model.specs.Records.{Customer}
 use Rattle.brk_model.specs.Tables.{AccountRow, LastTradeRow, Tables}
 use Rattle.brk_money.specs.OrderTypes.{trade_type_of_order}
 use Rattle.brk_money.specs.declared.refusal.Refusal.TheVariants.{NoAccount}
 use Rattle.brk_orders.specs.declared.order.Order.{Order}
-use Rattle.brk_model.specs.Orders.{permitted}
+use Rattle.brk_model.specs.Orders.{is_customer_or_has_permission}
 use Rattle.brk_ref.specs.Records.{abstract_account_row, abstract_customer, abstract_executor}
 use Rattle.brk_ref.specs.declared.account.AccountRow as ref
 use Rattle.brk_ref.specs.declared.customer.Customer as customer
 use Rattle.brk_changes.specs.Rows.{abstract_summary_row}
-use Rattle.brk_trade.specs.declared.order.OrderFound.{OrderFound}
+use Rattle.brk_trade.specs.declared.order.OrderPlanFacts.{OrderPlanFacts}
 use Rattle.brk_changes.specs.declared.summary_row.SummaryRow.{SummaryRow}
 use Rattle.brk_book_theorems.specs.OrderReads.{CustomerOfAccountSatisfies, charge_of_type_and_tier}
 use Rattle.brk_trade_theorems.specs.OrderPlans.{EstimateFactsMatchTables, order_account_of_row}
-use Rattle.brk_book_theorems.specs.Reads.{rate_sum_of_customer}
-use Rattle.brk_book_theorems.specs.TradeReads.{band_of_quantity, permission_for_tax_id}
-use Rattle.brk_decisions.specs.Finds.{AreEstimateAmounts, AreOrderFacts, IsCustomerWithId, AreEstimateFactsOf, order_facts_of, no_account_facts, market_value_of_summary}
+use Rattle.brk_book_theorems.specs.Reads.{customer_tax_rate_sum}
+use Rattle.brk_book_theorems.specs.TradeReads.{band_of_quantity, permission_list_for_tax_id}
+use Rattle.brk_decisions.specs.OrderFactReads.{EstimateAmountsMatchTables, CustomerOrderFactsMatchTables, IsCustomerWithId, EstimateFactsMatchIfAccountOfOrder, order_facts_with_account, order_facts_without_account, market_value_of_summary}
 use Rattle.brk_decisions.specs.declared.tested.OrderFacts.{OrderFacts}
 use Rattle.brk_decisions.specs.declared.amounts.Amounts.{Amounts}
 
 not_none : {X : Type 0} (x : X) → Some x ≡ None → ⊥
 not_none x e = absurd (cc)
 
-pub no_account : (t : Tables) (order : Order) → None ≡ account_row_with_id t order.account → EstimateFactsMatchTables t order no_account_facts
+pub no_account : (t : Tables) (order : Order) → None ≡ account_row_with_id t order.account → EstimateFactsMatchTables t order order_facts_without_account
 no_account t order e = record {
   account = ap (option_map order_account_of_row) e;
   last_price = λ p. absurd (not_none NoAccount p);
@@ -50,22 +50,22 @@ module _ (t : Tables) (account : ℕ) (a : ref.AccountRow) (c : customer.Custome
   if_customer holds h = if_account (λ a. IfSome (find (λ r. r.id == a.customer) t.customers) holds) (subst (λ x. IfSome x holds) (sym k) h)
 
 pub all_found : (t : Tables) (order : Order) (a : ref.AccountRow) (c : customer.Customer) (tested : OrderFacts) (amounts : Amounts) → IsCustomerWithId t a.account.customer c
-    → AreOrderFacts t order c tested → AreEstimateAmounts t a order amounts → AreEstimateFactsOf t order a (order_facts_of a tested amounts)
+    → CustomerOrderFactsMatchTables t order c tested → EstimateAmountsMatchTables t a order amounts → EstimateFactsMatchIfAccountOfOrder t order a (order_facts_with_account a tested amounts)
 all_found t order a c tested amounts k x y there = record {
   account = ap (option_map order_account_of_row) there;
   last_price = λ p. x.last_price;
   is_permitted = λ p. if_customer t order.account a c there k
-      (λ c. tested.is_permitted ≡ permitted c (permission_for_tax_id t order.account order.executor.tax_id) (abstract_executor order.executor)) x.is_permitted;
+      (λ c. tested.is_permitted ≡ is_customer_or_has_permission c (permission_list_for_tax_id t order.account order.executor.tax_id) (abstract_executor order.executor)) x.is_permitted;
   charge = λ p. if_customer t order.account a c there k (λ c. tested.charge ≡ charge_of_type_and_tier t (trade_type_of_order order.order_type) c.tier) x.charge;
   rate = λ p. if_customer t order.account a c there k
       (λ c. IfSome (security_row_with_symbol t order.symbol) (λ s. tested.rate ≡ option_map (λ b. b.rate) (band_of_quantity t c.tier (trade_type_of_order order.order_type) s.exchange order.qty))) x.rate;
-  rates = λ p. if_account t order.account a c there k (λ a. amounts.rates ≡ rate_sum_of_customer t a.customer) y.rates;
-  assets = λ p. if_account t order.account a c there k (λ a. amounts.assets ≡ a.balance +ℤ asset_total t a) y.assets;
+  rates = λ p. if_account t order.account a c there k (λ a. amounts.rates ≡ customer_tax_rate_sum t a.customer) y.rates;
+  assets = λ p. if_account t order.account a c there k (λ a. amounts.assets ≡ a.balance +ℤ market_value_of_account_row t a) y.assets;
   summary = λ p. y.summary;
 }
 
 -- the last trade is no part of an estimate
-pub with_last_trade : (t : Tables) (order : Order) (found : OrderFound) (last : Option ℕ) → EstimateFactsMatchTables t order found → EstimateFactsMatchTables t order (record found { last_trade = last })
+pub with_last_trade : (t : Tables) (order : Order) (found : OrderPlanFacts) (last : Option ℕ) → EstimateFactsMatchTables t order found → EstimateFactsMatchTables t order (record found { last_trade = last })
 with_last_trade t order found last k = record {
   account = k.account;
   last_price = k.last_price;

@@ -15,33 +15,33 @@ use Rattle.brk_money.specs.declared.fault.Fault.{Fault}
 use Rattle.brk_money.specs.declared.refusal.Refusal.{Refusal}
 use Rattle.brk_orders.specs.Records.{abstract_order}
 use Rattle.brk_orders.specs.declared.order.Order.{Order}
-use Rattle.brk_trade.specs.Orders.{EstimatesCheckedOrder, IsOrderPlan, order_checks, trade_id_is_left_check}
+use Rattle.brk_trade.specs.Orders.{EstimatesCheckedOrder, IsOrderPlan, order_checks, free_trade_id_check}
 use Rattle.brk_plans.specs.Reference.{later_stamp_check}
-use Rattle.brk_trade.specs.declared.order.OrderFound.{OrderFound}
+use Rattle.brk_trade.specs.declared.order.OrderPlanFacts.{OrderPlanFacts}
 use Rattle.brk_plans.specs.declared.plan.Plan.{Plan}
 use Rattle.brk_book_theorems.specs.Books.{BooksInvariant}
 use Rattle.brk_trade_theorems.specs.OrderPlans.{OrderLotsSatisfy, EstimateFactsMatchTables, OrderFactsMatchTables, PlanOrderPrecondition}
 use Rattle.brk_trade_theorems.proofs.OrderDoing.{estimate_answered, estimate_refused, estimate_told, order_refused, plan_order_does}
 use Rattle.brk_store.specs.Holds.{ReadPost}
-use Rattle.brk_decisions.specs.Decisions.{Decides, IsEstimateOfModel}
+use Rattle.brk_decisions.specs.Decisions.{DecidesCommand, IsEstimateOfModel}
 use Rattle.brk_decisions.proofs.Looking.{read_both}
 
 -- ---- what is known after the reads
 
 -- `last` is the last stamp of the tables, and the facts for the order equal those of the tables.
-abbrev pub KnownForOrder : Order → Option ℕ → OrderFound → Tables → Type 0
-KnownForOrder order last found t = (last ≡ t.last) × OrderFactsMatchTables t order found
+abbrev pub OrderFactsAndLastStampMatch : Order → Option ℕ → OrderPlanFacts → Tables → Type 0
+OrderFactsAndLastStampMatch order last found t = (last ≡ t.last) × OrderFactsMatchTables t order found
 
-pub order_read : {S D E : Type 0} (g : Ghosts S) (old first mid : Held S) (order : Order) (last : Option ℕ) (found : OrderFound)
+pub order_read : {S D E : Type 0} (g : Ghosts S) (old first mid : Held S) (order : Order) (last : Option ℕ) (found : OrderPlanFacts)
     → ReadPost {E = D} g old first (Ok last) (λ last t. last ≡ t.last) → ReadPost {E = E} g first mid (Ok found) (λ f t. OrderFactsMatchTables t order f)
-    → ReadPost {E = Fault} g old mid (Ok found) (KnownForOrder order last)
+    → ReadPost {E = Fault} g old mid (Ok found) (OrderFactsAndLastStampMatch order last)
 order_read g old first mid order last found one two =
-    read_both g old first mid {H = Fault} last found found (λ last t. last ≡ t.last) (λ f t. OrderFactsMatchTables t order f) (KnownForOrder order last) (λ t e f. (e, f)) one two
+    read_both g old first mid {H = Fault} last found found (λ last t. last ≡ t.last) (λ f t. OrderFactsMatchTables t order f) (OrderFactsAndLastStampMatch order last) (λ t e f. (e, f)) one two
 
 -- ---- an order
 
-module _ (order : Order) (found : OrderFound) (last : Option ℕ) (now : ℕ) (given : List Lot → Type 0) (moment : now ≤ greatest_stamp) where
-  looked_up : (t : Tables) → KnownForOrder order last found t → (base : Base) → BooksInvariant base → t ≡ sheets base → PlanOrderPrecondition base order found last now
+module _ (order : Order) (found : OrderPlanFacts) (last : Option ℕ) (now : ℕ) (given : List Lot → Type 0) (moment : now ≤ greatest_stamp) where
+  looked_up : (t : Tables) → OrderFactsAndLastStampMatch order last found t → (base : Base) → BooksInvariant base → t ≡ sheets base → PlanOrderPrecondition base order found last now
   looked_up t known base books s = record {
     books = books;
     looked_up = subst (λ x. OrderFactsMatchTables x order found) s known.1;
@@ -50,22 +50,22 @@ module _ (order : Order) (found : OrderFound) (last : Option ℕ) (now : ℕ) (g
   }
 
   planned : (result : Result Plan Refusal)
-      → MatchResult result (IsOrderPlan order found given last now) (λ refusal. first_refusal (order_checks found ++ trade_id_is_left_check found.last_trade ∷ later_stamp_check last now ∷ []) ≡ Some refusal)
-      → (t : Tables) → OrderLotsSatisfy t order given → KnownForOrder order last found t → Decides now (PlaceOrder (abstract_order order)) result t
+      → MatchResult result (IsOrderPlan order found given last now) (λ refusal. first_refusal (order_checks found ++ free_trade_id_check found.last_trade ∷ later_stamp_check last now ∷ []) ≡ Some refusal)
+      → (t : Tables) → OrderLotsSatisfy t order given → OrderFactsAndLastStampMatch order last found t → DecidesCommand now (PlaceOrder (abstract_order order)) result t
   planned (Ok plan) p t lots known base books s =
       plan_order_does base order found given last now plan (looked_up t known base books s) (subst (λ x. OrderLotsSatisfy x order given) s lots) p
   planned (Err refusal) p t lots known base books s = order_refused base order found last now refusal (looked_up t known base books s) p
 
   pub order_decided : (Held : Tables → Type 0) → ((t : Tables) → Held t → OrderLotsSatisfy t order given) → (result : Result (Result Plan Refusal) Fault)
       → IfOk result (λ planned. MatchResult planned (IsOrderPlan order found given last now)
-      (λ refusal. first_refusal (order_checks found ++ trade_id_is_left_check found.last_trade ∷ later_stamp_check last now ∷ []) ≡ Some refusal))
-      → IfOk result (λ planned. (t : Tables) → Held t → KnownForOrder order last found t → Decides now (PlaceOrder (abstract_order order)) planned t)
+      (λ refusal. first_refusal (order_checks found ++ free_trade_id_check found.last_trade ∷ later_stamp_check last now ∷ []) ≡ Some refusal))
+      → IfOk result (λ planned. (t : Tables) → Held t → OrderFactsAndLastStampMatch order last found t → DecidesCommand now (PlaceOrder (abstract_order order)) planned t)
   order_decided Held lots (Ok result) p = λ t held. planned result p t (lots t held)
   order_decided Held lots (Err fault) p = tt
 
 -- ---- an estimate
 
-module _ (order : Order) (found : OrderFound) (given : List Lot → Type 0) where
+module _ (order : Order) (found : OrderPlanFacts) (given : List Lot → Type 0) where
   estimated : (result : Result Estimate Refusal) → MatchResult result (EstimatesCheckedOrder order found given) (λ refusal. first_refusal (order_checks found) ≡ Some refusal)
       → (t : Tables) → OrderLotsSatisfy t order given → EstimateFactsMatchTables t order found → IsEstimateOfModel (abstract_order order) result t
   estimated (Ok estimate) p t lots known base books s =

@@ -8,15 +8,15 @@ use Rattle.brk_ref.specs.declared.account.AccountRow as ref
 use Rattle.brk_ref.specs.declared.customer.Customer as customer
 use Rattle.brk_ref.specs.Records.{abstract_account_row}
 use Rattle.brk_changes.specs.Rows.{abstract_summary_row, abstract_trade_row}
-use Rattle.brk_changes.specs.declared.broker_numbers.BrokerNumbers.{BrokerNumbers}
-use Rattle.brk_trade.specs.declared.result_found.ResultFound.{ResultFound}
+use Rattle.brk_changes.specs.declared.broker_numbers.BrokerTotals.{BrokerTotals}
+use Rattle.brk_trade.specs.declared.result_found.ResultPlanFacts.{ResultPlanFacts}
 use Rattle.brk_changes.specs.declared.summary_row.SummaryRow as summary
 use Rattle.brk_changes.specs.declared.trade_row.TradeRow.{TradeRow}
-use Rattle.brk_book_theorems.specs.Reads.{rate_sum_of_customer}
+use Rattle.brk_book_theorems.specs.Reads.{customer_tax_rate_sum}
 use Rattle.brk_trade_theorems.specs.ResultPlans.{result_account_of_row}
 use Rattle.brk_book_theorems.specs.TradeReads.{band_of_quantity, summary_row_of_position}
-use Rattle.brk_decisions.specs.Finds.{IsCustomerWithId}
-use Rattle.brk_decisions.specs.ResultFinds.{AreTotalsOfBroker, ArePartiesOfAccount, AreResultFactsForId, AreResultFactsOf, AreSecurityFacts, ArePostingFacts}
+use Rattle.brk_decisions.specs.OrderFactReads.{IsCustomerWithId}
+use Rattle.brk_decisions.specs.ResultFactReads.{AreTotalsOfBroker, PartyFactsMatchTables, AreResultFactsOfTradeWithId, AreResultFactsOfTrade, SecurityFactsMatchTables, PostingFactsMatchTables}
 use Rattle.brk_decisions.specs.declared.parties.Parties.{Parties}
 use Rattle.brk_decisions.specs.declared.result_finding.SecurityFacts.{SecurityFacts}
 use Rattle.brk_decisions.specs.declared.result_finding.Posting.{Posting}
@@ -28,16 +28,16 @@ if_there (Some x) P Q f p = f x p
 
 -- The facts of an account's row, its customer, the sum of the customer's tax rates, and the totals
 -- of its broker.
-abbrev pub parties_with : ref.AccountRow → customer.Customer → ℕ → BrokerNumbers → Parties
-parties_with row customer rates broker = record {
+abbrev pub parties_of_rows : ref.AccountRow → customer.Customer → ℕ → BrokerTotals → Parties
+parties_of_rows row customer rates broker = record {
   account = record { broker = row.account.broker; tax_status = row.account.tax_status; balance = row.balance };
   broker = broker;
   tier = customer.tier;
   rates = rates;
 }
 
-pub parties_known : (t : Tables) (row : ref.AccountRow) (customer : customer.Customer) (rates : ℕ) (broker : BrokerNumbers) → IsCustomerWithId t row.account.customer customer
-    → rates ≡ rate_sum_of_customer t row.account.customer → AreTotalsOfBroker t row.account.broker broker → ArePartiesOfAccount t (abstract_account_row row) (parties_with row customer rates broker)
+pub parties_known : (t : Tables) (row : ref.AccountRow) (customer : customer.Customer) (rates : ℕ) (broker : BrokerTotals) → IsCustomerWithId t row.account.customer customer
+    → rates ≡ customer_tax_rate_sum t row.account.customer → AreTotalsOfBroker t row.account.broker broker → PartyFactsMatchTables t (abstract_account_row row) (parties_of_rows row customer rates broker)
 parties_known t row customer rates broker k e n = record {
   account = refl;
   tier = subst (λ x. IfSome x (λ (c : Customer). customer.tier ≡ c.tier)) (sym k) refl;
@@ -47,8 +47,8 @@ parties_known t row customer rates broker k e n = record {
 
 -- The facts for the decision on a result: the trade, its parties, its security, the shares that the
 -- account holds of it, and the facts of its posting.
-abbrev pub found_with : TradeRow → Parties → SecurityFacts → Option ℤ → Posting → ResultFound
-found_with trade parties listed summary posting = record {
+abbrev pub result_facts_with : TradeRow → Parties → SecurityFacts → Option ℤ → Posting → ResultPlanFacts
+result_facts_with trade parties listed summary posting = record {
   trade = trade;
   account = parties.account;
   broker = parties.broker;
@@ -63,43 +63,43 @@ found_with trade parties listed summary posting = record {
 module _ (t : Tables) (trade : TradeRow) (parties : Parties) (listed : SecurityFacts) (held : Option ℤ) where
   -- If the account of the trade exists, the facts of its parties equal those of the tables. Vacuous
   -- otherwise.
-  abbrev pub OwnerKnown : Type 0
-  OwnerKnown = IfSome (account_row_with_id t trade.account) (λ a. ArePartiesOfAccount t a parties)
+  abbrev pub PartyFactsMatchIfAccountExists : Type 0
+  PartyFactsMatchIfAccountExists = IfSome (account_row_with_id t trade.account) (λ a. PartyFactsMatchTables t a parties)
 
   -- If the security of the trade exists, its facts equal those of the tables. Vacuous otherwise.
-  abbrev pub SecurityKnown : Type 0
-  SecurityKnown = IfSome (security_row_with_symbol t trade.symbol) (λ s. AreSecurityFacts t trade parties.tier s listed)
+  abbrev pub SecurityFactsMatchIfSecurityExists : Type 0
+  SecurityFactsMatchIfSecurityExists = IfSome (security_row_with_symbol t trade.symbol) (λ s. SecurityFactsMatchTables t trade parties.tier s listed)
 
-  of_owner : OwnerKnown → (Q : AccountRow → Type 0) → ((a : AccountRow) → ArePartiesOfAccount t a parties → Q a) → IfSome (account_row_with_id t trade.account) Q
-  of_owner k Q f = if_there (account_row_with_id t trade.account) (λ a. ArePartiesOfAccount t a parties) Q f k
+  of_owner : PartyFactsMatchIfAccountExists → (Q : AccountRow → Type 0) → ((a : AccountRow) → PartyFactsMatchTables t a parties → Q a) → IfSome (account_row_with_id t trade.account) Q
+  of_owner k Q f = if_there (account_row_with_id t trade.account) (λ a. PartyFactsMatchTables t a parties) Q f k
 
-  of_security : SecurityKnown → (Q : SecurityRow → Type 0) → ((s : SecurityRow) → AreSecurityFacts t trade parties.tier s listed → Q s) → IfSome (security_row_with_symbol t trade.symbol) Q
-  of_security k Q f = if_there (security_row_with_symbol t trade.symbol) (λ s. AreSecurityFacts t trade parties.tier s listed) Q f k
+  of_security : SecurityFactsMatchIfSecurityExists → (Q : SecurityRow → Type 0) → ((s : SecurityRow) → SecurityFactsMatchTables t trade parties.tier s listed → Q s) → IfSome (security_row_with_symbol t trade.symbol) Q
+  of_security k Q f = if_there (security_row_with_symbol t trade.symbol) (λ s. SecurityFactsMatchTables t trade parties.tier s listed) Q f k
 
   -- If the security of the trade exists, its rate is that of the band for the customer's tier.
   -- Vacuous otherwise.
-  abbrev RateOf : Customer → Type 0
-  RateOf c = IfSome (security_row_with_symbol t trade.symbol) (λ s. listed.rate ≡ option_map (λ b. b.rate) (band_of_quantity t c.tier trade.kind s.exchange trade.qty))
+  abbrev RateMatchesForCustomer : Customer → Type 0
+  RateMatchesForCustomer c = IfSome (security_row_with_symbol t trade.symbol) (λ s. listed.rate ≡ option_map (λ b. b.rate) (band_of_quantity t c.tier trade.kind s.exchange trade.qty))
 
-  rate_at : SecurityKnown → (c : Customer) → parties.tier ≡ c.tier → RateOf c
+  rate_at : SecurityFactsMatchIfSecurityExists → (c : Customer) → parties.tier ≡ c.tier → RateMatchesForCustomer c
   rate_at k c e =
       of_security k (λ s. listed.rate ≡ option_map (λ b. b.rate) (band_of_quantity t c.tier trade.kind s.exchange trade.qty))
       (λ s l. l.rate ∙ ap (λ tier. option_map (λ b. b.rate) (band_of_quantity t tier trade.kind s.exchange trade.qty)) e)
 
   -- `held` is the number of shares of the summary of the trade's account and security, or `None` if
   -- there is no summary.
-  abbrev pub SummaryKnown : Type 0
-  SummaryKnown = held ≡ option_map (λ r. r.qty) (summary_row_of_position t trade.account trade.symbol)
+  abbrev pub SharesMatchSummary : Type 0
+  SharesMatchSummary = held ≡ option_map (λ r. r.qty) (summary_row_of_position t trade.account trade.symbol)
 
-  pub found_known : (posting : Posting) → OwnerKnown → SecurityKnown → SummaryKnown → ArePostingFacts t posting → AreResultFactsOf t trade (found_with trade parties listed held posting)
+  pub found_known : (posting : Posting) → PartyFactsMatchIfAccountExists → SecurityFactsMatchIfSecurityExists → SharesMatchSummary → PostingFactsMatchTables t posting → AreResultFactsOfTrade t trade (result_facts_with trade parties listed held posting)
   found_known posting owner security summary posted = record {
     own = refl;
     read = record {
-      rate = λ p. of_owner owner (λ a. IfSome (find (λ r. r.id == a.customer) t.customers) RateOf)
-          (λ a k. if_there (find (λ r. r.id == a.customer) t.customers) (λ c. parties.tier ≡ c.tier) RateOf (rate_at security) k.tier);
+      rate = λ p. of_owner owner (λ a. IfSome (find (λ r. r.id == a.customer) t.customers) RateMatchesForCustomer)
+          (λ a k. if_there (find (λ r. r.id == a.customer) t.customers) (λ c. parties.tier ≡ c.tier) RateMatchesForCustomer (rate_at security) k.tier);
       summary = λ p. summary;
       account = λ p. of_owner owner (λ a. parties.account ≡ result_account_of_row a) (λ a k. k.account);
-      rates = λ p. of_owner owner (λ a. parties.rates ≡ rate_sum_of_customer t a.customer) (λ a k. k.rates);
+      rates = λ p. of_owner owner (λ a. parties.rates ≡ customer_tax_rate_sum t a.customer) (λ a k. k.rates);
       broker = λ p. of_owner owner (λ a. AreTotalsOfBroker t a.broker parties.broker) (λ a k. k.broker);
       security = λ p. of_security security (λ s. listed.name ≡ s.name) (λ s l. l.name);
       rule = λ p. posted.rule;
@@ -113,8 +113,8 @@ number_in None = refl
 number_in (Some r) = refl
 
 -- of a trade that was found with its row
-pub there : (t : Tables) (id : ℕ) (row : TradeRow) (found : ResultFound) → Some (abstract_trade_row row) ≡ trade_row_with_id t id → AreResultFactsOf t row found → AreResultFactsForId t id (Some found)
+pub there : (t : Tables) (id : ℕ) (row : TradeRow) (found : ResultPlanFacts) → Some (abstract_trade_row row) ≡ trade_row_with_id t id → AreResultFactsOfTrade t row found → AreResultFactsOfTradeWithId t id (Some found)
 there t id row found e k = record {
   trade = sym e ∙ ap (λ r. Some (abstract_trade_row r)) (sym k.own);
-  read = subst (λ r. AreResultFactsOf t r found) (sym k.own) k;
+  read = subst (λ r. AreResultFactsOfTrade t r found) (sym k.own) k;
 }

@@ -21,8 +21,8 @@ use Rattle.brk_trade_theorems.specs.Plans.{PlanImplementsCommand}
 -- that satisfies the books invariant and has the tables `t`: a plan has the effect of the model's
 -- step (`PlanImplementsCommand`), and a refusal is the refusal of this step. Vacuous if `t` are the
 -- tables of no such base.
-abbrev pub Decides : ℕ → Command → Result Plan Refusal → Tables → Type 0
-Decides now command planned t =
+abbrev pub DecidesCommand : ℕ → Command → Result Plan Refusal → Tables → Type 0
+DecidesCommand now command planned t =
     (base : Base) → BooksInvariant base → t ≡ sheets base → MatchResult planned (PlanImplementsCommand base now command) (λ refusal. step base now command ≡ Err refusal)
 
 -- `planned` is the result of the model for the estimate of `order`, for every base that satisfies

@@ -1,4 +1,4 @@
 pub mod Decisions
-pub mod Finds
+pub mod OrderFactReads
 pub mod LotReads
-pub mod ResultFinds
+pub mod ResultFactReads

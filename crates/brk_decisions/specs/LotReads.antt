@@ -3,13 +3,13 @@ use Rattle.std.specs.Prelude.{List}
 use Rattle.sqlite_trees.specs.declared.store.Store.{Ghosts}
 use Rattle.sqlite.specs.Held.{state}
 use Rattle.sqlite.specs.State.{HasCleanDisk}
-use Rattle.brk_lots.specs.Sources.{IsFaithfulRemainder}
+use Rattle.brk_lots.specs.Sources.{AreLotsOfFaithfulSource}
 use Rattle.brk_lots.specs.declared.lot.Lot.{Lot}
-use Rattle.brk_store.specs.Resting.{AreRemainingLots, borrowed_store}
+use Rattle.brk_store.specs.RemainingLots.{AreRemainingLots, borrowed_store}
 use Rattle.brk_store.specs.declared.pages.Page.{Page}
 use Rattle.brk_store.specs.declared.pages.Pages.{Pages}
 
 -- `ls` are the lots that the source of pages still had to return before its reads (`old`), and the
 -- disk assumption holds for its store after them (`new`).
 abbrev pub AreLotsBeforeReads : {S : Type 0} → Ghosts S → (old new : Pages S Page) → List Lot → Type 0
-AreLotsBeforeReads g old new ls = IsFaithfulRemainder (HasCleanDisk (state g (borrowed_store new).now)) (AreRemainingLots g old) ls
+AreLotsBeforeReads g old new ls = AreLotsOfFaithfulSource (HasCleanDisk (state g (borrowed_store new).now)) (AreRemainingLots g old) ls

@@ -1,15 +1,15 @@
 //! The amounts that the estimate of an order needs.
 
 ghost use Rattle.std.specs.Prelude.{◌≡◌, ◌+ℤ◌, ◌*ℤ◌, IfErr, IfSome, pos};
-ghost use Rattle.brk_book_theorems.specs.Reads.{rate_sum_of_customer};
-ghost use Rattle.brk_decisions.specs.Finds.{AreEstimateAmounts, market_value_of_summary, market_value_of_account};
+ghost use Rattle.brk_book_theorems.specs.Reads.{customer_tax_rate_sum};
+ghost use Rattle.brk_decisions.specs.OrderFactReads.{EstimateAmountsMatchTables, market_value_of_summary, market_value_of_account};
 ghost use Rattle.brk_model.specs.Run.{IsCallFault};
 ghost use Rattle.brk_store.specs.Holds.{ReadPost};
 ghost use Rattle.brk_changes.specs.Rows.{abstract_summary_row};
 
 use crate::known::require_last_price;
 use crate::summary_finding::read_summary_shares;
-use crate::terms::sum_tax_rates;
+use crate::terms::read_tax_rate_sum_within_limit;
 use brk_money::{Cents, Fault, Id, Price, TaxRate, Wide};
 use brk_orders::Order;
 use brk_ref::AccountRow;
@@ -37,10 +37,10 @@ pub(crate) fn read_tax_rate_sum<S: Alter>(
     store: &mut Store<S>,
     customer: Id,
 ) -> Result<TaxRate, Fault>
-    ensures read { ReadPost S.Store store.old store.new result (λ rates t. rates ≡ rate_sum_of_customer t customer) }
+    ensures read { ReadPost S.Store store.old store.new result (λ rates t. rates ≡ customer_tax_rate_sum t customer) }
     ensures fault { IfErr result IsCallFault }
 {
-    match sum_tax_rates(alloc, store, customer)? {
+    match read_tax_rate_sum_within_limit(alloc, store, customer)? {
         Some(rates) => Ok(rates),
         None => Err(Fault::Store),
     }
@@ -87,7 +87,7 @@ pub fn read_holdings_value<S: Alter>(
     ensures fault { IfErr result IsCallFault }
 {
     let mut total = Wide::new(0);
-    let rows = store.summaries_of(alloc, account)?;
+    let rows = store.summaries_of_account(alloc, account)?;
     for row in &rows {
         let sum = add_value_at_last_price(store, total, row)?;
         total = sum;
@@ -107,7 +107,7 @@ fn add_balance_to_value(balance: Cents, worth: Wide) -> Option<Wide>
 
 // Returns an account's balance plus the market value of its holdings, in cents. Changes nothing.
 // Fails with `Memory` or `Store` only.
-fn read_assets<S: Alter>(
+fn read_asset_total<S: Alter>(
     alloc: Global,
     store: &mut Store<S>,
     account: &AccountRow,
@@ -130,11 +130,11 @@ pub(crate) fn read_estimate_amounts<S: Alter>(
     account: &AccountRow,
     order: &Order,
 ) -> Result<Amounts, Fault>
-    ensures read { ReadPost S.Store store.old store.new result (λ amounts t. AreEstimateAmounts t account.now order.now amounts) }
+    ensures read { ReadPost S.Store store.old store.new result (λ amounts t. EstimateAmountsMatchTables t account.now order.now amounts) }
     ensures fault { IfErr result IsCallFault }
 {
     let rates = read_tax_rate_sum(alloc, store, account.account.customer)?;
-    let assets = read_assets(alloc, store, account)?;
+    let assets = read_asset_total(alloc, store, account)?;
     let summary = read_summary_shares(store, order.account, &order.symbol)?;
     Ok(Amounts {
         rates,

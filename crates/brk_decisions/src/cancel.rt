@@ -1,7 +1,7 @@
 //! Decisions on cancels of trades.
 
 ghost use Rattle.std.specs.Prelude.{◌≡◌, IfErr, option_map};
-ghost use Rattle.brk_decisions.specs.Decisions.{Decides};
+ghost use Rattle.brk_decisions.specs.Decisions.{DecidesCommand};
 ghost use Rattle.brk_model.specs.Commands.{CancelTrade};
 ghost use Rattle.brk_model.specs.Joins.{trade_row_with_id};
 ghost use Rattle.brk_model.specs.Run.{IsCallFault};
@@ -35,11 +35,11 @@ pub fn decide_cancel<S: Alter>(
     now: Stamp,
     trade: Id,
 ) -> Planned<Plan>
-    ensures read { ReadPost S.Store store.old store.new result (Decides now (CancelTrade trade)) }
+    ensures read { ReadPost S.Store store.old store.new result (DecidesCommand now (CancelTrade trade)) }
     ensures fault { IfErr result IsCallFault }
 {
     let _moment = now.get();
-    let last = store.last()?;
+    let last = store.last_stamp()?;
     let status = read_trade_status(store, trade)?;
     plan_cancel(alloc, trade, status, last, now)
 }

@@ -8,16 +8,16 @@ ghost use Rattle.brk_model.specs.Run.{IsCallFault};
 ghost use Rattle.brk_model.specs.Tests.{first_refusal};
 ghost use Rattle.brk_orders.specs.Records.{abstract_order};
 ghost use Rattle.brk_store.specs.Holds.{ReadPost};
-ghost use Rattle.brk_store.specs.Kept.{IsUnchangedByReads};
-ghost use Rattle.brk_store.specs.Resting.{borrowed_store, number_of_rows_read};
-ghost use Rattle.brk_trade.specs.Estimates.{OrderReadsFewLots};
+ghost use Rattle.brk_store.specs.ReadSequences.{IsUnchangedByReads};
+ghost use Rattle.brk_store.specs.RemainingLots.{borrowed_store, number_of_rows_read};
+ghost use Rattle.brk_trade.specs.Estimates.{OrderReadsAtMostOneLotMore};
 ghost use Rattle.brk_trade.specs.Orders.{EstimatesCheckedOrder, order_checks, terms_of_order};
 
 use crate::order_finding::read_estimate_facts;
 use brk_money::Planned;
 use brk_orders::Order;
 use brk_store::{LotPages, Store};
-use brk_trade::{Estimate, OrderFound, plan_estimate};
+use brk_trade::{Estimate, OrderPlanFacts, plan_estimate};
 use sqlite::Alter;
 use std::alloc::Global;
 
@@ -26,17 +26,17 @@ use std::alloc::Global;
 // it fails. Fails with `Memory` or `Store` only.
 fn plan_estimate_over_lots<S: Alter>(
     order: &Order,
-    found: &OrderFound,
+    found: &OrderPlanFacts,
     lots: &mut LotPages<'_, S>,
 ) -> Planned<Estimate>
     ensures same_reference { (borrowed_store lots.new).ghost_name ≡ (borrowed_store lots.old).ghost_name }
-    ensures kept { IsUnchangedByReads S.Store (borrowed_store lots.old).now (borrowed_store lots.new).now }
+    ensures store_unchanged { IsUnchangedByReads S.Store (borrowed_store lots.old).now (borrowed_store lots.new).now }
     ensures planned { IfOk result (λ planned. MatchResult planned
         (EstimatesCheckedOrder order.now found.now (AreLotsBeforeReads S.Store lots.old lots.new))
         (λ refusal. first_refusal (order_checks found.now) ≡ Some refusal)) }
     ensures refused { IfOk result (λ planned. OnErr planned (lots.new ≡ lots.old)) }
-    ensures rows { OrderReadsFewLots (terms_of_order order.now found.now) (AreLotsBeforeReads S.Store lots.old lots.new) (number_of_rows_read lots.old + 15) (number_of_rows_read lots.new) }
-    ensures unmet { closes_lots (terms_of_order order.now found.now).side (terms_of_order order.now found.now).held ≡ false → lots.new ≡ lots.old }
+    ensures few_rows_read { OrderReadsAtMostOneLotMore (terms_of_order order.now found.now) (AreLotsBeforeReads S.Store lots.old lots.new) (number_of_rows_read lots.old + 15) (number_of_rows_read lots.new) }
+    ensures no_lot_read { closes_lots (terms_of_order order.now found.now).side (terms_of_order order.now found.now).held ≡ false → lots.new ≡ lots.old }
     ensures fault { IfErr result IsCallFault }
 {
     plan_estimate(order, found, lots)

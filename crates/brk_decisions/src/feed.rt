@@ -3,7 +3,7 @@
 ghost use Rattle.std.specs.Prelude.{◌≡◌, IfErr, IfSome, option_map};
 ghost use Rattle.brk_trade_theorems.specs.TradePlans.{AreQuotesOfTicks, IsQuoteOfTick};
 ghost use Rattle.brk_book_theorems.specs.TradeReads.{last_trade_row_of_symbol};
-ghost use Rattle.brk_decisions.specs.Decisions.{Decides};
+ghost use Rattle.brk_decisions.specs.Decisions.{DecidesCommand};
 ghost use Rattle.brk_model.specs.Commands.{FeedTicks};
 ghost use Rattle.brk_model.specs.Run.{IsCallFault};
 ghost use Rattle.brk_orders.specs.Records.{abstract_ticks};
@@ -14,14 +14,14 @@ ghost use Rattle.brk_plans.specs.Feed.{states_of_quotes, state_of_quote};
 use brk_money::{Fault, Planned, Stamp, TradeType};
 use brk_orders::{Feed, Tick};
 use brk_store::Store;
-use brk_trade::{Plan, Quote, create_quote, has_no_quote, plan_feed, price_span_of_ticks};
+use brk_trade::{Plan, Quote, create_quote, has_no_quote_of_symbol, plan_feed, first_symbol_price_span};
 use sqlite::Alter;
 use std::alloc::Global;
 
 // Returns the quote of a tick's symbol, or `None` if the symbol has no last trade. The quote has
 // the pending requests that some price of the feed's ticks may trigger, read by one statement for
 // each trade type. Changes nothing. Fails with `Memory` or `Store` only.
-fn read_quote<S: Alter>(
+fn read_quote_of_tick<S: Alter>(
     alloc: Global,
     store: &mut Store<S>,
     tick: &Tick,
@@ -35,7 +35,7 @@ fn read_quote<S: Alter>(
     let Some(last) = store.last_trade(&tick.symbol)? else {
         return Ok(None);
     };
-    let span = price_span_of_ticks(tick, ticks);
+    let span = first_symbol_price_span(tick, ticks);
     let losses = store.requests_at_or_above(alloc, &tick.symbol, TradeType::StopLoss, span.lowest)?;
     let sells = store.requests_at_or_below(
         alloc,
@@ -50,7 +50,7 @@ fn read_quote<S: Alter>(
 
 // Returns the last stamp, and one quote for each symbol of the ticks that has a last trade. Changes
 // nothing. Fails with `Memory` or `Store` only.
-fn read_market<S: Alter>(
+fn read_last_stamp_and_quotes<S: Alter>(
     alloc: Global,
     store: &mut Store<S>,
     ticks: &[Tick],
@@ -58,11 +58,11 @@ fn read_market<S: Alter>(
     ensures read { ReadPost S.Store store.old store.new result (λ market t. (market.0 ≡ t.last) × AreQuotesOfTicks t ticks.now ticks.now (states_of_quotes market.1.items)) }
     ensures fault { IfErr result IsCallFault }
 {
-    let last = store.last()?;
+    let last = store.last_stamp()?;
     let mut quotes = Vec::new(alloc);
     for tick in ticks {
-        if has_no_quote(&quotes, tick) {
-            if let Some(quote) = read_quote(alloc, store, tick, ticks)? {
+        if has_no_quote_of_symbol(&quotes, tick) {
+            if let Some(quote) = read_quote_of_tick(alloc, store, tick, ticks)? {
                 quotes.push(quote)?;
             }
         }
@@ -79,10 +79,10 @@ pub fn decide_feed<S: Alter>(
     now: Stamp,
     feed: &Feed,
 ) -> Planned<Plan>
-    ensures read { ReadPost S.Store store.old store.new result (Decides now (FeedTicks (abstract_ticks feed.now))) }
+    ensures read { ReadPost S.Store store.old store.new result (DecidesCommand now (FeedTicks (abstract_ticks feed.now))) }
     ensures fault { IfErr result IsCallFault }
 {
     let _moment = now.get();
-    let (last, quotes) = read_market(alloc, store, feed.ticks())?;
+    let (last, quotes) = read_last_stamp_and_quotes(alloc, store, feed.ticks())?;
     plan_feed(alloc, feed, quotes, last, now)
 }

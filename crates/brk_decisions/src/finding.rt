@@ -19,7 +19,7 @@ use sqlite::Alter;
 use std::alloc::Global;
 
 // The facts with every flag false, a count of 0 and no rate.
-pub(crate) const NOTHING: ReferenceFacts = ReferenceFacts {
+pub(crate) const NO_REFERENCE_FACTS: ReferenceFacts = ReferenceFacts {
     same_id: false,
     same_tax_id: false,
     customer: false,
@@ -73,7 +73,7 @@ fn count_accounts<S: Alter>(
     ensures read { ReadPost S.Store store.old store.new result (λ count t. count ≡ account_count_of_customer t customer) }
     ensures fault { IfErr result IsCallFault }
 {
-    Ok(store.accounts_of(alloc, customer)?.len())
+    Ok(store.accounts_of_customer(alloc, customer)?.len())
 }
 
 // Reads the facts that decide on a broker. Fails with `Memory` or `Store` only.
@@ -85,7 +85,7 @@ fn read_broker_facts<S: Alter>(
     ensures fault { IfErr result IsCallFault }
 {
     let same_id = broker_exists(store, broker.id)?;
-    Ok(ReferenceFacts { same_id, ..NOTHING })
+    Ok(ReferenceFacts { same_id, ..NO_REFERENCE_FACTS })
 }
 
 // Reads the facts that decide on a customer. Fails with `Memory` or `Store` only.
@@ -101,7 +101,7 @@ fn read_customer_facts<S: Alter>(
     Ok(ReferenceFacts {
         same_id,
         same_tax_id,
-        ..NOTHING
+        ..NO_REFERENCE_FACTS
     })
 }
 
@@ -123,12 +123,12 @@ fn read_account_facts<S: Alter>(
         customer,
         broker,
         accounts,
-        ..NOTHING
+        ..NO_REFERENCE_FACTS
     })
 }
 
 // Reads the facts that decide on a security. Fails with `Memory` or `Store` only.
-fn read_new_security_facts<S: Alter>(
+fn read_listing_facts<S: Alter>(
     store: &mut Store<S>,
     symbol: &Symbol,
 ) -> Result<ReferenceFacts, Fault>
@@ -136,7 +136,7 @@ fn read_new_security_facts<S: Alter>(
     ensures fault { IfErr result IsCallFault }
 {
     let same_id = security_exists(store, symbol)?;
-    Ok(ReferenceFacts { same_id, ..NOTHING })
+    Ok(ReferenceFacts { same_id, ..NO_REFERENCE_FACTS })
 }
 
 // Reads the facts that decide on a tax rate. Fails with `Memory` or `Store` only.
@@ -145,7 +145,7 @@ fn read_tax_facts<S: Alter>(store: &mut Store<S>, id: Id) -> Result<ReferenceFac
     ensures fault { IfErr result IsCallFault }
 {
     let same_id = tax_exists(store, id)?;
-    Ok(ReferenceFacts { same_id, ..NOTHING })
+    Ok(ReferenceFacts { same_id, ..NO_REFERENCE_FACTS })
 }
 
 /// Reads the facts that decide on a reference record. Fails with `Memory` or `Store` only.
@@ -162,7 +162,7 @@ pub(crate) fn read_reference_facts<S: Alter>(
         Reference::Customer(customer) => read_customer_facts(store, customer),
         Reference::Account(account) => read_account_facts(alloc, store, account),
         Reference::Permission(permission) => read_permission_facts(store, permission),
-        Reference::Security(listing) => read_new_security_facts(store, &listing.security.symbol),
+        Reference::Security(listing) => read_listing_facts(store, &listing.security.symbol),
         Reference::Charge(charge) => read_charge_facts(store, charge),
         Reference::Band(band) => read_band_facts(alloc, store, band),
         Reference::TaxRate(tax) => read_tax_facts(store, tax.id),

@@ -1,8 +1,8 @@
 //! Reads of rows whose keys other rows contain. They fail with `Store` if the row does not exist.
 
 ghost use Rattle.std.specs.Prelude.{◌≡◌, IfErr};
-ghost use Rattle.brk_decisions.specs.Finds.{IsCustomerWithId};
-ghost use Rattle.brk_decisions.specs.ResultFinds.{AreTotalsOfBroker, IsAccountWithId, IsSecurityWithSymbol};
+ghost use Rattle.brk_decisions.specs.OrderFactReads.{IsCustomerWithId};
+ghost use Rattle.brk_decisions.specs.ResultFactReads.{AreTotalsOfBroker, IsAccountWithId, IsSecurityWithSymbol};
 ghost use Rattle.brk_model.specs.Joins.{last_price_in_tables};
 ghost use Rattle.brk_model.specs.Run.{IsCallFault};
 ghost use Rattle.brk_store.specs.Holds.{ReadPost};
@@ -11,7 +11,7 @@ use crate::tested::read_last_price;
 use brk_money::{Fault, Id, Price};
 use brk_ref::{AccountRow, Customer, Security, Symbol};
 use brk_store::Store;
-use brk_trade::BrokerNumbers;
+use brk_trade::BrokerTotals;
 use sqlite::Alter;
 
 // Returns the customer with an id. Changes nothing. Fails with `Memory` or `Store` only; with
@@ -43,11 +43,11 @@ pub(crate) fn require_account<S: Alter>(store: &mut Store<S>, id: Id) -> Result<
 pub(crate) fn require_broker_totals<S: Alter>(
     store: &mut Store<S>,
     id: Id,
-) -> Result<BrokerNumbers, Fault>
+) -> Result<BrokerTotals, Fault>
     ensures read { ReadPost S.Store store.old store.new result (λ numbers t. AreTotalsOfBroker t id numbers) }
     ensures fault { IfErr result IsCallFault }
 {
-    match store.broker_numbers(id)? {
+    match store.broker_totals(id)? {
         Some(numbers) => Ok(numbers),
         None => Err(Fault::Store),
     }

@@ -1,7 +1,7 @@
 //! Decisions on deposits and withdrawals.
 
 ghost use Rattle.std.specs.Prelude.{IfErr};
-ghost use Rattle.brk_decisions.specs.Decisions.{Decides};
+ghost use Rattle.brk_decisions.specs.Decisions.{DecidesCommand};
 ghost use Rattle.brk_model.specs.Run.{IsCallFault};
 ghost use Rattle.brk_orders.specs.Records.{movement_command};
 ghost use Rattle.brk_store.specs.Holds.{ReadPost};
@@ -18,17 +18,17 @@ use std::alloc::Global;
 /// refusal. Changes nothing.
 ///
 /// Fails with `Memory` or `Store` only; with `Store` also if no number is left for a cash row.
-pub fn decide_move<S: Alter>(
+pub fn decide_movement<S: Alter>(
     alloc: Global,
     store: &mut Store<S>,
     now: Stamp,
     movement: &Movement,
 ) -> Planned<Plan>
-    ensures read { ReadPost S.Store store.old store.new result (Decides now (movement_command movement.now)) }
+    ensures read { ReadPost S.Store store.old store.new result (DecidesCommand now (movement_command movement.now)) }
     ensures fault { IfErr result IsCallFault }
 {
     let _moment = now.get();
-    let last = store.last()?;
+    let last = store.last_stamp()?;
     let found = read_movement_facts(store, movement)?;
     plan_move(alloc, movement, &found, last, now)
 }

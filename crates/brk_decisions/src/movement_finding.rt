@@ -8,7 +8,7 @@ ghost use Rattle.brk_store.specs.Holds.{ReadPost};
 use brk_money::Fault;
 use brk_orders::Movement;
 use brk_store::Store;
-use brk_trade::MoveFound;
+use brk_trade::MovementPlanFacts;
 use sqlite::Alter;
 
 /// Reads the facts that decide on a deposit or a withdrawal. Fails with `Memory` or `Store` only;
@@ -16,14 +16,14 @@ use sqlite::Alter;
 pub(crate) fn read_movement_facts<S: Alter>(
     store: &mut Store<S>,
     movement: &Movement,
-) -> Result<MoveFound, Fault>
+) -> Result<MovementPlanFacts, Fault>
     ensures read { ReadPost S.Store store.old store.new result (λ found t. MovementFactsMatchTables t movement.now found) }
     ensures fault { IfErr result IsCallFault }
 {
-    let balance = store.balance_of(movement.account)?;
+    let balance = store.account_balance(movement.account)?;
     let has_all_movements = store.has_maximum_movements()?;
     let next = store.next_cash_row_number()?;
-    Ok(MoveFound {
+    Ok(MovementPlanFacts {
         balance,
         has_all_movements,
         next,

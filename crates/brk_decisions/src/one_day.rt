@@ -1,7 +1,7 @@
 //! Decisions on the settlement day.
 
 ghost use Rattle.std.specs.Prelude.{IfErr};
-ghost use Rattle.brk_decisions.specs.Decisions.{Decides};
+ghost use Rattle.brk_decisions.specs.Decisions.{DecidesCommand};
 ghost use Rattle.brk_model.specs.Commands.{SetOneDay};
 ghost use Rattle.brk_model.specs.Run.{IsCallFault};
 ghost use Rattle.brk_store.specs.Holds.{ReadPost};
@@ -17,17 +17,17 @@ use std::alloc::Global;
 /// nothing.
 ///
 /// Fails with `Memory` or `Store` only.
-pub fn decide_oneday<S: Alter>(
+pub fn decide_settlement_day<S: Alter>(
     alloc: Global,
     store: &mut Store<S>,
     now: Stamp,
     day: Day,
 ) -> Planned<Plan>
-    ensures read { ReadPost S.Store store.old store.new result (Decides now (SetOneDay day)) }
+    ensures read { ReadPost S.Store store.old store.new result (DecidesCommand now (SetOneDay day)) }
     ensures fault { IfErr result IsCallFault }
 {
     let _moment = now.get();
-    let last = store.last()?;
+    let last = store.last_stamp()?;
     let rule = store.settlement_day()?;
     plan_oneday(alloc, day, rule, last, now)
 }

@@ -1,7 +1,7 @@
 //! Decisions on orders.
 
 ghost use Rattle.std.specs.Prelude.{◌≡◌, ◌+◌, ◌++◌, ◌∷◌, [], false, Some, IfErr, IfOk, OnErr, MatchResult};
-ghost use Rattle.brk_decisions.specs.Decisions.{Decides};
+ghost use Rattle.brk_decisions.specs.Decisions.{DecidesCommand};
 ghost use Rattle.brk_decisions.specs.LotReads.{AreLotsBeforeReads};
 ghost use Rattle.brk_lots.specs.Against.{closes_lots};
 ghost use Rattle.brk_model.specs.Commands.{PlaceOrder};
@@ -10,16 +10,16 @@ ghost use Rattle.brk_model.specs.Tests.{first_refusal};
 ghost use Rattle.brk_orders.specs.Records.{abstract_order};
 ghost use Rattle.brk_plans.specs.Reference.{later_stamp_check};
 ghost use Rattle.brk_store.specs.Holds.{ReadPost};
-ghost use Rattle.brk_store.specs.Kept.{IsUnchangedByReads};
-ghost use Rattle.brk_store.specs.Resting.{borrowed_store, number_of_rows_read};
-ghost use Rattle.brk_trade.specs.Estimates.{OrderReadsFewLots};
-ghost use Rattle.brk_trade.specs.Orders.{IsOrderPlan, order_checks, terms_of_order, trade_id_is_left_check};
+ghost use Rattle.brk_store.specs.ReadSequences.{IsUnchangedByReads};
+ghost use Rattle.brk_store.specs.RemainingLots.{borrowed_store, number_of_rows_read};
+ghost use Rattle.brk_trade.specs.Estimates.{OrderReadsAtMostOneLotMore};
+ghost use Rattle.brk_trade.specs.Orders.{IsOrderPlan, order_checks, terms_of_order, free_trade_id_check};
 
 use crate::order_finding::read_order_facts;
 use brk_money::{Planned, Stamp};
 use brk_orders::Order;
 use brk_store::{LotPages, Store};
-use brk_trade::{OrderFound, Plan, plan_order};
+use brk_trade::{OrderPlanFacts, Plan, plan_order};
 use sqlite::Alter;
 use std::alloc::Global;
 
@@ -29,19 +29,19 @@ use std::alloc::Global;
 fn plan_order_over_lots<S: Alter>(
     alloc: Global,
     order: &Order,
-    found: &OrderFound,
+    found: &OrderPlanFacts,
     lots: &mut LotPages<'_, S>,
     last: Option<Stamp>,
     now: Stamp,
 ) -> Planned<Plan>
     ensures same_reference { (borrowed_store lots.new).ghost_name ≡ (borrowed_store lots.old).ghost_name }
-    ensures kept { IsUnchangedByReads S.Store (borrowed_store lots.old).now (borrowed_store lots.new).now }
+    ensures store_unchanged { IsUnchangedByReads S.Store (borrowed_store lots.old).now (borrowed_store lots.new).now }
     ensures planned { IfOk result (λ planned. MatchResult planned
         (IsOrderPlan order.now found.now (AreLotsBeforeReads S.Store lots.old lots.new) last now)
-        (λ refusal. first_refusal (order_checks found.now ++ trade_id_is_left_check found.now.last_trade ∷ later_stamp_check last now ∷ []) ≡ Some refusal)) }
+        (λ refusal. first_refusal (order_checks found.now ++ free_trade_id_check found.now.last_trade ∷ later_stamp_check last now ∷ []) ≡ Some refusal)) }
     ensures refused { IfOk result (λ planned. OnErr planned (lots.new ≡ lots.old)) }
-    ensures rows { OrderReadsFewLots (terms_of_order order.now found.now) (AreLotsBeforeReads S.Store lots.old lots.new) (number_of_rows_read lots.old + 15) (number_of_rows_read lots.new) }
-    ensures unmet { closes_lots (terms_of_order order.now found.now).side (terms_of_order order.now found.now).held ≡ false → lots.new ≡ lots.old }
+    ensures few_rows_read { OrderReadsAtMostOneLotMore (terms_of_order order.now found.now) (AreLotsBeforeReads S.Store lots.old lots.new) (number_of_rows_read lots.old + 15) (number_of_rows_read lots.new) }
+    ensures no_lot_read { closes_lots (terms_of_order order.now found.now).side (terms_of_order order.now found.now).held ≡ false → lots.new ≡ lots.old }
     ensures fault { IfErr result IsCallFault }
 {
     plan_order(alloc, order, found, lots, last, now)
@@ -58,11 +58,11 @@ pub fn decide_order<S: Alter>(
     now: Stamp,
     order: &Order,
 ) -> Planned<Plan>
-    ensures read { ReadPost S.Store store.old store.new result (Decides now (PlaceOrder (abstract_order order.now))) }
+    ensures read { ReadPost S.Store store.old store.new result (DecidesCommand now (PlaceOrder (abstract_order order.now))) }
     ensures fault { IfErr result IsCallFault }
 {
     let _moment = now.get();
-    let last = store.last()?;
+    let last = store.last_stamp()?;
     let found = read_order_facts(alloc, store, order)?;
     let mut lots = store.lot_pages(alloc, order.account, &order.symbol, order.is_lifo);
     plan_order_over_lots(alloc, order, &found, &mut lots, last, now)

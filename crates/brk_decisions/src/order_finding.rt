@@ -2,7 +2,7 @@
 
 ghost use Rattle.std.specs.Prelude.{◌≡◌, IfErr};
 ghost use Rattle.brk_trade_theorems.specs.OrderPlans.{EstimateFactsMatchTables, OrderFactsMatchTables};
-ghost use Rattle.brk_decisions.specs.Finds.{AreEstimateFactsOf, order_facts_of, no_account_facts};
+ghost use Rattle.brk_decisions.specs.OrderFactReads.{EstimateFactsMatchIfAccountOfOrder, order_facts_with_account, order_facts_without_account};
 ghost use Rattle.brk_model.specs.Run.{IsCallFault};
 ghost use Rattle.brk_store.specs.Holds.{ReadPost};
 
@@ -13,15 +13,15 @@ use brk_money::{Fault, TaxRate, Wide};
 use brk_orders::Order;
 use brk_ref::AccountRow;
 use brk_store::Store;
-use brk_trade::{OrderAccount, OrderFound};
+use brk_trade::{OrderAccount, OrderPlanFacts};
 use sqlite::Alter;
 use std::alloc::Global;
 
 // Returns the facts for an order whose account does not exist.
-fn facts_without_account() -> OrderFound
-    ensures { result ≡ no_account_facts }
+fn facts_without_account() -> OrderPlanFacts
+    ensures { result ≡ order_facts_without_account }
 {
-    OrderFound {
+    OrderPlanFacts {
         account: None,
         last_price: None,
         is_permitted: false,
@@ -35,10 +35,10 @@ fn facts_without_account() -> OrderFound
 }
 
 // Returns the facts for an order of the account. They have no last trade.
-fn order_facts_of(account: &AccountRow, tested: OrderFacts, amounts: Amounts) -> OrderFound
-    ensures { result ≡ order_facts_of account.now tested amounts }
+fn order_facts_with_account(account: &AccountRow, tested: OrderFacts, amounts: Amounts) -> OrderPlanFacts
+    ensures { result ≡ order_facts_with_account account.now tested amounts }
 {
-    OrderFound {
+    OrderPlanFacts {
         account: Some(OrderAccount {
             broker: account.account.broker,
             tax_status: account.account.tax_status,
@@ -61,14 +61,14 @@ fn read_order_account_facts<S: Alter>(
     store: &mut Store<S>,
     order: &Order,
     account: &AccountRow,
-) -> Result<OrderFound, Fault>
-    ensures read { ReadPost S.Store store.old store.new result (λ found t. AreEstimateFactsOf t order.now account.now found) }
+) -> Result<OrderPlanFacts, Fault>
+    ensures read { ReadPost S.Store store.old store.new result (λ found t. EstimateFactsMatchIfAccountOfOrder t order.now account.now found) }
     ensures fault { IfErr result IsCallFault }
 {
     let customer = require_customer(store, account.account.customer)?;
     let tested = read_order_test_facts(alloc, store, order, &customer)?;
     let amounts = read_estimate_amounts(alloc, store, account, order)?;
-    Ok(order_facts_of(account, tested, amounts))
+    Ok(order_facts_with_account(account, tested, amounts))
 }
 
 /// Reads the facts that decide on the estimate of an order. Fails with `Memory` or `Store` only.
@@ -76,7 +76,7 @@ pub(crate) fn read_estimate_facts<S: Alter>(
     alloc: Global,
     store: &mut Store<S>,
     order: &Order,
-) -> Result<OrderFound, Fault>
+) -> Result<OrderPlanFacts, Fault>
     ensures read { ReadPost S.Store store.old store.new result (λ found t. EstimateFactsMatchTables t order.now found) }
     ensures fault { IfErr result IsCallFault }
 {
@@ -94,13 +94,13 @@ pub(crate) fn read_order_facts<S: Alter>(
     alloc: Global,
     store: &mut Store<S>,
     order: &Order,
-) -> Result<OrderFound, Fault>
+) -> Result<OrderPlanFacts, Fault>
     ensures read { ReadPost S.Store store.old store.new result (λ found t. OrderFactsMatchTables t order.now found) }
     ensures fault { IfErr result IsCallFault }
 {
     let found = read_estimate_facts(alloc, store, order)?;
     let last_trade = store.last_trade_id()?;
-    Ok(OrderFound {
+    Ok(OrderPlanFacts {
         last_trade,
         ..found
     })

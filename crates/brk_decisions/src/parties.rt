@@ -1,7 +1,7 @@
 //! The facts of a trade's account, its customer and its broker that decide on a result.
 
 ghost use Rattle.std.specs.Prelude.{IfErr, IfSome};
-ghost use Rattle.brk_decisions.specs.ResultFinds.{ArePartiesOfAccount};
+ghost use Rattle.brk_decisions.specs.ResultFactReads.{PartyFactsMatchTables};
 ghost use Rattle.brk_model.specs.Joins.{account_row_with_id};
 ghost use Rattle.brk_model.specs.Run.{IsCallFault};
 ghost use Rattle.brk_store.specs.Holds.{ReadPost};
@@ -12,7 +12,7 @@ use crate::known::{require_account, require_broker_totals, require_customer};
 use brk_money::{Fault, Id, TaxRate};
 use brk_ref::{AccountRow, Tier};
 use brk_store::Store;
-use brk_trade::{BrokerNumbers, ResultAccount};
+use brk_trade::{BrokerTotals, ResultAccount};
 use sqlite::Alter;
 use std::alloc::Global;
 
@@ -21,7 +21,7 @@ use std::alloc::Global;
 pub struct Parties {
     pub account: ResultAccount,
     /// The totals of the account's broker.
-    pub broker: BrokerNumbers,
+    pub broker: BrokerTotals,
     /// The tier of the account's customer.
     pub tier: Tier,
     /// The sum of the tax rates that the customer pays.
@@ -34,7 +34,7 @@ fn read_parties_of_account<S: Alter>(
     store: &mut Store<S>,
     row: &AccountRow,
 ) -> Result<Parties, Fault>
-    ensures read { ReadPost S.Store store.old store.new result (λ parties t. ArePartiesOfAccount t (abstract_account_row row.now) parties) }
+    ensures read { ReadPost S.Store store.old store.new result (λ parties t. PartyFactsMatchTables t (abstract_account_row row.now) parties) }
     ensures fault { IfErr result IsCallFault }
 {
     let customer = require_customer(store, row.account.customer)?;
@@ -60,7 +60,7 @@ pub(crate) fn read_parties<S: Alter>(
     store: &mut Store<S>,
     account: Id,
 ) -> Result<Parties, Fault>
-    ensures read { ReadPost S.Store store.old store.new result (λ parties t. IfSome (account_row_with_id t account) (λ a. ArePartiesOfAccount t a parties)) }
+    ensures read { ReadPost S.Store store.old store.new result (λ parties t. IfSome (account_row_with_id t account) (λ a. PartyFactsMatchTables t a parties)) }
     ensures fault { IfErr result IsCallFault }
 {
     let row = require_account(store, account)?;

@@ -2,7 +2,7 @@
 
 ghost use Rattle.std.specs.Prelude.{IfErr};
 ghost use Rattle.brk_plans.specs.Commands.{command_adding_record};
-ghost use Rattle.brk_decisions.specs.Decisions.{Decides};
+ghost use Rattle.brk_decisions.specs.Decisions.{DecidesCommand};
 ghost use Rattle.brk_model.specs.Run.{IsCallFault};
 ghost use Rattle.brk_store.specs.Holds.{ReadPost};
 
@@ -17,17 +17,17 @@ use std::alloc::Global;
 /// Changes nothing.
 ///
 /// Fails with `Memory` or `Store` only.
-pub fn decide_reference<S: Alter>(
+pub fn decide_reference_record<S: Alter>(
     alloc: Global,
     store: &mut Store<S>,
     now: Stamp,
     reference: &Reference,
 ) -> Planned<Plan>
-    ensures read { ReadPost S.Store store.old store.new result (Decides now (command_adding_record reference.now)) }
+    ensures read { ReadPost S.Store store.old store.new result (DecidesCommand now (command_adding_record reference.now)) }
     ensures fault { IfErr result IsCallFault }
 {
     let _moment = now.get();
-    let last = store.last()?;
+    let last = store.last_stamp()?;
     let found = read_reference_facts(alloc, store, reference)?;
     plan_reference(alloc, reference, found, last, now)
 }

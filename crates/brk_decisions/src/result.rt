@@ -3,24 +3,24 @@
 ghost use Rattle.std.specs.Prelude.{◌≡◌, ◌+◌, Some, IfErr, IfOk, MatchResult};
 ghost use Rattle.sqlite.specs.Held.{state};
 ghost use Rattle.sqlite.specs.State.{HasCleanDisk};
-ghost use Rattle.brk_decisions.specs.Decisions.{Decides};
+ghost use Rattle.brk_decisions.specs.Decisions.{DecidesCommand};
 ghost use Rattle.brk_decisions.specs.LotReads.{AreLotsBeforeReads};
-ghost use Rattle.brk_decisions.specs.ResultFinds.{ArePositionLots};
+ghost use Rattle.brk_decisions.specs.ResultFactReads.{AreLotsOfTradedPosition};
 ghost use Rattle.brk_model.specs.Commands.{CompleteTrade};
 ghost use Rattle.brk_model.specs.Run.{IsCallFault};
 ghost use Rattle.brk_model.specs.Tables.{Tables};
 ghost use Rattle.brk_money.specs.Moments as moments;
 ghost use Rattle.brk_store.specs.Holds.{HoldsRows, ReadPost};
-ghost use Rattle.brk_store.specs.Kept.{IsUnchangedByReads};
-ghost use Rattle.brk_store.specs.Resting.{borrowed_store, number_of_rows_read};
-ghost use Rattle.brk_trade.specs.Results.{ResultReadsFewLots, CompletesExistingTrade, IsResultRefusal, ClosesNoHeldShares, stamp_or_clock_reading};
+ghost use Rattle.brk_store.specs.ReadSequences.{IsUnchangedByReads};
+ghost use Rattle.brk_store.specs.RemainingLots.{borrowed_store, number_of_rows_read};
+ghost use Rattle.brk_trade.specs.Results.{ResultReadsAtMostOneLotMore, CompletesExistingTrade, IsResultRefusal, ClosesNoHeldShares, stamp_or_clock_reading};
 
 use crate::result_finding::read_result_facts;
 use brk_lots::Position;
 use brk_money::{Planned, Price, Stamp};
 use brk_orders::Completion;
 use brk_store::{LotPages, Store};
-use brk_trade::{Plan, ResultFound, plan_result};
+use brk_trade::{Plan, ResultPlanFacts, plan_result};
 use sqlite::Alter;
 use std::alloc::Global;
 
@@ -29,19 +29,19 @@ use std::alloc::Global;
 // 16, also if it fails. Fails with `Memory` or `Store` only.
 fn plan_result_over_lots<S: Alter>(
     alloc: Global,
-    found: &ResultFound,
+    found: &ResultPlanFacts,
     price: Price,
     lots: &mut LotPages<'_, S>,
     last: Option<Stamp>,
     now: Stamp,
 ) -> Planned<Plan>
     ensures same_reference { (borrowed_store lots.new).ghost_name ≡ (borrowed_store lots.old).ghost_name }
-    ensures kept { IsUnchangedByReads S.Store (borrowed_store lots.old).now (borrowed_store lots.new).now }
+    ensures store_unchanged { IsUnchangedByReads S.Store (borrowed_store lots.old).now (borrowed_store lots.new).now }
     ensures planned { IfOk result (λ planned. MatchResult planned
         (CompletesExistingTrade (Some found.now) price (AreLotsBeforeReads S.Store lots.old lots.new) last now)
         (IsResultRefusal (Some found.now) price (AreLotsBeforeReads S.Store lots.old lots.new) last now)) }
-    ensures rows { ResultReadsFewLots (Some found.now) price (stamp_or_clock_reading (moments.stamp_after last now) now) (AreLotsBeforeReads S.Store lots.old lots.new) (number_of_rows_read lots.old + 15) (number_of_rows_read lots.new) }
-    ensures unmet { ClosesNoHeldShares found.now → lots.new ≡ lots.old }
+    ensures few_rows_read { ResultReadsAtMostOneLotMore (Some found.now) price (stamp_or_clock_reading (moments.stamp_after last now) now) (AreLotsBeforeReads S.Store lots.old lots.new) (number_of_rows_read lots.old + 15) (number_of_rows_read lots.new) }
+    ensures no_lot_read { ClosesNoHeldShares found.now → lots.new ≡ lots.old }
     ensures fault { IfErr result IsCallFault }
 {
     plan_result(alloc, Some(found), price, lots, last, now)
@@ -52,15 +52,15 @@ fn plan_result_over_lots<S: Alter>(
 fn plan_result_from_facts<S: Alter>(
     alloc: Global,
     store: &mut Store<S>,
-    found: Option<ResultFound>,
+    found: Option<ResultPlanFacts>,
     price: Price,
     last: Option<Stamp>,
     now: Stamp,
 ) -> Planned<Plan>
-    ensures kept { IsUnchangedByReads S.Store store.old store.new }
+    ensures store_unchanged { IsUnchangedByReads S.Store store.old store.new }
     ensures planned { HasCleanDisk (state S.Store store.new) → IfOk result (λ planned. (t : Tables) → HoldsRows S.Store store.old t → MatchResult planned
-        (CompletesExistingTrade found price (ArePositionLots t found) last now)
-        (IsResultRefusal found price (ArePositionLots t found) last now)) }
+        (CompletesExistingTrade found price (AreLotsOfTradedPosition t found) last now)
+        (IsResultRefusal found price (AreLotsOfTradedPosition t found) last now)) }
     ensures fault { IfErr result IsCallFault }
 {
     match found {
@@ -88,11 +88,11 @@ pub fn decide_result<S: Alter>(
     now: Stamp,
     completion: &Completion,
 ) -> Planned<Plan>
-    ensures read { ReadPost S.Store store.old store.new result (Decides now (CompleteTrade completion.now.trade completion.now.price)) }
+    ensures read { ReadPost S.Store store.old store.new result (DecidesCommand now (CompleteTrade completion.now.trade completion.now.price)) }
     ensures fault { IfErr result IsCallFault }
 {
     let _moment = now.get();
-    let last = store.last()?;
+    let last = store.last_stamp()?;
     let found = read_result_facts(alloc, store, completion.trade)?;
     plan_result_from_facts(alloc, store, found, completion.price, last, now)
 }

@@ -1,7 +1,7 @@
 //! Reads of the facts that decide on a result.
 
 ghost use Rattle.std.specs.Prelude.{◌<◌, IfErr, IfOk, IfSome};
-ghost use Rattle.brk_decisions.specs.ResultFinds.{AreResultFactsForId, AreResultFactsOf, AreSecurityFacts, ArePostingFacts};
+ghost use Rattle.brk_decisions.specs.ResultFactReads.{AreResultFactsOfTradeWithId, AreResultFactsOfTrade, SecurityFactsMatchTables, PostingFactsMatchTables};
 ghost use Rattle.brk_model.specs.Joins.{security_row_with_symbol};
 ghost use Rattle.brk_model.specs.Run.{IsCallFault};
 ghost use Rattle.brk_store.specs.Holds.{ReadPost};
@@ -9,11 +9,11 @@ ghost use Rattle.brk_store.specs.Holds.{ReadPost};
 use crate::known::require_security;
 use crate::parties::read_parties;
 use crate::summary_finding::read_summary_shares;
-use crate::tested::read_band_rate;
+use crate::tested::read_commission_rate_of_band;
 use brk_money::{Day, Fault, Id, MoveId, Rate};
 use brk_ref::{Name, Tier};
 use brk_store::Store;
-use brk_trade::{ResultFound, TradeRow};
+use brk_trade::{ResultPlanFacts, TradeRow};
 use sqlite::Alter;
 use std::alloc::Global;
 
@@ -34,11 +34,11 @@ fn read_security_facts<S: Alter>(
     trade: &TradeRow,
     tier: Tier,
 ) -> Result<SecurityFacts, Fault>
-    ensures read { ReadPost S.Store store.old store.new result (λ listed t. IfSome (security_row_with_symbol t trade.now.symbol) (λ s. AreSecurityFacts t trade.now tier s listed)) }
+    ensures read { ReadPost S.Store store.old store.new result (λ listed t. IfSome (security_row_with_symbol t trade.now.symbol) (λ s. SecurityFactsMatchTables t trade.now tier s listed)) }
     ensures fault { IfErr result IsCallFault }
 {
     let security = require_security(store, &trade.symbol)?;
-    let rate = read_band_rate(
+    let rate = read_commission_rate_of_band(
         alloc,
         store,
         tier,
@@ -64,7 +64,7 @@ pub struct Posting {
 // Reads the settlement day and the number of the next cash row. Fails with `Memory` or `Store`
 // only; with `Store` also if no number is left.
 fn read_posting_facts<S: Alter>(store: &mut Store<S>) -> Result<Posting, Fault>
-    ensures read { ReadPost S.Store store.old store.new result (λ posting t. ArePostingFacts t posting) }
+    ensures read { ReadPost S.Store store.old store.new result (λ posting t. PostingFactsMatchTables t posting) }
     ensures fault { IfErr result IsCallFault }
 {
     let rule = store.settlement_day()?;
@@ -74,12 +74,12 @@ fn read_posting_facts<S: Alter>(store: &mut Store<S>) -> Result<Posting, Fault>
 
 // Reads the facts that decide on a result of a trade that exists. Fails with `Memory` or `Store`
 // only.
-fn read_facts_of_trade<S: Alter>(
+fn read_result_facts_of_trade<S: Alter>(
     alloc: Global,
     store: &mut Store<S>,
     trade: TradeRow,
-) -> Result<ResultFound, Fault>
-    ensures read { ReadPost S.Store store.old store.new result (λ found t. AreResultFactsOf t trade found) }
+) -> Result<ResultPlanFacts, Fault>
+    ensures read { ReadPost S.Store store.old store.new result (λ found t. AreResultFactsOfTrade t trade found) }
     ensures some_shares { IfOk result (λ found. 0 < found.trade.qty) }
     ensures fault { IfErr result IsCallFault }
 {
@@ -88,7 +88,7 @@ fn read_facts_of_trade<S: Alter>(
     let listed = read_security_facts(alloc, store, &trade, parties.tier)?;
     let summary = read_summary_shares(store, trade.account, &trade.symbol)?;
     let posting = read_posting_facts(store)?;
-    Ok(ResultFound {
+    Ok(ResultPlanFacts {
         trade,
         account: parties.account,
         broker: parties.broker,
@@ -108,14 +108,14 @@ pub(crate) fn read_result_facts<S: Alter>(
     alloc: Global,
     store: &mut Store<S>,
     trade: Id,
-) -> Result<Option<ResultFound>, Fault>
-    ensures read { ReadPost S.Store store.old store.new result (λ found t. AreResultFactsForId t trade found) }
+) -> Result<Option<ResultPlanFacts>, Fault>
+    ensures read { ReadPost S.Store store.old store.new result (λ found t. AreResultFactsOfTradeWithId t trade found) }
     ensures some_shares { IfOk result (λ found. IfSome found (λ f. 0 < f.trade.qty)) }
     ensures fault { IfErr result IsCallFault }
 {
     match store.trade(trade)? {
         Some(row) => {
-            let found = read_facts_of_trade(alloc, store, row)?;
+            let found = read_result_facts_of_trade(alloc, store, row)?;
             Ok(Some(found))
         }
         None => Ok(None),

@@ -3,13 +3,13 @@
 ghost use Rattle.std.specs.Prelude.{◌≡◌, ◌==◌, ◌≤◌, IfErr, SomeIff, Some, filter, map};
 ghost use Rattle.brk_trade_theorems.specs.Found.{CustomerTaxFactsMatchTables};
 ghost use Rattle.brk_model.specs.Form.{has_account, has_security};
-ghost use Rattle.brk_book_theorems.specs.Reads.{contains_charge, overlaps_some_band, contains_permission, contains_tax_rate, pays_tax, rate_by_tax_id, rate_sum_of_customer, tax_rate_with_id};
+ghost use Rattle.brk_book_theorems.specs.Reads.{contains_charge, overlaps_some_band, contains_permission, contains_tax_rate, contains_customer_tax, rate_of_tax_rate_with_id, customer_tax_rate_sum, tax_rate_with_id};
 ghost use Rattle.brk_model.specs.Limits.{greatest_tax_rate};
 ghost use Rattle.brk_model.specs.Run.{IsCallFault};
 ghost use Rattle.brk_ref.specs.Records.{abstract_band, abstract_tax_rate};
 ghost use Rattle.brk_store.specs.Holds.{ReadPost};
 
-use crate::finding::{NOTHING, account_exists, customer_exists};
+use crate::finding::{NO_REFERENCE_FACTS, account_exists, customer_exists};
 use brk_money::{Fault, Id, TaxRate, TradeType};
 use brk_ref::{Band, Charge, CustomerTax, Permission, Symbol, Tax, TaxId, Tier, overlaps, tax_sum};
 use brk_store::Store;
@@ -64,7 +64,7 @@ pub(crate) fn overlapping_band_exists<S: Alter>(
     ensures read { ReadPost S.Store store.old store.new result (λ there t. there ≡ overlaps_some_band t (abstract_band band.now)) }
     ensures fault { IfErr result IsCallFault }
 {
-    let bands = store.bands_for(alloc, band.tier, band.kind, &band.exchange)?;
+    let bands = store.commission_bands(alloc, band.tier, band.kind, &band.exchange)?;
     Ok(overlaps(&bands, band))
 }
 
@@ -73,16 +73,16 @@ pub(crate) fn tax_exists<S: Alter>(store: &mut Store<S>, id: Id) -> Result<bool,
     ensures read { ReadPost S.Store store.old store.new result (λ there t. there ≡ contains_tax_rate t id) }
     ensures fault { IfErr result IsCallFault }
 {
-    Ok(store.tax_rate(id)?.is_some())
+    Ok(store.tax_with_id(id)?.is_some())
 }
 
 // Returns the rate of a tax, or `None` if the tax does not exist. Changes nothing. Fails with
 // `Memory` or `Store` only.
-fn read_tax_rate_of<S: Alter>(store: &mut Store<S>, tax: Id) -> Result<Option<TaxRate>, Fault>
-    ensures read { ReadPost S.Store store.old store.new result (λ rate t. rate ≡ rate_by_tax_id t tax) }
+fn read_rate_of_tax<S: Alter>(store: &mut Store<S>, tax: Id) -> Result<Option<TaxRate>, Fault>
+    ensures read { ReadPost S.Store store.old store.new result (λ rate t. rate ≡ rate_of_tax_rate_with_id t tax) }
     ensures fault { IfErr result IsCallFault }
 {
-    match store.tax_rate(tax)? {
+    match store.tax_with_id(tax)? {
         Some(tax) => Ok(Some(tax.rate)),
         None => Ok(None),
     }
@@ -90,7 +90,7 @@ fn read_tax_rate_of<S: Alter>(store: &mut Store<S>, tax: Id) -> Result<Option<Ta
 
 // Returns true if the customer pays the tax. Changes nothing. Fails with `Memory` or `Store` only.
 fn customer_pays_tax<S: Alter>(store: &mut Store<S>, customer: Id, tax: Id) -> Result<bool, Fault>
-    ensures read { ReadPost S.Store store.old store.new result (λ there t. there ≡ pays_tax t customer tax) }
+    ensures read { ReadPost S.Store store.old store.new result (λ there t. there ≡ contains_customer_tax t customer tax) }
     ensures fault { IfErr result IsCallFault }
 {
     Ok(store.customer_tax(customer, tax)?.is_some())
@@ -108,9 +108,9 @@ fn read_taxes_of_customer<S: Alter>(
     ensures fault { IfErr result IsCallFault }
 {
     let mut taxes = Vec::new(alloc);
-    let rows = store.customer_taxes_of(alloc, customer)?;
+    let rows = store.taxes_of_customer(alloc, customer)?;
     for row in &rows {
-        let Some(tax) = store.tax_rate(row.tax)? else {
+        let Some(tax) = store.tax_with_id(row.tax)? else {
             return Err(Fault::Store);
         };
         taxes.push(tax)?;
@@ -120,12 +120,12 @@ fn read_taxes_of_customer<S: Alter>(
 
 // Returns the sum of the tax rates that a customer pays, or `None` if the sum exceeds the greatest
 // rate. Changes nothing. Fails with `Memory` or `Store` only.
-pub(crate) fn sum_tax_rates<S: Alter>(
+pub(crate) fn read_tax_rate_sum_within_limit<S: Alter>(
     alloc: Global,
     store: &mut Store<S>,
     customer: Id,
 ) -> Result<Option<TaxRate>, Fault>
-    ensures read { ReadPost S.Store store.old store.new result (λ rates t. SomeIff rates (rate_sum_of_customer t customer ≤ greatest_tax_rate) (rate_sum_of_customer t customer)) }
+    ensures read { ReadPost S.Store store.old store.new result (λ rates t. SomeIff rates (customer_tax_rate_sum t customer ≤ greatest_tax_rate) (customer_tax_rate_sum t customer)) }
     ensures fault { IfErr result IsCallFault }
 {
     let taxes = read_taxes_of_customer(alloc, store, customer)?;
@@ -146,7 +146,7 @@ pub(crate) fn read_permission_facts<S: Alter>(
     Ok(ReferenceFacts {
         same_id,
         account,
-        ..NOTHING
+        ..NO_REFERENCE_FACTS
     })
 }
 
@@ -159,7 +159,7 @@ pub(crate) fn read_charge_facts<S: Alter>(
     ensures fault { IfErr result IsCallFault }
 {
     let same_id = charge_exists(store, charge.kind, charge.tier)?;
-    Ok(ReferenceFacts { same_id, ..NOTHING })
+    Ok(ReferenceFacts { same_id, ..NO_REFERENCE_FACTS })
 }
 
 // Reads the facts that decide on a band. Fails with `Memory` or `Store` only.
@@ -174,7 +174,7 @@ pub(crate) fn read_band_facts<S: Alter>(
     let overlaps = overlapping_band_exists(alloc, store, band)?;
     Ok(ReferenceFacts {
         overlaps,
-        ..NOTHING
+        ..NO_REFERENCE_FACTS
     })
 }
 
@@ -188,14 +188,14 @@ pub(crate) fn read_customer_tax_facts<S: Alter>(
     ensures fault { IfErr result IsCallFault }
 {
     let customer = customer_exists(store, pays.customer)?;
-    let rate = read_tax_rate_of(store, pays.tax)?;
+    let rate = read_rate_of_tax(store, pays.tax)?;
     let same_id = customer_pays_tax(store, pays.customer, pays.tax)?;
-    let rates = sum_tax_rates(alloc, store, pays.customer)?;
+    let rates = read_tax_rate_sum_within_limit(alloc, store, pays.customer)?;
     Ok(ReferenceFacts {
         same_id,
         customer,
         rate,
         rates,
-        ..NOTHING
+        ..NO_REFERENCE_FACTS
     })
 }

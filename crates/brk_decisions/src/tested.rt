@@ -3,10 +3,10 @@
 ghost use Rattle.std.specs.Prelude.{◌≡◌, IfErr, IfSome, option_map};
 ghost use Rattle.brk_money.specs.OrderTypes.{trade_type_of_order};
 ghost use Rattle.brk_book_theorems.specs.OrderReads.{charge_of_type_and_tier, last_price_of_symbol};
-ghost use Rattle.brk_book_theorems.specs.TradeReads.{band_of_quantity, permission_for_tax_id};
-ghost use Rattle.brk_decisions.specs.Finds.{AreOrderFacts};
+ghost use Rattle.brk_book_theorems.specs.TradeReads.{band_of_quantity, permission_list_for_tax_id};
+ghost use Rattle.brk_decisions.specs.OrderFactReads.{CustomerOrderFactsMatchTables};
 ghost use Rattle.brk_model.specs.Joins.{security_row_with_symbol};
-ghost use Rattle.brk_model.specs.Orders.{permitted};
+ghost use Rattle.brk_model.specs.Orders.{is_customer_or_has_permission};
 ghost use Rattle.brk_model.specs.Run.{IsCallFault};
 ghost use Rattle.brk_ref.specs.Records.{abstract_customer, abstract_executor};
 ghost use Rattle.brk_store.specs.Holds.{ReadPost};
@@ -15,7 +15,7 @@ use brk_money::{Fault, Id, Price, Qty, Rate, TradeType};
 use brk_orders::Order;
 use brk_ref::{ChargeAmount, Customer, Exchange, Executor, Symbol, Tier, band_for};
 use brk_store::Store;
-use brk_trade::permitted;
+use brk_trade::executor_may_place_orders;
 use sqlite::Alter;
 use std::alloc::Global;
 
@@ -56,11 +56,11 @@ fn is_executor_permitted<S: Alter>(
     executor: &Executor,
 ) -> Result<bool, Fault>
     ensures read { ReadPost S.Store store.old store.new result (λ is_permitted t.
-        is_permitted ≡ permitted (abstract_customer customer.now) (permission_for_tax_id t account executor.now.tax_id) (abstract_executor executor.now)) }
+        is_permitted ≡ is_customer_or_has_permission (abstract_customer customer.now) (permission_list_for_tax_id t account executor.now.tax_id) (abstract_executor executor.now)) }
     ensures fault { IfErr result IsCallFault }
 {
     let permission = store.permission(account, &executor.tax_id)?;
-    Ok(permitted(customer, permission.as_slice(), executor))
+    Ok(executor_may_place_orders(customer, permission.as_slice(), executor))
 }
 
 // Returns the charge of a trade type and a tier, or `None` if there is none. Changes nothing. Fails
@@ -81,7 +81,7 @@ fn read_charge_of_tier<S: Alter>(
 
 // Returns the commission rate of the band of a quantity for a tier, a trade type and an exchange,
 // or `None` if there is no band. Changes nothing. Fails with `Memory` or `Store` only.
-pub(crate) fn read_band_rate<S: Alter>(
+pub(crate) fn read_commission_rate_of_band<S: Alter>(
     alloc: Global,
     store: &mut Store<S>,
     tier: Tier,
@@ -92,13 +92,13 @@ pub(crate) fn read_band_rate<S: Alter>(
     ensures read { ReadPost S.Store store.old store.new result (λ rate t. rate ≡ option_map (λ b. b.rate) (band_of_quantity t tier kind exchange.now qty)) }
     ensures fault { IfErr result IsCallFault }
 {
-    let bands = store.bands_for(alloc, tier, kind, exchange)?;
+    let bands = store.commission_bands(alloc, tier, kind, exchange)?;
     Ok(band_for(&bands, qty))
 }
 
 // Returns the commission rate of an order for a tier, or `None` if no band contains its quantity or
 // its security does not exist. Changes nothing. Fails with `Memory` or `Store` only.
-fn read_order_rate<S: Alter>(
+fn read_commission_rate_of_order<S: Alter>(
     alloc: Global,
     store: &mut Store<S>,
     order: &Order,
@@ -110,7 +110,7 @@ fn read_order_rate<S: Alter>(
 {
     match store.security(&order.symbol)? {
         Some(security) => {
-            let rate = read_band_rate(
+            let rate = read_commission_rate_of_band(
                 alloc,
                 store,
                 tier,
@@ -132,14 +132,14 @@ pub(crate) fn read_order_test_facts<S: Alter>(
     order: &Order,
     customer: &Customer,
 ) -> Result<OrderFacts, Fault>
-    ensures read { ReadPost S.Store store.old store.new result (λ tested t. AreOrderFacts t order.now customer.now tested) }
+    ensures read { ReadPost S.Store store.old store.new result (λ tested t. CustomerOrderFactsMatchTables t order.now customer.now tested) }
     ensures fault { IfErr result IsCallFault }
 {
     let tier = customer.tier;
     let last_price = read_last_price(store, &order.symbol)?;
     let is_permitted = is_executor_permitted(store, order.account, customer, &order.executor)?;
     let charge = read_charge_of_tier(store, order.order_type.kind(), tier)?;
-    let rate = read_order_rate(alloc, store, order, tier)?;
+    let rate = read_commission_rate_of_order(alloc, store, order, tier)?;
     Ok(OrderFacts {
         last_price,
         is_permitted,

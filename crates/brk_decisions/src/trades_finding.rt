@@ -24,7 +24,7 @@ pub fn read_trades_by_ids<S: Alter>(
         MatchOption found (list_any (λ id. is_none (trade_row_with_id t id)) ids.now ≡ true) (λ trades. AreTradesWithIds t ids.now trades.items)) }
     ensures fault { IfErr result IsCallFault }
 {
-    let _last = store.last()?;
+    let _last = store.last_stamp()?;
     let mut trades = Vec::new(alloc);
     for id in ids {
         match store.trade(*id)? {

@@ -14,23 +14,23 @@ use Rattle.brk_view.specs.declared.view.View.{View}
 use Rattle.brk_sql.proofs.Inside.{clean_before}
 use Rattle.brk_store.specs.Audited.{Represents}
 use Rattle.brk_store.specs.Holds.{HoldsRows, ReadPost}
-use Rattle.brk_queries.specs.Shows.{ShowsQueryResult}
-use Rattle.brk_desk.specs.Keeping.{AskPost}
+use Rattle.brk_queries.specs.QueryResults.{AnswersQueryAsModel}
+use Rattle.brk_desk.specs.CallPosts.{AskPost}
 use Rattle.brk_commit.proofs.Seen.{still_kept}
 
 -- a view that was read carries its rows over each base whose books are kept
-carried_rows : {S : Type 0} (g : Ghosts S) (old : Held S) (query : Query) (seen : Result View Refusal) → ((t : Tables) → HoldsRows g old t → ShowsQueryResult query seen t)
+carried_rows : {S : Type 0} (g : Ghosts S) (old : Held S) (query : Query) (seen : Result View Refusal) → ((t : Tables) → HoldsRows g old t → AnswersQueryAsModel query seen t)
     → IfOk seen (λ view. (base : Base) → Represents g old base → HasRowsOfQuery query view (sheets base))
 carried_rows g old query (Ok view) told = λ base keeps. (told (sheets base) keeps.rows).1 base keeps.books keeps.sound refl
 carried_rows g old query (Err refusal) told = tt
 
 -- what was read answers a query over each base whose books are kept
-pub is_asked : {S : Type 0} (g : Ghosts S) (old new : Held S) (query : Query) (result : Result (Result View Refusal) Fault) → ReadPost g old new result (ShowsQueryResult query)
+pub is_asked : {S : Type 0} (g : Ghosts S) (old new : Held S) (query : Query) (result : Result (Result View Refusal) Fault) → ReadPost g old new result (AnswersQueryAsModel query)
     → IfErr result IsCallFault → AskPost g old new query result
 is_asked g old new query (Ok seen) read may = record {
-  answered = λ clean base keeps. (read.told clean (sheets base) keeps.rows).0 base keeps.books keeps.sound refl;
-  carried = λ clean. carried_rows g old query seen (read.told clean);
-  kept = λ base keeps. still_kept g old new base (read.kept (sheets base)) keeps;
+  answered = λ clean base keeps. (read.answered clean (sheets base) keeps.rows).0 base keeps.books keeps.sound refl;
+  carried = λ clean. carried_rows g old query seen (read.answered clean);
+  same_bases = λ base keeps. still_kept g old new base (read.same_rows (sheets base)) keeps;
   fault = may;
   survives = read.survives;
   same = read.same;
@@ -39,7 +39,7 @@ is_asked g old new query (Ok seen) read may = record {
 is_asked g old new query (Err fault) read may = record {
   answered = λ clean. tt;
   carried = λ clean. tt;
-  kept = λ base keeps. still_kept g old new base (read.kept (sheets base)) keeps;
+  same_bases = λ base keeps. still_kept g old new base (read.same_rows (sheets base)) keeps;
   fault = may;
   survives = read.survives;
   same = read.same;

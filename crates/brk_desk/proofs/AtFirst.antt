@@ -18,7 +18,7 @@ use Rattle.brk_invariant_theorems.proofs.SoundRuns.{Both, keyed_both, run_both}
 use Rattle.brk_invariant_theorems.proofs.SoundSteps.{empty_sound}
 use Rattle.brk_store.specs.Holds.{HoldsRows}
 use Rattle.brk_store.specs.Audited.{Represents}
-use Rattle.brk_desk.specs.Stops.{MayBeRecovered}
+use Rattle.brk_desk.specs.CrashBases.{CrashMayExposeBase}
 use Rattle.brk_desk.proofs.UpgradedRows.{are_upgraded}
 
 pub made_keeps : {S : Type 0} (g : Ghosts S) (store : Held S) → HoldsRows g store tables_without_rows → Represents g store empty_base
@@ -40,8 +40,8 @@ up_to [] call later all = (tt, all.0)
 up_to (c ∷ cs) call later all = let rest = up_to cs call later all.1 in ((all.0, rest.0), rest.1)
 
 -- whatever may stand is in order and sound
-pub stands : (base : Base) (calls : List (ℕ × Call)) (outcomes : List Outcome) (after : Base) → AllByRecursion CallMeetsAuditFormats calls → Both base → MayBeRecovered base calls outcomes after → Both after
+pub stands : (base : Base) (calls : List (ℕ × Call)) (outcomes : List Outcome) (after : Base) → AllByRecursion CallMeetsAuditFormats calls → Both base → CrashMayExposeBase base calls outcomes after → Both after
 stands base calls outcomes after formed both (inl ran) = run_both base calls outcomes after formed ran both
 stands base calls outcomes after formed both (inr way) =
     let parts = up_to way.earlier (way.now, Do way.command way.key) way.later (subst (AllByRecursion CallMeetsAuditFormats) way.calls_are formed) in
-    subst Both (sym way.whole) (keyed_both way.before way.now way.command way.key (run_both base way.earlier way.told way.before parts.0 way.ran both) parts.1.0 parts.1.1)
+    subst Both (sym way.after_is) (keyed_both way.before way.now way.command way.key (run_both base way.earlier way.told way.before parts.0 way.earlier_run both) parts.1.0 parts.1.1)

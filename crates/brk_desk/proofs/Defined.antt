@@ -6,25 +6,25 @@ use Rattle.brk_model.specs.Schemas.{Schema}
 use Rattle.brk_model.specs.Tables.{Tables}
 use Rattle.brk_changes.specs.Schemas.{abstract_schema}
 use Rattle.brk_sql.specs.Desk.{IsTableAt}
-use Rattle.brk_tables_schema.specs.Desk.{Which, has_table, table_name, shape}
-use Rattle.brk_tables_schema.specs.Made.{HasRowsInSchema, IsTableOfSchema}
-use Rattle.brk_tables_scan.specs.Schemas.{DeskNamesImplyDefinitions, HasDeskDefinitions}
+use Rattle.brk_tables_schema.specs.Desk.{DeskTable, schema_has_table, table_name, table_definition_at}
+use Rattle.brk_tables_schema.specs.Made.{HasDeskTablesInSchema, IsTableOfSchema}
+use Rattle.brk_tables_scan.specs.Schemas.{NamedTablesMatchDeskDefinitions, HasDeskDefinitions}
 use Rattle.brk_tables_scan.proofs.Defined.{desk_is_defined, desk_is_there}
 use Rattle.brk_tables_scan.proofs.Listed.{same_name_at}
 
-module _ (a : Schema) (t : Tables) (db : Database) (has : HasRowsInSchema a t db) where
+module _ (a : Schema) (t : Tables) (db : Database) (has : HasDeskTablesInSchema a t db) where
   alike : HasDeskDefinitions a db
   alike = desk_is_defined a t db has (desk_is_there a t db has).tables
 
   -- a table that is found by its name is one of its schema
-  is_of : (w : Which) (at : ℕ) → table_named db.schema (table_name w) ≡ Some at → IsTableOfSchema a w
-  is_of w at named = by_test (has_table a w) refl
+  is_of : (w : DeskTable) (at : ℕ) → table_named db.schema (table_name w) ≡ Some at → IsTableOfSchema a w
+  is_of w at named = by_test (schema_has_table a w) refl
     where
-      by_test : (b : Bool) → has_table a w ≡ b → IsTableOfSchema a w
+      by_test : (b : Bool) → schema_has_table a w ≡ b → IsTableOfSchema a w
       by_test true e = e
       by_test false e = absurd (let clash : None ≡ Some at = sym (has.2 w e).0 ∙ named in cc)
 
-  named_at : (w : Which) (at n : ℕ) → IsTableAt db.schema (shape w n) at → table_named db.schema (table_name w) ≡ Some at
+  named_at : (w : DeskTable) (at n : ℕ) → IsTableAt db.schema (table_definition_at w n) at → table_named db.schema (table_name w) ≡ Some at
   named_at w at n s = ap (table_named db.schema) (same_name_at w 0 n) ∙ s.named
 
   pub defined_over : (b : Schema) → HasDeskDefinitions b db
@@ -36,5 +36,5 @@ module _ (a : Schema) (t : Tables) (db : Database) (has : HasRowsInSchema a t db
     keyed = λ w of at tree s. alike.keyed w (is_of w at (named_at w at tree s)) at tree s;
   }
 
-  pub defined_whole : DeskNamesImplyDefinitions db
+  pub defined_whole : NamedTablesMatchDeskDefinitions db
   defined_whole schema _ = defined_over (abstract_schema schema)

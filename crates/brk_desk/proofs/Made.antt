@@ -7,18 +7,18 @@ use Rattle.brk_io.proofs.Calls.{made_then}
 use Rattle.brk_io.specs.Calls.{IsCallSequence}
 use Rattle.brk_desk.proofs.Promise.{promise_kept}
 use Rattle.brk_desk.proofs.Running.{runs_more, runs_none}
-use Rattle.brk_desk.specs.Keeping.{OutcomePost, RunPost}
+use Rattle.brk_desk.specs.CallPosts.{OutcomePost, RunPost}
 use Rattle.brk_desk.specs.Runs.{IsRunWithOutcomes, IsSomeDeskRun}
 use Rattle.brk_desk.specs.declared.call.Call.{Call}
 use Rattle.brk_desk.specs.declared.call.Outcome.{Outcome}
 
 module _ {S : Type 0} (g : Ghosts S) where
   -- A call of the desk at the clock reading `now` satisfies its postcondition, with this outcome.
-  abbrev Made : Held S → ℕ → Call → Outcome → Held S → Type 0
-  Made old now call outcome new = OutcomePost g old new now call outcome
+  abbrev OutcomeOfCall : Held S → ℕ → Call → Outcome → Held S → Type 0
+  OutcomeOfCall old now call outcome new = OutcomePost g old new now call outcome
 
   -- some calls more
-  runs_on : (a b c : Held S) (calls others : List (ℕ × Call)) (outcomes more : List Outcome) → RunPost g a b calls outcomes → IsCallSequence Made b others more c → RunPost g a c (calls ++ others) (outcomes ++ more)
+  runs_on : (a b c : Held S) (calls others : List (ℕ × Call)) (outcomes more : List Outcome) → RunPost g a b calls outcomes → IsCallSequence OutcomeOfCall b others more c → RunPost g a c (calls ++ others) (outcomes ++ more)
   runs_on a b c calls [] outcomes [] ran same =
       subst₂ (λ cs os. RunPost g a c cs os) (sym (append-nil calls)) (sym (append-nil outcomes)) (subst (λ d. RunPost g a d calls outcomes) (sym same) ran)
   runs_on a b c calls (x ∷ xs) outcomes (o ∷ os) ran (mid, is, made) =
@@ -27,10 +27,10 @@ module _ {S : Type 0} (g : Ghosts S) where
   runs_on a b c calls [] outcomes (o ∷ os) ran made = absurd made
   runs_on a b c calls (x ∷ xs) outcomes [] ran made = absurd made
 
-  pub run_of : (old new : Held S) (calls : List (ℕ × Call)) (outcomes : List Outcome) → IsCallSequence Made old calls outcomes new → IsRunWithOutcomes g old new calls outcomes
+  pub run_of : (old new : Held S) (calls : List (ℕ × Call)) (outcomes : List Outcome) → IsCallSequence OutcomeOfCall old calls outcomes new → IsRunWithOutcomes g old new calls outcomes
   run_of old new calls outcomes made =
       let ran : RunPost g old new calls outcomes = runs_on old old new [] calls [] outcomes (runs_none g old) made in
-      record { made = made; ran = ran; promised = promise_kept g old new calls outcomes ran }
+      record { executed = made; post = ran; guarantee = promise_kept g old new calls outcomes ran }
 
   pub not_run : (old new : Held S) → new ≡ old → IsSomeDeskRun g old new
   not_run old new same = record { calls = []; outcomes = []; run = run_of old new [] [] same }
@@ -41,7 +41,7 @@ module _ {S : Type 0} (g : Ghosts S) where
   -- two runs, one after the other
   pub runs_joined : (first mid last : Held S) (calls others : List (ℕ × Call)) (outcomes more : List Outcome) → IsRunWithOutcomes g first mid calls outcomes → IsRunWithOutcomes g mid last others more
       → IsRunWithOutcomes g first last (calls ++ others) (outcomes ++ more)
-  runs_joined first mid last calls others outcomes more one two = run_of first last (calls ++ others) (outcomes ++ more) (made_then Made first mid last calls others outcomes more one.made two.made)
+  runs_joined first mid last calls others outcomes more one two = run_of first last (calls ++ others) (outcomes ++ more) (made_then OutcomeOfCall first mid last calls others outcomes more one.executed two.executed)
 
   pub run_then : (first mid last : Held S) → IsSomeDeskRun g first mid → IsSomeDeskRun g mid last → IsSomeDeskRun g first last
   run_then first mid last one two = record {

@@ -8,9 +8,9 @@ use Rattle.brk_model.specs.Commands as model_commands
 use Rattle.brk_model.specs.Keyed.{keyed_step}
 use Rattle.brk_model.specs.Sheets.{sheets}
 use Rattle.brk_invariant_theorems.specs.Runs.{CallMeetsAuditFormats}
-use Rattle.brk_store.specs.Holds.{AreTreesOfRows, WasOpenAndIsUnchanged, CrashStatesSatisfy}
+use Rattle.brk_store.specs.Holds.{IsDiskContentOfRows, WasOpenAndIsUnchanged, CrashStatesSatisfy}
 use Rattle.brk_decisions.proofs.Looking.{same_then}
-use Rattle.brk_desk.specs.Stops.{AcknowledgesNothing, MayBeRecovered}
+use Rattle.brk_desk.specs.CrashBases.{AcknowledgesNothing, CrashMayExposeBase}
 use Rattle.brk_commit.proofs.Seen.{still}
 use Rattle.brk_desk.proofs.Stopping.{may_be_there, quiet_leaves, stands_still}
 use Rattle.brk_commit.specs.declared.answer.Answer.TheVariants as given
@@ -25,14 +25,14 @@ use Rattle.brk_model.specs.Queries as model
 use Rattle.brk_model.specs.Run.{IsOutcomeOfCall, Ask, IsCallFault, Run}
 use Rattle.brk_view.specs.Queries.{abstract_query}
 use Rattle.brk_view.specs.declared.view.View.{View}
-use Rattle.brk_commit.specs.Answers.{BooksNothing, model_answer}
+use Rattle.brk_commit.specs.Answers.{IsNotDoneResult, model_answer}
 use Rattle.brk_desk.specs.Answers.{outcome_of_command, model_outcome, outcome_of_query}
 use Rattle.brk_commands.specs.Commands.{abstract_command}
 use Rattle.brk_commit.specs.Keys.{optional_model_key}
 use Rattle.brk_desk.specs.Commands.{model_call}
-use Rattle.brk_commit.specs.Booked.{CallPost, MayBeCommitted, base_after_call}
+use Rattle.brk_commit.specs.Booked.{CallPost, IsDiskContentAfterCommand, base_after_call}
 use Rattle.brk_store.specs.Audited.{Represents}
-use Rattle.brk_desk.specs.Keeping.{OutcomesAcknowledgeNothing, AreRecoverableTrees, AskPost, FailsWithMemoryOrStore, MayBeExposedAfterRun, OutcomePost, RunPost}
+use Rattle.brk_desk.specs.CallPosts.{OutcomesAcknowledgeNothing, IsRecoverableDiskContent, AskPost, FailsOnlyWithMemoryOrStore, CrashMayExposeDiskContent, OutcomePost, RunPost}
 use Rattle.brk_commit.specs.declared.answer.Answer as desk
 use Rattle.brk_desk.specs.declared.call.Call.{Call}
 use Rattle.brk_desk.specs.declared.call.Call.TheVariants as call
@@ -66,11 +66,11 @@ quiet_before : (outcomes : List Outcome) (o : Outcome) → OutcomesAcknowledgeNo
 quiet_before [] o all = (tt, all.0)
 quiet_before (p ∷ ps) o all = let more = quiet_before ps o all.1 in ((all.0, more.0), more.1)
 
-known_answer : (result : Result desk.Answer Fault) → IfErr result IsCallFault → FailsWithMemoryOrStore (outcome_of_command result)
+known_answer : (result : Result desk.Answer Fault) → IfErr result IsCallFault → FailsOnlyWithMemoryOrStore (outcome_of_command result)
 known_answer (Ok answer) h = tt
 known_answer (Err fault) h = h
 
-known_view : (result : Result (Result View Refusal) Fault) → IfErr result IsCallFault → FailsWithMemoryOrStore (outcome_of_query result)
+known_view : (result : Result (Result View Refusal) Fault) → IfErr result IsCallFault → FailsOnlyWithMemoryOrStore (outcome_of_query result)
 known_view (Ok (Ok view)) h = tt
 known_view (Ok (Err refusal)) h = tt
 known_view (Err fault) h = h
@@ -80,9 +80,9 @@ survives_by : (a b : State) (P Q : Trees → Type 0) → Survives a b P → (Has
 survives_by a b P Q s only =
     record { clean = s.clean; shield = s.shield; counts = s.counts; limit = s.limit; closes = s.closes; crash = λ clean trees may. inr (only clean trees may) }
 
-mapped : (base after : Base) (calls : List (ℕ × Call)) (outcomes : List Outcome) (x : ℕ × Call) (o : Outcome) → MayBeRecovered base (map model_call calls ++ model_call x ∷ []) (map model_outcome outcomes ++ model_outcome o ∷ []) after
-    → MayBeRecovered base (map model_call (calls ++ x ∷ [])) (map model_outcome (outcomes ++ o ∷ [])) after
-mapped base after calls outcomes x o h = subst₂ (λ cs os. MayBeRecovered base cs os after) (sym (map-append model_call calls (x ∷ []))) (sym (map-append model_outcome outcomes (o ∷ []))) h
+mapped : (base after : Base) (calls : List (ℕ × Call)) (outcomes : List Outcome) (x : ℕ × Call) (o : Outcome) → CrashMayExposeBase base (map model_call calls ++ model_call x ∷ []) (map model_outcome outcomes ++ model_outcome o ∷ []) after
+    → CrashMayExposeBase base (map model_call (calls ++ x ∷ [])) (map model_outcome (outcomes ++ o ∷ [])) after
+mapped base after calls outcomes x o h = subst₂ (λ cs os. CrashMayExposeBase base cs os after) (sym (map-append model_call calls (x ∷ []))) (sym (map-append model_outcome outcomes (o ∷ []))) h
 
 quiet_view : (result : Result (Result View Refusal) Fault) → AcknowledgesNothing (model_outcome (outcome_of_query result))
 quiet_view (Ok (Ok view)) = tt
@@ -93,13 +93,13 @@ module _ {S : Type 0} (g : Ghosts S) where
   pub runs_none : (store : Held S) → RunPost g store store [] []
   runs_none store = record {
     count = refl;
-    ran = λ clean base keeps. (base, keeps, refl);
+    refines_model = λ clean base keeps. (base, keeps, refl);
     fault = tt;
     same = λ clean up quiet. record { was_open = up; now = refl; committed = refl };
     opened = λ clean up. up;
-    survives = survives_weaker (state g store) (state g store) (λ _. ⊥) (MayBeExposedAfterRun g store [] []) (λ _ db none. absurd none) (still (state g store));
+    survives = survives_weaker (state g store) (state g store) (λ _. ⊥) (CrashMayExposeDiskContent g store [] []) (λ _ db none. absurd none) (still (state g store));
     durable = λ clean base keeps loud. absurd (loud tt);
-    leaves = λ clean base keeps only trees may. (base, inl refl, only trees may, keeps.texts);
+    stays_durable = λ clean base keeps only trees may. (base, inl refl, only trees may, keeps.texts);
     clean = λ clean. clean;
     in_form = tt;
   }
@@ -114,20 +114,20 @@ module _ {S : Type 0} (g : Ghosts S) where
   module _ (a b c : Held S) (calls : List (ℕ × Call)) (outcomes : List Outcome) (run : RunPost g a b calls outcomes) (now : ℕ) where
     -- one call more that acknowledges nothing leaves recoverable trees so
     left_still : (made : Call) (o : Outcome) (base mid : Base) → Run base (map model_call calls) (map model_outcome outcomes) mid → IsOutcomeOfCall mid (model_call (now, made)).0 (model_call (now, made)).1 (model_outcome o) mid → AcknowledgesNothing (model_outcome o)
-        → (trees : Trees) → AreRecoverableTrees base calls outcomes trees → AreRecoverableTrees base (calls ++ (now, made) ∷ []) (outcomes ++ o ∷ []) trees
+        → (trees : Trees) → IsRecoverableDiskContent base calls outcomes trees → IsRecoverableDiskContent base (calls ++ (now, made) ∷ []) (outcomes ++ o ∷ []) trees
     left_still made o base mid ran told quiet trees l =
         (l.0, mapped base l.0 calls outcomes (now, made) o (stands_still base mid (map model_call calls) (map model_outcome outcomes) (model_call (now, made)) (model_outcome o) ran told quiet l.0 l.1), l.2, l.3)
 
     -- one call more that acknowledges nothing, and may have committed trees of `Comes`
-    module _ (made : Call) (o : Outcome) (quiet : AcknowledgesNothing (model_outcome o)) (known : FailsWithMemoryOrStore o) (formed : CallMeetsAuditFormats (model_call (now, made))) (clean : HasCleanDisk (state g c) → HasCleanDisk (state g b))
+    module _ (made : Call) (o : Outcome) (quiet : AcknowledgesNothing (model_outcome o)) (known : FailsOnlyWithMemoryOrStore o) (formed : CallMeetsAuditFormats (model_call (now, made))) (clean : HasCleanDisk (state g c) → HasCleanDisk (state g b))
         (same : HasCleanDisk (state g c) → IsTrue (state g c).is_open → WasOpenAndIsUnchanged (state g b) (state g c))
         (told : HasCleanDisk (state g c) → (mid : Base) → Represents g b mid → Represents g c mid × IsOutcomeOfCall mid (model_call (now, made)).0 (model_call (now, made)).1 (model_outcome o) mid) (Comes : Trees → Type 0)
         (come : HasCleanDisk (state g c) → (trees : Trees) → Comes trees
-        → IsTrue (state g b).is_open × ((mid : Base) → Represents g b mid → (base : Base) → Run base (map model_call calls) (map model_outcome outcomes) mid → AreRecoverableTrees base (calls ++ (now, made) ∷ []) (outcomes ++ o ∷ []) trees))
+        → IsTrue (state g b).is_open × ((mid : Base) → Represents g b mid → (base : Base) → Run base (map model_call calls) (map model_outcome outcomes) mid → IsRecoverableDiskContent base (calls ++ (now, made) ∷ []) (outcomes ++ o ∷ []) trees))
         (survives : Survives (state g b) (state g c) Comes) where
-      found : HasCleanDisk (state g c) → (base : Base) → Represents g a base → CrashStatesSatisfy g b (AreRecoverableTrees base calls outcomes) → CrashStatesSatisfy g c (AreRecoverableTrees base (calls ++ (now, made) ∷ []) (outcomes ++ o ∷ []))
+      found : HasCleanDisk (state g c) → (base : Base) → Represents g a base → CrashStatesSatisfy g b (IsRecoverableDiskContent base calls outcomes) → CrashStatesSatisfy g c (IsRecoverableDiskContent base (calls ++ (now, made) ∷ []) (outcomes ++ o ∷ []))
       found k base keeps before trees may =
-          let r = run.ran (clean k) base keeps in
+          let r = run.refines_model (clean k) base keeps in
           elim (survives.crash k trees may) [
             | inl earlier ↦ left_still made o base r.0 r.2 (told k r.0 r.1).1 quiet trees (before trees earlier)
             | inr comes ↦ (come k trees comes).1 r.0 r.1 base r.2
@@ -136,34 +136,34 @@ module _ {S : Type 0} (g : Ghosts S) where
       quiet_step : RunPost g a c (calls ++ (now, made) ∷ []) (outcomes ++ o ∷ [])
       quiet_step = record {
         count = as_many outcomes calls o (now, made) run.count;
-        ran = λ k base keeps.
-            let r = run.ran (clean k) base keeps in
+        refines_model = λ k base keeps.
+            let r = run.refines_model (clean k) base keeps in
             let s = told k r.0 r.1 in
             (r.0, s.0, run_more base r.0 r.0 calls outcomes (now, made) o r.2 s.1);
-        fault = all_more FailsWithMemoryOrStore outcomes o run.fault known;
+        fault = all_more FailsOnlyWithMemoryOrStore outcomes o run.fault known;
         same = λ k up all. let s = same k up in same_then (state g a) (state g b) (state g c) (run.same (clean k) s.was_open (quiet_before outcomes o all).0) s;
         opened = λ k up. run.opened (clean k) (same k up).was_open;
-        survives = survives_then (state g a) (state g b) (state g c) (MayBeExposedAfterRun g a calls outcomes) Comes (MayBeExposedAfterRun g a (calls ++ (now, made) ∷ []) (outcomes ++ o ∷ []))
-            (λ k trees before. (before.0, λ base keeps. let r = run.ran (clean k) base keeps in left_still made o base r.0 r.2 (told k r.0 r.1).1 quiet trees (before.1 base keeps)))
+        survives = survives_then (state g a) (state g b) (state g c) (CrashMayExposeDiskContent g a calls outcomes) Comes (CrashMayExposeDiskContent g a (calls ++ (now, made) ∷ []) (outcomes ++ o ∷ []))
+            (λ k trees before. (before.0, λ base keeps. let r = run.refines_model (clean k) base keeps in left_still made o base r.0 r.2 (told k r.0 r.1).1 quiet trees (before.1 base keeps)))
             (λ k trees comes.
             let at = come k trees comes in
-            (run.opened (clean k) at.0, λ base keeps. let r = run.ran (clean k) base keeps in at.1 r.0 r.1 base r.2))
+            (run.opened (clean k) at.0, λ base keeps. let r = run.refines_model (clean k) base keeps in at.1 r.0 r.1 base r.2))
             run.survives survives;
         durable = λ k base keeps loud. found k base keeps (run.durable (clean k) base keeps (λ all. loud (quiet_more outcomes o all quiet)));
-        leaves = λ k base keeps only. found k base keeps (run.leaves (clean k) base keeps only);
+        stays_durable = λ k base keeps only. found k base keeps (run.stays_durable (clean k) base keeps only);
         clean = λ k. run.clean (clean k);
         in_form = formed_more calls (now, made) run.in_form formed;
       }
 
     -- one command more that is booked
     done_found : (command : _) (key : _) (reply : _) → CallPost g b c now (abstract_command command) (optional_model_key key) (Ok (given.Done reply)) → HasCleanDisk (state g c) → (base : Base) → Represents g a base
-        → CrashStatesSatisfy g c (AreRecoverableTrees base (calls ++ (now, call.Do command key) ∷ []) (outcomes ++ outcome_of_command (Ok (given.Done reply)) ∷ []))
+        → CrashStatesSatisfy g c (IsRecoverableDiskContent base (calls ++ (now, call.Do command key) ∷ []) (outcomes ++ outcome_of_command (Ok (given.Done reply)) ∷ []))
     done_found command key reply called k base keeps trees may =
-        let r = run.ran (called.clean k) base keeps in
+        let r = run.refines_model (called.clean k) base keeps in
         let s = called.answered k r.0 r.1 in (
           s.0,
           inl (run_more base r.0 s.0 calls outcomes (now, call.Do command key) (outcome_of_command (Ok (given.Done reply))) r.2 s.2),
-          subst (λ x. AreTreesOfRows (sheets x) trees) (ap (λ (x : model_commands.Answer × Base). x.1) s.2) (called.durable k tt r.0 r.1 trees may),
+          subst (λ x. IsDiskContentOfRows (sheets x) trees) (ap (λ (x : model_commands.Answer × Base). x.1) s.2) (called.durable k tt r.0 r.1 trees may),
           s.1.texts,
         )
 
@@ -171,18 +171,18 @@ module _ {S : Type 0} (g : Ghosts S) where
         → RunPost g a c (calls ++ (now, call.Do command key) ∷ []) (outcomes ++ outcome_of_command (Ok (given.Done reply)) ∷ [])
     by_done command key reply called = record {
       count = as_many outcomes calls (outcome_of_command (Ok (given.Done reply))) (now, call.Do command key) run.count;
-      ran = λ k base keeps.
-          let r = run.ran (called.clean k) base keeps in
+      refines_model = λ k base keeps.
+          let r = run.refines_model (called.clean k) base keeps in
           let s = called.answered k r.0 r.1 in
           (s.0, s.1, run_more base r.0 s.0 calls outcomes (now, call.Do command key) (outcome_of_command (Ok (given.Done reply))) r.2 s.2);
-      fault = all_more FailsWithMemoryOrStore outcomes (outcome_of_command (Ok (given.Done reply))) run.fault tt;
+      fault = all_more FailsOnlyWithMemoryOrStore outcomes (outcome_of_command (Ok (given.Done reply))) run.fault tt;
       same = λ k up all. absurd (quiet_before outcomes (outcome_of_command (Ok (given.Done reply))) all).1;
       opened = λ k up. run.opened (called.clean k) (called.opened k tt).0;
-      survives = survives_by (state g a) (state g c) (λ _. Unit {0}) (MayBeExposedAfterRun g a (calls ++ (now, call.Do command key) ∷ []) (outcomes ++ outcome_of_command (Ok (given.Done reply)) ∷ []))
-          (survives_then (state g a) (state g b) (state g c) (MayBeExposedAfterRun g a calls outcomes) (MayBeCommitted g b now (abstract_command command) (optional_model_key key)) (λ _. Unit {0}) (λ _ db may. tt) (λ _ db may. tt) run.survives called.survives)
+      survives = survives_by (state g a) (state g c) (λ _. Unit {0}) (CrashMayExposeDiskContent g a (calls ++ (now, call.Do command key) ∷ []) (outcomes ++ outcome_of_command (Ok (given.Done reply)) ∷ []))
+          (survives_then (state g a) (state g b) (state g c) (CrashMayExposeDiskContent g a calls outcomes) (IsDiskContentAfterCommand g b now (abstract_command command) (optional_model_key key)) (λ _. Unit {0}) (λ _ db may. tt) (λ _ db may. tt) run.survives called.survives)
           (λ k trees may. (run.opened (called.clean k) (called.opened k tt).0, λ base keeps. done_found command key reply called k base keeps trees may));
       durable = λ k base keeps loud. done_found command key reply called k base keeps;
-      leaves = λ k base keeps only. done_found command key reply called k base keeps;
+      stays_durable = λ k base keeps only. done_found command key reply called k base keeps;
       clean = λ k. run.clean (called.clean k);
       in_form = formed_more calls (now, call.Do command key) run.in_form called.in_form;
     }
@@ -195,23 +195,23 @@ module _ {S : Type 0} (g : Ghosts S) where
         let same : s.0 ≡ mid = quiet_leaves mid now (abstract_command command) (optional_model_key key) (model_answer answer) s.0 s.2 quiet in
         (subst (Represents g c) same s.1, subst (λ x. keyed_step mid now (abstract_command command) (optional_model_key key) ≡ (model_answer answer, x)) same s.2)
 
-    by_quiet : (command : _) (key : _) (answer : desk.Answer) → AcknowledgesNothing (model_outcome (outcome_of_command (Ok answer))) → BooksNothing (Ok answer) → CallPost g b c now (abstract_command command) (optional_model_key key) (Ok answer)
+    by_quiet : (command : _) (key : _) (answer : desk.Answer) → AcknowledgesNothing (model_outcome (outcome_of_command (Ok answer))) → IsNotDoneResult (Ok answer) → CallPost g b c now (abstract_command command) (optional_model_key key) (Ok answer)
         → RunPost g a c (calls ++ (now, call.Do command key) ∷ []) (outcomes ++ outcome_of_command (Ok answer) ∷ [])
     by_quiet command key answer quiet booked called =
-        quiet_step (call.Do command key) (outcome_of_command (Ok answer)) quiet tt called.in_form called.clean (λ k up. called.same k up booked) (quiet_told command key answer quiet called) (MayBeCommitted g b now (abstract_command command) (optional_model_key key))
+        quiet_step (call.Do command key) (outcome_of_command (Ok answer)) quiet tt called.in_form called.clean (λ k up. called.same k up booked) (quiet_told command key answer quiet called) (IsDiskContentAfterCommand g b now (abstract_command command) (optional_model_key key))
         (λ k trees p. (
           p.0,
           λ mid keeps base ran.
               let e = (quiet_told command key answer quiet called k mid keeps).1 in
-              (mid, inl (run_more base mid mid calls outcomes (now, call.Do command key) (outcome_of_command (Ok answer)) ran e), subst (λ x. AreTreesOfRows (sheets x) trees) (ap (λ (x : model_commands.Answer × Base). x.1) e) (p.1 mid keeps), keeps.texts),
+              (mid, inl (run_more base mid mid calls outcomes (now, call.Do command key) (outcome_of_command (Ok answer)) ran e), subst (λ x. IsDiskContentOfRows (sheets x) trees) (ap (λ (x : model_commands.Answer × Base). x.1) e) (p.1 mid keeps), keeps.texts),
         ))
         called.survives
 
     -- one command more that failed
     by_fault : (command : _) (key : _) (fault : Fault) → CallPost g b c now (abstract_command command) (optional_model_key key) (Err fault) → RunPost g a c (calls ++ (now, call.Do command key) ∷ []) (outcomes ++ outcome_of_command (Err fault) ∷ [])
     by_fault command key fault called =
-        quiet_step (call.Do command key) (outcome_of_command (Err fault)) tt called.fault called.in_form called.clean (λ k up. called.same k up tt) (λ k mid keeps. (called.kept mid keeps, (called.fault, refl)))
-        (MayBeCommitted g b now (abstract_command command) (optional_model_key key))
+        quiet_step (call.Do command key) (outcome_of_command (Err fault)) tt called.fault called.in_form called.clean (λ k up. called.same k up tt) (λ k mid keeps. (called.same_bases_at_error mid keeps, (called.fault, refl)))
+        (IsDiskContentAfterCommand g b now (abstract_command command) (optional_model_key key))
         (λ k trees p. (
           p.0,
           λ mid keeps base ran. (
@@ -234,7 +234,7 @@ module _ {S : Type 0} (g : Ghosts S) where
     by_view : (query : _) (result : Result (Result View Refusal) Fault) → AskPost g b c (abstract_query query) result
         → RunPost g a c (calls ++ (now, call.Ask query) ∷ []) (outcomes ++ outcome_of_query result ∷ [])
     by_view query result asked =
-        quiet_step (call.Ask query) (outcome_of_query result) (quiet_view result) (known_view result asked.fault) tt asked.clean asked.same (λ k mid keeps. (asked.kept mid keeps, by_answer b c (abstract_query query) result now mid asked k keeps)) (λ _. ⊥)
+        quiet_step (call.Ask query) (outcome_of_query result) (quiet_view result) (known_view result asked.fault) tt asked.clean asked.same (λ k mid keeps. (asked.same_bases mid keeps, by_answer b c (abstract_query query) result now mid asked k keeps)) (λ _. ⊥)
         (λ k trees none. absurd none) asked.survives
 
     pub runs_more : (made : Call) (outcome : Outcome) → OutcomePost g b c now made outcome → RunPost g a c (calls ++ (now, made) ∷ []) (outcomes ++ outcome ∷ [])

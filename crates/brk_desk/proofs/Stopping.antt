@@ -10,7 +10,7 @@ use Rattle.brk_model.specs.Keyed.{answer_and_base_of_step, stored_row_with_optio
 use Rattle.brk_model.specs.Records.{Kept, Key}
 use Rattle.brk_model.specs.Run.{IsOutcomeOfCall, Ask, Call, Did, Do, Outcome, Failed, NoView, Run, Saw}
 use Rattle.brk_model.specs.Step.{step}
-use Rattle.brk_desk.specs.Stops.{AcknowledgesNothing, MayBeRecovered}
+use Rattle.brk_desk.specs.CrashBases.{AcknowledgesNothing, CrashMayExposeBase}
 
 pub run_then : (base mid after : Base) (calls : List (ℕ × Call)) (outcomes : List Outcome) (x : ℕ × Call) (o : Outcome) → Run base calls outcomes mid → IsOutcomeOfCall mid x.0 x.1 o after
     → Run base (calls ++ x ∷ []) (outcomes ++ o ∷ []) after
@@ -57,7 +57,7 @@ quiet_leaves base now command key answer after e quiet = keyed_quiet base now co
 
 -- after a run to a base, a call that acknowledges nothing leaves what may stand
 pub stands_still : (base mid : Base) (calls : List (ℕ × Call)) (outcomes : List Outcome) (x : ℕ × Call) (o : Outcome) → Run base calls outcomes mid → IsOutcomeOfCall mid x.0 x.1 o mid → AcknowledgesNothing o
-    → (after : Base) → MayBeRecovered base calls outcomes after → MayBeRecovered base (calls ++ x ∷ []) (outcomes ++ o ∷ []) after
+    → (after : Base) → CrashMayExposeBase base calls outcomes after → CrashMayExposeBase base (calls ++ x ∷ []) (outcomes ++ o ∷ []) after
 stands_still base mid calls outcomes x o ran told quiet after (inl other) =
     inl (subst (Run base (calls ++ x ∷ []) (outcomes ++ o ∷ [])) (run_once base calls outcomes mid after ran other) (run_then base mid mid calls outcomes x o ran told))
 stands_still base mid calls outcomes x o ran told quiet after (inr w) = inr (record {
@@ -67,19 +67,19 @@ stands_still base mid calls outcomes x o ran told quiet after (inr w) = inr (rec
   key = w.key;
   later = w.later ++ x ∷ [];
   calls_are = ap (λ l. l ++ x ∷ []) w.calls_are ∙ append_assoc w.earlier ((w.now, Do w.command w.key) ∷ w.later) (x ∷ []);
-  told = w.told;
+  earlier_outcomes = w.earlier_outcomes;
   fault = w.fault;
-  rest = w.rest ++ o ∷ [];
-  outcomes_are = ap (λ l. l ++ o ∷ []) w.outcomes_are ∙ append_assoc w.told (Failed w.fault ∷ w.rest) (o ∷ []);
+  later_outcomes = w.later_outcomes ++ o ∷ [];
+  outcomes_are = ap (λ l. l ++ o ∷ []) w.outcomes_are ∙ append_assoc w.earlier_outcomes (Failed w.fault ∷ w.later_outcomes) (o ∷ []);
   before = w.before;
-  ran = w.ran;
-  quiet = quiet_then w.rest o w.quiet quiet;
-  whole = w.whole;
+  earlier_run = w.earlier_run;
+  none_later_is_done = quiet_then w.later_outcomes o w.none_later_is_done quiet;
+  after_is = w.after_is;
 })
 
 -- a command that was answered with a fault may be there all the same
 pub may_be_there : (base mid : Base) (calls : List (ℕ × Call)) (outcomes : List Outcome) (now : ℕ) (command : Command) (key : Option Key) (fault : Fault) → Run base calls outcomes mid
-    → MayBeRecovered base (calls ++ (now, Do command key) ∷ []) (outcomes ++ Failed fault ∷ []) (keyed_step mid now command key).1
+    → CrashMayExposeBase base (calls ++ (now, Do command key) ∷ []) (outcomes ++ Failed fault ∷ []) (keyed_step mid now command key).1
 may_be_there base mid calls outcomes now command key fault ran = inr (record {
   earlier = calls;
   now = now;
@@ -87,12 +87,12 @@ may_be_there base mid calls outcomes now command key fault ran = inr (record {
   key = key;
   later = [];
   calls_are = refl;
-  told = outcomes;
+  earlier_outcomes = outcomes;
   fault = fault;
-  rest = [];
+  later_outcomes = [];
   outcomes_are = refl;
   before = mid;
-  ran = ran;
-  quiet = tt;
-  whole = refl;
+  earlier_run = ran;
+  none_later_is_done = tt;
+  after_is = refl;
 })

@@ -21,17 +21,17 @@ use Rattle.brk_changes.specs.Schemas.{abstract_schema}
 use Rattle.brk_changes.specs.declared.schema.Schema as known
 use Rattle.brk_changes.specs.declared.schema.Schema.TheVariants.{Third}
 use Rattle.brk_sql.proofs.Inside.{clean_before}
-use Rattle.brk_tables_schema.specs.Made.{HasRows}
+use Rattle.brk_tables_schema.specs.Made.{HasDeskTables}
 use Rattle.brk_tables_scan.proofs.Defined.{desk_is_there}
 use Rattle.brk_tables_unique.proofs.OneTables.{one_schema}
-use Rattle.brk_store.specs.Audited.{IsAuditOfStoredRows, IsAuditOfDatabase, AdoptPost, StoreNamesImplyDefinitions, OnAuditAnswer, IsConsistent}
-use Rattle.brk_store.specs.Holds.{AreTreesOfRows}
+use Rattle.brk_store.specs.Audited.{StoresRowsWithAuditResult, IsDatabaseAuditResult, AdoptPost, StoreNamedTablesMatchDeskDefinitions, AuditAnswerSatisfies, IsConsistent}
+use Rattle.brk_store.specs.Holds.{IsDiskContentOfRows}
 use Rattle.brk_store.proofs.Schemas.{third_rows}
 use Rattle.brk_store.proofs.Taking.{one_answer}
-use Rattle.brk_desk.specs.Reopening.{AdoptsPassingRows, IsJustOpened, AdoptsBaseUndamaged, IsReopenedAfterCrash, IsRecovered, RepresentsDurableBase}
+use Rattle.brk_desk.specs.Reopening.{RepresentsPassingRowsDurably, IsNewConnectionToDiskContent, AdoptsBaseWithoutDamage, IsNewConnectionAfterCrash, IsRecovered, RepresentsDurableBase}
 use Rattle.brk_desk.proofs.Defined.{defined_whole}
 use Rattle.brk_desk.proofs.UpgradedRows.{are_upgraded}
-use Rattle.brk_desk.proofs.Reopened.{Settles, audited_stands, leaves_alone, taken_over}
+use Rattle.brk_desk.proofs.Reopened.{RecoversOnlyLastCommit, audited_stands, leaves_alone, taken_over}
 
 -- two sound readings of the same trees are one database
 same_database : (db other : Database) → IsDatabase db → IsDatabase other → db.trees ≡ other.trees → db ≡ other
@@ -40,78 +40,78 @@ same_database db other sound found same =
     λ i. record { schema = schema i; trees = same i }
 
 -- the books of rows that passed can be kept
-rows_can_be : (schema : known.Schema) (rows : Tables) (db : Database) → IsAuditOfStoredRows (abstract_schema schema) rows db None → IsConsistent (base_of_tables rows)
+rows_can_be : (schema : known.Schema) (rows : Tables) (db : Database) → StoresRowsWithAuditResult (abstract_schema schema) rows db None → IsConsistent (base_of_tables rows)
 rows_can_be schema rows db a = let k = are_upgraded schema rows a.2 a.1 in record { books = k.books; sound = k.sound; texts = k.texts }
 
 -- what is so of each answer is so of this one
-each_answer : (result : Result (Unit {0}) Fault) (P Q : Option Condition → Type 0) → ((answer : Option Condition) → P answer → Q answer) → OnAuditAnswer result P → OnAuditAnswer result Q
+each_answer : (result : Result (Unit {0}) Fault) (P Q : Option Condition → Type 0) → ((answer : Option Condition) → P answer → Q answer) → AuditAnswerSatisfies result P → AuditAnswerSatisfies result Q
 each_answer (Ok x) P Q f p = f None p
 each_answer (Err (Damaged c)) P Q f p = f (Some c) p
 each_answer (Err Memory) P Q f p = tt
 each_answer (Err Store) P Q f p = tt
 
-module _ {S : Type 0} (g : Ghosts S) (settled : Settles g) where
+module _ {S : Type 0} (g : Ghosts S) (settled : RecoversOnlyLastCommit g) where
   -- ---- an adoption that went well
 
-  module _ (trees : Trees) (conn store : Held S) (opened : IsJustOpened g trees conn) (adopted : AdoptPost g conn store (Ok tt)) (clean : HasCleanDisk (state g store)) (defined : StoreNamesImplyDefinitions g conn) where
+  module _ (trees : Trees) (conn store : Held S) (opened : IsNewConnectionToDiskContent g trees conn) (adopted : AdoptPost g conn store (Ok tt)) (clean : HasCleanDisk (state g store)) (defined : StoreNamedTablesMatchDeskDefinitions g conn) where
     before : HasCleanDisk (state g conn)
     before = clean_before (state g conn) (state g store) _ (adopted.survives defined) clean
 
     -- of a desk of the third schema
-    third_stands : (rows : Tables) → IsAuditOfStoredRows third_schema rows (state g conn).now None → RepresentsDurableBase g store (base_of_tables rows)
+    third_stands : (rows : Tables) → StoresRowsWithAuditResult third_schema rows (state g conn).now None → RepresentsDurableBase g store (base_of_tables rows)
     third_stands rows a =
-        let there : HasRows (sheets (base_of_tables rows)) (state g conn).now =
-        subst (λ (t : Tables). HasRows t (state g conn).now) (are_upgraded Third rows a.2 a.1).tables (third_rows rows (state g conn).now a.0) in
+        let there : HasDeskTables (sheets (base_of_tables rows)) (state g conn).now =
+        subst (λ (t : Tables). HasDeskTables t (state g conn).now) (are_upgraded Third rows a.2 a.1).tables (third_rows rows (state g conn).now a.0) in
         audited_stands g settled trees conn store (Ok tt) opened (adopted.audited defined (λ _ _. desk_is_there third_schema rows (state g conn).now a.0)) clean (base_of_tables rows)
         (rows_can_be Third rows (state g conn).now a) ((state g conn).now, there, sym (opened.over.same before))
 
     -- of rows that were upgraded, which are committed
-    moved_stands : (schema : known.Schema) (rows : Tables) → IsAuditOfStoredRows (abstract_schema schema) rows (state g conn).now None → IsTrue (state g store).is_open → RepresentsDurableBase g store (base_of_tables rows)
+    moved_stands : (schema : known.Schema) (rows : Tables) → StoresRowsWithAuditResult (abstract_schema schema) rows (state g conn).now None → IsTrue (state g store).is_open → RepresentsDurableBase g store (base_of_tables rows)
     moved_stands schema rows a on =
         let m = adopted.upgraded clean on defined in
         let same : rows ≡ m.0.1 = (one_schema schema m.0.0 rows m.0.1 (state g conn).now a.0 m.0.2.0).1 in
-        let there : HasRows (sheets (base_of_tables rows)) (state g store).now = subst (λ (t : Tables). HasRows (sheets (base_of_tables t)) (state g store).now) (sym same) m.0.3 in
+        let there : HasDeskTables (sheets (base_of_tables rows)) (state g store).now = subst (λ (t : Tables). HasDeskTables (sheets (base_of_tables t)) (state g store).now) (sym same) m.0.3 in
         let can = rows_can_be schema rows (state g conn).now a in
         record {
-          keeps = record { rows = λ _ _. there; consistent = can };
+          represented = record { rows = λ _ _. there; consistent = can };
           alone = λ left may. ((state g store).now, there, settled store.store left on may ∙ ap (λ (db : Database). db.trees) m.1);
         }
 
-    pub adopted_stands : (schema : known.Schema) (rows : Tables) → IsAuditOfStoredRows (abstract_schema schema) rows (state g conn).now None → RepresentsDurableBase g store (base_of_tables rows)
-    adopted_stands schema rows a = elim (adopted.stays clean defined) [
+    pub adopted_stands : (schema : known.Schema) (rows : Tables) → StoresRowsWithAuditResult (abstract_schema schema) rows (state g conn).now None → RepresentsDurableBase g store (base_of_tables rows)
+    adopted_stands schema rows a = elim (adopted.open_after_upgrade clean defined) [
       | inl third ↦
-          let told = (adopted.audited defined third).told clean (λ c on. defined c on Third) in
+          let told = (adopted.audited defined third).answered clean (λ c on. defined c on Third) in
           let same : told.0 ≡ rows = (one_schema Third schema told.0 rows (state g conn).now told.1.0 a.0).1 in
           subst (λ (t : Tables). RepresentsDurableBase g store (base_of_tables t)) same (third_stands told.0 told.1)
       | inr on ↦ moved_stands schema rows a on
     ]
 
-    pub takes_over : AdoptsPassingRows g conn store
-    takes_over = let told = adopted.told clean defined in (told.0, told.1.0, told.1.1, adopted_stands told.0 told.1.0 told.1.1)
+    pub takes_over : RepresentsPassingRowsDurably g conn store
+    takes_over = let told = adopted.answered clean defined in (told.0, told.1.0, told.1.1, adopted_stands told.0 told.1.0 told.1.1)
 
   -- ---- a stop within an adoption
 
-  module _ (trees : Trees) (first left conn store : Held S) (stopped result : Result (Unit {0}) Fault) (opened : IsJustOpened g trees first) (schema : known.Schema) (rows : Tables)
-      (answered : IsAuditOfStoredRows (abstract_schema schema) rows (state g first).now None) (adopted : AdoptPost g first left stopped) (clean : HasCleanDisk (state g left)) (again : IsReopenedAfterCrash g left conn)
+  module _ (trees : Trees) (first left conn store : Held S) (stopped result : Result (Unit {0}) Fault) (opened : IsNewConnectionToDiskContent g trees first) (schema : known.Schema) (rows : Tables)
+      (answered : StoresRowsWithAuditResult (abstract_schema schema) rows (state g first).now None) (adopted : AdoptPost g first left stopped) (clean : HasCleanDisk (state g left)) (again : IsNewConnectionAfterCrash g left conn)
       (adopts : AdoptPost g conn store result) (after : HasCleanDisk (state g store)) where
     was_clean : HasCleanDisk (state g first)
     was_clean = clean_before (state g first) (state g left) _ (adopted.survives (λ _ _. defined_whole (abstract_schema schema) rows (state g first).now answered.0)) clean
 
     -- the rows are there as they were
     module _ (same : again.0 ≡ trees) where
-      defined : StoreNamesImplyDefinitions g conn
+      defined : StoreNamedTablesMatchDeskDefinitions g conn
       defined good on = defined_whole (abstract_schema schema) rows (state g conn).now (there good).0
         where
-          there : HasCleanDisk (state g conn) → IsAuditOfStoredRows (abstract_schema schema) rows (state g conn).now None
+          there : HasCleanDisk (state g conn) → StoresRowsWithAuditResult (abstract_schema schema) rows (state g conn).now None
           there good =
-              subst (λ db. IsAuditOfStoredRows (abstract_schema schema) rows db None)
+              subst (λ db. StoresRowsWithAuditResult (abstract_schema schema) rows db None)
               (same_database (state g first).now (state g conn).now (opened.over.live was_clean (opened.opens was_clean).is_open).0 (again.2.over.live good (again.2.opens good).is_open).0
               (opened.over.same was_clean ∙ sym same ∙ sym (again.2.over.same good))) answered
 
-      there : IsAuditOfStoredRows (abstract_schema schema) rows (state g conn).now None
+      there : StoresRowsWithAuditResult (abstract_schema schema) rows (state g conn).now None
       there =
           let good = clean_before (state g conn) (state g store) _ (adopts.survives defined) after in
-          subst (λ db. IsAuditOfStoredRows (abstract_schema schema) rows db None)
+          subst (λ db. StoresRowsWithAuditResult (abstract_schema schema) rows db None)
           (same_database (state g first).now (state g conn).now (opened.over.live was_clean (opened.opens was_clean).is_open).0 (again.2.over.live good (again.2.opens good).is_open).0
           (opened.over.same was_clean ∙ sym same ∙ sym (again.2.over.same good))) answered
 
@@ -119,24 +119,24 @@ module _ {S : Type 0} (g : Ghosts S) (settled : Settles g) where
       stands_after (Ok x) e = adopted_stands again.0 conn store again.2 (subst (AdoptPost g conn store) (sym e) adopts) after defined schema rows there
       stands_after (Err f) e = tt
 
-      upgraded_again : AdoptsBaseUndamaged g store result (base_of_tables rows)
+      upgraded_again : AdoptsBaseWithoutDamage g store result (base_of_tables rows)
       upgraded_again = record {
-        undamaged = each_answer result (IsAuditOfDatabase (state g conn).now) (λ answer. answer ≡ None) (λ answer told. one_answer (state g conn).now answer None told (schema, (rows, there))) (adopts.told after defined);
-        stands = stands_after result refl;
+        undamaged = each_answer result (IsDatabaseAuditResult (state g conn).now) (λ answer. answer ≡ None) (λ answer told. one_answer (state g conn).now answer None told (schema, (rows, there))) (adopts.answered after defined);
+        represented = stands_after result refl;
       }
 
     -- the upgraded rows are there
-    upgraded_already : (base : Base) → base ≡ base_of_tables rows → AreTreesOfRows (sheets base) again.0 → AdoptsBaseUndamaged g store result (base_of_tables rows)
+    upgraded_already : (base : Base) → base ≡ base_of_tables rows → IsDiskContentOfRows (sheets base) again.0 → AdoptsBaseWithoutDamage g store result (base_of_tables rows)
     upgraded_already base same are =
         let t : IsRecovered g store result (λ b. b ≡ base_of_tables rows) =
-        taken_over g settled again.0 conn store result again.2 adopts after (base_of_tables rows) (rows_can_be schema rows (state g first).now answered) (subst (λ b. AreTreesOfRows (sheets b) again.0) same are) (λ b. b ≡ base_of_tables rows) refl in
-        record { undamaged = t.undamaged; stands = whichever result (subst (RepresentsDurableBase g store) t.may t.stands) }
+        taken_over g settled again.0 conn store result again.2 adopts after (base_of_tables rows) (rows_can_be schema rows (state g first).now answered) (subst (λ b. IsDiskContentOfRows (sheets b) again.0) same are) (λ b. b ≡ base_of_tables rows) refl in
+        record { undamaged = t.undamaged; represented = whichever result (subst (RepresentsDurableBase g store) t.may t.represented) }
       where
         whichever : (r : Result (Unit {0}) Fault) → RepresentsDurableBase g store (base_of_tables rows) → OnOk r (RepresentsDurableBase g store (base_of_tables rows))
         whichever (Ok x) h = h
         whichever (Err f) h = tt
 
-    pub upgrade_taken_over : AdoptsBaseUndamaged g store result (base_of_tables rows)
+    pub upgrade_taken_over : AdoptsBaseWithoutDamage g store result (base_of_tables rows)
     upgrade_taken_over =
         elim ((adopted.survives (λ _ _. defined_whole (abstract_schema schema) rows (state g first).now answered.0)).crash clean again.0 again.1) [
           | inl was ↦ upgraded_again (leaves_alone g settled trees first opened was_clean again.0 was)

@@ -16,7 +16,7 @@ use Rattle.brk_changes.specs.declared.schema.Schema as known
 use Rattle.brk_changes.specs.declared.schema.Schema.TheVariants.{First, Second, Third}
 use Rattle.brk_book_theorems.proofs.LotReading.{All-sort}
 use Rattle.brk_book_theorems.proofs.Same.{All-append, All-mapped}
-use Rattle.brk_audit_theorems.specs.Upgrade.{UpgradeMatchesBase, HasNoGreaterLimits}
+use Rattle.brk_audit_theorems.specs.Upgrade.{UpgradedRowsMatchTheirBase, HasLimitsWithinThirdSchema}
 use Rattle.brk_audit_theorems.specs.Passing.{PassesAudit}
 use Rattle.brk_audit_theorems.proofs.AgainStatus.{all_list}
 use Rattle.brk_audit_theorems.proofs.Climbs.{list_all_true}
@@ -27,10 +27,10 @@ use Rattle.brk_invariant_theorems.specs.Sound.{AuditInvariant}
 use Rattle.brk_invariant_theorems.proofs.Adopted.{passing_sound}
 
 -- The name of the posting is UTF-8.
-abbrev IsRead : Posting → Type 0
-IsRead p = is_utf8 p.name ≡ true
+abbrev HasUtf8Name : Posting → Type 0
+HasUtf8Name p = is_utf8 p.name ≡ true
 
-numbered_read : (n : ℕ) (ps : List Posting) → AllByRecursion IsRead ps → AllByRecursion (λ (r : MoveRow). is_utf8 r.name ≡ true) (numbered_move_rows n ps)
+numbered_read : (n : ℕ) (ps : List Posting) → AllByRecursion HasUtf8Name ps → AllByRecursion (λ (r : MoveRow). is_utf8 r.name ≡ true) (numbered_move_rows n ps)
 numbered_read n [] h = tt
 numbered_read n (p ∷ ps) h = (h.0, numbered_read (n + 1) ps h.1)
 
@@ -39,10 +39,10 @@ unfolding tables_after_upgrade
 upgraded_read t e =
     let all = and_parts (kept && trades && cash) moves e in
     let three = and_parts (kept && trades) cash all.0 in
-    let posted : AllByRecursion IsRead (postings_of_tables t) =
-    All-append IsRead (map (posting_of_cash_row t) t.cash) (map posting_of_move_row t.moves)
-    (All-mapped IsRead (posting_of_cash_row t) t.cash (list_all_true (λ r. is_utf8 r.name) t.cash three.1)) (All-mapped IsRead posting_of_move_row t.moves (list_all_true (λ r. is_utf8 r.name) t.moves all.1)) in
-    and_from _ _ (and_from _ _ three.0 refl) (all_list (λ (r : MoveRow). is_utf8 r.name) (numbered_move_rows 1 (postings_sorted_by_stamp (postings_of_tables t))) (numbered_read 1 (postings_sorted_by_stamp (postings_of_tables t)) (All-sort IsRead _ (postings_of_tables t) posted)))
+    let posted : AllByRecursion HasUtf8Name (postings_of_tables t) =
+    All-append HasUtf8Name (map (posting_of_cash_row t) t.cash) (map posting_of_move_row t.moves)
+    (All-mapped HasUtf8Name (posting_of_cash_row t) t.cash (list_all_true (λ r. is_utf8 r.name) t.cash three.1)) (All-mapped HasUtf8Name posting_of_move_row t.moves (list_all_true (λ r. is_utf8 r.name) t.moves all.1)) in
+    and_from _ _ (and_from _ _ three.0 refl) (all_list (λ (r : MoveRow). is_utf8 r.name) (numbered_move_rows 1 (postings_sorted_by_stamp (postings_of_tables t))) (numbered_read 1 (postings_sorted_by_stamp (postings_of_tables t)) (All-sort HasUtf8Name _ (postings_of_tables t) posted)))
   where
     kept : Bool
     kept = list_all (λ k. is_utf8 k.row_text && is_utf8 k.line) t.kept
@@ -56,23 +56,23 @@ upgraded_read t e =
     moves : Bool
     moves = list_all (λ r. is_utf8 r.name) t.moves
 
-pub narrower : (schema : known.Schema) → HasNoGreaterLimits (abstract_schema schema)
+pub narrower : (schema : known.Schema) → HasLimitsWithinThirdSchema (abstract_schema schema)
 narrower First = first_narrower
 narrower Second = second_narrower
 narrower Third = record { qty = omega arith; summary = omega arith }
 
 -- The rows, upgraded from `schema`, are the tables of the base that the rows determine, and this
 -- base is consistent.
-pub record AreUpgraded (schema : known.Schema) (rows : Tables) : Type 0 where
+pub record HaveConsistentUpgrade (schema : known.Schema) (rows : Tables) : Type 0 where
   pub tables : tables_upgraded_from_schema (abstract_schema schema) rows ≡ sheets (base_of_tables rows)
   pub books : BooksInvariant (base_of_tables rows)
   pub sound : AuditInvariant (base_of_tables rows)
   pub texts : IsTrue (has_utf8_texts (sheets (base_of_tables rows)))
 
-pub are_upgraded : (schema : known.Schema) (rows : Tables) → PassesAudit (abstract_schema schema) rows → IsTrue (has_utf8_texts rows) → AreUpgraded schema rows
+pub are_upgraded : (schema : known.Schema) (rows : Tables) → PassesAudit (abstract_schema schema) rows → IsTrue (has_utf8_texts rows) → HaveConsistentUpgrade schema rows
 are_upgraded schema rows passes texts =
     let same = rows_upgraded_from (abstract_schema schema) rows passes in
-    let over : UpgradeMatchesBase rows = upgraded_rows (abstract_schema schema) rows (narrower schema) passes in
+    let over : UpgradedRowsMatchTheirBase rows = upgraded_rows (abstract_schema schema) rows (narrower schema) passes in
     record {
       tables = same.0 ∙ same.1;
       books = passing_books (abstract_schema schema) rows passes;

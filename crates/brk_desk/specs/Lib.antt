@@ -1,6 +1,6 @@
 pub mod Commands
 pub mod Answers
-pub mod Keeping
-pub mod Stops
+pub mod CallPosts
+pub mod CrashBases
 pub mod Reopening
 pub mod Runs

@@ -11,38 +11,38 @@ use Rattle.brk_model.specs.Sheets.{sheets}
 use Rattle.brk_model.specs.Tables.{Tables}
 use Rattle.brk_changes.specs.Schemas.{abstract_schema}
 use Rattle.brk_changes.specs.declared.schema.Schema as known
-use Rattle.brk_store.specs.Audited.{IsAuditOfStoredRows, OnAuditAnswer, Represents}
-use Rattle.brk_store.specs.Holds.{AreTreesOfRows, IsOpenedOverTrees, CrashStatesSatisfy}
+use Rattle.brk_store.specs.Audited.{StoresRowsWithAuditResult, AuditAnswerSatisfies, Represents}
+use Rattle.brk_store.specs.Holds.{IsDiskContentOfRows, IsConnectionToDiskContent, CrashStatesSatisfy}
 
 -- The store represents the base, and a crash exposes only the tables of this base.
 pub record RepresentsDurableBase {S : Type 0} (g : Ghosts S) (store : Held S) (base : Base) : Type 0 where
-  pub keeps : Represents g store base
-  pub alone : CrashStatesSatisfy g store (AreTreesOfRows (sheets base))
+  pub represented : Represents g store base
+  pub alone : CrashStatesSatisfy g store (IsDiskContentOfRows (sheets base))
 
 -- `conn` is in the state of a new connection to a database with the disk contents `trees`. Under
 -- the disk assumption it is open, with no transaction, no savepoint and no counted change, its
 -- current state equals its committed state, and `trees` are the disk contents of this state.
-pub record IsJustOpened {S : Type 0} (g : Ghosts S) (trees : Trees) (conn : Held S) : Type 0 where
-  pub over : IsOpenedOverTrees g trees conn
+pub record IsNewConnectionToDiskContent {S : Type 0} (g : Ghosts S) (trees : Trees) (conn : Held S) : Type 0 where
+  pub over : IsConnectionToDiskContent g trees conn
   pub opens : HasCleanDisk (state g conn) → Opens (state g conn)
 
--- `conn` is in the state of a new connection (`IsJustOpened`) to disk contents that a crash in the
+-- `conn` is in the state of a new connection (`IsNewConnectionToDiskContent`) to disk contents that a crash in the
 -- state `left` of a store may expose.
-abbrev pub IsReopenedAfterCrash : {S : Type 0} → Ghosts S → Held S → Held S → Type 0
-IsReopenedAfterCrash g left conn = (trees : Trees) × (state g left).may_leave trees × IsJustOpened g trees conn
+abbrev pub IsNewConnectionAfterCrash : {S : Type 0} → Ghosts S → Held S → Held S → Type 0
+IsNewConnectionAfterCrash g left conn = (trees : Trees) × (state g left).may_leave trees × IsNewConnectionToDiskContent g trees conn
 
 -- The database of `conn` has rows of some schema that pass the audit of this schema, with texts in
 -- UTF-8. `store` represents the base that these rows determine, and a crash exposes only the tables
 -- of this base.
-abbrev pub AdoptsPassingRows : {S : Type 0} → Ghosts S → Held S → Held S → Type 0
-AdoptsPassingRows g conn store = (schema : known.Schema) × (rows : Tables) × IsAuditOfStoredRows (abstract_schema schema) rows (state g conn).now None × RepresentsDurableBase g store (base_of_tables rows)
+abbrev pub RepresentsPassingRowsDurably : {S : Type 0} → Ghosts S → Held S → Held S → Type 0
+RepresentsPassingRowsDurably g conn store = (schema : known.Schema) × (rows : Tables) × StoresRowsWithAuditResult (abstract_schema schema) rows (state g conn).now None × RepresentsDurableBase g store (base_of_tables rows)
 
 -- The adoption with this result did not fail with `Damaged`; at `Ok` the store represents `base`,
 -- and a crash exposes only its tables. If the adoption failed with `Memory` or `Store`, the store
 -- is not specified.
-pub record AdoptsBaseUndamaged {S : Type 0} (g : Ghosts S) (store : Held S) (result : Result (Unit {0}) Fault) (base : Base) : Type 0 where
-  pub undamaged : OnAuditAnswer result (λ failing. failing ≡ None)
-  pub stands : OnOk result (RepresentsDurableBase g store base)
+pub record AdoptsBaseWithoutDamage {S : Type 0} (g : Ghosts S) (store : Held S) (result : Result (Unit {0}) Fault) (base : Base) : Type 0 where
+  pub undamaged : AuditAnswerSatisfies result (λ failing. failing ≡ None)
+  pub represented : OnOk result (RepresentsDurableBase g store base)
 
 -- The adoption with this result did not fail with `Damaged`. The store after it, at `Ok`, or the
 -- connection that it returned with `Memory` or `Store`, represents a base that satisfies `May`, and
@@ -50,5 +50,5 @@ pub record AdoptsBaseUndamaged {S : Type 0} (g : Ghosts S) (store : Held S) (res
 pub record IsRecovered {S : Type 0} (g : Ghosts S) (store : Held S) (result : Result (Unit {0}) Fault) (May : Base → Type 0) : Type 0 where
   pub base : Base
   pub may : May base
-  pub undamaged : OnAuditAnswer result (λ failing. failing ≡ None)
-  pub stands : RepresentsDurableBase g store base
+  pub undamaged : AuditAnswerSatisfies result (λ failing. failing ≡ None)
+  pub represented : RepresentsDurableBase g store base

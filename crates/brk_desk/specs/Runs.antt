@@ -3,20 +3,20 @@ use Rattle.std.specs.Prelude.{ℕ, List}
 use Rattle.sqlite_trees.specs.declared.store.Store.{Ghosts}
 use Rattle.sqlite.specs.Held.{Held}
 use Rattle.brk_io.specs.Calls.{IsCallSequence}
-use Rattle.brk_desk.specs.Keeping.{OutcomePost, RunPost, RunGuarantee}
+use Rattle.brk_desk.specs.CallPosts.{OutcomePost, RunPost, RunGuarantee}
 use Rattle.brk_desk.specs.declared.call.Call.{Call}
 use Rattle.brk_desk.specs.declared.call.Outcome.{Outcome}
 
 -- Exactly these calls of the desk were executed between the state `old` and the state `new`, in
 -- order, with these outcomes. The first field states this; the other two, the postcondition and the
--- guarantee of a run, follow from it (`calls_in_order_are_a_run`).
+-- guarantee of a run, follow from it (`call_sequences_are_runs`).
 pub record IsRunWithOutcomes {S : Type 0} (g : Ghosts S) (old new : Held S) (calls : List (ℕ × Call)) (outcomes : List Outcome) : Type 0 where
   -- Each call satisfies its postcondition (`OutcomePost`). The first call begins in the state
   -- `old`, each later one in the state after the call before it, and the last one ends in `new`.
   -- Without calls `new` equals `old`.
-  pub made : IsCallSequence (λ old now call outcome new. OutcomePost g old new now call outcome) old calls outcomes new
-  pub ran : RunPost g old new calls outcomes
-  pub promised : RunGuarantee g old new calls outcomes
+  pub executed : IsCallSequence (λ old now call outcome new. OutcomePost g old new now call outcome) old calls outcomes new
+  pub post : RunPost g old new calls outcomes
+  pub guarantee : RunGuarantee g old new calls outcomes
 
 -- Some sequence of calls of the desk was executed between the state `old` and the state `new`, and
 -- nothing else (`IsRunWithOutcomes`).

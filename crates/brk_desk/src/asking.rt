@@ -1,4 +1,4 @@
-ghost use Rattle.brk_desk.specs.Keeping.{AskPost};
+ghost use Rattle.brk_desk.specs.CallPosts.{AskPost};
 ghost use Rattle.brk_view.specs.Queries.{abstract_query};
 
 use brk_money::Planned;

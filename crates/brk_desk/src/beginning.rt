@@ -8,7 +8,7 @@ ghost use Rattle.sqlite.specs.Held.{Held};
 ghost use Rattle.sqlite_trees.specs.Tree.{Trees};
 ghost use Rattle.brk_audit_theorems.specs.Passing.{PassesAudit};
 ghost use Rattle.brk_store.specs.Audited.{Represents};
-ghost use Rattle.brk_desk.specs.Stops.{MayBeRecovered};
+ghost use Rattle.brk_desk.specs.CrashBases.{CrashMayExposeBase};
 ghost use Rattle.brk_model.specs.Adopted.{base_of_tables};
 ghost use Rattle.brk_model.specs.Base.{Base, empty_base};
 ghost use Rattle.brk_model.specs.Upgraded.{tables_upgraded_from_schema};
@@ -18,7 +18,7 @@ ghost use Rattle.brk_model.specs.Sheets.{sheets};
 ghost use Rattle.brk_model.specs.Tables.{Tables, tables_without_rows};
 ghost use Rattle.brk_invariant_theorems.specs.Runs.{CallMeetsAuditFormats};
 ghost use Rattle.brk_invariant_theorems.specs.Sound.{AuditInvariant};
-ghost use Rattle.brk_store.specs.Holds.{AreTreesOfRows, HoldsRows, IsOpenedOverTrees};
+ghost use Rattle.brk_store.specs.Holds.{IsDiskContentOfRows, HoldsRows, IsConnectionToDiskContent};
 ghost use Rattle.brk_book_theorems.specs.Books.{BooksInvariant};
 ghost use Rattle.brk_changes.specs.Schemas.{abstract_schema};
 ghost use Rattle.brk_changes.specs.declared.schema.Schema.{Schema};
@@ -44,11 +44,11 @@ pub fn adopted_rows_represent_their_base<S: Alter>()
 {}
 
 /// Proves that a store that is opened on the tables of a base represents this base, if a crash
-/// after a run may expose the base (`MayBeRecovered`), its texts are UTF-8, the calls of the run
+/// after a run may expose the base (`CrashMayExposeBase`), its texts are UTF-8, the calls of the run
 /// are well-formed, and the base before the run satisfies the books invariant and the audit
 /// invariant.
-pub fn reopening_restores_a_recoverable_base<S: Alter>()
+pub fn reopened_store_represents_exposed_base<S: Alter>()
     ensures { (base : Base) (calls : List (ℕ × Call)) (outcomes : List Outcome) (after : Base) (trees : Trees) (conn : Held S) → BooksInvariant base → AuditInvariant base
-        → AllByRecursion CallMeetsAuditFormats calls → MayBeRecovered base calls outcomes after → IsTrue (has_utf8_texts (sheets after))
-        → AreTreesOfRows (sheets after) trees → IsOpenedOverTrees S.Store trees conn → Represents S.Store conn after }
+        → AllByRecursion CallMeetsAuditFormats calls → CrashMayExposeBase base calls outcomes after → IsTrue (has_utf8_texts (sheets after))
+        → IsDiskContentOfRows (sheets after) trees → IsConnectionToDiskContent S.Store trees conn → Represents S.Store conn after }
 {}

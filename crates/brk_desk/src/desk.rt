@@ -2,7 +2,7 @@ use crate::asking::answer_query;
 use crate::call::{Call, Outcome};
 use brk_changes::{HoldingRow, MoveRow, TradeRow};
 use brk_commands::Command;
-use brk_commit::{Answer, book};
+use brk_commit::{Answer, execute_and_commit_command};
 use brk_explain_reads::{
     read_account_story, read_broker_story, read_holding_story, read_trade_story,
     visit_completed_trades,
@@ -10,7 +10,7 @@ use brk_explain_reads::{
 use brk_explain_rows::{AccountStory, BrokerStory, HoldingStory, TradeStory};
 use brk_lots::Lot;
 use brk_money::{Fault, Id, Planned, Stamp};
-use brk_queries::{Head, read_head_of_account};
+use brk_queries::{StatementHead, read_statement_head};
 use brk_ref::{Key, Symbol};
 use brk_store::{Store, Visitor, WalkError};
 use brk_view::{Query, View};
@@ -47,7 +47,7 @@ impl<S: Alter> Desk<S> {
     ghost use Rattle.brk_commands.specs.Commands.{abstract_command};
     ghost use Rattle.brk_commit.specs.Keys.{optional_model_key};
     ghost use Rattle.brk_commit.specs.Booked.{CallPost};
-    ghost use Rattle.brk_desk.specs.Keeping.{AskPost, DeskAuditPost, OutcomePost};
+    ghost use Rattle.brk_desk.specs.CallPosts.{AskPost, DeskAuditPost, OutcomePost};
     ghost use Rattle.brk_desk.specs.Runs.{IsRunWithOutcomes};
     ghost use Rattle.brk_desk.specs.declared.call.Outcome as came;
     ghost use Rattle.brk_money.specs.declared.fault.Condition.TheVariants.{NotEmpty};
@@ -55,14 +55,14 @@ impl<S: Alter> Desk<S> {
     ghost use Rattle.brk_view.specs.Queries.{abstract_query};
     ghost use Rattle.std.specs.Fn.{CalledAt};
     ghost use Rattle.brk_changes.specs.Rows.{abstract_holding_row, abstract_move_row, abstract_trade_row};
-    ghost use Rattle.brk_queries.specs.Heads.{IsHeadOfAccount};
+    ghost use Rattle.brk_queries.specs.Heads.{IsStatementHeadOfAccount};
     ghost use Rattle.brk_explain_model.specs.BrokerLines.{completed_trades_of_broker};
     ghost use Rattle.brk_explain_rows.specs.Stories.{IsStoryOfAccount, IsStoryOfBroker, IsStoryOfHolding, IsStoryOfTrade};
     ghost use Rattle.brk_model.specs.Run.{IsCallFault};
-    ghost use Rattle.brk_model.specs.Statement.{lot_rows_of_account};
-    ghost use Rattle.brk_store.specs.Calling.{IsCallWithLot};
+    ghost use Rattle.brk_model.specs.Statement.{holding_rows_of_account};
+    ghost use Rattle.brk_store.specs.Calling.{IsClosureCallWithLot};
     ghost use Rattle.brk_store.specs.Holds.{ReadPost};
-    ghost use Rattle.brk_store.specs.Walked.{CallsClosureOnEach, WalkPost, cash_rows_in_span};
+    ghost use Rattle.brk_store.specs.Walked.{CallsClosureWithEachRecord, WalkPost, cash_rows_in_span};
 
     /// Creates a desk over a store, which is unchanged.
     pub fn new(store: Store<S>) -> Desk<S>
@@ -97,7 +97,7 @@ impl<S: Alter> Desk<S> {
     ) -> Result<Answer, Fault>
         ensures called { CallPost S.Store self.old self.new now (abstract_command command.now) (optional_model_key (option_copied key.entry)) result }
     {
-        book(alloc, &mut self.store, now, command, key)
+        execute_and_commit_command(alloc, &mut self.store, now, command, key)
     }
 
     /// Returns the view of a query, or the refusal.
@@ -129,23 +129,23 @@ impl<S: Alter> Desk<S> {
         calls: &[(Stamp, Call)],
         out: &mut Vec<Outcome>,
     ) -> Result<(), Fault>
-        ensures ran { OnOk result ((outcomes : List came.Outcome) × (out.new.items ≡ out.old.items ++ outcomes)
+        ensures executed { OnOk result ((outcomes : List came.Outcome) × (out.new.items ≡ out.old.items ++ outcomes)
             × IsRunWithOutcomes S.Store self.old self.new calls.now outcomes) }
         ensures fault { OnErr result (result ≡ Err Memory) }
-        ensures unmade { OnErr result ((self.new ≡ self.old) × (out.new.items ≡ out.old.items)) }
+        ensures unchanged { OnErr result ((self.new ≡ self.old) × (out.new.items ≡ out.old.items)) }
     {
         out.reserve(calls.len())?;
         for made in calls {
             let (now, call) = made;
-            let outcome = self.outcome(alloc, *now, call);
+            let outcome = self.execute_call(alloc, *now, call);
             out.push(outcome).unwrap();
         }
         Ok(())
     }
 
     // Executes a call at the clock reading `now` and returns its outcome.
-    fn outcome(&mut self, alloc: Global, now: Stamp, call: &Call) -> Outcome
-        ensures made { OutcomePost S.Store self.old self.new now call.now result }
+    fn execute_call(&mut self, alloc: Global, now: Stamp, call: &Call) -> Outcome
+        ensures executed { OutcomePost S.Store self.old self.new now call.now result }
     {
         match call {
             Call::Do(command, key) => {
@@ -164,12 +164,12 @@ impl<S: Alter> Desk<S> {
     ///
     /// A crash exposes only states that a crash before the call could expose.
     ///
-    /// The result is specified only if the database satisfies `ThirdNamesImplyDefinitions` (see
+    /// The result is specified only if the database satisfies `StoreNamedTablesMatchThirdSchema` (see
     /// `Store::audit`). The store of every desk that represents a base satisfies it.
     #[tactic(auto, using(crate::proofs::Audits::audits))]
     pub fn audit(&mut self, alloc: Global) -> Result<(), Fault>
         ensures audited { DeskAuditPost S.Store self.old self.new result }
-        ensures condition { IfErr result (λ fault. fault ≢ Damaged NotEmpty) }
+        ensures never_not_empty { IfErr result (λ fault. fault ≢ Damaged NotEmpty) }
     {
         self.store.audit(alloc)
     }
@@ -181,11 +181,11 @@ impl<S: Alter> Desk<S> {
     /// Fails with `Memory` or `Store` only. The open database is unchanged, whatever the result.
     ///
     /// A crash exposes only states that a crash before the call could expose.
-    pub fn head(&mut self, alloc: Global, account: Id) -> Result<Option<Head>, Fault>
-        ensures read { ReadPost S.Store self.old self.new result (IsHeadOfAccount account) }
+    pub fn statement_head(&mut self, alloc: Global, account: Id) -> Result<Option<StatementHead>, Fault>
+        ensures read { ReadPost S.Store self.old self.new result (IsStatementHeadOfAccount account) }
         ensures fault { IfErr result IsCallFault }
     {
-        read_head_of_account(alloc, &mut self.store, account)
+        read_statement_head(alloc, &mut self.store, account)
     }
 
     /// Returns the rows that the explanation of a trade needs, or `None` if the trade does not
@@ -196,7 +196,7 @@ impl<S: Alter> Desk<S> {
     /// unchanged, whatever the result.
     ///
     /// A crash exposes only states that a crash before the call could expose.
-    pub fn trade_story(&mut self, alloc: Global, trade: Id) -> Result<Option<TradeStory>, Fault>
+    pub fn trade_explanation_rows(&mut self, alloc: Global, trade: Id) -> Result<Option<TradeStory>, Fault>
         ensures read { ReadPost S.Store self.old self.new result (IsStoryOfTrade trade) }
         ensures fault { IfErr result IsCallFault }
     {
@@ -210,7 +210,7 @@ impl<S: Alter> Desk<S> {
     /// open database is unchanged, whatever the result.
     ///
     /// A crash exposes only states that a crash before the call could expose.
-    pub fn account_story(
+    pub fn account_explanation_rows(
         &mut self,
         alloc: Global,
         account: Id,
@@ -284,7 +284,7 @@ impl<S: Alter> Desk<S> {
     /// `Store` after a prefix of the rows. The open database is unchanged, whatever the result.
     ///
     /// A crash exposes only states that a crash before the call could expose.
-    pub fn visit_cash<E, V: Visitor<MoveRow, E>>(
+    pub fn visit_cash_rows<E, V: Visitor<MoveRow, E>>(
         &mut self,
         account: Id,
         from: Stamp,
@@ -296,7 +296,7 @@ impl<S: Alter> Desk<S> {
         ensures leads { V.leads visitor.old visitor.new }
         ensures walked { WalkPost S.Store self.old self.new abstract_move_row (cash_rows_in_span account from to) V.takes V.stops visitor.old visitor.new result }
     {
-        self.store.visit_cash::<E, V>(account, from, to, visitor)
+        self.store.visit_cash_rows::<E, V>(account, from, to, visitor)
     }
 
     /// Passes the lots of an account to a visitor, sorted by symbol, then by opening stamp. Returns
@@ -314,7 +314,7 @@ impl<S: Alter> Desk<S> {
         requires ready { V.ready visitor.old }
         ensures ready { V.ready visitor.new }
         ensures leads { V.leads visitor.old visitor.new }
-        ensures walked { WalkPost S.Store self.old self.new abstract_holding_row (λ t. lot_rows_of_account t account) V.takes V.stops visitor.old visitor.new result }
+        ensures walked { WalkPost S.Store self.old self.new abstract_holding_row (λ t. holding_rows_of_account t account) V.takes V.stops visitor.old visitor.new result }
     {
         self.store.visit_lots::<E, V>(account, visitor)
     }
@@ -326,7 +326,7 @@ impl<S: Alter> Desk<S> {
     /// type `E`, after a prefix of the rows. The open database is unchanged, whatever the result.
     ///
     /// A crash exposes only states that a crash before the call could expose.
-    pub fn walk_cash<E: From<Fault>, F: FnMut(&MoveRow) -> Result<(), E> + Drop>(
+    pub fn walk_cash_rows<E: From<Fault>, F: FnMut(&MoveRow) -> Result<(), E> + Drop>(
         &mut self,
         account: Id,
         from: Stamp,
@@ -334,9 +334,9 @@ impl<S: Alter> Desk<S> {
         call: F,
     ) -> Result<(), E>
         requires callable { F.IsAlwaysCallable call }
-        ensures called { CallsClosureOnEach S.Store self.old self.new abstract_move_row (cash_rows_in_span account from to) (CalledAt F.FnMut) E.from_gives call result }
+        ensures called { CallsClosureWithEachRecord S.Store self.old self.new abstract_move_row (cash_rows_in_span account from to) (CalledAt F.FnMut) E.from_gives call result }
     {
-        self.store.walk_cash::<E, F>(account, from, to, call)
+        self.store.walk_cash_rows::<E, F>(account, from, to, call)
     }
 
     /// Calls a closure with each lot of an account and its symbol, sorted by symbol, then by
@@ -352,7 +352,7 @@ impl<S: Alter> Desk<S> {
         call: F,
     ) -> Result<(), E>
         requires callable { F.IsAlwaysCallable call }
-        ensures called { CallsClosureOnEach S.Store self.old self.new abstract_holding_row (λ t. lot_rows_of_account t account) (IsCallWithLot F.FnMut) E.from_gives call result }
+        ensures called { CallsClosureWithEachRecord S.Store self.old self.new abstract_holding_row (λ t. holding_rows_of_account t account) (IsClosureCallWithLot F.FnMut) E.from_gives call result }
     {
         self.store.walk_lots::<E, F>(account, call)
     }

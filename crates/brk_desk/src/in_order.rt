@@ -3,7 +3,7 @@
 ghost use Rattle.std.specs.Prelude.{◌++◌, ℕ, List};
 ghost use Rattle.sqlite.specs.Held.{Held};
 ghost use Rattle.brk_io.specs.Calls.{IsCallSequence};
-ghost use Rattle.brk_desk.specs.Keeping.{OutcomePost};
+ghost use Rattle.brk_desk.specs.CallPosts.{OutcomePost};
 ghost use Rattle.brk_desk.specs.Runs.{IsRunWithOutcomes};
 ghost use Rattle.brk_desk.specs.declared.call.Call as made;
 ghost use Rattle.brk_desk.specs.declared.call.Outcome as came;
@@ -17,9 +17,9 @@ use sqlite::Alter;
 ///
 /// `joined`: two runs, the second of which begins in the state in which the first ends, are one run
 /// of all their calls.
-pub fn calls_in_order_are_a_run<S: Alter>()
-    ensures made { (old new : Held S) (calls : List (ℕ × made.Call)) (outcomes : List came.Outcome)
+pub fn call_sequences_are_runs<S: Alter>()
+    ensures one_run { (old new : Held S) (calls : List (ℕ × made.Call)) (outcomes : List came.Outcome)
         → IsCallSequence (λ before now call outcome after. OutcomePost S.Store before after now call outcome) old calls outcomes new → IsRunWithOutcomes S.Store old new calls outcomes }
-    ensures joined { (old mid new : Held S) (calls others : List (ℕ × made.Call)) (outcomes more : List came.Outcome)
+    ensures joined_runs { (old mid new : Held S) (calls others : List (ℕ × made.Call)) (outcomes more : List came.Outcome)
         → IsRunWithOutcomes S.Store old mid calls outcomes → IsRunWithOutcomes S.Store mid new others more → IsRunWithOutcomes S.Store old new (calls ++ others) (outcomes ++ more) }
 {}

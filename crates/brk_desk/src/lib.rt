@@ -12,7 +12,7 @@ pub mod reopening;
 pub use brk_commands::{Command, line_text, parse_row, row_text};
 pub use brk_commit::Answer;
 pub use brk_money::{Fault, Planned, Refusal, Stamp};
-pub use brk_queries::Head;
+pub use brk_queries::StatementHead;
 pub use brk_ref::Key;
 pub use brk_store;
 pub use brk_store::{Visitor, WalkError};

@@ -111,7 +111,7 @@ fn ending_exit_status(ending: &Ending) -> u8
 
 /// Returns the ending of the program after the database was closed. A fault of the close replaces
 /// the ending only if the job was done.
-pub fn merge_close_result(ending: Ending, closed: Result<(), Fault>) -> Ending
+pub fn ending_after_close(ending: Ending, closed: Result<(), Fault>) -> Ending
     ensures { result ≡ spec.ending_after_close ending closed }
 {
     match (ending, closed) {
@@ -122,7 +122,7 @@ pub fn merge_close_result(ending: Ending, closed: Result<(), Fault>) -> Ending
 
 // Sends the error line of a report to `errors`. If the sink fails, it has received a prefix of the
 // line.
-fn send_report_line<S: Sink>(fault: &ReportFault, errors: &mut S) -> Result<(), NotWritten>
+fn send_report_error_line<S: Sink>(fault: &ReportFault, errors: &mut S) -> Result<(), NotWritten>
     ensures ok { OnOk result (Appends (S.contents errors.old) (S.contents errors.new) (spec.error_line_of_report fault.now)) }
     ensures err { OnErr result (SinkFailsWithinText S.contents S.fails errors.old errors.new (spec.error_line_of_report fault.now)) }
 {
@@ -138,7 +138,7 @@ fn send_report_line<S: Sink>(fault: &ReportFault, errors: &mut S) -> Result<(), 
 
 // Sends the error text of a usage fault to `errors`; help has none. If the sink fails, it has
 // received a prefix of the text.
-fn send_usage_line<S: Sink>(fault: &UsageFault, errors: &mut S) -> Result<(), NotWritten>
+fn send_usage_error_text<S: Sink>(fault: &UsageFault, errors: &mut S) -> Result<(), NotWritten>
     ensures ok { OnOk result (Appends (S.contents errors.old) (S.contents errors.new) (spec.error_line_of_usage fault.now)) }
     ensures err { OnErr result (SinkFailsWithinText S.contents S.fails errors.old errors.new (spec.error_line_of_usage fault.now)) }
 {
@@ -160,11 +160,11 @@ pub fn send_error_line<S: Sink>(ending: &Ending, errors: &mut S) -> Result<(), N
         Ending::Done => Ok(()),
         Ending::Open(fault) => send_line(errors, fault_error_line(*fault)),
         Ending::Batch(fault) => send_line(errors, batch_error_line(fault.kind)),
-        Ending::Report(fault) => send_report_line(fault, errors),
+        Ending::Report(fault) => send_report_error_line(fault, errors),
         Ending::Serve(fault) => send_line(errors, stream_error_line(fault.kind)),
         Ending::Net => send_line(errors, ("brk: fault: ", "net")),
         Ending::Output => send_line(errors, ("brk: fault: ", "write")),
-        Ending::Usage(fault) => send_usage_line(fault, errors),
+        Ending::Usage(fault) => send_usage_error_text(fault, errors),
     }
 }
 

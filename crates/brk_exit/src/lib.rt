@@ -7,5 +7,5 @@ pub mod telling;
 
 pub use brk_io;
 pub use brk_report_lines;
-pub use ending::{Ending, end_with, merge_close_result, send_error_line};
+pub use ending::{Ending, end_with, ending_after_close, send_error_line};
 pub use sink::Sink;

@@ -19,7 +19,7 @@ use Rattle.brk_report_lines.specs.Written.{FailsWithinLines, FailsWithinFirstLin
 use Rattle.brk_report_lines.specs.declared.fault.LinesFault.{LinesFault}
 use Rattle.brk_report_lines.specs.declared.fault.LinesFault.TheVariants.{Desk, Write}
 use Rattle.brk_report_lines.proofs.Composed.{appends_none, breaks_before, breaks_behind}
-use Rattle.brk_report.specs.Stops.{fault_of_walk_error}
+use Rattle.brk_report.specs.WalkFaults.{fault_of_walk_error}
 use Rattle.brk_explain_columns.proofs.RunningRows.{rows_parts, total_after}
 
 -- a part that may end with any line is one that may have all its lines written

@@ -10,7 +10,7 @@ use Rattle.brk_money.specs.declared.fault.Fault.{Fault}
 use Rattle.brk_money.specs.declared.refusal.Refusal.{Refusal}
 use Rattle.brk_money.specs.declared.refusal.Refusal.TheVariants.{NoAccount, NoBroker, NoTrade}
 use Rattle.brk_model.specs.Joins.{account_row_with_id, last_price_in_tables, trade_row_with_id}
-use Rattle.brk_model.specs.Statement.{text_of_lines, lot_rows_of_account}
+use Rattle.brk_model.specs.Statement.{text_of_lines, holding_rows_of_account}
 use Rattle.brk_model.specs.Tables.{AccountRow, BrokerRow, SecurityRow, Tables}
 use Rattle.brk_ref.specs.Records.{abstract_account_row, abstract_broker_row, abstract_security_row}
 use Rattle.brk_explain_model.specs.AccountLines.{PricedHolding, holding_and_total_lines, account_total_lines, account_explanation_lines, account_header_lines, balance_header_lines, priced_holdings_of_account, holding_line, open_lot_line, account_cash_rows_by_stamp, cash_posting_lines}
@@ -67,12 +67,12 @@ account_told t account story h =
     let id : a.id ≡ account = eqb-true a.id account (passes_found (λ (r : AccountRow). r.id == account) t.accounts a h.0) in
     let lines : ℕ → List PricedHolding → List Text =
     λ n held.
-    account_header_lines a ++ cash_posting_lines a.opening (account_cash_rows_by_stamp t n) ++ balance_header_lines a ++ map open_lot_line (lot_rows_of_account t n) ++ holding_and_total_lines a held (length (account_cash_rows_by_stamp t n)) (length (lot_rows_of_account t n)) in
+    account_header_lines a ++ cash_posting_lines a.opening (account_cash_rows_by_stamp t n) ++ balance_header_lines a ++ map open_lot_line (holding_rows_of_account t n) ++ holding_and_total_lines a held (length (account_cash_rows_by_stamp t n)) (length (holding_rows_of_account t n)) in
     rw h.0
     (ap (λ (n : ℕ). Ok (lines n (priced_holdings_of_account t n))) id ∙ ap (λ (held : List PricedHolding). Ok (lines account held)) (sym h.1)
     ∙ ap (λ (l : List Text). Ok l)
-    (five_parts (account_header_lines a) (cash_posting_lines a.opening (account_cash_rows_by_stamp t account)) (balance_header_lines a) (map open_lot_line (lot_rows_of_account t account))
-    (holding_and_total_lines a (map abstract_priced_holding story.held.items) (length (account_cash_rows_by_stamp t account)) (length (lot_rows_of_account t account)))))
+    (five_parts (account_header_lines a) (cash_posting_lines a.opening (account_cash_rows_by_stamp t account)) (balance_header_lines a) (map open_lot_line (holding_rows_of_account t account))
+    (holding_and_total_lines a (map abstract_priced_holding story.held.items) (length (account_cash_rows_by_stamp t account)) (length (holding_rows_of_account t account)))))
 
 pub no_account : (t : Tables) (account : ℕ) → account_row_with_id t account ≡ None → explanation t (AccountOf account) ≡ Err NoAccount
 unfolding explanation

@@ -2,7 +2,7 @@
 use Rattle.std.specs.Prelude.{◌≡◌, ℕ, ℤ, List, ◌++◌, Option, Result, Ok, Err, length, map}
 use Rattle.std.specs.Io.KnownBytes.{Appends}
 use Rattle.brk_money.specs.Spelling.{Text}
-use Rattle.brk_model.specs.Statement.{text_of_lines, lot_rows_of_account}
+use Rattle.brk_model.specs.Statement.{text_of_lines, holding_rows_of_account}
 use Rattle.brk_model.specs.Tables.{Tables}
 use Rattle.brk_ref.specs.Records.{abstract_account_row, abstract_broker_row}
 use Rattle.brk_explain_model.specs.AccountLines.{holding_and_total_lines, account_header_lines, balance_header_lines, open_lot_line, account_cash_rows_by_stamp, cash_posting_lines}
@@ -26,7 +26,7 @@ account_cash_lines t account opening = cash_posting_lines opening (account_cash_
 
 -- The lines of the lots of `account`.
 abbrev pub account_lot_lines : Tables → ℕ → List Text
-account_lot_lines t account = map open_lot_line (lot_rows_of_account t account)
+account_lot_lines t account = map open_lot_line (holding_rows_of_account t account)
 
 -- All lines of the explanation of `account`, whose row and holdings are those of `story`; its cash
 -- rows and lots are those of the tables `t`.
@@ -36,7 +36,7 @@ all_account_lines t account story =
     ++ (account_cash_lines t account story.account.account.opening
     ++ (balance_header_lines (abstract_account_row story.account)
     ++ (account_lot_lines t account
-    ++ holding_and_total_lines (abstract_account_row story.account) (map abstract_priced_holding story.held.items) (length (account_cash_rows_by_stamp t account)) (length (lot_rows_of_account t account)))))
+    ++ holding_and_total_lines (abstract_account_row story.account) (map abstract_priced_holding story.held.items) (length (account_cash_rows_by_stamp t account)) (length (holding_rows_of_account t account)))))
 
 -- The lines of the completed trades of the accounts of `broker`, each with the running total of the
 -- commissions.

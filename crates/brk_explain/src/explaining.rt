@@ -32,7 +32,7 @@ fn write_trade_explanation<W: Write, S: Alter>(
 ) -> Result<(), ReportFault>
     ensures told { WriteLinesPost S.Store desk.old desk.new (λ t. explanation t (TradeOf trade)) (W.contents writer.old) (W.contents writer.new) result }
 {
-    let story = match desk.trade_story(alloc, trade) {
+    let story = match desk.trade_explanation_rows(alloc, trade) {
         Ok(Some(story)) => story,
         Ok(None) => return Err(ReportFault::Refused(Refusal::NoTrade)),
         Err(fault) => return Err(ReportFault::Desk(fault)),
@@ -77,7 +77,7 @@ fn write_account_explanation<W: Write, S: Alter>(
 ) -> Result<(), ReportFault>
     ensures told { WriteLinesPost S.Store desk.old desk.new (λ t. explanation t (AccountOf account)) (W.contents writer.old) (W.contents writer.new) result }
 {
-    let story = match desk.account_story(alloc, account) {
+    let story = match desk.account_explanation_rows(alloc, account) {
         Ok(Some(story)) => story,
         Ok(None) => return Err(ReportFault::Refused(Refusal::NoAccount)),
         Err(fault) => return Err(ReportFault::Desk(fault)),

@@ -5,9 +5,9 @@ ghost use Rattle.std.specs.Prelude.{◌≡◌, length};
 ghost use Rattle.brk_explain.specs.Sections.{WritesCountedLines, account_cash_lines, broker_trade_lines, account_lot_lines};
 ghost use Rattle.brk_explain_model.specs.AccountLines.{account_cash_rows_by_stamp};
 ghost use Rattle.brk_explain_model.specs.BrokerLines.{completed_trades_of_broker};
-ghost use Rattle.brk_model.specs.Statement.{lot_rows_of_account};
+ghost use Rattle.brk_model.specs.Statement.{holding_rows_of_account};
 ghost use Rattle.brk_report.specs.Stated.{PreservesDesk, HoldsForStoredTables};
-ghost use Rattle.brk_report.specs.Stops.{fault_of_walk_error};
+ghost use Rattle.brk_report.specs.WalkFaults.{fault_of_walk_error};
 
 use crate::visitors::{TradeCommissionWriter, OpenLotWriter, CashPostingWriter};
 use brk_desk::{Desk, WalkError};
@@ -46,7 +46,7 @@ pub(crate) fn write_cash_posting_lines<W: Write, S: Alter>(
         count: 0,
     };
     let last = Stamp::nearest(Stamp::GREATEST);
-    match desk.visit_cash(account, Stamp::nearest(0), last, &mut rows) {
+    match desk.visit_cash_rows(account, Stamp::nearest(0), last, &mut rows) {
         Ok(()) => Ok(rows.count),
         Err(stop) => Err(fault_from_walk_error(stop)),
     }
@@ -61,7 +61,7 @@ pub(crate) fn write_open_lot_lines<W: Write, S: Alter>(
     writer: &mut W,
 ) -> Result<u64, LinesFault>
     ensures keeps { PreservesDesk S.Store desk.old desk.new }
-    ensures written { HoldsForStoredTables S.Store desk.old desk.new (λ t. WritesCountedLines (account_lot_lines t account) (length (lot_rows_of_account t account)) (W.contents writer.old) (W.contents writer.new) result) }
+    ensures written { HoldsForStoredTables S.Store desk.old desk.new (λ t. WritesCountedLines (account_lot_lines t account) (length (holding_rows_of_account t account)) (W.contents writer.old) (W.contents writer.new) result) }
 {
     let mut rows = OpenLotWriter {
         alloc,

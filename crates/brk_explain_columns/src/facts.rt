@@ -7,7 +7,7 @@ ghost use Rattle.brk_money.specs.declared.fault.Fault.TheVariants.{Memory};
 ghost use Rattle.brk_report_lines.specs.Written.{line_with_line_feed};
 
 use brk_money::{Fault, Wide, write_cents};
-use brk_report_lines::{put_left_aligned, put_right_aligned};
+use brk_report_lines::{append_left_aligned, append_right_aligned};
 use itoa::Buffer;
 use std::alloc::Global;
 
@@ -17,7 +17,7 @@ pub fn put_labeled_text(out: &mut Vec<u8>, label: &str, text: &[u8]) -> Result<(
     ensures ok { OnOk result (out.new.items ≡ out.old.items ++ texts.labeled_text label.now text.now) }
     ensures fault { OnErr result (result ≡ Err Memory) }
 {
-    put_left_aligned(out, 15, label.as_bytes())?;
+    append_left_aligned(out, 15, label.as_bytes())?;
     out.push(b' ')?;
     out.extend_from_slice(text)?;
     Ok(())
@@ -29,9 +29,9 @@ pub fn put_labeled_value(out: &mut Vec<u8>, label: &str, value: &[u8]) -> Result
     ensures ok { OnOk result (out.new.items ≡ out.old.items ++ texts.labeled_value label.now value.now) }
     ensures fault { OnErr result (result ≡ Err Memory) }
 {
-    put_left_aligned(out, 15, label.as_bytes())?;
+    append_left_aligned(out, 15, label.as_bytes())?;
     out.push(b' ')?;
-    put_right_aligned(out, 22, value)
+    append_right_aligned(out, 22, value)
 }
 
 /// Appends a label and a number, right-aligned in 22 places.

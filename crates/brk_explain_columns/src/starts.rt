@@ -5,7 +5,7 @@ ghost use Rattle.brk_explain_model.specs.Texts.{amount_column, leading_row_colum
 ghost use Rattle.brk_money.specs.declared.fault.Fault.TheVariants.{Memory};
 
 use brk_money::{Fault, Id, Price, Wide, write_cents};
-use brk_report_lines::{put_left_aligned, put_right_aligned};
+use brk_report_lines::{append_left_aligned, append_right_aligned};
 use itoa::Buffer;
 use std::alloc::Global;
 
@@ -28,15 +28,15 @@ pub fn put_leading_row_columns(
     write_cents(&mut cents, Wide::from(price))?;
     let mut number = Buffer::new();
     let mut qty = Buffer::new();
-    put_left_aligned(out, 6, word.as_bytes())?;
+    append_left_aligned(out, 6, word.as_bytes())?;
     out.push(b' ')?;
     out.extend_from_slice(moment)?;
     out.push(b' ')?;
-    put_right_aligned(out, 13, number.format(id.get()).as_bytes())?;
+    append_right_aligned(out, 13, number.format(id.get()).as_bytes())?;
     out.push(b' ')?;
-    put_right_aligned(out, 11, qty.format(shares).as_bytes())?;
+    append_right_aligned(out, 11, qty.format(shares).as_bytes())?;
     out.push(b' ')?;
-    put_right_aligned(out, 10, cents.as_slice())
+    append_right_aligned(out, 10, cents.as_slice())
 }
 
 /// Appends a space, and an amount, right-aligned in 16 places.
@@ -48,7 +48,7 @@ pub fn put_value_column(alloc: Global, out: &mut Vec<u8>, amount: Wide) -> Resul
     let mut cents = Vec::new(alloc);
     write_cents(&mut cents, amount)?;
     out.push(b' ')?;
-    put_right_aligned(out, 16, cents.as_slice())
+    append_right_aligned(out, 16, cents.as_slice())
 }
 
 /// Appends a space, and an amount, right-aligned in 22 places.
@@ -60,7 +60,7 @@ pub fn put_amount_column(alloc: Global, out: &mut Vec<u8>, amount: Wide) -> Resu
     let mut cents = Vec::new(alloc);
     write_cents(&mut cents, amount)?;
     out.push(b' ')?;
-    put_right_aligned(out, 22, cents.as_slice())
+    append_right_aligned(out, 22, cents.as_slice())
 }
 
 /// Appends a space, and a number of shares, right-aligned in 11 places.
@@ -71,5 +71,5 @@ pub fn put_shares_column(out: &mut Vec<u8>, shares: i64) -> Result<(), Fault>
 {
     let mut qty = Buffer::new();
     out.push(b' ')?;
-    put_right_aligned(out, 11, qty.format(shares).as_bytes())
+    append_right_aligned(out, 11, qty.format(shares).as_bytes())
 }

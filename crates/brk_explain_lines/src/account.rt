@@ -18,7 +18,7 @@ use brk_explain_columns::{
 use brk_explain_rows::PricedHolding;
 use brk_money::{Cents, Fault, Id, Price, Wide, write_cents};
 use brk_ref::AccountRow;
-use brk_report_lines::{lot_line, put_left_aligned, put_right_aligned};
+use brk_report_lines::{lot_line, append_left_aligned, append_right_aligned};
 use itoa::Buffer;
 use std::alloc::Global;
 
@@ -57,8 +57,8 @@ fn put_trade_id_or_hyphen(out: &mut Vec<u8>, trade: Option<Id>) -> Result<(), Fa
 {
     let mut buffer = Buffer::new();
     match trade {
-        Some(trade) => put_right_aligned(out, 13, buffer.format(trade.get()).as_bytes()),
-        None => put_right_aligned(out, 13, b"-"),
+        Some(trade) => append_right_aligned(out, 13, buffer.format(trade.get()).as_bytes()),
+        None => append_right_aligned(out, 13, b"-"),
     }
 }
 
@@ -71,11 +71,11 @@ pub fn cash_posting_text(alloc: Global, row: &MoveRow, balance: Wide) -> Result<
     let mut id = Buffer::new();
     let moment = format_timestamp(alloc, row.stamp)?;
     let mut line = Vec::new(alloc);
-    put_left_aligned(&mut line, 6, b"Posted")?;
+    append_left_aligned(&mut line, 6, b"Posted")?;
     line.push(b' ')?;
     line.extend_from_slice(&moment)?;
     line.push(b' ')?;
-    put_right_aligned(&mut line, 13, id.format(row.id.get()).as_bytes())?;
+    append_right_aligned(&mut line, 13, id.format(row.id.get()).as_bytes())?;
     line.push(b' ')?;
     put_trade_id_or_hyphen(&mut line, row.trade)?;
     put_amount_column(alloc, &mut line, Wide::from(row.amount))?;
@@ -110,7 +110,7 @@ pub fn open_lot_text(alloc: Global, row: &HoldingRow) -> Result<Vec<u8>, Fault>
 {
     let lot = lot_line(alloc, row)?;
     let mut line = Vec::new(alloc);
-    put_left_aligned(&mut line, 6, b"Lot")?;
+    append_left_aligned(&mut line, 6, b"Lot")?;
     line.push(b' ')?;
     line.extend_from_slice(&lot)?;
     Ok(line)
@@ -148,11 +148,11 @@ fn put_holding_line_start(out: &mut Vec<u8>, symbol: &[u8]) -> Result<(), Fault>
     ensures ok { OnOk result (out.new.items ≡ out.old.items ++ lines.holding_line_start symbol.now) }
     ensures fault { OnErr result (result ≡ Err Memory) }
 {
-    put_left_aligned(out, 6, b"Held")?;
+    append_left_aligned(out, 6, b"Held")?;
     out.push(b' ')?;
-    put_left_aligned(out, 15, symbol)?;
+    append_left_aligned(out, 15, symbol)?;
     out.push(b' ')?;
-    put_right_aligned(out, 13, b"")?;
+    append_right_aligned(out, 13, b"")?;
     Ok(())
 }
 
@@ -171,9 +171,9 @@ fn put_quantity_and_price(
     let mut cents = Vec::new(alloc);
     write_cents(&mut cents, Wide::from(price))?;
     out.push(b' ')?;
-    put_right_aligned(out, 11, number.format(qty).as_bytes())?;
+    append_right_aligned(out, 11, number.format(qty).as_bytes())?;
     out.push(b' ')?;
-    put_right_aligned(out, 10, cents.as_slice())?;
+    append_right_aligned(out, 10, cents.as_slice())?;
     Ok(())
 }
 

@@ -16,7 +16,7 @@ use brk_explain_columns::{
 };
 use brk_explain_rows::OrderStory;
 use brk_money::{Fault, Wide};
-use brk_report_lines::put_left_aligned;
+use brk_report_lines::append_left_aligned;
 use std::alloc::Global;
 
 // Appends the line of a status change: its timestamp, and the code and the name of the status.
@@ -26,7 +26,7 @@ fn put_status_line(alloc: Global, out: &mut Vec<u8>, row: &HistoryRow) -> Result
     ensures fault { OnErr result (result ≡ Err Memory) }
 {
     let moment = format_timestamp(alloc, row.stamp)?;
-    put_left_aligned(out, 6, b"Status")?;
+    append_left_aligned(out, 6, b"Status")?;
     out.push(b' ')?;
     out.extend_from_slice(&moment)?;
     out.push(b' ')?;
@@ -106,7 +106,7 @@ fn put_security_line(alloc: Global, out: &mut Vec<u8>, order: &OrderStory) -> Re
     ensures fault { OnErr result (result ≡ Err Memory) }
 {
     let mut security = Vec::new(alloc);
-    put_left_aligned(&mut security, 15, order.trade.symbol.as_str().as_bytes())?;
+    append_left_aligned(&mut security, 15, order.trade.symbol.as_str().as_bytes())?;
     put_labeled_text(out, "Security", &security)?;
     out.push(b' ')?;
     out.extend_from_slice(order.security.name.as_str().as_bytes())?;

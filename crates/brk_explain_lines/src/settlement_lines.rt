@@ -9,7 +9,7 @@ ghost use Rattle.brk_money.specs.Spelling.{day_text};
 ghost use Rattle.brk_money.specs.declared.fault.Fault.TheVariants.{Memory};
 
 use crate::sums::{negated_charge, negated_commission, negated_withheld_tax, signed_trade_value};
-use brk_changes::settlement_days;
+use brk_changes::days_to_settlement;
 use brk_explain_columns::{
     put_labeled_amount_line, put_labeled_number_line, put_labeled_text_line,
 };
@@ -57,7 +57,7 @@ fn format_day(alloc: Global, day: Day) -> Result<Vec<u8>, Fault>
     Ok(text)
 }
 
-// Returns the text of a day, YYYY-MM-DD, or `none` if there is no day.
+// Returns the text of a day, YYYY-MM-DD, or `before_first_trade` if there is no day.
 fn format_day_or_none(alloc: Global, rule: Option<Day>) -> Result<Vec<u8>, Fault>
     ensures ok { IfOk result (λ text. text.items ≡ option_map_or day_text rule (codes "none")) }
     ensures fault { OnErr result (result ≡ Err Memory) }
@@ -68,7 +68,7 @@ fn format_day_or_none(alloc: Global, rule: Option<Day>) -> Result<Vec<u8>, Fault
     }
 }
 
-/// Appends the lines of the day of completion, of the settlement day or `none`, of the number of
+/// Appends the lines of the day of completion, of the settlement day or `before_first_trade`, of the number of
 /// days to settle, and of the due day.
 #[tactic(auto, unfolding(brk_explain_model::specs::TradeLines::due_day_lines))]
 pub(crate) fn put_due_day_lines(
@@ -81,7 +81,7 @@ pub(crate) fn put_due_day_lines(
     ensures fault { OnErr result (result ≡ Err Memory) }
 {
     let completed = day_of(order.trade.stamp);
-    let days = settlement_days(story.rule, completed);
+    let days = days_to_settlement(story.rule, completed);
     let completed = format_day(alloc, completed)?;
     let first = format_day_or_none(alloc, story.rule)?;
     let due = format_day(alloc, story.settlement.due_day)?;

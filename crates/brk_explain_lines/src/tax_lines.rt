@@ -17,7 +17,7 @@ use brk_explain_columns::{
 use brk_explain_rows::{OrderStory, ResultStory};
 use brk_money::{Amount, Fault, Wide};
 use brk_ref::{Band, Tax};
-use brk_report_lines::{put_left_aligned, put_right_aligned};
+use brk_report_lines::{append_left_aligned, append_right_aligned};
 use itoa::Buffer;
 use std::alloc::Global;
 
@@ -30,11 +30,11 @@ fn put_tax_rate_line(out: &mut Vec<u8>, rate: &Tax) -> Result<(), Fault>
 {
     let mut id = Buffer::new();
     let mut share = Buffer::new();
-    put_left_aligned(out, 6, b"Rate")?;
+    append_left_aligned(out, 6, b"Rate")?;
     out.push(b' ')?;
-    put_right_aligned(out, 13, id.format(rate.id.get()).as_bytes())?;
+    append_right_aligned(out, 13, id.format(rate.id.get()).as_bytes())?;
     out.push(b' ')?;
-    put_right_aligned(out, 11, share.format(rate.rate.get()).as_bytes())?;
+    append_right_aligned(out, 11, share.format(rate.rate.get()).as_bytes())?;
     out.push(b' ')?;
     out.extend_from_slice(rate.name.as_str().as_bytes())?;
     out.push(b'\n')?;
@@ -126,7 +126,7 @@ fn put_band_tier_and_exchange(out: &mut Vec<u8>, band: &Band) -> Result<(), Faul
     Ok(())
 }
 
-// Appends the line of the current commission band, or of `none` if there is none. Fails with
+// Appends the line of the current commission band, or of `before_first_trade` if there is none. Fails with
 // `Memory` only.
 #[tactic(auto, unfolding(brk_explain_model::specs::TradeLines::commission_band_line))]
 fn put_commission_band_line(out: &mut Vec<u8>, band: &Option<Band>) -> Result<(), Fault>
@@ -143,7 +143,7 @@ fn put_commission_band_line(out: &mut Vec<u8>, band: &Option<Band>) -> Result<()
     Ok(())
 }
 
-// Appends the line of the commission at the rate of the current band, or of `none` if there is no
+// Appends the line of the commission at the rate of the current band, or of `before_first_trade` if there is no
 // band. Fails with `Memory` only.
 #[tactic(auto, unfolding(brk_explain_model::specs::TradeLines::current_commission_line))]
 fn put_current_commission_line(

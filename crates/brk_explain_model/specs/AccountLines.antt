@@ -9,7 +9,7 @@ use Rattle.brk_model.specs.Lists.{total_by}
 use Rattle.brk_model.specs.Rows.{nonnegative_cents_text}
 use Rattle.brk_model.specs.Tables.{Tables, AccountRow, HoldingRow, MoveRow, SummaryRow}
 use Rattle.brk_model.specs.Joins.{last_price_in_tables}
-use Rattle.brk_model.specs.Statement.{left_aligned_text, right_aligned_text, cash_move_rows_of_account, cash_move_rows_within_days, lot_line, lot_rows_of_account}
+use Rattle.brk_model.specs.Statement.{left_aligned_text, right_aligned_text, cash_move_rows_of_account, cash_move_rows_within_days, lot_line, holding_rows_of_account}
 use Rattle.brk_explain_model.specs.Texts.{amount_column, labeled_number, timestamp_text, labeled_amount, labeled_text}
 use Rattle.brk_explain_model.specs.Running.{lines_with_running_total}
 
@@ -118,5 +118,5 @@ account_explanation_lines tables a =
     account_header_lines a
     ++ cash_posting_lines a.opening (account_cash_rows_by_stamp tables a.id)
     ++ balance_header_lines a
-    ++ map open_lot_line (lot_rows_of_account tables a.id)
-    ++ holding_and_total_lines a (priced_holdings_of_account tables a.id) (length (account_cash_rows_by_stamp tables a.id)) (length (lot_rows_of_account tables a.id))
+    ++ map open_lot_line (holding_rows_of_account tables a.id)
+    ++ holding_and_total_lines a (priced_holdings_of_account tables a.id) (length (account_cash_rows_by_stamp tables a.id)) (length (holding_rows_of_account tables a.id))

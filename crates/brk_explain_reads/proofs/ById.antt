@@ -13,10 +13,10 @@ use Rattle.brk_money.specs.declared.status.Status.TheVariants.{Completed}
 use Rattle.brk_model.specs.Joins.{trade_rows_oldest_first, trade_row_with_id}
 use Rattle.brk_model.specs.Lists.{sort_by_key}
 use Rattle.brk_model.specs.Tables.{HoldingHistoryRow, Tables, TradeRow}
-use Rattle.brk_tables_schema.specs.Made.{HasRows}
+use Rattle.brk_tables_schema.specs.Made.{HasDeskTables}
 use Rattle.brk_explain_model.specs.Holdings.{LotStory, completed_trades_in_symbol, lot_with_later_changes, lots_opened_in_symbol}
 use Rattle.brk_explain_model.specs.Trades.{has_completed_status, opened_lot_row}
-use Rattle.brk_store.proofs.WalkedLists.{Climb, oldest_same, trades_climb}
+use Rattle.brk_store.proofs.WalkedLists.{IsStrictlyAscendingBy, oldest_same, trades_climb}
 use Rattle.brk_explain_reads.specs.HoldingParts.{lot_if_opened, lot_opened_by_trade}
 use Rattle.brk_explain_reads.proofs.Each.{filter_same}
 
@@ -36,7 +36,7 @@ found_behind n x all (y ∷ ys) h k = (rw (not_same (n x) (n y) h.0) k.0, found_
 found_first : {X : Type 0} (n : X → ℕ) (x : X) (xs : List X) → find (λ z. n z == n x) (x ∷ xs) ≡ Some x
 found_first n x xs = rw (same_self (n x)) refl
 
-all_found : {X : Type 0} (n : X → ℕ) (xs : List X) → Climb n xs → AllByRecursion (λ y. find (λ z. n z == n y) xs ≡ Some y) xs
+all_found : {X : Type 0} (n : X → ℕ) (xs : List X) → IsStrictlyAscendingBy n xs → AllByRecursion (λ y. find (λ z. n z == n y) xs ≡ Some y) xs
 all_found n [] h = tt
 all_found n (x ∷ xs) h = (found_first n x xs, found_behind n x xs xs h.0 (all_found n xs h.1))
 
@@ -45,7 +45,7 @@ all_found n (x ∷ xs) h = (found_first n x xs, found_behind n x xs xs h.0 (all_
 abbrev AreFound : Tables → List TradeRow → Type 0
 AreFound t rows = AllByRecursion (λ (u : TradeRow). trade_row_with_id t u.id ≡ Some u) rows
 
-done_found : (t : Tables) (account : ℕ) (symbol : Text) → Climb (λ r. r.id) t.trades → AreFound t (completed_trades_in_symbol t account symbol)
+done_found : (t : Tables) (account : ℕ) (symbol : Text) → IsStrictlyAscendingBy (λ r. r.id) t.trades → AreFound t (completed_trades_in_symbol t account symbol)
 done_found t account symbol climb =
     let mine = λ (u : TradeRow). has_completed_status u && (u.account == account) && bytes_eq u.symbol symbol in
     All-sort (λ (u : TradeRow). trade_row_with_id t u.id ≡ Some u) (λ a b. nat_lt a.stamp b.stamp) (filter mine t.trades)
@@ -63,7 +63,7 @@ turned false b false = refl
 abbrev pub held_ids : Tables → ℕ → Text → List ℕ
 held_ids t account symbol = map (λ (r : TradeRow). r.id) (trade_rows_oldest_first (filter (λ r. (r.account == account) && (bytes_eq r.symbol symbol && is_same_trade_status r.status Completed)) t.trades))
 
-held_ids_are : (t : Tables) (account : ℕ) (symbol : Text) → Climb (λ r. r.id) t.trades → held_ids t account symbol ≡ map (λ (r : TradeRow). r.id) (completed_trades_in_symbol t account symbol)
+held_ids_are : (t : Tables) (account : ℕ) (symbol : Text) → IsStrictlyAscendingBy (λ r. r.id) t.trades → held_ids t account symbol ≡ map (λ (r : TradeRow). r.id) (completed_trades_in_symbol t account symbol)
 held_ids_are t account symbol climb =
     let given = λ (r : TradeRow). (r.account == account) && (bytes_eq r.symbol symbol && is_same_trade_status r.status Completed) in
     let mine = λ (u : TradeRow). has_completed_status u && (u.account == account) && bytes_eq u.symbol symbol in
@@ -92,7 +92,7 @@ lots_back t (u ∷ rows) h =
     ∙ ap (λ ls. option_to_list (lot_if_opened (opened_lot_row t u.id) (Some (lot_with_later_changes t u))) ++ ls) (lots_back t rows h.1)
     ∙ lot_kept (lot_with_later_changes t) u (filter (λ (r : TradeRow). is_some (opened_lot_row t r.id)) rows) (opened_lot_row t u.id)
 
-module _ (t : Tables) (db : Database) (has : HasRows t db) (account : ℕ) (symbol : Text) where
+module _ (t : Tables) (db : Database) (has : HasDeskTables t db) (account : ℕ) (symbol : Text) where
   pub done_known : flat_map (λ id. option_to_list (trade_row_with_id t id)) (held_ids t account symbol) ≡ completed_trades_in_symbol t account symbol
   done_known =
       let climb = trades_climb t db has in

@@ -4,7 +4,7 @@ use Rattle.sqlite_trees.specs.declared.store.Store.{Ghosts}
 use Rattle.sqlite.specs.Held.{Held}
 use Rattle.brk_model.specs.Tables.{Tables}
 use Rattle.brk_store.specs.Holds.{ReadPost}
-use Rattle.brk_store.specs.Kept.{clean_at, kept_read}
+use Rattle.brk_store.specs.ReadSequences.{disk_was_clean_before_reads, single_read_changes_nothing}
 use Rattle.brk_store.proofs.Retelling.{read_after}
 
 module _ {S : Type 0} (g : Ghosts S) (old mid end : Held S) where
@@ -15,9 +15,9 @@ module _ {S : Type 0} (g : Ghosts S) (old mid end : Held S) where
       let out : Result W F = Ok w in
       let on = read_after g old mid end v out P Q first second in
       record {
-        told = λ clean t holds. tell t (first.told (clean_at mid end (kept_read mid end out Q second) clean) t holds) (on.told clean t holds);
+        answered = λ clean t holds. tell t (first.answered (disk_was_clean_before_reads mid end (single_read_changes_nothing mid end out Q second) clean) t holds) (on.answered clean t holds);
         opened = on.opened;
-        kept = on.kept;
+        same_rows = on.same_rows;
         same = on.same;
         survives = on.survives;
       }
@@ -27,4 +27,4 @@ module _ {S : Type 0} (g : Ghosts S) (old mid end : Held S) where
       → ReadPost {E = E} g old mid (Ok v) P → ReadPost g mid end r Q → ReadPost {E = H} g old end (Err e) R
   read_failed v r e P Q R first second =
       let on = read_after g old mid end v r P Q first second in
-      record { told = λ clean. tt; opened = λ clean. tt; kept = on.kept; same = on.same; survives = on.survives }
+      record { answered = λ clean. tt; opened = λ clean. tt; same_rows = on.same_rows; same = on.same; survives = on.survives }

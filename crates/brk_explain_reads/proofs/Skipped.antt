@@ -12,16 +12,16 @@ use Rattle.sqlite.specs.State.{HasCleanDisk}
 use Rattle.brk_money.specs.declared.fault.Fault.{Fault}
 use Rattle.brk_model.specs.Run.{IsCallFault}
 use Rattle.brk_model.specs.Tables.{AccountRow, Tables, TradeRow}
-use Rattle.brk_tables_schema.specs.Made.{HasRows}
+use Rattle.brk_tables_schema.specs.Made.{HasDeskTables}
 use Rattle.brk_tables_walks.specs.Walk.{IsWalkError}
-use Rattle.brk_tables_walks.specs.Walks.{StopsBeforeEnd, TakesInOrder}
+use Rattle.brk_tables_walks.specs.Walks.{TableWalkEndsEarly, TakesListSatisfying}
 use Rattle.brk_tables_walks.specs.declared.walking.WalkError.{WalkError}
 use Rattle.brk_tables_walks.specs.declared.walking.WalkError.TheVariants.{Failed, Cause}
 use Rattle.brk_explain_model.specs.BrokerLines.{accounts_with_broker, broker_of_account_or_zero, completed_trades_of_broker}
 use Rattle.brk_store.specs.Holds.{HoldsRows, ReadPost}
-use Rattle.brk_store.specs.Kept.{IsUnchangedByReads, clean_at, kept_read, kept_then}
-use Rattle.brk_store.specs.Walked.{IsWholeStoredList, IsPrefixOfStoredList, WalkPost, completed_trades_by_stamp}
-use Rattle.brk_store.proofs.WalkedLists.{Climb, accounts_climb, completed_filter}
+use Rattle.brk_store.specs.ReadSequences.{IsUnchangedByReads, disk_was_clean_before_reads, single_read_changes_nothing, joined_reads_change_nothing}
+use Rattle.brk_store.specs.Walked.{EqualsStoredList, IsPrefixOfStoredList, WalkPost, completed_trades_by_stamp}
+use Rattle.brk_store.proofs.WalkedLists.{IsStrictlyAscendingBy, accounts_climb, completed_filter}
 use Rattle.brk_explain_reads.specs.Skipping.{TakesOnlyIf}
 
 -- ---- the accounts of a broker, by their ids
@@ -61,7 +61,7 @@ joined false false rest found g h = h
 not_zero : (n : ℕ) → 1 ≤ n → (0 == n) ≡ false
 not_zero n low = grind (arith, nat_tests)
 
-among_is : (broker x : ℕ) → 1 ≤ broker → (rows : List AccountRow) → Climb (λ (a : AccountRow). a.id) rows
+among_is : (broker x : ℕ) → 1 ≤ broker → (rows : List AccountRow) → IsStrictlyAscendingBy (λ (a : AccountRow). a.id) rows
     → among broker x rows ≡ (option_map_or (λ (a : AccountRow). a.broker) (find (λ (a : AccountRow). a.id == x) rows) 0 == broker)
 among_is broker x low [] h = sym (not_zero broker low)
 among_is broker x low (a ∷ rows) h =
@@ -71,7 +71,7 @@ among_is broker x low (a ∷ rows) h =
     ∙ sym (found_or broker a (find (λ (r : AccountRow). r.id == x) rows) (a.id == x))
 
 -- an account is among those that were found where it is of the broker
-pub accounts_known : (t : Tables) (db : Database) → HasRows t db → (broker : ℕ) → 1 ≤ broker → (ids : List ℕ) → ids ≡ map (λ (a : AccountRow). a.id) (accounts_with_broker t broker)
+pub accounts_known : (t : Tables) (db : Database) → HasDeskTables t db → (broker : ℕ) → 1 ≤ broker → (ids : List ℕ) → ids ≡ map (λ (a : AccountRow). a.id) (accounts_with_broker t broker)
     → (x : ℕ) → list_any (λ i. i == x) ids ≡ (broker_of_account_or_zero t x == broker)
 accounts_known t db has broker low ids e x = ap (list_any (λ i. i == x)) e ∙ among_is broker x low t.accounts (accounts_climb t db has)
 
@@ -118,7 +118,7 @@ walk_none g old new of list takes stops v fault Q may read = record {
   early = λ clean. (may, ([], refl, λ t holds. (list t, refl)));
   fault = may;
   opened = λ clean. tt;
-  kept = read.kept;
+  same_rows = read.same_rows;
   same = read.same;
   survives = read.survives;
 }
@@ -146,29 +146,29 @@ module _ {S A X M V W E : Type 0} (g : Ghosts S) (old mid new : Held S) (of : X 
       )
 
   module _ {Y F : Type 0} (before after : W) (result : Result (Unit {0}) (WalkError E)) (w : WalkPost g mid new of all TakesOn StopsOn before after result) (y : Y) (Q : Y → Tables → Type 0) (first : ReadPost {E = F} g old mid (Ok y) Q) (pick : Tables → M → Bool)
-      (passes : (t : Tables) → HasRows t (state g old).now → Q y t → (x : X) → test (keep before) x ≡ pick t (of x)) (picked : (t : Tables) → filter (pick t) (all t) ≡ list t) where
+      (passes : (t : Tables) → HasDeskTables t (state g old).now → Q y t → (x : X) → test (keep before) x ≡ pick t (of x)) (picked : (t : Tables) → filter (pick t) (all t) ≡ list t) where
     kept_on : IsUnchangedByReads g mid new
-    kept_on = record { kept = w.kept; same = w.same; survives = w.survives }
+    kept_on = record { same_rows = w.same_rows; same = w.same; survives = w.survives }
 
     passes_at : HasCleanDisk (state g mid) → (t : Tables) → HoldsRows g old t → (x : X) → test (keep before) x ≡ pick t (of x)
-    passes_at clean t holds = passes t (holds (clean_at old mid (kept_read old mid (Ok y) Q first) clean) (first.opened clean)) (first.told clean t holds)
+    passes_at clean t holds = passes t (holds (disk_was_clean_before_reads old mid (single_read_changes_nothing old mid (Ok y) Q first) clean) (first.opened clean)) (first.answered clean t holds)
 
-    all_on : HasCleanDisk (state g mid) → (xs : List X) → IsWholeStoredList g mid all (map of xs) → IsWholeStoredList g old list (map of (filter (test (keep before)) xs))
-    all_on clean xs h t holds = map_kept of (test (keep before)) (pick t) (passes_at clean t holds) xs ∙ ap (filter (pick t)) (h t (first.kept t holds)) ∙ picked t
+    all_on : HasCleanDisk (state g mid) → (xs : List X) → EqualsStoredList g mid all (map of xs) → EqualsStoredList g old list (map of (filter (test (keep before)) xs))
+    all_on clean xs h t holds = map_kept of (test (keep before)) (pick t) (passes_at clean t holds) xs ∙ ap (filter (pick t)) (h t (first.same_rows t holds)) ∙ picked t
 
     first_on : HasCleanDisk (state g mid) → (xs : List X) → IsPrefixOfStoredList g mid all (map of xs) → IsPrefixOfStoredList g old list (map of (filter (test (keep before)) xs))
     first_on clean xs h t holds =
-        let it = h t (first.kept t holds) in (
+        let it = h t (first.same_rows t holds) in (
           filter (pick t) it.0,
           ap (λ ms. ms ++ filter (pick t) it.0) (map_kept of (test (keep before)) (pick t) (passes_at clean t holds) xs) ∙ sym (filter-append (pick t) (map of xs) it.0) ∙ ap (filter (pick t)) it.1 ∙ picked t,
         )
 
-    done_on : (r : Result (Unit {0}) (WalkError E)) → HasCleanDisk (state g mid) → OnOk r (TakesInOrder (IsWholeStoredList g mid all) of TakesOn before after) → OnOk r (TakesInOrder (IsWholeStoredList g old list) of takes (inner before) (inner after))
+    done_on : (r : Result (Unit {0}) (WalkError E)) → HasCleanDisk (state g mid) → OnOk r (TakesListSatisfying (EqualsStoredList g mid all) of TakesOn before after) → OnOk r (TakesListSatisfying (EqualsStoredList g old list) of takes (inner before) (inner after))
     done_on (Ok u) clean h = (filter (test (keep before)) h.0, (folds_on before h.0 after h.1).1, all_on clean h.0 h.2)
     done_on (Err stop) clean h = tt
 
-    breaks_on : (r : Result (Unit {0}) (WalkError E)) → HasCleanDisk (state g mid) → IfErr r (StopsBeforeEnd (IsPrefixOfStoredList g mid all) of TakesOn StopsOn before after)
-        → IfErr r (StopsBeforeEnd (IsPrefixOfStoredList g old list) of takes stops (inner before) (inner after))
+    breaks_on : (r : Result (Unit {0}) (WalkError E)) → HasCleanDisk (state g mid) → IfErr r (TableWalkEndsEarly (IsPrefixOfStoredList g mid all) of TakesOn StopsOn before after)
+        → IfErr r (TableWalkEndsEarly (IsPrefixOfStoredList g old list) of takes stops (inner before) (inner after))
     breaks_on (Ok u) clean h = tt
     breaks_on (Err (Failed fault)) clean h = (h.0, (filter (test (keep before)) h.1.0, (folds_on before h.1.0 after h.1.1).1, first_on clean h.1.0 h.1.2))
     breaks_on (Err (Cause e)) clean h =
@@ -193,13 +193,13 @@ module _ {S A X M V W E : Type 0} (g : Ghosts S) (old mid new : Held S) (of : X 
 
     pub walk_on : WalkPost g old new of list takes stops (inner before) (inner after) result
     walk_on =
-        let whole : IsUnchangedByReads g old new = kept_then old mid new (kept_read old mid (Ok y) Q first) kept_on in
+        let whole : IsUnchangedByReads g old new = joined_reads_change_nothing old mid new (single_read_changes_nothing old mid (Ok y) Q first) kept_on in
         record {
-          all = λ clean. let late = clean_at mid new kept_on clean in done_on result late (w.all clean);
-          early = λ clean. let late = clean_at mid new kept_on clean in breaks_on result late (w.early clean);
+          all = λ clean. let late = disk_was_clean_before_reads mid new kept_on clean in done_on result late (w.all clean);
+          early = λ clean. let late = disk_was_clean_before_reads mid new kept_on clean in breaks_on result late (w.early clean);
           fault = ends_on result w.fault;
-          opened = λ clean. opens_on result (clean_at mid new kept_on clean);
-          kept = whole.kept;
+          opened = λ clean. opens_on result (disk_was_clean_before_reads mid new kept_on clean);
+          same_rows = whole.same_rows;
           same = whole.same;
           survives = whole.survives;
         }

@@ -25,9 +25,9 @@ module _ {S X M V E F : Type 0} (g : Ghosts S) (old new : Held S) (of : X → M)
   pub walk_told : {Y : Type 0} (u : Unit {0}) (y : Y) (R : Y → Tables → Type 0) → ((t : Tables) (taken : List X) → FoldsTo takes before taken after → map of taken ≡ list t → R y t)
       → WalkPost g old new of list takes stops before after (Ok u) → ReadPost {E = F} g old new (Ok y) R
   walk_told u y R tell walked = record {
-    told = λ clean t holds. let h = walked.all clean in tell t h.0 h.1 (h.2 t holds);
+    answered = λ clean t holds. let h = walked.all clean in tell t h.0 h.1 (h.2 t holds);
     opened = walked.opened;
-    kept = walked.kept;
+    same_rows = walked.same_rows;
     same = walked.same;
     survives = walked.survives;
   }
@@ -35,9 +35,9 @@ module _ {S X M V E F : Type 0} (g : Ghosts S) (old new : Held S) (of : X → M)
   -- that ended early
   pub walk_failed : {Y : Type 0} (stop : WalkError E) (fault : F) (R : Y → Tables → Type 0) → WalkPost g old new of list takes stops before after (Err stop) → ReadPost {E = F} g old new (Err fault) R
   walk_failed stop fault R walked = record {
-    told = λ clean. tt;
+    answered = λ clean. tt;
     opened = λ clean. tt;
-    kept = walked.kept;
+    same_rows = walked.same_rows;
     same = walked.same;
     survives = walked.survives;
   }

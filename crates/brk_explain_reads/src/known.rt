@@ -74,7 +74,7 @@ pub(crate) fn read_existing_tax<S: Alter>(store: &mut Store<S>, id: Id) -> Resul
     ensures read { ReadPost S.Store store.old store.new result (λ tax t. find (λ r. r.id == id) t.tax_rates ≡ Some (abstract_tax_rate tax)) }
     ensures fault { IfErr result IsCallFault }
 {
-    match store.tax_rate(id)? {
+    match store.tax_with_id(id)? {
         Some(tax) => Ok(tax),
         None => Err(Fault::Store),
     }

@@ -33,7 +33,7 @@ fn read_tax_rates_of_customer<S: Alter>(
     ensures read { ReadPost S.Store store.old store.new result (λ rates t. map abstract_tax_rate rates.items ≡ tax_rates_of_customer t customer) }
     ensures fault { IfErr result IsCallFault }
 {
-    let rows = store.customer_taxes_of(alloc, customer)?;
+    let rows = store.taxes_of_customer(alloc, customer)?;
     let mut rates = Vec::new(alloc);
     for row in &rows {
         let rate = read_existing_tax(store, row.tax)?;
@@ -83,7 +83,7 @@ fn read_band_for_tier<S: Alter>(
     ensures read { ReadPost S.Store store.old store.new result (λ band t. option_map abstract_band band ≡ band_for_tier_and_exchange t (abstract_trade_row order.now.trade) tier order.now.security.exchange) }
     ensures fault { IfErr result IsCallFault }
 {
-    let bands = store.bands_for(alloc, tier, order.trade.kind, &order.security.exchange)?;
+    let bands = store.commission_bands(alloc, tier, order.trade.kind, &order.security.exchange)?;
     Ok(first_band_with_quantity(bands, order.trade.qty))
 }
 

@@ -15,7 +15,7 @@ use brk_explain_columns::{
 };
 use brk_money::{Fault, Wide};
 use brk_ref::BrokerRow;
-use brk_report_lines::{put_left_aligned, put_right_aligned};
+use brk_report_lines::{append_left_aligned, append_right_aligned};
 use itoa::Buffer;
 use std::alloc::Global;
 
@@ -48,13 +48,13 @@ pub fn trade_commission_text(alloc: Global, row: &TradeRow, total: Wide) -> Resu
     let mut account = Buffer::new();
     let moment = format_timestamp(alloc, row.stamp)?;
     let mut line = Vec::new(alloc);
-    put_left_aligned(&mut line, 6, b"Trade")?;
+    append_left_aligned(&mut line, 6, b"Trade")?;
     line.push(b' ')?;
     line.extend_from_slice(&moment)?;
     line.push(b' ')?;
-    put_right_aligned(&mut line, 13, id.format(row.id.get()).as_bytes())?;
+    append_right_aligned(&mut line, 13, id.format(row.id.get()).as_bytes())?;
     line.push(b' ')?;
-    put_right_aligned(&mut line, 13, account.format(row.account.get()).as_bytes())?;
+    append_right_aligned(&mut line, 13, account.format(row.account.get()).as_bytes())?;
     put_amount_column(alloc, &mut line, Wide::from(row.commission))?;
     put_amount_column(alloc, &mut line, total)?;
     line.push(b'\n')?;

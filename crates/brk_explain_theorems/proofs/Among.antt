@@ -3,7 +3,7 @@ use Rattle.std.proofs.Common.{◌≡◌, ◌==◌, true, false, List, [], ◌∷
 use Rattle.std.specs.List.{AllByRecursion}
 use Rattle.brk_model.specs.Base.{Base, completed_trades, is_completed, last_status_stamp_of_trade, trade_with_id}
 use Rattle.brk_model.specs.Records.{Movement, Trade}
-use Rattle.brk_book_theorems.specs.Books.{BooksInvariant, HasOtherStatusStamp, HasDistinctStatusStamps, HasDistinctMovementStamps}
+use Rattle.brk_book_theorems.specs.Books.{BooksInvariant, HasLastStatusAtOtherStamp, HasDistinctLastStatusStamps, HasDistinctMovementStamps}
 use Rattle.brk_book_theorems.proofs.Bools.{numbers_back}
 use Rattle.brk_book_theorems.proofs.LotReading.{IdsApart, numbered_rise, rise_apart}
 use Rattle.brk_book_theorems.proofs.Places.{FoundAt, filter-one, find-at}
@@ -25,19 +25,19 @@ pub ids_around : (xs : List Trade) (t : Trade) (ys : List Trade) → IdsApart (x
 ids_around [] t ys d = d.0
 ids_around (x ∷ xs) t ys d = ids_around xs t ys d.1
 
-moments_front : (xs : List Trade) (t : Trade) (ys : List Trade) → HasDistinctStatusStamps (xs ++ t ∷ ys) → AllByRecursion (λ u. (last_status_stamp_of_trade u == last_status_stamp_of_trade t) ≡ false) xs
+moments_front : (xs : List Trade) (t : Trade) (ys : List Trade) → HasDistinctLastStatusStamps (xs ++ t ∷ ys) → AllByRecursion (λ u. (last_status_stamp_of_trade u == last_status_stamp_of_trade t) ≡ false) xs
 moments_front [] t ys m = tt
 moments_front (x ∷ xs) t ys m =
     (numbers_back (last_status_stamp_of_trade x) (last_status_stamp_of_trade t) ∙ (All-back (λ u. (last_status_stamp_of_trade u == last_status_stamp_of_trade x) ≡ false) xs (t ∷ ys) m.0).0, moments_front xs t ys m.1)
 
-moments_back : (xs : List Trade) (t : Trade) (ys : List Trade) → HasDistinctStatusStamps (xs ++ t ∷ ys) → AllByRecursion (λ u. (last_status_stamp_of_trade u == last_status_stamp_of_trade t) ≡ false) ys
+moments_back : (xs : List Trade) (t : Trade) (ys : List Trade) → HasDistinctLastStatusStamps (xs ++ t ∷ ys) → AllByRecursion (λ u. (last_status_stamp_of_trade u == last_status_stamp_of_trade t) ≡ false) ys
 moments_back [] t ys m = m.0
 moments_back (x ∷ xs) t ys m = moments_back xs t ys m.1
 
 moved_otherwhen : (xs : List Trade) (t : Trade) (ys : List Trade) (ms : List Movement) → HasDistinctMovementStamps (xs ++ t ∷ ys) ms → AllByRecursion (λ m. (m.stamp == last_status_stamp_of_trade t) ≡ false) ms
 moved_otherwhen xs t ys [] h = tt
 moved_otherwhen xs t ys (m ∷ ms) h =
-    (numbers_back m.stamp (last_status_stamp_of_trade t) ∙ (All-back (HasOtherStatusStamp m.stamp) xs (t ∷ ys) h.0).0, moved_otherwhen xs t ys ms h.2)
+    (numbers_back m.stamp (last_status_stamp_of_trade t) ∙ (All-back (HasLastStatusAtOtherStamp m.stamp) xs (t ∷ ys) h.0).0, moved_otherwhen xs t ys ms h.2)
 
 pub among : (base : Base) (t : Trade) → BooksInvariant base → trade_with_id base t.id ≡ Some t → is_completed t ≡ true → Among base t
 among base t books e c = record {
@@ -47,8 +47,8 @@ among base t books e c = record {
   ids_before = All-filter (λ u. (u.id == t.id) ≡ false) is_completed f.before f.others;
   ids_after = All-filter (λ u. (u.id == t.id) ≡ false) is_completed f.after
       (ids_around f.before t f.after (subst IdsApart f.stands (rise_apart base.trades (numbered_rise 1 base.trades books.numbered))));
-  moments_before = moments_front X t Z (subst HasDistinctStatusStamps done books.moments);
-  moments_after = moments_back X t Z (subst HasDistinctStatusStamps done books.moments);
+  moments_before = moments_front X t Z (subst HasDistinctLastStatusStamps done books.moments);
+  moments_after = moments_back X t Z (subst HasDistinctLastStatusStamps done books.moments);
   moved = moved_otherwhen X t Z base.movements (subst (λ ts. HasDistinctMovementStamps ts base.movements) done books.movements.apart);
 }
   where

@@ -10,7 +10,7 @@ use Rattle.brk_money.specs.Kinds.{is_same_trade_type, side_of_trade_type}
 use Rattle.brk_money.specs.Spelling.{Text}
 use Rattle.brk_money.specs.declared.tax_status.TaxStatus.TheVariants.{Untaxed}
 use Rattle.brk_model.specs.Base as base_spec
-use Rattle.brk_model.specs.Base.{Base, account_with_id, commission_band_for, is_taxable_status, completed_trades, customer_id_of_account, customer_with_id, exchange_of_security, is_completed, completion_price, security_with_symbol, is_withholding_status, tax_status_in_accounts, tier_of_account, trade_with_id}
+use Rattle.brk_model.specs.Base.{Base, account_with_id, commission_band_for_quantity, is_taxable_status, completed_trades, customer_id_of_account, customer_with_id, exchange_of_security, is_completed, completion_price, security_with_symbol, is_withholding_status, tax_status_in_accounts, tier_of_account, trade_with_id}
 use Rattle.brk_model.specs.Derived.{settlement_amount, deal_of_trade, due_day, postings_of_base, signed_proceeds}
 use Rattle.brk_model.specs.Orders.{commission_by_band, tax_on_deal}
 use Rattle.brk_model.specs.Joins.{account_row_with_id, security_row_with_symbol}
@@ -20,7 +20,7 @@ use Rattle.brk_model.specs.Sheets.{sheets, tables_sorted_by_key}
 use Rattle.brk_model.specs.Tables.{AccountRow, SettlementRow, Tables, account_row, security_row, settlement_row, tables_of_base_in_schema, trade_row}
 use Rattle.brk_explain_model.specs.Trades.{band_for_customer_and_security, band_of_trade, band_for_tier_and_exchange, commission_in_current_band, zero_settlement_row, tax_rates_of_customer, sum_of_tax_rates, settlement_of_trade_or_zeros, tax_at_current_rates, signed_trade_value, withheld_tax_of_trade}
 use Rattle.brk_book_theorems.specs.Books.{BooksInvariant}
-use Rattle.brk_book_theorems.specs.Reads.{rate_by_tax_id}
+use Rattle.brk_book_theorems.specs.Reads.{rate_of_tax_rate_with_id}
 use Rattle.brk_book_theorems.proofs.BandReading.{reads_band}
 use Rattle.brk_book_theorems.proofs.Places.{some_of}
 use Rattle.brk_book_theorems.proofs.Reading.{find-id, find-map, reads_account, reads_customer}
@@ -87,11 +87,11 @@ amount_parts base t =
 -- ---- the tax of now
 
 rates_same : (T : Tables) (xs : List CustomerTax)
-    → sum_of_tax_rates (flat_map (λ x. option_to_list (find (λ (r : TaxRate). r.id == x.tax) T.tax_rates)) xs) ≡ sum_by (λ x. unwrap_or (rate_by_tax_id T x.tax) 0) xs
+    → sum_of_tax_rates (flat_map (λ x. option_to_list (find (λ (r : TaxRate). r.id == x.tax) T.tax_rates)) xs) ≡ sum_by (λ x. unwrap_or (rate_of_tax_rate_with_id T x.tax) 0) xs
 rates_same T [] = refl
 rates_same T (x ∷ xs) =
     sum_by-append (λ (r : TaxRate). r.rate) (option_to_list (find (λ (r : TaxRate). r.id == x.tax) T.tax_rates)) (flat_map (λ x. option_to_list (find (λ (r : TaxRate). r.id == x.tax) T.tax_rates)) xs)
-    ∙ (λ i. one (find (λ (r : TaxRate). r.id == x.tax) T.tax_rates) i + rates_same T xs i) ∙ sym (sum_by-cons (λ x. unwrap_or (rate_by_tax_id T x.tax) 0) x xs)
+    ∙ (λ i. one (find (λ (r : TaxRate). r.id == x.tax) T.tax_rates) i + rates_same T xs i) ∙ sym (sum_by-cons (λ x. unwrap_or (rate_of_tax_rate_with_id T x.tax) 0) x xs)
   where
     one : (o : Option TaxRate) → sum_by (λ (r : TaxRate). r.rate) (option_to_list o) ≡ unwrap_or (option_map (λ (r : TaxRate). r.rate) o) 0
     one None = refl
@@ -121,7 +121,7 @@ and_assoc : (a b c : Bool) → (a && b) && c ≡ a && (b && c)
 and_assoc true b c = refl
 and_assoc false b c = refl
 
-band_is : (base : Base) (t : Trade) (tier : ℕ) (exchange : Text) → BooksInvariant base → band_for_tier_and_exchange (sheets base) (trade_row t) tier exchange ≡ commission_band_for base tier t.kind exchange t.qty
+band_is : (base : Base) (t : Trade) (tier : ℕ) (exchange : Text) → BooksInvariant base → band_for_tier_and_exchange (sheets base) (trade_row t) tier exchange ≡ commission_band_for_quantity base tier t.kind exchange t.qty
 band_is base t tier exchange books =
     find_both (λ (b : Band). nat_le b.from_qty t.qty && nat_le t.qty b.to_qty) (λ (b : Band). ((b.tier == tier) && is_same_trade_type b.kind t.kind) && bytes_eq b.exchange exchange)
     (λ (b : Band). ((((b.tier == tier) && is_same_trade_type b.kind t.kind) && bytes_eq b.exchange exchange) && nat_le b.from_qty t.qty) && nat_le t.qty b.to_qty) (sheets base).bands
@@ -129,10 +129,10 @@ band_is base t tier exchange books =
     ∙ reads_band base tier t.kind exchange t.qty books
 
 -- the customer and the security of a trade are there
-band_found : (base : Base) (t : Trade) → BooksInvariant base → trade_with_id base t.id ≡ Some t → band_of_trade (sheets base) (trade_row t) ≡ commission_band_for base (tier_of_account base t.account) t.kind (exchange_of_security base t.symbol) t.qty
+band_found : (base : Base) (t : Trade) → BooksInvariant base → trade_with_id base t.id ≡ Some t → band_of_trade (sheets base) (trade_row t) ≡ commission_band_for_quantity base (tier_of_account base t.account) t.kind (exchange_of_security base t.symbol) t.qty
 band_found base t books e =
     (λ i. band_for_customer_and_security T (trade_row t) (customer i) (security i)) ∙ band_is base t c.0.tier s.0.exchange books
-    ∙ (λ i. commission_band_for base (option_map_or (λ (c : Customer). c.tier) (sym c.1 i) 0) t.kind (option_map_or (λ (s : Security). s.exchange) (sym s.1 i) []) t.qty)
+    ∙ (λ i. commission_band_for_quantity base (option_map_or (λ (c : Customer). c.tier) (sym c.1 i) 0) t.kind (option_map_or (λ (s : Security). s.exchange) (sym s.1 i) []) t.qty)
   where
     T : Tables
     T = sheets base

@@ -14,7 +14,7 @@ use Rattle.brk_model.specs.Lists.{total_by}
 use Rattle.brk_model.specs.Records.{Account, Movement, Trade}
 use Rattle.brk_model.specs.Results.{completed_trade}
 use Rattle.brk_model.specs.Tests.{stamp_of_next_command, refusal_of_command}
-use Rattle.brk_book_theorems.specs.Books.{BooksInvariant, IsTradeUpToLastStamp, IsMovementUpToLastStamp}
+use Rattle.brk_book_theorems.specs.Books.{BooksInvariant, TradeStampIsAtMostLast, MovementStampIsAtMostLast}
 use Rattle.brk_book_theorems.specs.Steps.{base_after_command}
 use Rattle.brk_book_theorems.proofs.LotReading.{filter-map, filter-swap}
 use Rattle.brk_book_theorems.proofs.Places.{filter-all, filter-append}
@@ -112,10 +112,10 @@ all_by base s account books e =
     ∙ (λ i. postings base.accounts (filter-all (λ t. nat_le (last_status_stamp_of_trade t) s) (completed_trades base) trades i) (filter-all (λ m. nat_le m.stamp s) base.movements moved i)))
   where
     trades : AllByRecursion (λ t. nat_le (last_status_stamp_of_trade t) s ≡ true) (completed_trades base)
-    trades = All-map (completed_trades base) (λ t h. is_by (last_status_stamp_of_trade t) s h) (subst (λ o. AllByRecursion (IsTradeUpToLastStamp o) (completed_trades base)) e books.early)
+    trades = All-map (completed_trades base) (λ t h. is_by (last_status_stamp_of_trade t) s h) (subst (λ o. AllByRecursion (TradeStampIsAtMostLast o) (completed_trades base)) e books.early)
 
     moved : AllByRecursion (λ m. nat_le m.stamp s ≡ true) base.movements
-    moved = All-map base.movements (λ m h. is_by m.stamp s h) (subst (λ o. AllByRecursion (IsMovementUpToLastStamp o) base.movements) e books.movements.early)
+    moved = All-map base.movements (λ m h. is_by m.stamp s h) (subst (λ o. AllByRecursion (MovementStampIsAtMostLast o) base.movements) e books.movements.early)
 
 -- ---- after the result
 

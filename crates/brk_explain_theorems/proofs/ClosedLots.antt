@@ -17,7 +17,7 @@ use Rattle.brk_lots.specs.declared.lot.Touch.{Touch}
 use Rattle.brk_lots.proofs.Ends.{reverse_first, walk_of}
 use Rattle.brk_lots.proofs.Upon.{rows_are}
 use Rattle.brk_explain_model.specs.Trades.{Closing, recorded_closing, closings_of_trade, reversed_if_lifo, is_closing_by, trade_stamp_or_zero}
-use Rattle.brk_book_theorems.specs.Books.{BooksInvariant, HasDistinctStatusStamps}
+use Rattle.brk_book_theorems.specs.Books.{BooksInvariant, HasDistinctLastStatusStamps}
 use Rattle.brk_book_theorems.proofs.Bools.{numbers_back}
 use Rattle.brk_book_theorems.proofs.Completing.{is_here, of_here}
 use Rattle.brk_book_theorems.proofs.LotOrder.{Follows, InOrder, trades_held}
@@ -42,7 +42,7 @@ closes_of t us v = not (v.id == t.id) && row_changes_quantity (row_by us (deal_o
 passes_closing : (t : Trade) (us : List Share) (v : Trade) → passes (is_closing_by t.id) us t v ≡ closes_of t us v
 passes_closing t us v = ap (λ b. (b && not (v.id == t.id)) && row_changes_quantity (row_by us (deal_of_trade t) v)) (eq-eqb t.id t.id refl)
 
-apart_moments : (ts : List Trade) → HasDistinctStatusStamps ts → Apart last_status_stamp_of_trade ts
+apart_moments : (ts : List Trade) → HasDistinctLastStatusStamps ts → Apart last_status_stamp_of_trade ts
 apart_moments [] m = tt
 apart_moments (t ∷ ts) m = (m.0, apart_moments ts m.1)
 

@@ -15,7 +15,7 @@ use Rattle.brk_model.specs.Lists.{is_zero, sort_by_key, total_by}
 use Rattle.brk_model.specs.Records.{StatusChange, Trade}
 use Rattle.brk_model.specs.Shares.{Deal, Share, lot_quantity, opened_share, replay, signed_by_side}
 use Rattle.brk_model.specs.Sheets.{sheets}
-use Rattle.brk_model.specs.Tables.{HoldingHistoryRow, Tables, TradeRow, row_changes_quantity, holding_history_rows_of_lot, lot_rows_of_deals, touch_of_row, trade_row}
+use Rattle.brk_model.specs.Tables.{HoldingHistoryRow, Tables, TradeRow, row_changes_quantity, holding_history_rows_of_lot, holding_history_rows_of_deals, touch_of_row, trade_row}
 use Rattle.brk_lots.specs.Books.{realised_gain_sum, lot_cost_basis, purchases_minus_sales}
 use Rattle.brk_lots.specs.Chains.{ShrinksTowardZero, IsLotHistory}
 use Rattle.brk_lots.specs.declared.lot.Lot.{Lot}
@@ -23,8 +23,8 @@ use Rattle.brk_explain_model.specs.Holdings.{LotChange, LotStory, realised_gain_
 use Rattle.brk_explain_model.specs.Running.{running_totals}
 use Rattle.brk_explain_model.specs.Trades.{has_completed_status, trade_price_or_zero, opened_lot_row}
 use Rattle.brk_book_theorems.specs.Books.{BooksInvariant}
-use Rattle.brk_book_theorems.specs.Lives.{BeginsWithOwnTrade}
-use Rattle.brk_book_theorems.specs.TradeReads.{position_lots}
+use Rattle.brk_book_theorems.specs.Lives.{BeginsWithTradeOfLot}
+use Rattle.brk_book_theorems.specs.TradeReads.{lots_of_position}
 use Rattle.brk_book_theorems.proofs.Bools.{same_text}
 use Rattle.brk_book_theorems.proofs.LotOrder.{both_hold, held_in_order, is_some_left, lot_upon, lots_read, of_held, of_its_account, of_its_symbol, trades_held}
 use Rattle.brk_book_theorems.proofs.LotReading.{All-sort, IdsApart, all_pass, filter-both, filter-map}
@@ -78,7 +78,7 @@ done_are base account symbol books =
 record IsOf (base : Base) (account : ℕ) (symbol : Text) (v : Trade) : Type 0 where
   found : trade_with_id base v.id ≡ Some v
   among_all : Among base v
-  history : holding_history_rows_of_lot (completed_trades base) v ≡ filter row_changes_quantity (lot_rows_of_deals v.id [] (deals_of_position (completed_trades base) account symbol))
+  history : holding_history_rows_of_lot (completed_trades base) v ≡ filter row_changes_quantity (holding_history_rows_of_deals v.id [] (deals_of_position (completed_trades base) account symbol))
 
 each_is : (base : Base) (account : ℕ) (symbol : Text) → BooksInvariant base → AllByRecursion (IsOf base account symbol) (trades_held base account symbol)
 each_is base account symbol books =
@@ -104,8 +104,8 @@ each_is base account symbol books =
     all_done : (ts : List Trade) → AllByRecursion (λ v. is_completed v ≡ true) (filter is_completed ts)
     all_done ts = all_pass is_completed ts
 
-    rows : (v : Trade) → (v.account == account) ≡ true → bytes_eq v.symbol symbol ≡ true → holding_history_rows_of_lot (completed_trades base) v ≡ filter row_changes_quantity (lot_rows_of_deals v.id [] (deals_of_position (completed_trades base) account symbol))
-    rows v a s = λ i. filter row_changes_quantity (lot_rows_of_deals v.id [] (deals_of_position (completed_trades base) (eqb-true v.account account a i) (same_text v.symbol symbol s i)))
+    rows : (v : Trade) → (v.account == account) ≡ true → bytes_eq v.symbol symbol ≡ true → holding_history_rows_of_lot (completed_trades base) v ≡ filter row_changes_quantity (holding_history_rows_of_deals v.id [] (deals_of_position (completed_trades base) account symbol))
+    rows v a s = λ i. filter row_changes_quantity (holding_history_rows_of_deals v.id [] (deals_of_position (completed_trades base) (eqb-true v.account account a i) (same_text v.symbol symbol s i)))
 
 -- the gains of the lot's changes
 changed_total : (base : Base) (v : Trade) (rows : List HoldingHistoryRow)
@@ -113,7 +113,7 @@ changed_total : (base : Base) (v : Trade) (rows : List HoldingHistoryRow)
 changed_total base v rows = total-map (realised_gain_of_change (completion_price v)) (recorded_lot_change (sheets base)) rows
 
 -- the row of the lot's own trade gains nothing
-first_gains : (base : Base) (v : Trade) (rows : List HoldingHistoryRow) → trade_with_id base v.id ≡ Some v → BeginsWithOwnTrade v.id rows
+first_gains : (base : Base) (v : Trade) (rows : List HoldingHistoryRow) → trade_with_id base v.id ≡ Some v → BeginsWithTradeOfLot v.id rows
     → total_by (row_gain (trade_price_or_zero (sheets base)) (completion_price v)) (rest rows) ≡ total_by (row_gain (trade_price_or_zero (sheets base)) (completion_price v)) rows
 unfolding total_by
 first_gains base v [] e o = refl
@@ -227,7 +227,7 @@ left_is : (base : Base) (account : ℕ) (symbol : Text) (v : Trade) → BooksInv
     → remaining_quantity_of_lot (lot_with_later_changes (sheets base) (trade_row v)) ≡ lot_quantity (replay (deals_of_position (completed_trades base) account symbol)) v.id
 left_is base account symbol v books k =
     left_rows base v books k.among_all ∙ ap (rows_leave (sheets base)) k.history
-    ∙ life_ends (sheets base) (filter row_changes_quantity (lot_rows_of_deals v.id [] (deals_of_position (completed_trades base) account symbol))) (lot_quantity (replay (deals_of_position (completed_trades base) account symbol)) v.id) (lot_lives base account symbol v.id books)
+    ∙ life_ends (sheets base) (filter row_changes_quantity (holding_history_rows_of_deals v.id [] (deals_of_position (completed_trades base) account symbol))) (lot_quantity (replay (deals_of_position (completed_trades base) account symbol)) v.id) (lot_lives base account symbol v.id books)
 
 none_left : (base : Base) (v : Trade) → BooksInvariant base → Among base v → is_some (opened_lot_row (sheets base) v.id) ≡ false → remaining_quantity_of_lot (lot_with_later_changes (sheets base) (trade_row v)) ≡ pos 0
 none_left base v books a e = left_rows base v books a ∙ ap (rows_leave (sheets base)) (no_history base v books a e)
@@ -236,7 +236,7 @@ none_left base v books a e = left_rows base v books a ∙ ap (rows_leave (sheets
 
 -- a sum over the lots of the position, by its trades
 lots_sum : (base : Base) (account : ℕ) (symbol : Text) (f : Lot → ℤ) → BooksInvariant base → ((l : Lot) → l.qty ≡ pos 0 → f l ≡ pos 0)
-    → total_by f (position_lots (sheets base) account symbol) ≡ total_by (λ v. f (lot_upon (replay (deals_of_position (completed_trades base) account symbol)) v)) (trades_held base account symbol)
+    → total_by f (lots_of_position (sheets base) account symbol) ≡ total_by (λ v. f (lot_upon (replay (deals_of_position (completed_trades base) account symbol)) v)) (trades_held base account symbol)
 unfolding shares_of_position
 lots_sum base account symbol f books none =
     ap (total_by f) (lots_read base account symbol books)
@@ -253,7 +253,7 @@ lots_sum base account symbol f books none =
     each [] = tt
     each (l ∷ ls) = ((λ e. none l (zero_is l.qty (not_not (is_zero l.qty) e))), each ls)
 
-pub costs_are : (base : Base) (account : ℕ) (symbol : Text) → BooksInvariant base → remaining_cost_of_lots (lots_opened_in_symbol (sheets base) account symbol) ≡ lot_cost_basis (position_lots (sheets base) account symbol)
+pub costs_are : (base : Base) (account : ℕ) (symbol : Text) → BooksInvariant base → remaining_cost_of_lots (lots_opened_in_symbol (sheets base) account symbol) ≡ lot_cost_basis (lots_of_position (sheets base) account symbol)
 costs_are base account symbol books =
     told_sum base account symbol remaining_cost_of_lot books (All-map W (λ v k e. ap (λ z. z *ℤ pos (completion_price v)) (none_left base v books k.among_all e) ∙ zero-*ℤ (pos (completion_price v))) known)
     ∙ total_by-same (λ v. remaining_cost_of_lot (lot_with_later_changes (sheets base) (trade_row v))) (λ v. lot_quantity us v.id *ℤ pos (completion_price v)) W (All-map W (λ v k. ap (λ z. z *ℤ pos (completion_price v)) (left_is base account symbol v books k)) known)

@@ -11,11 +11,11 @@ use Rattle.brk_model.specs.Lists.{sort_by}
 use Rattle.brk_model.specs.Records.{Trade}
 use Rattle.brk_model.specs.Shares.{Deal, Share, shares_after_deal}
 use Rattle.brk_model.specs.Sheets.{sheets}
-use Rattle.brk_model.specs.Tables.{HoldingHistoryRow, Tables, row_changes_quantity, holding_history_rows_of_lot, lot_rows_of_deals}
+use Rattle.brk_model.specs.Tables.{HoldingHistoryRow, Tables, row_changes_quantity, holding_history_rows_of_lot, holding_history_rows_of_deals}
 use Rattle.brk_explain_model.specs.Holdings.{LotChange, is_later_change_of_lot, recorded_lot_change, later_changes_of_lot}
 use Rattle.brk_explain_model.specs.Trades.{trade_stamp_or_zero, opened_lot_row}
 use Rattle.brk_book_theorems.specs.Books.{BooksInvariant}
-use Rattle.brk_book_theorems.specs.Lives.{BeginsWithOwnTrade, lot_changes_by_stamp}
+use Rattle.brk_book_theorems.specs.Lives.{BeginsWithTradeOfLot, lot_changes_by_stamp}
 use Rattle.brk_book_theorems.proofs.Histories.{filter-flat_map}
 use Rattle.brk_book_theorems.proofs.LotLives.{lots_live_on}
 use Rattle.brk_book_theorems.proofs.LotOrder.{Follows, InOrder, held_in_order, of_held, trades_held}
@@ -64,12 +64,12 @@ abbrev made_at : Base → HoldingHistoryRow → ℕ
 made_at base r = trade_stamp_or_zero (sheets base) r.trade
 
 rows_rise : (base : Base) (lot : ℕ) (shares : List Share) (ts : List Trade) → InOrder ts → AllByRecursion (λ u. trade_stamp_or_zero (sheets base) u.id ≡ last_status_stamp_of_trade u) ts
-    → Rise (made_at base) (lot_rows_of_deals lot shares (map deal_of_trade ts))
+    → Rise (made_at base) (holding_history_rows_of_deals lot shares (map deal_of_trade ts))
 rows_rise base lot shares [] o h = tt
 rows_rise base lot shares (u ∷ ts) o h = (behind (shares_after_deal shares (deal_of_trade u)) ts o.0 h.1, rows_rise base lot (shares_after_deal shares (deal_of_trade u)) ts o.1 h.1)
   where
     behind : (left : List Share) (vs : List Trade) → AllByRecursion (Follows u) vs → AllByRecursion (λ v. trade_stamp_or_zero (sheets base) v.id ≡ last_status_stamp_of_trade v) vs
-        → AllByRecursion (λ r. trade_stamp_or_zero (sheets base) u.id < made_at base r) (lot_rows_of_deals lot left (map deal_of_trade vs))
+        → AllByRecursion (λ r. trade_stamp_or_zero (sheets base) u.id < made_at base r) (holding_history_rows_of_deals lot left (map deal_of_trade vs))
     behind left [] f k = tt
     behind left (v ∷ vs) f k =
         let lt : last_status_stamp_of_trade u < last_status_stamp_of_trade v = f.0.1 in (
@@ -79,16 +79,16 @@ rows_rise base lot shares (u ∷ ts) o h = (behind (shares_after_deal shares (de
 
 history_rises : (base : Base) (v : Trade) → BooksInvariant base → Rise (made_at base) (holding_history_rows_of_lot (completed_trades base) v)
 history_rises base v books =
-    rise_left (made_at base) row_changes_quantity (lot_rows_of_deals v.id [] (deals_of_position (completed_trades base) v.account v.symbol))
+    rise_left (made_at base) row_changes_quantity (holding_history_rows_of_deals v.id [] (deals_of_position (completed_trades base) v.account v.symbol))
     (rows_rise base v.id [] (trades_held base v.account v.symbol) (held_in_order base v.account v.symbol books)
     (of_held (λ u. trade_stamp_or_zero (sheets base) u.id ≡ last_status_stamp_of_trade u) base v.account v.symbol (All-map (completed_trades base) (λ u e. stamp_is base u e) (done_found base books))))
 
-lots_same : (lot : ℕ) (shares : List Share) (deals : List Deal) → AllByRecursion (λ r. r.lot ≡ lot) (lot_rows_of_deals lot shares deals)
+lots_same : (lot : ℕ) (shares : List Share) (deals : List Deal) → AllByRecursion (λ r. r.lot ≡ lot) (holding_history_rows_of_deals lot shares deals)
 lots_same lot shares [] = tt
 lots_same lot shares (d ∷ deals) = (refl, lots_same lot (shares_after_deal shares d) deals)
 
 own_lots : (done : List Trade) (u : Trade) → AllByRecursion (λ r. r.lot ≡ u.id) (holding_history_rows_of_lot done u)
-own_lots done u = All-filter (λ r. r.lot ≡ u.id) row_changes_quantity (lot_rows_of_deals u.id [] (deals_of_position done u.account u.symbol)) (lots_same u.id [] (deals_of_position done u.account u.symbol))
+own_lots done u = All-filter (λ r. r.lot ≡ u.id) row_changes_quantity (holding_history_rows_of_deals u.id [] (deals_of_position done u.account u.symbol)) (lots_same u.id [] (deals_of_position done u.account u.symbol))
 
 abbrev of_lot : ℕ → HoldingHistoryRow → Bool
 of_lot lot r = r.lot == lot
@@ -143,20 +143,20 @@ later_others base id x xs e h = All-map xs (λ y lt. by_test y (y.trade == id) r
         never : (m n : ℕ) → m < n → m ≡ n → ⊥
         never m n lt e = omega (arith, lt, e)
 
-filter_own : (base : Base) (id : ℕ) (rows : List HoldingHistoryRow) → BeginsWithOwnTrade id rows → Rise (made_at base) rows → filter (λ r. r.trade == id) rows ≡ head rows
+filter_own : (base : Base) (id : ℕ) (rows : List HoldingHistoryRow) → BeginsWithTradeOfLot id rows → Rise (made_at base) rows → filter (λ r. r.trade == id) rows ≡ head rows
 filter_own base id [] o r = refl
 filter_own base id (x ∷ xs) o r =
     ap (λ b. cond b (x ∷ filter (λ r. r.trade == id) xs) (filter (λ r. r.trade == id) xs)) (eq-eqb x.trade id o)
     ∙ ap (λ rows. x ∷ rows) (filter-none (λ r. r.trade == id) xs (later_others base id x xs o r.0))
 
-filter_later : (base : Base) (id : ℕ) (rows : List HoldingHistoryRow) → BeginsWithOwnTrade id rows → Rise (made_at base) rows → filter (λ r. not (r.trade == id)) rows ≡ rest rows
+filter_later : (base : Base) (id : ℕ) (rows : List HoldingHistoryRow) → BeginsWithTradeOfLot id rows → Rise (made_at base) rows → filter (λ r. not (r.trade == id)) rows ≡ rest rows
 filter_later base id [] o r = refl
 filter_later base id (x ∷ xs) o r =
     ap (λ b. cond (not b) (x ∷ filter (λ r. not (r.trade == id)) xs) (filter (λ r. not (r.trade == id)) xs)) (eq-eqb x.trade id o)
     ∙ filter-all (λ r. not (r.trade == id)) xs (All-map xs (λ y e. ap not e) (later_others base id x xs o r.0))
 
-pub opened_by_own : (base : Base) (v : Trade) → BooksInvariant base → Among base v → BeginsWithOwnTrade v.id (holding_history_rows_of_lot (completed_trades base) v)
-opened_by_own base v books a = subst (BeginsWithOwnTrade v.id) (in_turn_of base v books a) (lots_live_on base books v.id).opened
+pub opened_by_own : (base : Base) (v : Trade) → BooksInvariant base → Among base v → BeginsWithTradeOfLot v.id (holding_history_rows_of_lot (completed_trades base) v)
+opened_by_own base v books a = subst (BeginsWithTradeOfLot v.id) (in_turn_of base v books a) (lots_live_on base books v.id).opened
 
 -- the row of the lot's own trade is the first
 pub own_is_first : (base : Base) (v : Trade) → BooksInvariant base → Among base v → opened_lot_row (sheets base) v.id ≡ first (holding_history_rows_of_lot (completed_trades base) v)

@@ -10,7 +10,7 @@ use Rattle.brk_model.specs.Records.{Trade}
 use Rattle.brk_model.specs.Results.{completed_trade, base_after_result}
 use Rattle.brk_model.specs.Step.{base_after_command_unstamped}
 use Rattle.brk_model.specs.Tests.{stamp_of_next_command, refusal_of_command}
-use Rattle.brk_model.specs.Names.{AreNumberedFrom}
+use Rattle.brk_model.specs.Names.{TradesAreNumberedFrom}
 use Rattle.brk_book_theorems.specs.Books.{BooksInvariant}
 use Rattle.brk_book_theorems.specs.Steps.{base_after_command}
 use Rattle.brk_book_theorems.proofs.LotReading.{IdsApart, filter-both, numbered_rise, rise_apart}
@@ -123,8 +123,8 @@ found_then base now id price t books e accepted =
     f : Found base now price t
     f = found_at base now id price t books e (submitted base now id price t e accepted)
 
-    n : AreNumberedFrom 1 (f.front ++ t ∷ f.back)
-    n = subst (AreNumberedFrom 1) f.result.stands books.numbered
+    n : TradesAreNumberedFrom 1 (f.front ++ t ∷ f.back)
+    n = subst (TradesAreNumberedFrom 1) f.result.stands books.numbered
 
     others : NonePass (λ u. u.id == id) f.front
     others = subst (λ (m : ℕ). NonePass (λ u. u.id == m) f.front) (id_of base id t e) (numbered_before 1 f.front t f.back n)

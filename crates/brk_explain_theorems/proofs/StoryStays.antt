@@ -23,7 +23,7 @@ use Rattle.brk_lots.specs.declared.lot.Lot.{Lot}
 use Rattle.brk_lots.specs.declared.lot.Touch.{Touch}
 use Rattle.brk_lots.proofs.Ends.{all_end}
 use Rattle.brk_explain_model.specs.Trades.{Closing, balance_change_of_trade, closings_of_trade, trade_price_or_zero, trade_stamp_or_zero, sorted_statuses_of_trade}
-use Rattle.brk_book_theorems.specs.Books.{BooksInvariant, IsTradeUpToLastStamp}
+use Rattle.brk_book_theorems.specs.Books.{BooksInvariant, TradeStampIsAtMostLast}
 use Rattle.brk_book_theorems.proofs.Histories.{filter-flat_map}
 use Rattle.brk_book_theorems.proofs.LotOrder.{is_some_left, lot_upon, lots_left, of_held, trades_held}
 use Rattle.brk_book_theorems.proofs.LotReading.{IdsApart, filter-map, numbered_rise, rise_apart}
@@ -178,7 +178,7 @@ statuses_are base t books e =
 -- ---- the whole
 
 -- the stamp of a completed trade is past
-past_of : (last : Option ℕ) (t : Trade) → IsTradeUpToLastStamp last t → IsPast last (last_status_stamp_of_trade t)
+past_of : (last : Option ℕ) (t : Trade) → TradeStampIsAtMostLast last t → IsPast last (last_status_stamp_of_trade t)
 past_of None t e = absurd e
 past_of (Some l) t e = e
 
@@ -301,7 +301,7 @@ pub explanations_stay : (base later : Base) (calls : List (ℕ × Call)) (outcom
     → (u : Trade) × (trade_with_id later t.id ≡ Some u) × PrintsSameFigures base later t u
 explanations_stay base later calls outcomes t books r e c =
     let a : Among base t = among base t books e c in
-    let past : IsPast base.last (last_status_stamp_of_trade t) = past_of base.last t (All-back (IsTradeUpToLastStamp base.last) a.front (t ∷ a.back) (subst (AllByRecursion (IsTradeUpToLastStamp base.last)) a.stands books.early)).0 in
+    let past : IsPast base.last (last_status_stamp_of_trade t) = past_of base.last t (All-back (TradeStampIsAtMostLast base.last) a.front (t ∷ a.back) (subst (AllByRecursion (TradeStampIsAtMostLast base.last)) a.stands books.early)).0 in
     let k : Keeps (last_status_stamp_of_trade t) base later = keeps_run (last_status_stamp_of_trade t) base calls outcomes later books past r in
     let u = still_there base later t books k e c in
     (u.0, u.1, stays_by base later t u.0 books (run_books base calls outcomes later books r) k e c u.1)

@@ -11,7 +11,7 @@ use Rattle.brk_model.specs.Keys.{rows_sorted_by_key, holding_history_key}
 use Rattle.brk_model.specs.Records.{Trade}
 use Rattle.brk_model.specs.Shares.{Deal, Share, shares_after_deal, touch_of_lot}
 use Rattle.brk_model.specs.Sheets.{sheets, tables_sorted_by_key}
-use Rattle.brk_model.specs.Tables.{HoldingHistoryRow, row_changes_quantity, holding_history_rows_of_lot, lot_rows_of_deals, tables_of_base_in_schema, holding_history_row, trade_row}
+use Rattle.brk_model.specs.Tables.{HoldingHistoryRow, row_changes_quantity, holding_history_rows_of_lot, holding_history_rows_of_deals, tables_of_base_in_schema, holding_history_row, trade_row}
 use Rattle.brk_explain_model.specs.Trades.{trade_stamp_or_zero}
 use Rattle.brk_book_theorems.specs.Books.{BooksInvariant}
 use Rattle.brk_book_theorems.proofs.Completing.{here_deals, is_here, other_way}
@@ -74,12 +74,12 @@ abbrev pub row_by : List Share → Deal → Trade → HoldingHistoryRow
 row_by us d v = holding_history_row d.trade (touch_of_lot v.id d us)
 
 rows_split : (lot : ℕ) (us : List Share) (ds : List Deal) (d : Deal) (es : List Deal)
-    → lot_rows_of_deals lot us (ds ++ d ∷ es)
-    ≡ lot_rows_of_deals lot us ds ++ holding_history_row d.trade (touch_of_lot lot d (fold shares_after_deal us ds)) ∷ lot_rows_of_deals lot (shares_after_deal (fold shares_after_deal us ds) d) es
+    → holding_history_rows_of_deals lot us (ds ++ d ∷ es)
+    ≡ holding_history_rows_of_deals lot us ds ++ holding_history_row d.trade (touch_of_lot lot d (fold shares_after_deal us ds)) ∷ holding_history_rows_of_deals lot (shares_after_deal (fold shares_after_deal us ds) d) es
 rows_split lot us [] d es = refl
 rows_split lot us (e ∷ ds) d es = ap (λ rows. holding_history_row e.trade (touch_of_lot lot e us) ∷ rows) (rows_split lot (shares_after_deal us e) ds d es)
 
-rows_of_others : (id lot : ℕ) (us : List Share) (ds : List Deal) → Others id ds → AllByRecursion (λ r. (r.trade == id) ≡ false) (lot_rows_of_deals lot us ds)
+rows_of_others : (id lot : ℕ) (us : List Share) (ds : List Deal) → Others id ds → AllByRecursion (λ r. (r.trade == id) ≡ false) (holding_history_rows_of_deals lot us ds)
 rows_of_others id lot us [] h = tt
 rows_of_others id lot us (d ∷ ds) h = (h.0, rows_of_others id lot (shares_after_deal us d) ds h.1)
 
@@ -87,13 +87,13 @@ rows_of_others id lot us (d ∷ ds) h = (h.0, rows_of_others id lot (shares_afte
 abbrev OnlyOf : ℕ → (HoldingHistoryRow → Bool) → Type 0
 OnlyOf id p = (r : HoldingHistoryRow) → (r.trade == id) ≡ false → p r ≡ false
 
-none_of_others : (id lot : ℕ) (p : HoldingHistoryRow → Bool) (us : List Share) (ds : List Deal) → OnlyOf id p → Others id ds → filter p (filter row_changes_quantity (lot_rows_of_deals lot us ds)) ≡ []
+none_of_others : (id lot : ℕ) (p : HoldingHistoryRow → Bool) (us : List Share) (ds : List Deal) → OnlyOf id p → Others id ds → filter p (filter row_changes_quantity (holding_history_rows_of_deals lot us ds)) ≡ []
 none_of_others id lot p us ds only h =
-    filter-none p (filter row_changes_quantity (lot_rows_of_deals lot us ds))
-    (All-filter (λ r. p r ≡ false) row_changes_quantity (lot_rows_of_deals lot us ds) (All-map (lot_rows_of_deals lot us ds) (λ r k. only r k) (rows_of_others id lot us ds h)))
+    filter-none p (filter row_changes_quantity (holding_history_rows_of_deals lot us ds))
+    (All-filter (λ r. p r ≡ false) row_changes_quantity (holding_history_rows_of_deals lot us ds) (All-map (holding_history_rows_of_deals lot us ds) (λ r k. only r k) (rows_of_others id lot us ds h)))
 
 one_of : (lot : ℕ) (p : HoldingHistoryRow → Bool) (us : List Share) (ds : List Deal) (d : Deal) (es : List Deal) → OnlyOf d.trade p → Others d.trade ds → Others d.trade es
-    → filter p (filter row_changes_quantity (lot_rows_of_deals lot us (ds ++ d ∷ es))) ≡ filter p (filter row_changes_quantity (holding_history_row d.trade (touch_of_lot lot d (fold shares_after_deal us ds)) ∷ []))
+    → filter p (filter row_changes_quantity (holding_history_rows_of_deals lot us (ds ++ d ∷ es))) ≡ filter p (filter row_changes_quantity (holding_history_row d.trade (touch_of_lot lot d (fold shares_after_deal us ds)) ∷ []))
 one_of lot p us ds d es only g h =
     ap (λ rows. filter p (filter row_changes_quantity rows)) (rows_split lot us ds d es)
     ∙ ap (filter p) (filter-append row_changes_quantity X (row ∷ Y) ∙ ap (λ rows. filter row_changes_quantity X ++ rows) (filter-append row_changes_quantity (row ∷ []) Y))
@@ -109,10 +109,10 @@ one_of lot p us ds d es only g h =
     row = holding_history_row d.trade (touch_of_lot lot d vs)
 
     X : List HoldingHistoryRow
-    X = lot_rows_of_deals lot us ds
+    X = holding_history_rows_of_deals lot us ds
 
     Y : List HoldingHistoryRow
-    Y = lot_rows_of_deals lot (shares_after_deal vs d) es
+    Y = holding_history_rows_of_deals lot (shares_after_deal vs d) es
 
 twice : (p q : HoldingHistoryRow → Bool) (r : HoldingHistoryRow) → filter p (filter q (r ∷ [])) ≡ cond (p r && q r) (r ∷ []) []
 twice p q r = by_test (q r) (p r) refl
@@ -154,7 +154,7 @@ lot_row : (base : Base) (t : Trade) (front back : List Trade) → IsPlaced base 
     → filter p (holding_history_rows_of_lot (completed_trades base) v) ≡ cond (b && passes p (left_by front) t v) (row_by (left_by front) (deal_of_trade t) v ∷ []) []
 lot_row base t front back k p only v true e =
     let o : InOrder (front ++ t ∷ back) = placed_order base t front back k in
-    ap (λ ds. filter p (filter row_changes_quantity (lot_rows_of_deals v.id [] ds))) (here_deals (completed_trades base) t v e ∙ ap (map deal_of_trade) k.stands ∙ map-append deal_of_trade front (t ∷ back))
+    ap (λ ds. filter p (filter row_changes_quantity (holding_history_rows_of_deals v.id [] ds))) (here_deals (completed_trades base) t v e ∙ ap (map deal_of_trade) k.stands ∙ map-append deal_of_trade front (t ∷ back))
     ∙ one_of v.id p [] (map deal_of_trade front) (deal_of_trade t) (map deal_of_trade back) only (front_others t front (front_precedes front t back o)) (back_others t back (back_follows front t back o))
     ∙ twice p row_changes_quantity (row_by (left_by front) (deal_of_trade t) v)
 lot_row base t front back k p only v false e =

@@ -13,7 +13,7 @@ pub stands_on_rows : {S : Type 0} (g : Ghosts S) → ((s : S) (db : Trees) → I
 stands_on_rows g settled conn store adopted = record {
   found = conn;
   adopted = adopted;
-  stands = λ clean on defined.
+  represented = λ clean on defined.
       let it = adopted.upgraded clean on defined in
       let m = it.0 in (
         m.0,

@@ -36,7 +36,7 @@ fn close_connection(conn: Connection<FileStore<File>>) -> Result<(), Fault>
 /// Closes the file of a desk. At `Ok` the database file contains the last commit even without its
 /// log; before that, a part of the committed data may be only in the log beside it. Fails with
 /// `Store` only.
-pub fn close(store: FileDesk) -> Result<(), Fault>
+pub fn close_desk_file(store: FileDesk) -> Result<(), Fault>
     ensures closed { OnOk result (HasLastCommitInFile store) }
     ensures fault { OnErr result (result ≡ Err fault.Store) }
 {
@@ -60,16 +60,16 @@ fn adopt_connection<S: Alter>(
     conn: Connection<S>,
 ) -> Result<Store<S>, (Connection<S>, Fault)>
     ensures adopted { MatchResult result (λ store. AdoptPost S.Store conn store (Ok tt)) (λ e. AdoptPost S.Store conn e.0 (Err e.1)) }
-    ensures stands { IfOk result (λ store. RepresentsRowsOfFile S.Store store) }
+    ensures represented { IfOk result (λ store. RepresentsRowsOfFile S.Store store) }
 {
     Store::adopt(alloc, conn)
 }
 
 // Adopts the database of a connection as a store. If the adoption fails, closes the file and
 // returns the fault.
-fn adopt(rt: &HostRuntime, conn: Connection<FileStore<File>>) -> Result<FileDesk, Fault>
+fn adopt_or_close_connection(rt: &HostRuntime, conn: Connection<FileStore<File>>) -> Result<FileDesk, Fault>
     ensures adopted { IsAdoptionResult conn result }
-    ensures stands { IfOk result (λ store. RepresentsRowsOfFile over_files store) }
+    ensures represented { IfOk result (λ store. RepresentsRowsOfFile over_files store) }
 {
     match adopt_connection(rt.alloc(), conn) {
         Ok(store) => Ok(store),
@@ -85,18 +85,18 @@ fn adopt(rt: &HostRuntime, conn: Connection<FileStore<File>>) -> Result<FileDesk
 ///
 /// A new desk is closed and opened again, so that its tables are in the file itself, and a file
 /// that then loses its log is never treated as a new one.
-pub fn open_or_create(rt: &HostRuntime, path: &str) -> Result<FileDesk, Fault>
+pub fn open_or_create_desk_file(rt: &HostRuntime, path: &str) -> Result<FileDesk, Fault>
     ensures opened { OpenOrCreatePost result }
-    ensures stands { IfOk result (λ store. RepresentsRowsOfFile over_files store) }
+    ensures represented { IfOk result (λ store. RepresentsRowsOfFile over_files store) }
 {
     let first = open_connection(rt, path)?;
     match Store::create(first) {
         Ok(store) => {
-            close(store)?;
+            close_desk_file(store)?;
             let conn = open_connection(rt, path)?;
-            adopt(rt, conn)
+            adopt_or_close_connection(rt, conn)
         }
-        Err((conn, Fault::Damaged(_))) => adopt(rt, conn),
+        Err((conn, Fault::Damaged(_))) => adopt_or_close_connection(rt, conn),
         Err((conn, _)) => {
             let _ = close_connection(conn);
             Err(Fault::Store)
@@ -115,13 +115,13 @@ fn is_missing_or_empty(rt: &HostRuntime, path: &str) -> bool {
 
 /// Opens the desk in the file at `path`, and upgrades a file of an older schema. Creates nothing:
 /// if the file is missing or empty, fails with `Damaged(Schema)`.
-pub fn open(rt: &HostRuntime, path: &str) -> Result<FileDesk, Fault>
+pub fn open_desk_file(rt: &HostRuntime, path: &str) -> Result<FileDesk, Fault>
     ensures opened { OpenPost result }
-    ensures stands { IfOk result (λ store. RepresentsRowsOfFile over_files store) }
+    ensures represented { IfOk result (λ store. RepresentsRowsOfFile over_files store) }
 {
     if is_missing_or_empty(rt, path) {
         return Err(Fault::Damaged(Condition::Schema));
     }
     let conn = open_connection(rt, path)?;
-    adopt(rt, conn)
+    adopt_or_close_connection(rt, conn)
 }

@@ -3,4 +3,4 @@
 
 pub mod file;
 
-pub use file::{FileDesk, close, open, open_or_create};
+pub use file::{FileDesk, close_desk_file, open_desk_file, open_or_create_desk_file};

@@ -19,7 +19,7 @@ use Rattle.brk_commands.specs.declared.command.Command.{Command}
 use Rattle.brk_desk.proofs.Running.{runs_more, runs_none}
 use Rattle.brk_desk.specs.Answers.{model_outcome, outcome_of_query}
 use Rattle.brk_desk.specs.Commands.{model_call}
-use Rattle.brk_desk.specs.Keeping.{AskPost, RunPost}
+use Rattle.brk_desk.specs.CallPosts.{AskPost, RunPost}
 use Rattle.brk_desk.specs.declared.call.Call.TheVariants as made
 use Rattle.brk_desk.specs.declared.call.Outcome.TheVariants as came
 use Rattle.brk_view.specs.Queries.{abstract_query}
@@ -27,7 +27,7 @@ use Rattle.brk_view.specs.Views.{records_of_view}
 use Rattle.brk_view.specs.declared.query.Query.{Query}
 use Rattle.brk_view.specs.declared.view.View.{View}
 use Rattle.brk_http_engine.specs.Codes.{query_outcome_in_model}
-use Rattle.brk_http.specs.Acts.{DeskCallHasOutcome}
+use Rattle.brk_http.specs.CallOutcomes.{DeskCallHasOutcome}
 
 seen_is : (result : Result (Result View Refusal) Fault) → model_outcome (outcome_of_query result) ≡ query_outcome_in_model records_of_view result
 seen_is (Ok (Ok view)) = refl
@@ -58,7 +58,7 @@ module _ {S : Type 0} (g : Ghosts S) (old new : Held S) (now : ℕ) where
     -- the call has its outcome over each base whose books were kept, and the books of the base after it are kept
     pub steps : HasCleanDisk (state g new) → (base : Base) → Represents g old base → (after : Base) × Represents g new after × IsOutcomeOfCall base now call outcome after
     steps clean base keeps =
-        let r = one_run.ran clean base keeps in
+        let r = one_run.refines_model clean base keeps in
         let told : IsOutcomeOfCall base (model_call (now, acts.made)).0 (model_call (now, acts.made)).1 (model_outcome acts.came) r.0 = subst (λ b. IsOutcomeOfCall base (model_call (now, acts.made)).0 (model_call (now, acts.made)).1 (model_outcome acts.came) b) (sym r.2.2) r.2.1 in
         let called : IsOutcomeOfCall base now call (model_outcome acts.came) r.0 = subst (λ (c : ℕ × Call). IsOutcomeOfCall base c.0 c.1 (model_outcome acts.came) r.0) acts.call_is told in
         (r.0, r.1, subst (λ o. IsOutcomeOfCall base now call o r.0) acts.outcome_is called)

@@ -1,2 +1,2 @@
-pub mod Acts
+pub mod CallOutcomes
 pub mod Served

@@ -5,7 +5,7 @@ use Rattle.sqlite.specs.Held.{Held}
 use Rattle.brk_desk.specs.Runs.{IsRunWithOutcomes}
 use Rattle.brk_desk.specs.declared.call.Call.{Call}
 use Rattle.brk_desk.specs.declared.call.Outcome.{Outcome}
-use Rattle.brk_http_model.specs.Stream.{most_requests}
+use Rattle.brk_http_model.specs.Stream.{most_requests_per_stream}
 use Rattle.brk_http_engine.specs.Limits.{call_limit_of_stream}
 use Rattle.brk_http_engine.specs.declared.stream.ServeFault.{ServeFault}
 use Rattle.brk_http_listener.specs.Listening.{ServeRelation}
@@ -17,8 +17,8 @@ pub record ServesStreamByCalls {S : Type 0} (g : Ghosts S) (old new : Held S) (e
   pub outcomes : List Outcome
   pub run : IsRunWithOutcomes g old new calls outcomes
   pub few : length calls ≤ call_limit_of_stream ended
-  pub within : IfOk ended (λ count. count ≤ most_requests)
-  pub early : IfErr ended (λ fault. fault.done < most_requests)
+  pub within : IfOk ended (λ count. count ≤ most_requests_per_stream)
+  pub early : IfErr ended (λ fault. fault.done < most_requests_per_stream)
 
 -- The stream that ended with this result changed the desk only by a sequence of its calls
 -- (`ServesStreamByCalls`). The clock and the bytes of the stream are not specified.

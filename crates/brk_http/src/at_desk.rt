@@ -1,7 +1,7 @@
 ghost use Rattle.std.specs.Prelude.{◌≡◌, Ok};
 ghost use Rattle.brk_commands.specs.Commands.{abstract_command};
 ghost use Rattle.brk_commit.specs.Answers.{model_answer};
-ghost use Rattle.brk_http.specs.Acts.{DeskCallHasOutcome};
+ghost use Rattle.brk_http.specs.CallOutcomes.{DeskCallHasOutcome};
 ghost use Rattle.brk_http_model.specs.Asked.{model_parsers};
 ghost use Rattle.brk_model.specs.Run.{Did};
 ghost use Rattle.brk_plans.specs.Replies.{abstract_reply};
@@ -12,7 +12,7 @@ ghost use Rattle.brk_view.specs.Views.{records_of_view};
 use brk_desk::{
     Answer, Command, Desk, Query, View, line_text, parse_query, parse_row, view_fields,
 };
-use brk_http_engine::{RowAnswer, Service, fields_of_stored_line};
+use brk_http_engine::{RowAnswer, Service, fields_between_commas};
 use brk_money::{Fault, Planned, Stamp};
 use brk_ref::Key;
 use brk_trade::Reply;
@@ -109,7 +109,7 @@ impl<S: Alter> Service for DeskService<S> {
     /// Returns the fields of a reply.
     fn reply_fields(alloc: Global, reply: &Reply) -> Result<Vec<String>, AllocError> {
         match line_text(alloc, reply) {
-            Ok(line) => fields_of_stored_line(alloc, line.as_str()),
+            Ok(line) => fields_between_commas(alloc, line.as_str()),
             Err(_) => Err(AllocError),
         }
     }

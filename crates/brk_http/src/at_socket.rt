@@ -15,28 +15,28 @@ use std::time::Duration;
 
 /// The time limit in seconds: a stream whose peer neither sends nor accepts a byte for this time is
 /// ended.
-pub const PATIENCE: u64 = 30;
+pub const STREAM_TIMEOUT_SECONDS: u64 = 30;
 
 // The time limit in milliseconds for each read after the last reply, whose bytes are dropped. There
-// are at most `MOST_PIECES` such reads.
-const LAST_PATIENCE: u64 = 250;
+// are at most `MAXIMUM_DRAIN_READS` such reads.
+const DRAIN_TIMEOUT_MILLISECONDS: u64 = 250;
 
-const MOST_PIECES: u32 = 128;
+const MAXIMUM_DRAIN_READS: u32 = 128;
 
 // Sets the time limits of a socket: a read or a write that waits for more than 30 seconds fails.
 fn set_socket_time_limits(stream: &TcpStream) -> io::Result<()> {
-    stream.set_read_timeout(Some(Duration::from_secs(PATIENCE)))?;
-    stream.set_write_timeout(Some(Duration::from_secs(PATIENCE)))
+    stream.set_read_timeout(Some(Duration::from_secs(STREAM_TIMEOUT_SECONDS)))?;
+    stream.set_write_timeout(Some(Duration::from_secs(STREAM_TIMEOUT_SECONDS)))
 }
 
 // Shuts down the writing side of a socket, and then reads and drops the bytes that still arrive, by
 // at most 128 reads, so that the kernel does not drop the last reply.
 fn drain_before_close(stream: &TcpStream) -> io::Result<()> {
     stream.shutdown(Shutdown::Write)?;
-    stream.set_read_timeout(Some(Duration::from_millis(LAST_PATIENCE)))?;
+    stream.set_read_timeout(Some(Duration::from_millis(DRAIN_TIMEOUT_MILLISECONDS)))?;
     let mut reader = stream;
     let mut piece = [0u8; 8192];
-    for _ in 0..MOST_PIECES {
+    for _ in 0..MAXIMUM_DRAIN_READS {
         if reader.read(&mut piece)? == 0 {
             break;
         }
@@ -60,7 +60,7 @@ impl<C: Clock, S: Alter> StreamServer for SocketServer<C, S> {
     ghost serves = { DeskServesStream S.Store };
 
     // If the time limits of a socket cannot be set, fails with `Read`, and serves no request.
-    fn serve(
+    fn serve_accepted_stream(
         alloc: Global,
         stream: TcpStream,
         clock: &mut C,

@@ -8,10 +8,10 @@ mod listening;
 mod streams;
 
 pub use at_desk::DeskService;
-pub use at_socket::PATIENCE;
+pub use at_socket::STREAM_TIMEOUT_SECONDS;
 pub use brk_desk;
 pub use brk_http_engine::{FaultKind, ServeFault};
 pub use brk_http_listener::{AcceptFault, ListenFault, Listener};
 pub use brk_io::Clock;
-pub use listening::serve_on;
+pub use listening::serve_listener;
 pub use streams::serve_stream;

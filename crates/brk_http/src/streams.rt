@@ -7,7 +7,7 @@ ghost use Rattle.brk_desk.specs.declared.call.Call as made;
 ghost use Rattle.brk_desk.specs.declared.call.Outcome as came;
 ghost use Rattle.brk_http_model.specs.Asked.{model_parsers};
 ghost use Rattle.brk_model.specs.Run.{IsOutcomeOfCall};
-ghost use Rattle.brk_http_model.specs.Stream.{most_requests};
+ghost use Rattle.brk_http_model.specs.Stream.{most_requests_per_stream};
 ghost use Rattle.brk_http_engine.specs.Limits.{call_limit_of_stream};
 ghost use Rattle.brk_http_engine.specs.Promises.{StreamRefinesModel, StreamMatchesScript};
 ghost use Rattle.sqlite.specs.Held.{state};
@@ -15,7 +15,7 @@ ghost use Rattle.sqlite.specs.State.{HasCleanDisk};
 
 use crate::at_desk::DeskService;
 use brk_desk::Desk;
-use brk_http_engine::{ServeFault, serve};
+use brk_http_engine::{ServeFault, serve_requests};
 use brk_io::Clock;
 use sqlite::Alter;
 use std::alloc::Global;
@@ -44,21 +44,21 @@ pub fn serve_stream<R: Read + Drop, W: Write, C: Clock, S: Alter>(
     desk: &mut Desk<S>,
 ) -> Result<u64, ServeFault>
     // For any stream, at most 1,000 requests are answered, and fewer before a fault.
-    ensures few { IfOk result (λ count. count ≤ most_requests) }
-    ensures early { IfErr result (λ fault. fault.done < most_requests) }
+    ensures few { IfOk result (λ count. count ≤ most_requests_per_stream) }
+    ensures early { IfErr result (λ fault. fault.done < most_requests_per_stream) }
     // For any stream, the desk changed only by a sequence of its calls, so every guarantee of a run
     // holds. There is at most one call for each answered request, and one more after a fault of the
     // writer or of memory. If the reader has specified content, its requests make exactly these
     // calls, and the replies follow from their outcomes.
-    ensures told { (calls : List (ℕ × made.Call)) × (outcomes : List came.Outcome) × IsRunWithOutcomes S.Store desk.old desk.new calls outcomes × (length calls ≤ call_limit_of_stream result)
+    ensures changed_only_by_calls { (calls : List (ℕ × made.Call)) × (outcomes : List came.Outcome) × IsRunWithOutcomes S.Store desk.old desk.new calls outcomes × (length calls ≤ call_limit_of_stream result)
         × IfSome (R.remaining reader) (λ input. StreamMatchesScript model_parsers C.gives input (map model_call calls, map model_outcome outcomes)
         (record { clock = clock.old; later = clock.new; old = W.contents writer.old; new = W.contents writer.new }) result) }
     // Under the disk assumption, for every base that the desk represented before the stream, the
     // outcomes equal those of the model from this base, and the desk represents the base after
     // them. Vacuous for a reader whose content is not specified.
-    ensures kept { IfSome (R.remaining reader) (λ input. StreamRefinesModel (λ desk. HasCleanDisk (state S.Store desk)) (λ desk. Represents S.Store desk)
+    ensures refines_model { IfSome (R.remaining reader) (λ input. StreamRefinesModel (λ desk. HasCleanDisk (state S.Store desk)) (λ desk. Represents S.Store desk)
         model_parsers IsOutcomeOfCall C.gives input desk.old desk.new
         (record { clock = clock.old; later = clock.new; old = W.contents writer.old; new = W.contents writer.new }) result) }
 {
-    serve::<R, W, C, DeskService<S>>(alloc, reader, writer, clock, desk)
+    serve_requests::<R, W, C, DeskService<S>>(alloc, reader, writer, clock, desk)
 }

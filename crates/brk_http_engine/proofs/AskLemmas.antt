@@ -2,27 +2,27 @@
 use Rattle.std.proofs.Common.{◌≡◌, List, Some, None, true, false, refl, codes}
 use Rattle.std.specs.Prelude.{bytes_eq}
 use Rattle.brk_money.specs.Spelling.{Text}
-use Rattle.brk_http_model.specs.Asked.{HasResponse, Forms, demand_of_texts, demand_of_request}
+use Rattle.brk_http_model.specs.Asked.{ResponseOnly, RequestParsers, demand_of_texts, demand_of_request}
 use Rattle.brk_http_model.specs.Bodies.{texts_of_body}
 use Rattle.brk_http_model.specs.Found.{Request}
-use Rattle.brk_http_model.specs.Replies.{Wrong}
+use Rattle.brk_http_model.specs.Replies.{FromProblem}
 use Rattle.brk_http_model.specs.Routes.{Route, route_of_target}
 use Rattle.brk_http_model.specs.declared.problem.Problem.TheVariants.{NotFound, NotAllowed, BadRequest}
 
-pub no_route : (forms : Forms) (q : Request) → route_of_target forms.views q.target ≡ None → HasResponse (Wrong NotFound) ≡ demand_of_request forms q
+pub no_route : (forms : RequestParsers) (q : Request) → route_of_target forms.views q.target ≡ None → ResponseOnly (FromProblem NotFound) ≡ demand_of_request forms q
 unfolding demand_of_request
 no_route forms q e = rw e refl
 
-pub no_post : (forms : Forms) (q : Request) (route : Route) → route_of_target forms.views q.target ≡ Some route → bytes_eq q.method (codes "POST") ≡ false → HasResponse (Wrong NotAllowed) ≡ demand_of_request forms q
+pub no_post : (forms : RequestParsers) (q : Request) (route : Route) → route_of_target forms.views q.target ≡ Some route → bytes_eq q.method (codes "POST") ≡ false → ResponseOnly (FromProblem NotAllowed) ≡ demand_of_request forms q
 unfolding demand_of_request
 no_post forms q route e t = rw (e, t) refl
 
-pub no_texts : (forms : Forms) (q : Request) (route : Route) → route_of_target forms.views q.target ≡ Some route → bytes_eq q.method (codes "POST") ≡ true → texts_of_body q.body ≡ None
-    → HasResponse (Wrong BadRequest) ≡ demand_of_request forms q
+pub no_texts : (forms : RequestParsers) (q : Request) (route : Route) → route_of_target forms.views q.target ≡ Some route → bytes_eq q.method (codes "POST") ≡ true → texts_of_body q.body ≡ None
+    → ResponseOnly (FromProblem BadRequest) ≡ demand_of_request forms q
 unfolding demand_of_request
 no_texts forms q route e t b = rw (e, t, b) refl
 
-pub all_there : (forms : Forms) (q : Request) (route : Route) (texts : List Text) → route_of_target forms.views q.target ≡ Some route → bytes_eq q.method (codes "POST") ≡ true → texts_of_body q.body ≡ Some texts
+pub all_there : (forms : RequestParsers) (q : Request) (route : Route) (texts : List Text) → route_of_target forms.views q.target ≡ Some route → bytes_eq q.method (codes "POST") ≡ true → texts_of_body q.body ≡ Some texts
     → demand_of_texts forms route texts ≡ demand_of_request forms q
 unfolding demand_of_request
 all_there forms q route texts e t b = rw (e, t, b) refl

@@ -2,7 +2,7 @@
 use Rattle.std.proofs.Common.{◌≡◌, ℕ, ◌+◌, ◌≤◌, List, [], ◌∷◌, ◌++◌, length, refl, arith}
 use Rattle.std.proofs.lemmas.List.{length-append}
 use Rattle.brk_io.proofs.Calls.{made_then}
-use Rattle.brk_http_model.specs.Asked.{Asked, HasResponse, Calls}
+use Rattle.brk_http_model.specs.Asked.{RequestDemand, ResponseOnly, DeskCall}
 use Rattle.brk_http_model.specs.Replies.{Response}
 use Rattle.brk_http_model.specs.Stream.{CallRelation, IsResponseToDemand}
 use Rattle.brk_http_engine.specs.Promises.{ChangesOnlyByCalls}
@@ -23,6 +23,6 @@ module _ {D : Type 0} (acts : CallRelation D) where
   not_called n old new same = ([], [], same, omega arith)
 
   -- a request is one call, or none
-  pub responds_called : (asked : Asked) (old new : D) (taken : List ℕ) (response : Response) → IsResponseToDemand acts asked old taken response new → ChangesOnlyByCalls acts 1 old new
-  responds_called (HasResponse said) old new taken response (is, none, same) = not_called 1 old new same
-  responds_called (Calls call) old new taken response (now, outcome, is, took, acted) = ((now, call) ∷ [], outcome ∷ [], (new, acted, refl), omega arith)
+  pub responds_called : (asked : RequestDemand) (old new : D) (taken : List ℕ) (response : Response) → IsResponseToDemand acts asked old taken response new → ChangesOnlyByCalls acts 1 old new
+  responds_called (ResponseOnly said) old new taken response (is, none, same) = not_called 1 old new same
+  responds_called (DeskCall call) old new taken response (now, outcome, is, took, acted) = ((now, call) ∷ [], outcome ∷ [], (new, acted, refl), omega arith)

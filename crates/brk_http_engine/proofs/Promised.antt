@@ -5,45 +5,45 @@ use Rattle.brk_money.specs.Spelling.{Text}
 use Rattle.brk_model.specs.Run.{Call, Outcome}
 use Rattle.brk_io.specs.Calls.{IsCallSequence}
 use Rattle.brk_io.specs.Span.{IsUnchangedEnvironment, ClockAndWriterChange, EnvironmentChange, change_with_bases}
-use Rattle.brk_http_model.specs.Asked.{Forms, Asked, HasResponse, Calls, demand_of_request}
-use Rattle.brk_http_model.specs.Found.{Found, NoMore, Unreadable, Asks}
+use Rattle.brk_http_model.specs.Asked.{RequestParsers, RequestDemand, ResponseOnly, DeskCall, demand_of_request}
+use Rattle.brk_http_model.specs.Found.{RequestReading, NoBytesLeft, Unreadable, CompleteRequest}
 use Rattle.brk_http_model.specs.Replies.{Response}
-use Rattle.brk_http_model.specs.Stream.{CallRelation, Next, Finished, Continues, One, IsReplyToReading, AreRepliesOfStream, AreFirstReplies, IsResponseToDemand}
+use Rattle.brk_http_model.specs.Stream.{CallRelation, StreamState, Finished, Continues, One, IsReplyToReading, AreRepliesOfStream, AreFirstReplies, IsResponseToDemand}
 use Rattle.brk_http_engine.specs.Promises.{StreamRefinesModel, CallScript, StreamMatchesScript, IsNextScriptedCall}
-use Rattle.brk_http_engine.specs.Turns.{TurnHasReply, TurnFailsWith, IsStreamResult}
+use Rattle.brk_http_engine.specs.Turns.{ExchangeHasReply, ExchangeFailsWith, IsStreamResult}
 use Rattle.brk_http_engine.specs.declared.stream.ServeFault.{ServeFault}
 use Rattle.brk_http_engine.specs.declared.turning.FaultKind.{FaultKind}
 use Rattle.brk_http_engine.specs.declared.turning.FaultKind.TheVariants as kinds
 use Rattle.brk_http_engine.proofs.Simulated as sim
 
 -- The change between two states of the desk, the clock and the writer.
-abbrev around : {B C : Type 0} → B → B → C → C → Option Text → Option Text → EnvironmentChange B C
-around base after clock later was now = record { base = base; after = after; clock = clock; later = later; old = was; new = now }
+abbrev change_between : {B C : Type 0} → B → B → C → C → Option Text → Option Text → EnvironmentChange B C
+change_between base after clock later was now = record { base = base; after = after; clock = clock; later = later; old = was; new = now }
 
 -- ---- over the bases that a desk stands for
 
-module _ {D B C : Type 0} (forms : Forms) (acts : CallRelation D) (does : CallRelation B) (honest : D → Type 0) (stands : D → B → Type 0)
+module _ {D B C : Type 0} (forms : RequestParsers) (acts : CallRelation D) (does : CallRelation B) (honest : D → Type 0) (stands : D → B → Type 0)
     (earlier : (old : D) (now : ℕ) (call : Call) (outcome : Outcome) (new : D) → acts old now call outcome new → honest new → honest old)
     (steps : (old : D) (now : ℕ) (call : Call) (outcome : Outcome) (new : D) → acts old now call outcome new → honest new → (base : B) → stands old base
     → (after : B) × stands new after × does base now call outcome after) (gives : C → ℕ → C → Type 0) where
   -- If the disk assumption holds for `new`, it holds for `old`, and for every base that `old`
   -- represents, `new` represents a base that `P` relates to it.
-  abbrev Carries : D → D → (B → B → Type 0) → Type 0
-  Carries old new P = honest new → honest old × ((base : B) → stands old base → (after : B) × stands new after × P base after)
+  abbrev RefinesFromEveryBase : D → D → (B → B → Type 0) → Type 0
+  RefinesFromEveryBase old new P = honest new → honest old × ((base : B) → stands old base → (after : B) × stands new after × P base after)
 
-  answered_carries : (n : ℕ) (input : Text) (old new : D) (clock later : C) (was now : Option Text) (reply : Text) (next : Next) → TurnHasReply forms acts gives n input (around old new clock later was now) reply next
-      → Carries old new (λ base after. TurnHasReply forms does gives n input (around base after clock later was now) reply next)
+  answered_carries : (n : ℕ) (input : Text) (old new : D) (clock later : C) (was now : Option Text) (reply : Text) (next : StreamState) → ExchangeHasReply forms acts gives n input (change_between old new clock later was now) reply next
+      → RefinesFromEveryBase old new (λ base after. ExchangeHasReply forms does gives n input (change_between base after clock later was now) reply next)
   answered_carries n input old new clock later was now reply next h good =
       let r = sim.one forms acts does honest stands earlier steps n input old new h.taken reply next h.one good in
       (r.0, λ base stood. let k = r.1 base stood in (k.0, k.1, record { taken = h.taken; moments = h.moments; one = k.2 }))
 
-  untouched_carries : (old new : D) (clock later : C) (was now : Option Text) → IsUnchangedEnvironment (around old new clock later was now)
-      → Carries old new (λ base after. IsUnchangedEnvironment (around base after clock later was now))
+  untouched_carries : (old new : D) (clock later : C) (was now : Option Text) → IsUnchangedEnvironment (change_between old new clock later was now)
+      → RefinesFromEveryBase old new (λ base after. IsUnchangedEnvironment (change_between base after clock later was now))
   untouched_carries old new clock later was now h good =
       (subst honest h.base good, λ base stood. (base, subst (λ d. stands d base) (sym h.base) stood, record { base = refl; clock = h.clock; written = h.written }))
 
-  failed_carries : (n : ℕ) (input : Text) (old new : D) (clock later : C) (was now : Option Text) (kind : FaultKind) → TurnFailsWith forms acts gives n input (around old new clock later was now) kind
-      → Carries old new (λ base after. TurnFailsWith forms does gives n input (around base after clock later was now) kind)
+  failed_carries : (n : ℕ) (input : Text) (old new : D) (clock later : C) (was now : Option Text) (kind : FaultKind) → ExchangeFailsWith forms acts gives n input (change_between old new clock later was now) kind
+      → RefinesFromEveryBase old new (λ base after. ExchangeFailsWith forms does gives n input (change_between base after clock later was now) kind)
   failed_carries n input old new clock later was now kinds.Read h good = untouched_carries old new clock later was now h good
   failed_carries n input old new clock later was now kinds.Memory (inl h) good =
       let r = untouched_carries old new clock later was now h good in (r.0, λ base stood. let k = r.1 base stood in (k.0, k.1, inl k.2))
@@ -82,37 +82,37 @@ module _ {D B C : Type 0} (forms : Forms) (acts : CallRelation D) (does : CallRe
 
 -- ---- whatever the desk answers
 
-module _ {D C : Type 0} (forms : Forms) (acts : CallRelation D) (gives : C → ℕ → C → Type 0) (last : D) where
+module _ {D C : Type 0} (forms : RequestParsers) (acts : CallRelation D) (gives : C → ℕ → C → Type 0) (last : D) where
   -- For each script that leads from `new` to the last desk, there is one that leads from `old` to
   -- it, and `P` relates the two.
-  abbrev Told : D → D → (CallScript → CallScript → Type 0) → Type 0
-  Told old new P = (after : CallScript) → IsCallSequence acts new after.0 after.1 last → (before : CallScript) × IsCallSequence acts old before.0 before.1 last × P before after
+  abbrev ExtendsScript : D → D → (CallScript → CallScript → Type 0) → Type 0
+  ExtendsScript old new P = (after : CallScript) → IsCallSequence acts new after.0 after.1 last → (before : CallScript) × IsCallSequence acts old before.0 before.1 last × P before after
 
   -- nothing was asked of it
   abbrev stayed : (old new : D) (after : CallScript) → new ≡ old → IsCallSequence acts new after.0 after.1 last → IsCallSequence acts old after.0 after.1 last
   stayed old new after same made = subst (λ d. IsCallSequence acts d after.0 after.1 last) same made
 
-  responds_told : (asked : Asked) (old new : D) (taken : List ℕ) (response : Response) → IsResponseToDemand acts asked old taken response new
-      → Told old new (λ before after. IsResponseToDemand IsNextScriptedCall asked before taken response after)
-  responds_told (HasResponse said) old new taken response (is, none, same) after made = (after, stayed old new after same made, (is, none, refl))
-  responds_told (Calls call) old new taken response (now, outcome, is, took, acted) after made =
+  responds_told : (asked : RequestDemand) (old new : D) (taken : List ℕ) (response : Response) → IsResponseToDemand acts asked old taken response new
+      → ExtendsScript old new (λ before after. IsResponseToDemand IsNextScriptedCall asked before taken response after)
+  responds_told (ResponseOnly said) old new taken response (is, none, same) after made = (after, stayed old new after same made, (is, none, refl))
+  responds_told (DeskCall call) old new taken response (now, outcome, is, took, acted) after made =
       (((now, call) ∷ after.0, outcome ∷ after.1), (new, acted, made), (now, outcome, is, took, (refl, refl)))
 
-  replied_told : (n : ℕ) (found : Found) (old new : D) (taken : List ℕ) (reply : Text) (next : Next) → IsReplyToReading forms acts n found old taken reply next new
-      → Told old new (λ before after. IsReplyToReading forms IsNextScriptedCall n found before taken reply next after)
-  replied_told n NoMore old new taken reply next h after made = elim h [ ]
+  replied_told : (n : ℕ) (found : RequestReading) (old new : D) (taken : List ℕ) (reply : Text) (next : StreamState) → IsReplyToReading forms acts n found old taken reply next new
+      → ExtendsScript old new (λ before after. IsReplyToReading forms IsNextScriptedCall n found before taken reply next after)
+  replied_told n NoBytesLeft old new taken reply next h after made = elim h [ ]
   replied_told n (Unreadable problem) old new taken reply next (is, ends, none, same) after made = (after, stayed old new after same made, (is, ends, none, refl))
-  replied_told n (Asks request rest) old new taken reply next h after made =
+  replied_told n (CompleteRequest request rest) old new taken reply next h after made =
       let r = responds_told (demand_of_request forms request) old new taken h.response h.responds after made in
       (r.0, r.1, record { response = h.response; closes = h.closes; responds = r.2; last = h.last; bytes = h.bytes; follows = h.follows })
 
-  one_told : (n : ℕ) (input : Text) (old new : D) (taken : List ℕ) (reply : Text) (next : Next) → One forms acts n input old taken reply next new
-      → Told old new (λ before after. One forms IsNextScriptedCall n input before taken reply next after)
+  one_told : (n : ℕ) (input : Text) (old new : D) (taken : List ℕ) (reply : Text) (next : StreamState) → One forms acts n input old taken reply next new
+      → ExtendsScript old new (λ before after. One forms IsNextScriptedCall n input before taken reply next after)
   one_told n input old new taken reply next h after made =
       let r = replied_told n h.found old new taken reply next h.replied after made in (r.0, r.1, record { found = h.found; finds = h.finds; replied = r.2 })
 
-  replies_told : (rs : List Text) (n : ℕ) (next : Next) (old new : D) (moments : List ℕ) → AreRepliesOfStream forms acts n next old moments rs new
-      → Told old new (λ before after. AreRepliesOfStream forms IsNextScriptedCall n next before moments rs after)
+  replies_told : (rs : List Text) (n : ℕ) (next : StreamState) (old new : D) (moments : List ℕ) → AreRepliesOfStream forms acts n next old moments rs new
+      → ExtendsScript old new (λ before after. AreRepliesOfStream forms IsNextScriptedCall n next before moments rs after)
   replies_told rs n Finished old new moments (none, asked, same) after made = (after, stayed old new after same made, (none, asked, refl))
   replies_told [] n (Continues input) old new moments (none, asked, same) after made = (after, stayed old new after same made, (none, asked, refl))
   replies_told (reply ∷ rs) n (Continues input) old new moments (taken, more, next, mid, split, first, others) after made =
@@ -121,24 +121,24 @@ module _ {D C : Type 0} (forms : Forms) (acts : CallRelation D) (gives : C → �
       (k.0, k.1, (taken, more, next, l.0, split, k.2, l.2))
 
   begins_told : (rs : List Text) (n : ℕ) (input rest : Text) (old new : D) (moments : List ℕ) → AreFirstReplies forms acts n input old moments rs rest new
-      → Told old new (λ before after. AreFirstReplies forms IsNextScriptedCall n input before moments rs rest after)
+      → ExtendsScript old new (λ before after. AreFirstReplies forms IsNextScriptedCall n input before moments rs rest after)
   begins_told [] n input rest old new moments (is, asked, same) after made = (after, stayed old new after same made, (is, asked, refl))
   begins_told (reply ∷ rs) n input rest old new moments (taken, more, left, mid, split, first, others) after made =
       let l = begins_told rs (n + 1) left rest mid new more others after made in
       let k = one_told n input old mid taken reply (Continues left) first l.0 l.1 in
       (k.0, k.1, (taken, more, left, l.0, split, k.2, l.2))
 
-  answered_told : (n : ℕ) (input : Text) (old new : D) (clock later : C) (was now : Option Text) (reply : Text) (next : Next) → TurnHasReply forms acts gives n input (around old new clock later was now) reply next
-      → Told old new (λ before after. TurnHasReply forms IsNextScriptedCall gives n input (around before after clock later was now) reply next)
+  answered_told : (n : ℕ) (input : Text) (old new : D) (clock later : C) (was now : Option Text) (reply : Text) (next : StreamState) → ExchangeHasReply forms acts gives n input (change_between old new clock later was now) reply next
+      → ExtendsScript old new (λ before after. ExchangeHasReply forms IsNextScriptedCall gives n input (change_between before after clock later was now) reply next)
   answered_told n input old new clock later was now reply next h after made =
       let r = one_told n input old new h.taken reply next h.one after made in (r.0, r.1, record { taken = h.taken; moments = h.moments; one = r.2 })
 
-  untouched_told : (old new : D) (clock later : C) (was now : Option Text) → IsUnchangedEnvironment (around old new clock later was now)
-      → Told old new (λ before after. IsUnchangedEnvironment (around before after clock later was now))
+  untouched_told : (old new : D) (clock later : C) (was now : Option Text) → IsUnchangedEnvironment (change_between old new clock later was now)
+      → ExtendsScript old new (λ before after. IsUnchangedEnvironment (change_between before after clock later was now))
   untouched_told old new clock later was now h after made = (after, stayed old new after h.base made, record { base = refl; clock = h.clock; written = h.written })
 
-  failed_told : (n : ℕ) (input : Text) (old new : D) (clock later : C) (was now : Option Text) (kind : FaultKind) → TurnFailsWith forms acts gives n input (around old new clock later was now) kind
-      → Told old new (λ before after. TurnFailsWith forms IsNextScriptedCall gives n input (around before after clock later was now) kind)
+  failed_told : (n : ℕ) (input : Text) (old new : D) (clock later : C) (was now : Option Text) (kind : FaultKind) → ExchangeFailsWith forms acts gives n input (change_between old new clock later was now) kind
+      → ExtendsScript old new (λ before after. ExchangeFailsWith forms IsNextScriptedCall gives n input (change_between before after clock later was now) kind)
   failed_told n input old new clock later was now kinds.Read h after made = untouched_told old new clock later was now h after made
   failed_told n input old new clock later was now kinds.Memory (inl h) after made = let r = untouched_told old new clock later was now h after made in (r.0, r.1, inl r.2)
   failed_told n input old new clock later was now kinds.Memory (inr (reply, next, h, wrote)) after made =

@@ -21,27 +21,27 @@ abbrev is_slash : ℕ → Bool
 is_slash b = eqb b 47
 
 -- No element of the text is the number 256.
-abbrev AreBytes : Text → Type 0
-AreBytes [] = ⊤
-AreBytes (b ∷ text) = ((256 == b) ≡ false) × AreBytes text
+abbrev HasNoCodeOf256 : Text → Type 0
+HasNoCodeOf256 [] = ⊤
+HasNoCodeOf256 (b ∷ text) = ((256 == b) ≡ false) × HasNoCodeOf256 text
 
 -- No segment contains the number 256 or a slash.
-abbrev AreParts : List Text → Type 0
-AreParts [] = ⊤
-AreParts (part ∷ parts) = (AreBytes part × (has_slash part ≡ false)) × AreParts parts
+abbrev ArePlainSegments : List Text → Type 0
+ArePlainSegments [] = ⊤
+ArePlainSegments (part ∷ parts) = (HasNoCodeOf256 part × (has_slash part ≡ false)) × ArePlainSegments parts
 
-are_bytes : (text : Text) → ((k : ℕ) → get_or text k 0 < 256) → AreBytes text
+are_bytes : (text : Text) → ((k : ℕ) → get_or text k 0 < 256) → HasNoCodeOf256 text
 are_bytes [] fits = tt
 are_bytes (b ∷ text) fits = (no_token b (fits 0), are_bytes text (λ k. fits (suc k)))
   where
     no_token : (n : ℕ) → n < 256 → (256 == n) ≡ false
     no_token n h = grind (arith, nat_tests)
 
-are_parts : (text : Text) → AreBytes text → AreParts (slice_split is_slash text)
+are_parts : (text : Text) → HasNoCodeOf256 text → ArePlainSegments (slice_split is_slash text)
 are_parts [] s = ((tt, refl), tt)
 are_parts (b ∷ text) (h, s) = choose (eqb b 47) refl (slice_split is_slash text) (are_parts text s)
   where
-    choose : (t : Bool) → eqb b 47 ≡ t → (parts : List Text) → AreParts parts → AreParts (cond t ([] ∷ parts) (onto_first b parts))
+    choose : (t : Bool) → eqb b 47 ≡ t → (parts : List Text) → ArePlainSegments parts → ArePlainSegments (cond t ([] ∷ parts) (onto_first b parts))
     choose true e parts g = ((tt, refl), g)
     choose false e [] g = (((h, tt), rw e refl), tt)
     choose false e (part ∷ parts) ((s, plain), g) = (((h, s), rw e plain), g)
@@ -96,7 +96,7 @@ two_parts a b none true h =
     let e = begun a b (codes "rows") h in
     clash found_row (subst (λ x. is_some (first all_router_rows (join_with_byte 47 (x ∷ codes "rows" ∷ []))) ≡ false) e.0 (subst (λ x. is_some (first all_router_rows (join_with_byte 47 (a ∷ x ∷ []))) ≡ false) e.1 none))
 
-three_parts : (views : List Text) (a b view : Text) (r : Route) → list_all is_nonempty views ≡ true → AreParts (view ∷ []) → is_some (first all_router_rows (join_with_byte 47 (a ∷ b ∷ view ∷ []))) ≡ false
+three_parts : (views : List Text) (a b view : Text) (r : Route) → list_all is_nonempty views ≡ true → ArePlainSegments (view ∷ []) → is_some (first all_router_rows (join_with_byte 47 (a ∷ b ∷ view ∷ []))) ≡ false
     → (t : Bool) → has_first_segment a b (codes "ask") ≡ t → (u : Bool) → list_any (λ v. bytes_eq v view) views ≡ u → cond (t && u) (Some r) None ≡ None
 three_parts views a b view r named parts none false h u k = refl
 three_parts views a b view r named parts none true h false k = refl
@@ -107,7 +107,7 @@ three_parts views a b (c ∷ v) r named ((bytes, plain), others) none true h tru
     (subst (λ x. is_some (first all_router_rows (join_with_byte 47 (x ∷ codes "ask" ∷ (c ∷ v) ∷ []))) ≡ false) e.0
     (subst (λ x. is_some (first all_router_rows (join_with_byte 47 (a ∷ x ∷ (c ∷ v) ∷ []))) ≡ false) e.1 none))
 
-four_parts : (a b batch n : Text) (f : Key → Route) → AreParts (batch ∷ n ∷ []) → is_some (first all_router_rows (join_with_byte 47 (a ∷ b ∷ batch ∷ n ∷ []))) ≡ false
+four_parts : (a b batch n : Text) (f : Key → Route) → ArePlainSegments (batch ∷ n ∷ []) → is_some (first all_router_rows (join_with_byte 47 (a ∷ b ∷ batch ∷ n ∷ []))) ≡ false
     → (t : Bool) → has_first_segment a b (codes "rows") ≡ t → cond t (option_map f (key_of_batch_row batch (read_id n))) None ≡ None
 four_parts a b batch n f parts none false h = refl
 four_parts a b [] n f parts none true h = no_batch f (read_id n)
@@ -118,7 +118,7 @@ four_parts a b (c ∷ v) (d ∷ w) f ((bytes, plain), ((bytes2, plain2), others)
     (subst (λ x. is_some (first all_router_rows (join_with_byte 47 (x ∷ codes "rows" ∷ (c ∷ v) ∷ (d ∷ w) ∷ []))) ≡ false) e.0
     (subst (λ x. is_some (first all_router_rows (join_with_byte 47 (a ∷ x ∷ (c ∷ v) ∷ (d ∷ w) ∷ []))) ≡ false) e.1 none))
 
-by_parts : (views : List Text) (parts : List Text) → list_all is_nonempty views ≡ true → AreParts parts → is_some (first all_router_rows (join_with_byte 47 parts)) ≡ false → route_of_segments views parts ≡ None
+by_parts : (views : List Text) (parts : List Text) → list_all is_nonempty views ≡ true → ArePlainSegments parts → is_some (first all_router_rows (join_with_byte 47 parts)) ≡ false → route_of_segments views parts ≡ None
 by_parts views [] named are none = refl
 by_parts views (a ∷ []) named are none = refl
 by_parts views (a ∷ b ∷ []) named are none = two_parts a b none (has_first_segment a b (codes "rows")) refl

@@ -7,8 +7,8 @@ use Rattle.matchit.specs.Rows.{RowsOf, param_token, catch_all_token}
 use Rattle.matchit.specs.Seek.{seek, step, own, or_else, param_step, has_slash, segment, cuts, longest_suffix, with_suffix}
 
 -- No rows of the router, with the length 0 if `c` is true, otherwise `n`.
-abbrev taken : {K : Type 0} → Bool → ℕ → ℕ × RowsOf K
-taken c n = cond c (0, []) (n, [])
+abbrev no_rows_with_length : {K : Type 0} → Bool → ℕ → ℕ × RowsOf K
+no_rows_with_length c n = cond c (0, []) (n, [])
 
 seek_nil : {K : Type 0} (k : ℕ) (path : List ℕ) → seek {K = K} k [] path ≡ None
 unfolding seek param_step
@@ -16,11 +16,11 @@ seek_nil k [] = refl
 seek_nil (suc k) (b ∷ path) = seek_nil k path
 seek_nil {K} zero (b ∷ path) = rw (seek_nil {K = K} zero path) (by (has_slash (b ∷ path)) (length (b ∷ path)) (λ k. seek_nil {K = K} k path))
   where
-    by : (c : Bool) (n : ℕ) → ((k : ℕ) → seek {K = K} k [] path ≡ None) → or_else (seek ((taken {K = K} c n).0 - 1) (taken {K = K} c n).1 path) None ≡ None
+    by : (c : Bool) (n : ℕ) → ((k : ℕ) → seek {K = K} k [] path ≡ None) → or_else (seek ((no_rows_with_length {K = K} c n).0 - 1) (no_rows_with_length {K = K} c n).1 path) None ≡ None
     by true n ih = rw (ih 0) refl
     by false n ih = rw (ih (n - 1)) refl
 
-none_taken : {K : Type 0} (c : Bool) (n : ℕ) (path : List ℕ) (x : Option K) → or_else x (or_else (seek ((taken {K = K} c n).0 - 1) (taken {K = K} c n).1 path) None) ≡ x
+none_taken : {K : Type 0} (c : Bool) (n : ℕ) (path : List ℕ) (x : Option K) → or_else x (or_else (seek ((no_rows_with_length {K = K} c n).0 - 1) (no_rows_with_length {K = K} c n).1 path) None) ≡ x
 none_taken {K} c n path (Some k) = refl
 none_taken {K} true n path None = rw (seek_nil {K = K} 0 path) refl
 none_taken {K} false n path None = rw (seek_nil {K = K} (n - 1) path) refl
@@ -33,16 +33,16 @@ seek_byte {K} rs b path p q = rw (p, q) (none_taken {K = K} (has_slash (b ∷ pa
 -- ---- a word, and then what the rows lead to
 
 -- The rows of the router that begin with the bytes of `w`, without these bytes.
-abbrev pub rows_after : {K : Type 0} → List ℕ → RowsOf K → RowsOf K
-rows_after [] rs = rs
-rows_after (b ∷ w) rs = rows_after w (step b rs)
+abbrev pub rows_after_prefix : {K : Type 0} → List ℕ → RowsOf K → RowsOf K
+rows_after_prefix [] rs = rs
+rows_after_prefix (b ∷ w) rs = rows_after_prefix w (step b rs)
 
 -- No row of the router has a parameter before the end of the word.
-abbrev pub IsPlain : {K : Type 0} → List ℕ → RowsOf K → Type 0
-IsPlain [] rs = Unit {0}
-IsPlain (b ∷ w) rs = (step param_token rs ≡ []) × (step catch_all_token rs ≡ []) × IsPlain w (step b rs)
+abbrev pub HasNoParameterBeforeEnd : {K : Type 0} → List ℕ → RowsOf K → Type 0
+HasNoParameterBeforeEnd [] rs = Unit {0}
+HasNoParameterBeforeEnd (b ∷ w) rs = (step param_token rs ≡ []) × (step catch_all_token rs ≡ []) × HasNoParameterBeforeEnd w (step b rs)
 
-pub seek_word : {K : Type 0} (w path : List ℕ) (rs : RowsOf K) → IsPlain w rs → seek 0 rs (w ++ path) ≡ seek 0 (rows_after w rs) path
+pub seek_word : {K : Type 0} (w path : List ℕ) (rs : RowsOf K) → HasNoParameterBeforeEnd w rs → seek 0 rs (w ++ path) ≡ seek 0 (rows_after_prefix w rs) path
 seek_word [] path rs p = refl
 seek_word (b ∷ w) path rs (p, q, r) = seek_byte rs b (w ++ path) p q ∙ seek_word w path (step b rs) r
 

@@ -2,48 +2,48 @@
 use Rattle.std.proofs.Common.{ℕ, ◌+◌, List, [], ◌∷◌, refl, sym, subst}
 use Rattle.brk_money.specs.Spelling.{Text}
 use Rattle.brk_model.specs.Run.{Call, Outcome}
-use Rattle.brk_http_model.specs.Asked.{Forms, Asked, HasResponse, Calls, demand_of_request}
-use Rattle.brk_http_model.specs.Found.{Found, NoMore, Unreadable, Asks}
+use Rattle.brk_http_model.specs.Asked.{RequestParsers, RequestDemand, ResponseOnly, DeskCall, demand_of_request}
+use Rattle.brk_http_model.specs.Found.{RequestReading, NoBytesLeft, Unreadable, CompleteRequest}
 use Rattle.brk_http_model.specs.Replies.{Response}
-use Rattle.brk_http_model.specs.Stream.{CallRelation, Next, Finished, Continues, One, IsReplyToReading, AreRepliesOfStream, AreFirstReplies, IsResponseToDemand}
+use Rattle.brk_http_model.specs.Stream.{CallRelation, StreamState, Finished, Continues, One, IsReplyToReading, AreRepliesOfStream, AreFirstReplies, IsResponseToDemand}
 
-module _ {D B : Type 0} (forms : Forms) (acts : CallRelation D) (does : CallRelation B) (honest : D → Type 0) (stands : D → B → Type 0)
+module _ {D B : Type 0} (forms : RequestParsers) (acts : CallRelation D) (does : CallRelation B) (honest : D → Type 0) (stands : D → B → Type 0)
     (earlier : (old : D) (now : ℕ) (call : Call) (outcome : Outcome) (new : D) → acts old now call outcome new → honest new → honest old)
     (steps : (old : D) (now : ℕ) (call : Call) (outcome : Outcome) (new : D) → acts old now call outcome new → honest new → (base : B) → stands old base
     → (after : B) × stands new after × does base now call outcome after) where
   -- If the disk assumption holds for `new`, it holds for `old`, and for every base that `old`
   -- represents, `new` represents a base that `P` relates to it.
-  abbrev Carries : D → D → (B → B → Type 0) → Type 0
-  Carries old new P = honest new → honest old × ((base : B) → stands old base → (after : B) × stands new after × P base after)
+  abbrev RefinesFromEveryBase : D → D → (B → B → Type 0) → Type 0
+  RefinesFromEveryBase old new P = honest new → honest old × ((base : B) → stands old base → (after : B) × stands new after × P base after)
 
-  responds : (asked : Asked) (old new : D) (taken : List ℕ) (response : Response) → IsResponseToDemand acts asked old taken response new
-      → Carries old new (λ base after. IsResponseToDemand does asked base taken response after)
-  responds (HasResponse said) old new taken response (is, none, same) good =
+  responds : (asked : RequestDemand) (old new : D) (taken : List ℕ) (response : Response) → IsResponseToDemand acts asked old taken response new
+      → RefinesFromEveryBase old new (λ base after. IsResponseToDemand does asked base taken response after)
+  responds (ResponseOnly said) old new taken response (is, none, same) good =
       (subst honest same good, λ base stood. (base, subst (λ d. stands d base) (sym same) stood, (is, none, refl)))
-  responds (Calls call) old new taken response (now, outcome, is, took, acted) good =
+  responds (DeskCall call) old new taken response (now, outcome, is, took, acted) good =
       (earlier old now call outcome new acted good, λ base stood. let h = steps old now call outcome new acted good base stood in (h.0, h.1, (now, outcome, is, took, h.2)))
 
-  replied : (n : ℕ) (found : Found) (old new : D) (taken : List ℕ) (reply : Text) (next : Next) → IsReplyToReading forms acts n found old taken reply next new
-      → Carries old new (λ base after. IsReplyToReading forms does n found base taken reply next after)
-  replied n NoMore old new taken reply next h good = elim h [ ]
+  replied : (n : ℕ) (found : RequestReading) (old new : D) (taken : List ℕ) (reply : Text) (next : StreamState) → IsReplyToReading forms acts n found old taken reply next new
+      → RefinesFromEveryBase old new (λ base after. IsReplyToReading forms does n found base taken reply next after)
+  replied n NoBytesLeft old new taken reply next h good = elim h [ ]
   replied n (Unreadable problem) old new taken reply next (is, ends, none, same) good =
       (subst honest same good, λ base stood. (base, subst (λ d. stands d base) (sym same) stood, (is, ends, none, refl)))
-  replied n (Asks request rest) old new taken reply next h good =
+  replied n (CompleteRequest request rest) old new taken reply next h good =
       let r = responds (demand_of_request forms request) old new taken h.response h.responds good in (
         r.0,
         λ base stood. let k = r.1 base stood in
             (k.0, k.1, record { response = h.response; closes = h.closes; responds = k.2; last = h.last; bytes = h.bytes; follows = h.follows }),
       )
 
-  pub one : (n : ℕ) (input : Text) (old new : D) (taken : List ℕ) (reply : Text) (next : Next) → One forms acts n input old taken reply next new
-      → Carries old new (λ base after. One forms does n input base taken reply next after)
+  pub one : (n : ℕ) (input : Text) (old new : D) (taken : List ℕ) (reply : Text) (next : StreamState) → One forms acts n input old taken reply next new
+      → RefinesFromEveryBase old new (λ base after. One forms does n input base taken reply next after)
   one n input old new taken reply next h good =
       let r = replied n h.found old new taken reply next h.replied good in
       (r.0, λ base stood. let k = r.1 base stood in (k.0, k.1, record { found = h.found; finds = h.finds; replied = k.2 }))
 
   -- the replies of a stream over a desk are those over each base that it stood for
-  pub replies_carry : (rs : List Text) (n : ℕ) (next : Next) (old new : D) (moments : List ℕ) → AreRepliesOfStream forms acts n next old moments rs new
-      → Carries old new (λ base after. AreRepliesOfStream forms does n next base moments rs after)
+  pub replies_carry : (rs : List Text) (n : ℕ) (next : StreamState) (old new : D) (moments : List ℕ) → AreRepliesOfStream forms acts n next old moments rs new
+      → RefinesFromEveryBase old new (λ base after. AreRepliesOfStream forms does n next base moments rs after)
   replies_carry rs n Finished old new moments (none, asked, same) good =
       (subst honest same good, λ base stood. (base, subst (λ d. stands d base) (sym same) stood, (none, asked, refl)))
   replies_carry [] n (Continues input) old new moments (none, asked, same) good =
@@ -60,7 +60,7 @@ module _ {D B : Type 0} (forms : Forms) (acts : CallRelation D) (does : CallRela
 
   -- and so are the first replies
   pub begins_carry : (rs : List Text) (n : ℕ) (input rest : Text) (old new : D) (moments : List ℕ) → AreFirstReplies forms acts n input old moments rs rest new
-      → Carries old new (λ base after. AreFirstReplies forms does n input base moments rs rest after)
+      → RefinesFromEveryBase old new (λ base after. AreFirstReplies forms does n input base moments rs rest after)
   begins_carry [] n input rest old new moments (is, asked, same) good =
       (subst honest same good, λ base stood. (base, subst (λ d. stands d base) (sym same) stood, (is, asked, refl)))
   begins_carry (reply ∷ rs) n input rest old new moments (taken, more, left, mid, split, first, others) good =

@@ -8,10 +8,10 @@ use Rattle.std.proofs.lemmas.List.{append-nil, length_push}
 use Rattle.brk_money.specs.Spelling.{Text}
 use Rattle.brk_io.specs.Span.{EnvironmentChange}
 use Rattle.brk_io.specs.Moments.{ClockReturnsInOrder}
-use Rattle.brk_http_model.specs.Asked.{Forms}
-use Rattle.brk_http_model.specs.Found.{NoMore, ReadsFirstRequest}
-use Rattle.brk_http_model.specs.Stream.{CallRelation, Next, Finished, Continues, One, AreRepliesOfStream, AreFirstReplies}
-use Rattle.brk_http_engine.specs.Turns.{TurnHasReply, TurnEndsWith, TurnFailsWith, StreamFailsWith, IsStreamResult}
+use Rattle.brk_http_model.specs.Asked.{RequestParsers}
+use Rattle.brk_http_model.specs.Found.{NoBytesLeft, ReadsFirstRequest}
+use Rattle.brk_http_model.specs.Stream.{CallRelation, StreamState, Finished, Continues, One, AreRepliesOfStream, AreFirstReplies}
+use Rattle.brk_http_engine.specs.Turns.{ExchangeHasReply, ExchangeCompletesWith, ExchangeFailsWith, StreamFailsWith, IsStreamResult}
 use Rattle.brk_http_engine.specs.declared.turning.Turn.TheVariants as turn
 use Rattle.brk_http_engine.specs.declared.turning.FaultKind.{FaultKind}
 use Rattle.brk_http_engine.specs.declared.turning.FaultKind.TheVariants as kinds
@@ -32,8 +32,8 @@ moments_more : {C : Type 0} (gives : C → ℕ → C → Type 0) (first mid last
 moments_more gives first mid last [] ns e h = subst (λ c. ClockReturnsInOrder gives c ns last) e h
 moments_more gives first mid last (m ∷ ms) ns (c, g, more) h = (c, g, moments_more gives c mid last ms ns more h)
 
-module _ {B C : Type 0} (forms : Forms) (does : CallRelation B) (gives : C → ℕ → C → Type 0) where
-  one_same : (n n' : ℕ) (i i' : Text) (b b' : B) (taken : List ℕ) (reply : Text) (next : Next) (after : B) → n' ≡ n → i' ≡ i → b' ≡ b → One forms does n' i' b' taken reply next after
+module _ {B C : Type 0} (forms : RequestParsers) (does : CallRelation B) (gives : C → ℕ → C → Type 0) where
+  one_same : (n n' : ℕ) (i i' : Text) (b b' : B) (taken : List ℕ) (reply : Text) (next : StreamState) (after : B) → n' ≡ n → i' ≡ i → b' ≡ b → One forms does n' i' b' taken reply next after
       → One forms does n i b taken reply next after
   one_same n n' i i' b b' taken reply next after en ei eb h =
       subst (λ m. One forms does m i b taken reply next after) en
@@ -56,12 +56,12 @@ module _ {B C : Type 0} (forms : Forms) (does : CallRelation B) (gives : C → �
       (t, more ++ taken, Continues left, mid, ap (λ l. l ++ taken) e ∙ append_assoc t more taken, first, begins_last rs (n + 1) k left j mid m more taken reply after others (omega (arith, count)) one)
 
   -- no request more
-  begins_end : (rs : List Text) (n : ℕ) (i j : Text) (b m : B) (ms : List ℕ) → AreFirstReplies forms does n i b ms rs j m → ReadsFirstRequest j NoMore → AreRepliesOfStream forms does n (Continues i) b ms rs m
-  begins_end [] n i j b m ms (ei, em, eb) none = (subst (λ t. ReadsFirstRequest t NoMore) ei none, em, eb)
+  begins_end : (rs : List Text) (n : ℕ) (i j : Text) (b m : B) (ms : List ℕ) → AreFirstReplies forms does n i b ms rs j m → ReadsFirstRequest j NoBytesLeft → AreRepliesOfStream forms does n (Continues i) b ms rs m
+  begins_end [] n i j b m ms (ei, em, eb) none = (subst (λ t. ReadsFirstRequest t NoBytesLeft) ei none, em, eb)
   begins_end (x ∷ rs) n i j b m ms (t, more, left, mid, e, first, others) none = (t, more, Continues left, mid, e, first, begins_end rs (n + 1) left j mid m more others none)
 
   -- After the first `n` replies were written, `rest` is the remaining input.
-  pub record Place (input : Text) (span : EnvironmentChange B C) (n : ℕ) (rest : Text) : Type 0 where
+  pub record HasFirstReplies (input : Text) (span : EnvironmentChange B C) (n : ℕ) (rest : Text) : Type 0 where
     pub moments : List ℕ
     pub replies : List Text
     pub taken : ClockReturnsInOrder gives span.clock moments span.later
@@ -71,11 +71,11 @@ module _ {B C : Type 0} (forms : Forms) (does : CallRelation B) (gives : C → �
 
   -- If the input is known, the first `n` replies were written, and the buffer and the reader have
   -- the remaining input. Vacuous if the input is unknown.
-  abbrev pub SoFar : Option Text → EnvironmentChange B C → ℕ → Text → Option Text → Type 0
-  SoFar a span n buffer left = IfSome a (λ input. (rest : Text) × (prepend_known buffer left ≡ Some rest) × Place input span n rest)
+  abbrev pub HasFirstRepliesIfKnown : Option Text → EnvironmentChange B C → ℕ → Text → Option Text → Type 0
+  HasFirstRepliesIfKnown a span n buffer left = IfSome a (λ input. (rest : Text) × (prepend_known buffer left ≡ Some rest) × HasFirstReplies input span n rest)
 
   pub at_first : (a : Option Text) (base : B) (clock : C) (old : Option Text) (buffer : Text) → buffer ≡ []
-      → SoFar a (record { base = base; after = base; clock = clock; later = clock; old = old; new = old }) 0 buffer a
+      → HasFirstRepliesIfKnown a (record { base = base; after = base; clock = clock; later = clock; old = old; new = old }) 0 buffer a
   at_first None base clock old buffer e = tt
   at_first (Some input) base clock old buffer e = (
     input,
@@ -84,15 +84,15 @@ module _ {B C : Type 0} (forms : Forms) (does : CallRelation B) (gives : C → �
   )
 
   -- The change from the end of `span` to the given state.
-  abbrev pub onward : EnvironmentChange B C → B → C → Option Text → EnvironmentChange B C
-  onward span after later new = record { base = span.after; after = after; clock = span.later; later = later; old = span.new; new = new }
+  abbrev pub change_after : EnvironmentChange B C → B → C → Option Text → EnvironmentChange B C
+  change_after span after later new = record { base = span.after; after = after; clock = span.later; later = later; old = span.new; new = new }
 
   -- The change from the start of `span` to the given state.
-  abbrev pub over_all : EnvironmentChange B C → B → C → Option Text → EnvironmentChange B C
-  over_all span after later new = record { base = span.base; after = after; clock = span.clock; later = later; old = span.old; new = new }
+  abbrev pub change_since_start : EnvironmentChange B C → B → C → Option Text → EnvironmentChange B C
+  change_since_start span after later new = record { base = span.base; after = after; clock = span.clock; later = later; old = span.old; new = new }
 
-  here : (input : Text) (span : EnvironmentChange B C) (n : ℕ) (rest left : Text) (after : B) (later : C) (new : Option Text) (reply : Text) → Place input span n rest
-      → TurnHasReply forms does gives n rest (onward span after later new) reply (Continues left) → Appends span.new new reply → Place input (over_all span after later new) (n + 1) left
+  here : (input : Text) (span : EnvironmentChange B C) (n : ℕ) (rest left : Text) (after : B) (later : C) (new : Option Text) (reply : Text) → HasFirstReplies input span n rest
+      → ExchangeHasReply forms does gives n rest (change_after span after later new) reply (Continues left) → Appends span.new new reply → HasFirstReplies input (change_since_start span after later new) (n + 1) left
   here input span n rest left after later new reply p answered wrote = record {
     moments = p.moments ++ answered.taken;
     replies = p.replies ++ reply ∷ [];
@@ -103,19 +103,19 @@ module _ {B C : Type 0} (forms : Forms) (does : CallRelation B) (gives : C → �
   }
 
   pub open_here : (a : Option Text) (span : EnvironmentChange B C) (n : ℕ) (buffer : Text) (left : Option Text) (after : B) (later : C) (new : Option Text) (buffer' : Text) (left' : Option Text)
-      → SoFar a span n buffer left → IfSome left (λ xs. TurnEndsWith forms does gives n (buffer ++ xs) (onward span after later new) (prepend_known buffer' left') turn.Open)
-      → SoFar a (over_all span after later new) (n + 1) buffer' left'
+      → HasFirstRepliesIfKnown a span n buffer left → IfSome left (λ xs. ExchangeCompletesWith forms does gives n (buffer ++ xs) (change_after span after later new) (prepend_known buffer' left') turn.Open)
+      → HasFirstRepliesIfKnown a (change_since_start span after later new) (n + 1) buffer' left'
   open_here None span n buffer left after later new buffer' left' h t = tt
   open_here (Some input) span n buffer left after later new buffer' left' (rest, is, p) t =
-      let u = at_rest left buffer rest (λ i. TurnEndsWith forms does gives n i (onward span after later new) (prepend_known buffer' left') turn.Open) is t in
+      let u = at_rest left buffer rest (λ i. ExchangeCompletesWith forms does gives n i (change_after span after later new) (prepend_known buffer' left') turn.Open) is t in
       (u.1, u.4, here input span n rest u.1 after later new u.0 p u.2 u.3)
 
   pub closed_here : (a : Option Text) (span : EnvironmentChange B C) (n : ℕ) (buffer : Text) (left : Option Text) (after : B) (later : C) (new left' : Option Text)
-      → SoFar a span n buffer left → IfSome left (λ xs. TurnEndsWith forms does gives n (buffer ++ xs) (onward span after later new) left' turn.Closed)
-      → IfSome a (λ input. IsStreamResult forms does gives input (over_all span after later new) (Ok (n + 1)))
+      → HasFirstRepliesIfKnown a span n buffer left → IfSome left (λ xs. ExchangeCompletesWith forms does gives n (buffer ++ xs) (change_after span after later new) left' turn.Closed)
+      → IfSome a (λ input. IsStreamResult forms does gives input (change_since_start span after later new) (Ok (n + 1)))
   closed_here None span n buffer left after later new left' h t = tt
   closed_here (Some input) span n buffer left after later new left' (rest, is, p) t =
-      let u = at_rest left buffer rest (λ i. TurnEndsWith forms does gives n i (onward span after later new) left' turn.Closed) is t in
+      let u = at_rest left buffer rest (λ i. ExchangeCompletesWith forms does gives n i (change_after span after later new) left' turn.Closed) is t in
       record {
         moments = p.moments ++ u.1.taken;
         replies = p.replies ++ u.0 ∷ [];
@@ -129,11 +129,11 @@ module _ {B C : Type 0} (forms : Forms) (does : CallRelation B) (gives : C → �
   same_moments first mid last ms h e = subst (λ c. ClockReturnsInOrder gives first ms c) (sym e) h
 
   pub ended_here : (a : Option Text) (span : EnvironmentChange B C) (n : ℕ) (buffer : Text) (left : Option Text) (after : B) (later : C) (new left' : Option Text)
-      → SoFar a span n buffer left → IfSome left (λ xs. TurnEndsWith forms does gives n (buffer ++ xs) (onward span after later new) left' turn.Ended)
-      → IfSome a (λ input. IsStreamResult forms does gives input (over_all span after later new) (Ok n))
+      → HasFirstRepliesIfKnown a span n buffer left → IfSome left (λ xs. ExchangeCompletesWith forms does gives n (buffer ++ xs) (change_after span after later new) left' turn.Ended)
+      → IfSome a (λ input. IsStreamResult forms does gives input (change_since_start span after later new) (Ok n))
   ended_here None span n buffer left after later new left' h t = tt
   ended_here (Some input) span n buffer left after later new left' (rest, is, p) t =
-      let u = at_rest left buffer rest (λ i. TurnEndsWith forms does gives n i (onward span after later new) left' turn.Ended) is t in
+      let u = at_rest left buffer rest (λ i. ExchangeCompletesWith forms does gives n i (change_after span after later new) left' turn.Ended) is t in
       record {
         moments = p.moments;
         replies = p.replies;
@@ -144,11 +144,11 @@ module _ {B C : Type 0} (forms : Forms) (does : CallRelation B) (gives : C → �
       }
 
   pub failed_here : (a : Option Text) (span : EnvironmentChange B C) (n : ℕ) (buffer : Text) (left : Option Text) (after : B) (later : C) (new : Option Text) (kind : FaultKind)
-      → SoFar a span n buffer left → IfSome left (λ xs. TurnFailsWith forms does gives n (buffer ++ xs) (onward span after later new) kind)
-      → IfSome a (λ input. StreamFailsWith forms does gives input (over_all span after later new) kind n)
+      → HasFirstRepliesIfKnown a span n buffer left → IfSome left (λ xs. ExchangeFailsWith forms does gives n (buffer ++ xs) (change_after span after later new) kind)
+      → IfSome a (λ input. StreamFailsWith forms does gives input (change_since_start span after later new) kind n)
   failed_here None span n buffer left after later new kind h t = tt
   failed_here (Some input) span n buffer left after later new kind (rest, is, p) t =
-      let u = at_rest left buffer rest (λ i. TurnFailsWith forms does gives n i (onward span after later new) kind) is t in
+      let u = at_rest left buffer rest (λ i. ExchangeFailsWith forms does gives n i (change_after span after later new) kind) is t in
       record {
         moments = p.moments;
         replies = p.replies;
@@ -159,7 +159,7 @@ module _ {B C : Type 0} (forms : Forms) (does : CallRelation B) (gives : C → �
         taken = p.taken;
         begun = p.begun;
         written = p.written;
-        failed = subst (λ m. TurnFailsWith forms does gives m rest (onward span after later new) kind) p.counted u;
+        failed = subst (λ m. ExchangeFailsWith forms does gives m rest (change_after span after later new) kind) p.counted u;
         counted = p.counted;
       }
 

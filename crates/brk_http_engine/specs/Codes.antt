@@ -11,14 +11,14 @@ use Rattle.brk_model.specs.Run as run
 use Rattle.brk_ref.specs.Records.{abstract_key}
 use Rattle.brk_ref.specs.declared.key.Key as ref
 use Rattle.brk_http_model.specs.Asked as asked
-use Rattle.brk_http_model.specs.Replies.{Response, Wrong, Came}
+use Rattle.brk_http_model.specs.Replies.{Response, FromProblem, FromOutcome}
 use Rattle.brk_http_model.specs.Routes as routes
 use Rattle.brk_http_engine.specs.declared.service.RowAnswer.{RowAnswer}
 use Rattle.brk_http_engine.specs.declared.service.RowAnswer.TheVariants as given
 use Rattle.brk_http_engine.specs.declared.routes.Route.{Route}
 use Rattle.brk_http_engine.specs.declared.routes.Route.TheVariants as route
-use Rattle.brk_http_engine.specs.declared.asking.Asking.{Asking}
-use Rattle.brk_http_engine.specs.declared.asking.Asking.TheVariants as asking
+use Rattle.brk_http_engine.specs.declared.asking.RequestedCall.{RequestedCall}
+use Rattle.brk_http_engine.specs.declared.asking.RequestedCall.TheVariants as asking
 use Rattle.brk_http_engine.specs.declared.acting.ServiceAnswer.{ServiceAnswer}
 use Rattle.brk_http_engine.specs.declared.acting.ServiceAnswer.TheVariants as told
 
@@ -56,20 +56,20 @@ route_in_model (route.ToView view) = routes.ToView view.now
 
 -- The model's call that a request makes, or its response if the request makes no call; `command`
 -- and `query` map to the model's commands and queries.
-abbrev pub call_in_model : {X Q : Type 0} → (X → model.Command) → (Q → queries.Query) → Asking X Q → asked.Asked
-call_in_model command query (asking.Wrong problem) = asked.HasResponse (Wrong problem)
-call_in_model command query (asking.BadRow refusal) = asked.HasResponse (Came (run.Did (model.Refused refusal)))
-call_in_model command query (asking.BadQuery refusal) = asked.HasResponse (Came (run.NoView refusal))
-call_in_model command query (asking.Row x key) = asked.Calls (run.Do (command x) (key_in_model key))
-call_in_model command query (asking.View q) = asked.Calls (run.Ask (query q))
+abbrev pub call_in_model : {X Q : Type 0} → (X → model.Command) → (Q → queries.Query) → RequestedCall X Q → asked.RequestDemand
+call_in_model command query (asking.Wrong problem) = asked.ResponseOnly (FromProblem problem)
+call_in_model command query (asking.BadRow refusal) = asked.ResponseOnly (FromOutcome (run.Did (model.Refused refusal)))
+call_in_model command query (asking.BadQuery refusal) = asked.ResponseOnly (FromOutcome (run.NoView refusal))
+call_in_model command query (asking.Row x key) = asked.DeskCall (run.Do (command x) (key_in_model key))
+call_in_model command query (asking.View q) = asked.DeskCall (run.Ask (query q))
 
 -- The model's response that a response represents; `reply` and `shown` map to the model's replies
 -- and views.
 abbrev pub response_in_model : {R V : Type 0} → (R → model.Reply) → (V → queries.View) → ServiceAnswer R V → Response
-response_in_model reply shown (told.Wrong problem) = Wrong problem
-response_in_model reply shown (told.NoRow refusal) = Came (run.Did (model.Refused refusal))
-response_in_model reply shown (told.NoView refusal) = Came (run.NoView refusal)
-response_in_model reply shown (told.Done r) = Came (run.Did (model.Done (reply r)))
-response_in_model reply shown (told.Again line) = Came (run.Did (model.Again (string_bytes line)))
-response_in_model reply shown (told.Saw view) = Came (run.Saw (shown view))
-response_in_model reply shown (told.Failed fault) = Came (run.Failed fault)
+response_in_model reply shown (told.Wrong problem) = FromProblem problem
+response_in_model reply shown (told.NoRow refusal) = FromOutcome (run.Did (model.Refused refusal))
+response_in_model reply shown (told.NoView refusal) = FromOutcome (run.NoView refusal)
+response_in_model reply shown (told.Done r) = FromOutcome (run.Did (model.Done (reply r)))
+response_in_model reply shown (told.Again line) = FromOutcome (run.Did (model.Again (string_bytes line)))
+response_in_model reply shown (told.Saw view) = FromOutcome (run.Saw (shown view))
+response_in_model reply shown (told.Failed fault) = FromOutcome (run.Failed fault)

@@ -6,7 +6,7 @@ use Rattle.brk_io.specs.Calls.{IsCallSequence}
 use Rattle.brk_io.specs.Span.{ClockAndWriterChange, change_with_bases}
 use Rattle.brk_http_engine.specs.Turns.{IsStreamResult}
 use Rattle.brk_http_engine.specs.declared.stream.ServeFault.{ServeFault}
-use Rattle.brk_http_model.specs.Asked.{Forms}
+use Rattle.brk_http_model.specs.Asked.{RequestParsers}
 use Rattle.brk_http_model.specs.Stream.{CallRelation}
 
 -- The desk changed from `old` to `new` only by a sequence of calls, at most `most` of them.
@@ -18,18 +18,18 @@ abbrev pub CallScript : Type 0
 CallScript = List (ℕ × Call) × List Outcome
 
 -- The relation of a call of a scripted desk: `call` at the clock reading `now` is the first call of
--- `script`, `outcome` is its first outcome, and `rest` is the script without both.
+-- `script`, `execute_call` is its first outcome, and `rest` is the script without both.
 abbrev pub IsNextScriptedCall : CallRelation CallScript
 IsNextScriptedCall script now call outcome rest = (script.0 ≡ (now, call) ∷ rest.0) × (script.1 ≡ outcome ∷ rest.1)
 
 -- The stream makes exactly the calls of `script`, in order, and its replies and its result follow
 -- from the outcomes of `script`.
-abbrev pub StreamMatchesScript : {C : Type 0} → Forms → (C → ℕ → C → Type 0) → Text → CallScript → ClockAndWriterChange C → Result ℕ ServeFault → Type 0
+abbrev pub StreamMatchesScript : {C : Type 0} → RequestParsers → (C → ℕ → C → Type 0) → Text → CallScript → ClockAndWriterChange C → Result ℕ ServeFault → Type 0
 StreamMatchesScript forms gives input script outside result = IsStreamResult forms IsNextScriptedCall gives input (change_with_bases script ([], []) outside) result
 
 -- The stream refines the model: for every base that the desk represented before the stream, the
 -- replies are those that `does` allows from this base, and the desk represents the base after the
 -- stream. Vacuous if the disk assumption (`honest`) fails.
-abbrev pub StreamRefinesModel : {D B C : Type 0} → (D → Type 0) → (D → B → Type 0) → Forms → CallRelation B → (C → ℕ → C → Type 0) → Text → D → D → ClockAndWriterChange C → Result ℕ ServeFault → Type 0
+abbrev pub StreamRefinesModel : {D B C : Type 0} → (D → Type 0) → (D → B → Type 0) → RequestParsers → CallRelation B → (C → ℕ → C → Type 0) → Text → D → D → ClockAndWriterChange C → Result ℕ ServeFault → Type 0
 StreamRefinesModel {B = B} honest stands forms does gives input first last outside result =
     honest last → (base : B) → stands first base → (after : B) × stands last after × IsStreamResult forms does gives input (change_with_bases base after outside) result

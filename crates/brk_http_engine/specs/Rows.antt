@@ -2,16 +2,16 @@
 use Rattle.std.specs.Prelude.{ℕ, Bool, true, false, List, [], ◌∷◌, ◌++◌, codes}
 use Rattle.matchit.specs.Rows.{RowsOf, param_token}
 use Rattle.matchit.specs.Router.{RouteOf}
-use Rattle.brk_http_engine.specs.declared.router.Kind.{Kind}
-use Rattle.brk_http_engine.specs.declared.router.Kind.TheVariants.{Row, KeyedRow, View}
+use Rattle.brk_http_engine.specs.declared.router.RouteKind.{RouteKind}
+use Rattle.brk_http_engine.specs.declared.router.RouteKind.TheVariants.{Row, KeyedRow, View}
 
 -- A row of the router for a route of this kind: its pattern, and its text with the positions of the
 -- parameter names in it.
-abbrev pub router_row : List ℕ → List ℕ → List (ℕ × ℕ) → Kind → List ℕ × RouteOf Kind
+abbrev pub router_row : List ℕ → List ℕ → List (ℕ × ℕ) → RouteKind → List ℕ × RouteOf RouteKind
 router_row pattern text names kind = (pattern, record { pattern = pattern; text = text; names = names; value = kind })
 
 -- The rows of the router for `/ask/{view}`, `/rows/{batch}/{n}` and `/rows`, in this order.
-abbrev pub all_router_rows : RowsOf (RouteOf Kind)
+abbrev pub all_router_rows : RowsOf (RouteOf RouteKind)
 all_router_rows =
     router_row (codes "/ask/" ++ param_token ∷ []) (codes "/ask/{view}") ((6, 10) ∷ []) View
     ∷ router_row (codes "/rows/" ++ param_token ∷ 47 ∷ param_token ∷ []) (codes "/rows/{batch}/{n}") ((7, 12) ∷ (15, 16) ∷ []) KeyedRow

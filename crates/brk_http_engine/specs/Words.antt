@@ -1,11 +1,11 @@
 -- The member names of the objects in replies.
 use Rattle.std.specs.Prelude.{codes}
 use Rattle.brk_money.specs.Spelling.{Text}
-use Rattle.brk_http_engine.specs.declared.bodies.Word.{Word}
-use Rattle.brk_http_engine.specs.declared.bodies.Word.TheVariants.{Ok, Again, No, View, Error}
+use Rattle.brk_http_engine.specs.declared.bodies.MemberName.{MemberName}
+use Rattle.brk_http_engine.specs.declared.bodies.MemberName.TheVariants.{Ok, Again, No, View, Error}
 
 -- The bytes of a member name of a reply's object.
-abbrev pub member_name_text : Word → Text
+abbrev pub member_name_text : MemberName → Text
 member_name_text Ok = codes "ok"
 member_name_text Again = codes "again"
 member_name_text No = codes "no"

@@ -1,11 +1,11 @@
 ghost use Rattle.std.specs.Prelude.{◌≡◌, ℕ, List};
 ghost use Rattle.brk_model.specs.Run.{Ask, Do, Outcome};
-ghost use Rattle.brk_http_model.specs.Replies.{Came};
+ghost use Rattle.brk_http_model.specs.Replies.{FromOutcome};
 ghost use Rattle.brk_io.specs.Moments.{ClockReturnsInOrder};
 ghost use Rattle.brk_http_model.specs.Stream.{IsResponseToDemand};
 ghost use Rattle.brk_http_engine.specs.Codes.{call_in_model, key_in_model, response_in_model};
 
-use crate::asking::Asking;
+use crate::asking::RequestedCall;
 use crate::service::{RowAnswer, Service};
 use brk_http_model::Problem;
 use brk_io::Clock;
@@ -41,7 +41,7 @@ fn execute_row_command<D: Service>(
     command: &D::Command,
     key: &Option<Key>,
 ) -> ServiceAnswer<D::Reply, D::View>
-    ensures { (outcome : Outcome) × (response_in_model D.told D.shown result ≡ Came outcome)
+    ensures { (outcome : Outcome) × (response_in_model D.told D.shown result ≡ FromOutcome outcome)
         × D.acts desk.old now (Do (D.command_of command.now) (key_in_model key.now)) outcome desk.new }
 {
     match D::call(desk, alloc, now, command, key.as_ref()) {
@@ -58,7 +58,7 @@ fn execute_query<D: Service>(
     desk: &mut D::Desk,
     query: &D::Query,
 ) -> ServiceAnswer<D::Reply, D::View>
-    ensures { (outcome : Outcome) × (response_in_model D.told D.shown result ≡ Came outcome)
+    ensures { (outcome : Outcome) × (response_in_model D.told D.shown result ≡ FromOutcome outcome)
         × D.acts desk.old 0 (Ask (D.query_of query.now)) outcome desk.new }
 {
     match D::ask(desk, alloc, query) {
@@ -74,19 +74,19 @@ pub fn execute_call_of_request<C: Clock, D: Service>(
     alloc: Global,
     clock: &mut C,
     desk: &mut D::Desk,
-    asking: Asking<D::Command, D::Query>,
+    asking: RequestedCall<D::Command, D::Query>,
 ) -> ServiceAnswer<D::Reply, D::View>
     ensures { (taken : List ℕ) × ClockReturnsInOrder C.gives clock.old taken clock.new
         × IsResponseToDemand D.acts (call_in_model D.command_of D.query_of asking) desk.old taken (response_in_model D.told D.shown result) desk.new }
 {
     match asking {
-        Asking::Wrong(problem) => ServiceAnswer::Wrong(problem),
-        Asking::BadRow(refusal) => ServiceAnswer::NoRow(refusal),
-        Asking::BadQuery(refusal) => ServiceAnswer::NoView(refusal),
-        Asking::Row(command, key) => {
+        RequestedCall::Wrong(problem) => ServiceAnswer::Wrong(problem),
+        RequestedCall::BadRow(refusal) => ServiceAnswer::NoRow(refusal),
+        RequestedCall::BadQuery(refusal) => ServiceAnswer::NoView(refusal),
+        RequestedCall::Row(command, key) => {
             let now = clock.now();
             execute_row_command::<D>(alloc, desk, now, &command, &key)
         }
-        Asking::View(query) => execute_query::<D>(alloc, desk, &query),
+        RequestedCall::View(query) => execute_query::<D>(alloc, desk, &query),
     }
 }

@@ -6,7 +6,7 @@ ghost use Rattle.brk_http_engine.specs.Codes.{call_in_model, route_in_model};
 
 use crate::bodies::texts_of_body;
 use crate::pieces::borrow_bytes_of_texts;
-use crate::router::Kind;
+use crate::router::RouteKind;
 use crate::routes::{Route, route_of_target};
 use crate::service::Service;
 use brk_http_model::Problem;
@@ -17,7 +17,7 @@ use std::alloc::Global;
 
 /// The call that a request makes, or the reason why it makes none.
 #[derive(Drop)]
-pub enum Asking<X, Q> {
+pub enum RequestedCall<X, Q> {
     /// No call: the request has this problem.
     Wrong(Problem),
     /// No call: its row is malformed.
@@ -32,22 +32,22 @@ pub enum Asking<X, Q> {
 
 // Parses the texts of a body for a route. Returns the call of the row or of the query, or the
 // refusal if it is malformed.
-fn parse_call_texts<D: Service>(
+fn parse_call_of_route<D: Service>(
     alloc: Global,
     route: Route,
     texts: &[String],
-) -> Result<Asking<D::Command, D::Query>, Fault>
+) -> Result<RequestedCall<D::Command, D::Query>, Fault>
     ensures { IfOk result (λ asking. call_in_model D.command_of D.query_of asking ≡ demand_of_texts D.forms (route_in_model route) (map string_bytes texts.now)) }
 {
     let fields = borrow_bytes_of_texts(alloc, texts)?;
     match route {
         Route::ToRow(key) => match D::parse_row(alloc, &fields)? {
-            Ok(command) => Ok(Asking::Row(command, key)),
-            Err(refusal) => Ok(Asking::BadRow(refusal)),
+            Ok(command) => Ok(RequestedCall::Row(command, key)),
+            Err(refusal) => Ok(RequestedCall::BadRow(refusal)),
         },
         Route::ToView(view) => match D::parse_query(alloc, view, &fields)? {
-            Ok(query) => Ok(Asking::View(query)),
-            Err(refusal) => Ok(Asking::BadQuery(refusal)),
+            Ok(query) => Ok(RequestedCall::View(query)),
+            Err(refusal) => Ok(RequestedCall::BadQuery(refusal)),
         },
     }
 }
@@ -57,25 +57,25 @@ fn parse_call_texts<D: Service>(
 #[tactic(auto, unfolding(brk_http_model::specs::Asked::demand_of_request), using(crate::proofs::AskLemmas::no_route, crate::proofs::AskLemmas::no_post, crate::proofs::AskLemmas::no_texts, crate::proofs::AskLemmas::all_there))]
 pub fn parse_call_of_request<D: Service>(
     alloc: Global,
-    router: &Router<Kind>,
+    router: &Router<RouteKind>,
     method: &[u8],
     target: &[u8],
     closes: bool,
     body: &[u8],
-) -> Result<Asking<D::Command, D::Query>, Fault>
+) -> Result<RequestedCall<D::Command, D::Query>, Fault>
     requires routes { router.now ≡ all_router_rows }
     requires named { list_all is_nonempty D.forms.views ≡ Bool.true }
     ensures { IfOk result (λ asking. call_in_model D.command_of D.query_of asking
         ≡ demand_of_request D.forms (record { method = method.now; target = target.now; closes = closes; body = body.now })) }
 {
     let Some(route) = route_of_target::<D>(alloc, router, target)? else {
-        return Ok(Asking::Wrong(Problem::NotFound));
+        return Ok(RequestedCall::Wrong(Problem::NotFound));
     };
     if method != b"POST".as_slice() {
-        return Ok(Asking::Wrong(Problem::NotAllowed));
+        return Ok(RequestedCall::Wrong(Problem::NotAllowed));
     }
     let Some(texts) = texts_of_body(alloc, body)? else {
-        return Ok(Asking::Wrong(Problem::BadRequest));
+        return Ok(RequestedCall::Wrong(Problem::BadRequest));
     };
-    parse_call_texts::<D>(alloc, route, &texts)
+    parse_call_of_route::<D>(alloc, route, &texts)
 }

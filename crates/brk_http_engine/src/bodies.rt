@@ -49,7 +49,7 @@ pub fn texts_of_body(alloc: Global, body: &[u8]) -> Result<Option<Vec<String>>, 
 
 /// The name of the one member of the JSON object that is the body of a reply.
 #[derive(Clone, Copy, Debug, PartialEq, Eq)]
-pub enum Word {
+pub enum MemberName {
     Ok,
     Again,
     No,
@@ -80,20 +80,20 @@ fn json_list_of_records(alloc: Global, records: &[Vec<String>]) -> Result<Value,
 }
 
 // Returns the JSON object with the one member `word` and this value.
-fn json_object_of_member(alloc: Global, word: Word, value: Value) -> Result<Value, AllocError>
+fn json_object_of_member(alloc: Global, word: MemberName, value: Value) -> Result<Value, AllocError>
     ensures { IfOk result (λ v. view v ≡ object (member (member_name_text word) (view value) no_members)) }
 {
     match word {
-        Word::Ok => json!(in alloc; {"ok": value}),
-        Word::Again => json!(in alloc; {"again": value}),
-        Word::No => json!(in alloc; {"no": value}),
-        Word::View => json!(in alloc; {"view": value}),
-        Word::Error => json!(in alloc; {"error": value}),
+        MemberName::Ok => json!(in alloc; {"ok": value}),
+        MemberName::Again => json!(in alloc; {"again": value}),
+        MemberName::No => json!(in alloc; {"no": value}),
+        MemberName::View => json!(in alloc; {"view": value}),
+        MemberName::Error => json!(in alloc; {"error": value}),
     }
 }
 
 /// Returns the JSON text `{"WORD":["TEXT",..]}` for the member name `word` and these texts.
-pub fn json_text_of_texts(alloc: Global, word: Word, texts: &[String]) -> Result<String, AllocError>
+pub fn json_text_of_texts(alloc: Global, word: MemberName, texts: &[String]) -> Result<String, AllocError>
     ensures { IfOk result (λ s. string_bytes s ≡ spec.json_texts_object (member_name_text word) (map string_bytes texts.now)) }
 {
     let list = json_list_of_texts(alloc, texts)?;
@@ -106,7 +106,7 @@ pub fn json_text_of_view(alloc: Global, records: &[Vec<String>]) -> Result<Strin
     ensures { IfOk result (λ s. string_bytes s ≡ spec.json_records_object (codes "view") (map bytes_of_texts records.now)) }
 {
     let list = json_list_of_records(alloc, records)?;
-    let told = json_object_of_member(alloc, Word::View, list)?;
+    let told = json_object_of_member(alloc, MemberName::View, list)?;
     told.to_string(alloc)
 }
 
@@ -122,6 +122,6 @@ pub fn json_text_of_error(alloc: Global, words: &str) -> Result<String, AllocErr
     ensures { IfOk result (λ s. string_bytes s ≡ spec.json_error_object words.now) }
 {
     let text = json_string(alloc, words)?;
-    let told = json_object_of_member(alloc, Word::Error, text)?;
+    let told = json_object_of_member(alloc, MemberName::Error, text)?;
     told.to_string(alloc)
 }

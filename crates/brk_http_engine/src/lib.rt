@@ -14,7 +14,7 @@ mod stream;
 mod turning;
 
 pub use bodies::json_text_of_view;
-pub use replying::fields_of_stored_line;
+pub use replying::fields_between_commas;
 pub use service::{RowAnswer, Service};
-pub use stream::{ServeFault, serve};
+pub use stream::{ServeFault, serve_requests};
 pub use turning::FaultKind;

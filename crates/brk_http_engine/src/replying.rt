@@ -1,6 +1,6 @@
 ghost use Rattle.std.specs.Prelude.{◌≡◌, ◌++◌, [], IfOk, OnOk, Bool, codes, decimal, map, string_bytes, unwrap_or};
 ghost use Rattle.http.specs.StatusCode.{reason_phrase};
-ghost use Rattle.brk_http_model.specs.Replies.{Came, Wrong, names_allowed_method, response_body, fault_word, head_line, is_fault_response, http_status_of_problem, text_of_problem, reply_text, reply_bytes, http_status_of_response, head_line_if};
+ghost use Rattle.brk_http_model.specs.Replies.{FromOutcome, FromProblem, names_allowed_method, response_body, fault_word, head_line, is_fault_response, http_status_of_problem, text_of_problem, reply_text, reply_bytes, http_status_of_response, head_line_if};
 ghost use Rattle.brk_model.specs.Commands as model;
 ghost use Rattle.brk_model.specs.Queries as queries;
 ghost use Rattle.brk_model.specs.Run as run;
@@ -9,7 +9,7 @@ ghost use Rattle.brk_http_engine.specs.Lines.{first_head_lines, status_text};
 ghost use Rattle.brk_http_engine.specs.Codes.{bytes_of_texts, response_in_model};
 
 use crate::acting::ServiceAnswer;
-use crate::bodies::{Word, json_text_of_error, json_text_of_texts, json_text_of_view};
+use crate::bodies::{MemberName, json_text_of_error, json_text_of_texts, json_text_of_view};
 use crate::pieces::{copy_texts, split_at_byte};
 use crate::service::Service;
 use brk_http_model::Problem;
@@ -70,7 +70,7 @@ fn status_of_response<R, V>(told: &ServiceAnswer<R, V>) -> StatusCode
 
 // Returns true if the response is the problem that the method of the request is not POST, so that
 // the reply names the allowed method.
-fn names_allowed_method<R, V>(told: &ServiceAnswer<R, V>) -> bool
+fn is_method_refusal<R, V>(told: &ServiceAnswer<R, V>) -> bool
     ensures { (reply : R → model.Reply) (shown : V → queries.View) → result ≡ names_allowed_method (response_in_model reply shown told.now) }
 {
     match told {
@@ -90,7 +90,7 @@ pub fn is_fault_response<R, V>(told: &ServiceAnswer<R, V>) -> bool
 }
 
 /// Returns the fields of a line, split at its commas.
-pub fn fields_of_stored_line(alloc: Global, line: &str) -> Result<Vec<String>, AllocError>
+pub fn fields_between_commas(alloc: Global, line: &str) -> Result<Vec<String>, AllocError>
     ensures { IfOk result (λ fields. bytes_of_texts fields ≡ split_at_byte 44 line.now) }
 {
     let parts = split_at_byte(alloc, ',', line)?;
@@ -100,11 +100,11 @@ pub fn fields_of_stored_line(alloc: Global, line: &str) -> Result<Vec<String>, A
 // Returns the body of the reply to a refused row or query, `{"no":["NUMBER",..]}`.
 #[tactic(auto, using(crate::proofs::PieceLemmas::refusal_parts))]
 fn refusal_body(alloc: Global, refusal: Refusal) -> Result<String, AllocError>
-    ensures { IfOk result (λ s. string_bytes s ≡ response_body (Came (run.NoView refusal))) }
+    ensures { IfOk result (λ s. string_bytes s ≡ response_body (FromOutcome (run.NoView refusal))) }
 {
     let line = format!(in alloc; "{refusal}")?;
-    let fields = fields_of_stored_line(alloc, line.as_str())?;
-    json_text_of_texts(alloc, Word::No, &fields)
+    let fields = fields_between_commas(alloc, line.as_str())?;
+    json_text_of_texts(alloc, MemberName::No, &fields)
 }
 
 // Returns the JSON body of the reply with this response.
@@ -121,11 +121,11 @@ fn response_body<D: Service>(
         ),
         ServiceAnswer::Done(reply) => {
             let fields = D::reply_fields(alloc, reply)?;
-            json_text_of_texts(alloc, Word::Ok, &fields)
+            json_text_of_texts(alloc, MemberName::Ok, &fields)
         }
         ServiceAnswer::Again(line) => {
-            let fields = fields_of_stored_line(alloc, line.as_str())?;
-            json_text_of_texts(alloc, Word::Again, &fields)
+            let fields = fields_between_commas(alloc, line.as_str())?;
+            json_text_of_texts(alloc, MemberName::Again, &fields)
         }
         ServiceAnswer::Saw(view) => {
             let records = D::records(alloc, view)?;
@@ -136,18 +136,18 @@ fn response_body<D: Service>(
 }
 
 // Appends a line and its line end to the head.
-fn add_head_line(head: &mut String, line: &str) -> Result<(), AllocError>
+fn append_head_line(head: &mut String, line: &str) -> Result<(), AllocError>
     ensures { OnOk result (string_bytes head.new ≡ string_bytes head.old ++ head_line line.now) }
 {
     write!(head, "{line}\r\n")
 }
 
 // Appends a line and its line end to the head if `stands` is true, and otherwise nothing.
-fn add_head_line_if(head: &mut String, stands: bool, line: &str) -> Result<(), AllocError>
+fn append_head_line_if(head: &mut String, stands: bool, line: &str) -> Result<(), AllocError>
     ensures { OnOk result (string_bytes head.new ≡ string_bytes head.old ++ head_line_if stands line.now) }
 {
     if stands {
-        add_head_line(head, line)
+        append_head_line(head, line)
     } else {
         Ok(())
     }
@@ -197,9 +197,9 @@ fn first_head_lines(alloc: Global, status: &str, len: usize) -> Result<String, A
     let digits = decimal_digits(alloc, len)?;
     let third = join_label_and_value(alloc, "Content-Length: ", digits.as_str())?;
     let mut head = String::new(alloc);
-    add_head_line(&mut head, first.as_str())?;
-    add_head_line(&mut head, "Content-Type: application/json")?;
-    add_head_line(&mut head, third.as_str())?;
+    append_head_line(&mut head, first.as_str())?;
+    append_head_line(&mut head, "Content-Type: application/json")?;
+    append_head_line(&mut head, third.as_str())?;
     Ok(head)
 }
 
@@ -216,9 +216,9 @@ fn reply_bytes(
 {
     let status = status_digits_and_phrase(alloc, code)?;
     let mut text = first_head_lines(alloc, status.as_str(), body.len())?;
-    add_head_line_if(&mut text, asks_post, "Allow: POST")?;
-    add_head_line_if(&mut text, closes, "Connection: close")?;
-    add_head_line(&mut text, "")?;
+    append_head_line_if(&mut text, asks_post, "Allow: POST")?;
+    append_head_line_if(&mut text, closes, "Connection: close")?;
+    append_head_line(&mut text, "")?;
     text.push_str(body)?;
     Ok(text)
 }
@@ -236,7 +236,7 @@ pub fn reply_text<D: Service>(
     reply_bytes(
         alloc,
         status_of_response(told),
-        names_allowed_method(told),
+        is_method_refusal(told),
         closes,
         body.as_str(),
     )
@@ -244,7 +244,7 @@ pub fn reply_text<D: Service>(
 
 /// Returns the bytes of the reply to an unreadable request, with a `Connection: close` line.
 pub fn format_problem_reply(alloc: Global, problem: Problem) -> Result<String, AllocError>
-    ensures { IfOk result (λ s. string_bytes s ≡ reply_text (Wrong problem) Bool.true) }
+    ensures { IfOk result (λ s. string_bytes s ≡ reply_text (FromProblem problem) Bool.true) }
 {
     let body = json_text_of_error(alloc, text_of_problem(problem))?;
     let asks_post = match problem {

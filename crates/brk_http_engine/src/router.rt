@@ -9,7 +9,7 @@ use std::alloc::Global;
 
 /// The kind of request that the targets of a route make.
 #[derive(Clone, Copy, Debug, PartialEq, Eq)]
-pub enum Kind {
+pub enum RouteKind {
     /// A row without a key.
     Row,
     /// A row with its key.
@@ -19,18 +19,18 @@ pub enum Kind {
 }
 
 /// Creates the router of the three routes.
-pub fn new_router(alloc: Global) -> Result<Router<Kind>, InsertError>
+pub fn new_router(alloc: Global) -> Result<Router<RouteKind>, InsertError>
     ensures { IfOk result (λ router. router ≡ all_router_rows) }
 {
     let mut router = Router::new(alloc);
-    router.insert("/rows", Kind::Row)?;
-    router.insert("/rows/{batch}/{n}", Kind::KeyedRow)?;
-    router.insert("/ask/{view}", Kind::View)?;
+    router.insert("/rows", RouteKind::Row)?;
+    router.insert("/rows/{batch}/{n}", RouteKind::KeyedRow)?;
+    router.insert("/ask/{view}", RouteKind::View)?;
     Ok(router)
 }
 
 /// Returns true if one of the routes matches `target`.
-pub fn matches_any_route(router: &Router<Kind>, target: &str) -> bool
+pub fn matches_any_route(router: &Router<RouteKind>, target: &str) -> bool
     ensures { result ≡ is_some (first router.now target.now) }
 {
     router.at(target).is_ok()

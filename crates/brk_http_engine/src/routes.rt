@@ -8,7 +8,7 @@ ghost use Rattle.brk_ref.specs.Records.{abstract_key};
 ghost use Rattle.brk_http_engine.specs.Codes.{route_in_model};
 
 use crate::pieces::split_at_byte;
-use crate::router::{Kind, matches_any_route};
+use crate::router::{RouteKind, matches_any_route};
 use crate::service::Service;
 use brk_money::Fault;
 use brk_ref::{BatchName, Key, RowNumber, parse_id};
@@ -113,7 +113,7 @@ fn route_of_segments<D: Service>(alloc: Global, parts: &[&str]) -> Result<Option
 #[tactic(auto, unfolding(brk_http_model::specs::Routes::route_of_target))]
 pub fn route_of_target<D: Service>(
     alloc: Global,
-    router: &Router<Kind>,
+    router: &Router<RouteKind>,
     target: &[u8],
 ) -> Result<Option<Route>, Fault>
     requires routes { router.now ≡ all_router_rows }

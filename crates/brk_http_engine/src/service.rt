@@ -6,7 +6,7 @@ ghost use Rattle.brk_model.specs.Queries as queries;
 ghost use Rattle.brk_model.specs.Rows.{reply_fields};
 ghost use Rattle.brk_model.specs.Run.{Ask, Call, Do, Outcome};
 ghost use Rattle.brk_ref.specs.Fields.{ParsesAs, texts_of_fields};
-ghost use Rattle.brk_http_model.specs.Asked.{Forms};
+ghost use Rattle.brk_http_model.specs.Asked.{RequestParsers};
 ghost use Rattle.brk_http_engine.specs.Codes.{key_in_model, bytes_of_texts, query_outcome_in_model, bytes_of_records, row_outcome_in_model};
 
 use brk_money::{Fault, Planned, Refusal, Stamp};
@@ -42,7 +42,7 @@ pub trait Service {
     type View: Drop;
 
     /// The parsers of rows and queries, and the names of the views.
-    ghost forms: { Forms };
+    ghost forms: { RequestParsers };
 
     /// A call at a timestamp may turn the first desk into the second, with this outcome.
     ghost acts: { Self.Desk → ℕ → Call → Outcome → Self.Desk → Type 0 };

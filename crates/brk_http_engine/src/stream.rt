@@ -1,12 +1,12 @@
 ghost use Rattle.std.specs.Prelude.{◌≡◌, ◌<◌, ◌≤◌, Bool, IfErr, IfOk, IfSome};
 ghost use Rattle.std.specs.List.{list_all};
-ghost use Rattle.brk_http_model.specs.Stream.{most_requests};
+ghost use Rattle.brk_http_model.specs.Stream.{most_requests_per_stream};
 ghost use Rattle.brk_http_engine.specs.Rows.{is_nonempty, all_router_rows};
 ghost use Rattle.brk_http_engine.specs.Limits.{call_limit_of_stream};
 ghost use Rattle.brk_http_engine.specs.Promises.{ChangesOnlyByCalls};
 ghost use Rattle.brk_http_engine.specs.Turns.{IsStreamResult};
 
-use crate::router::{Kind, new_router};
+use crate::router::{RouteKind, new_router};
 use crate::service::Service;
 use crate::turning::{FaultKind, Turn, serve_next_request};
 use brk_io::Clock;
@@ -28,7 +28,7 @@ pub struct ServeFault {
 // Fails with the number of replies before the fault.
 fn serve_with_router<R: Read + Drop, W: Write, C: Clock, D: Service>(
     alloc: Global,
-    router: &Router<Kind>,
+    router: &Router<RouteKind>,
     mut reader: R,
     writer: &mut W,
     clock: &mut C,
@@ -36,8 +36,8 @@ fn serve_with_router<R: Read + Drop, W: Write, C: Clock, D: Service>(
 ) -> Result<u64, ServeFault>
     requires routes { router.now ≡ all_router_rows }
     requires named { list_all is_nonempty D.forms.views ≡ Bool.true }
-    ensures few { IfOk result (λ count. count ≤ most_requests) }
-    ensures early { IfErr result (λ fault. fault.done < most_requests) }
+    ensures few { IfOk result (λ count. count ≤ most_requests_per_stream) }
+    ensures early { IfErr result (λ fault. fault.done < most_requests_per_stream) }
     ensures called { ChangesOnlyByCalls D.acts (call_limit_of_stream result) desk.old desk.new }
     ensures gives { IfSome (R.remaining reader) (λ input. IsStreamResult D.forms D.acts C.gives input
         (record { base = desk.old; after = desk.new; clock = clock.old; later = clock.new; old = W.contents writer.old; new = W.contents writer.new }) result) }
@@ -68,7 +68,7 @@ fn serve_with_router<R: Read + Drop, W: Write, C: Clock, D: Service>(
 ///
 /// Each request makes at most one call of the desk. After a fault of memory or of the writer, the
 /// next request may have been executed; after a fault of the reader it was not.
-pub fn serve<R: Read + Drop, W: Write, C: Clock, D: Service>(
+pub fn serve_requests<R: Read + Drop, W: Write, C: Clock, D: Service>(
     alloc: Global,
     reader: R,
     writer: &mut W,
@@ -76,8 +76,8 @@ pub fn serve<R: Read + Drop, W: Write, C: Clock, D: Service>(
     desk: &mut D::Desk,
 ) -> Result<u64, ServeFault>
     requires named { list_all is_nonempty D.forms.views ≡ Bool.true }
-    ensures few { IfOk result (λ count. count ≤ most_requests) }
-    ensures early { IfErr result (λ fault. fault.done < most_requests) }
+    ensures few { IfOk result (λ count. count ≤ most_requests_per_stream) }
+    ensures early { IfErr result (λ fault. fault.done < most_requests_per_stream) }
     ensures called { ChangesOnlyByCalls D.acts (call_limit_of_stream result) desk.old desk.new }
     ensures gives { IfSome (R.remaining reader) (λ input. IsStreamResult D.forms D.acts C.gives input
         (record { base = desk.old; after = desk.new; clock = clock.old; later = clock.new; old = W.contents writer.old; new = W.contents writer.new }) result) }

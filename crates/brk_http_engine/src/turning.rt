@@ -2,26 +2,26 @@ ghost use Rattle.std.specs.Prelude.{◌≡◌, ◌==◌, ◌||◌, ◌+◌, ◌<
 ghost use Rattle.std.specs.Io.KnownBytes.{prepend_known};
 ghost use Rattle.std.specs.List.{list_all};
 ghost use Rattle.brk_http_engine.specs.Rows.{is_nonempty, all_router_rows};
-ghost use Rattle.brk_http_model.specs.Stream.{most_requests};
+ghost use Rattle.brk_http_model.specs.Stream.{most_requests_per_stream};
 ghost use Rattle.httparse.specs.Spans.{IsWithin};
-ghost use Rattle.brk_http_reader.specs.Shown.{request_at};
+ghost use Rattle.brk_http_reader.specs.FirstRequests.{request_at};
 ghost use Rattle.brk_http_engine.specs.Limits.{call_limit_of_turn};
 ghost use Rattle.brk_http_engine.specs.Promises.{ChangesOnlyByCalls};
-ghost use Rattle.brk_http_engine.specs.Turns.{ExecutesRequest, TurnFailsWith, TurnEndsWith};
+ghost use Rattle.brk_http_engine.specs.Turns.{ExecutesRequest, ExchangeFailsWith, ExchangeCompletesWith};
 
 use crate::acting::execute_call_of_request;
 use crate::asking::parse_call_of_request;
 use crate::replying::{format_problem_reply, is_fault_response, reply_text};
-use crate::router::Kind;
+use crate::router::RouteKind;
 use crate::service::Service;
-use brk_http_reader::{Front, InputFault, Places, read_next_request, remove_front_bytes};
+use brk_http_reader::{NextRequest, InputFault, RequestPositions, read_next_request, remove_front_bytes};
 use brk_io::{Clock, write_all_bytes};
 use matchit::Router;
 use std::alloc::Global;
 use std::io::{Read, Write};
 
 /// The greatest number of requests that are answered on one stream.
-pub const MOST_REQUESTS: u64 = 1000;
+pub const MAXIMUM_REQUESTS: u64 = 1000;
 
 /// The result of one turn of a stream: of reading, executing and answering its next request.
 #[derive(Clone, Copy, Debug, PartialEq, Eq)]
@@ -47,22 +47,22 @@ pub enum FaultKind {
 
 // Returns true if the reply after `done` replies is the last of its stream.
 fn is_last_reply(done: u64, closes: bool, failed: bool) -> bool
-    requires few { done < most_requests }
-    ensures { result ≡ ((done + 1 == most_requests) || closes || failed) }
+    requires few { done < most_requests_per_stream }
+    ensures { result ≡ ((done + 1 == most_requests_per_stream) || closes || failed) }
 {
-    done + 1 == MOST_REQUESTS || closes || failed
+    done + 1 == MAXIMUM_REQUESTS || closes || failed
 }
 
 // The bytes of a reply, and a flag that is true if the reply is the last of its stream.
 #[derive(Drop)]
-struct Draft {
+struct FormattedReply {
     text: String,
     closes: bool,
 }
 
 // The point at which memory ran out.
 #[derive(Clone, Copy, Debug, PartialEq, Eq)]
-enum Lack {
+enum OutOfMemoryPoint {
     // Before the desk was called or the clock was read.
     Before,
     // After the request was executed.
@@ -75,25 +75,25 @@ enum Lack {
 // it.
 fn execute_and_format_reply<C: Clock, D: Service>(
     alloc: Global,
-    router: &Router<Kind>,
+    router: &Router<RouteKind>,
     clock: &mut C,
     desk: &mut D::Desk,
     buffer: &[u8],
-    places: Places,
+    places: RequestPositions,
     done: u64,
-) -> Result<Draft, Lack>
-    requires few { done < most_requests }
+) -> Result<FormattedReply, OutOfMemoryPoint>
+    requires few { done < most_requests_per_stream }
     requires routes { router.now ≡ all_router_rows }
     requires named { list_all is_nonempty D.forms.views ≡ Bool.true }
     requires method { IsWithin (length buffer.now) places.method }
     requires target { IsWithin (length buffer.now) places.target }
     requires body { IsWithin (length buffer.now) places.body }
     ensures called { ChangesOnlyByCalls D.acts 1 desk.old desk.new }
-    ensures open { IfOk result (λ draft. draft.closes ≡ Bool.false → done + 1 < most_requests) }
+    ensures open { IfOk result (λ draft. draft.closes ≡ Bool.false → done + 1 < most_requests_per_stream) }
     ensures ok { (old : Option (List ℕ)) (new : Option (List ℕ)) → IfOk result (λ draft. ExecutesRequest D.forms D.acts C.gives done (request_at buffer.now places)
         (record { base = desk.old; after = desk.new; clock = clock.old; later = clock.new; old = old; new = new }) draft.closes (string_bytes draft.text)) }
-    ensures before { result ≡ Err Lack.Before → (desk.new ≡ desk.old) × (clock.new ≡ clock.old) }
-    ensures after { (old : Option (List ℕ)) (new : Option (List ℕ)) → result ≡ Err Lack.After → (closes : Bool) × (reply : List ℕ) × ExecutesRequest D.forms D.acts C.gives done (request_at buffer.now places)
+    ensures before { result ≡ Err OutOfMemoryPoint.Before → (desk.new ≡ desk.old) × (clock.new ≡ clock.old) }
+    ensures after { (old : Option (List ℕ)) (new : Option (List ℕ)) → result ≡ Err OutOfMemoryPoint.After → (closes : Bool) × (reply : List ℕ) × ExecutesRequest D.forms D.acts C.gives done (request_at buffer.now places)
         (record { base = desk.old; after = desk.new; clock = clock.old; later = clock.new; old = old; new = new }) closes reply }
 {
     let method = places.method.of(buffer);
@@ -101,13 +101,13 @@ fn execute_and_format_reply<C: Clock, D: Service>(
     let body = places.body.of(buffer);
     let Ok(asking) = parse_call_of_request::<D>(alloc, router, method, target, places.closes, body)
     else {
-        return Err(Lack::Before);
+        return Err(OutOfMemoryPoint::Before);
     };
     let told = execute_call_of_request::<C, D>(alloc, clock, desk, asking);
     let closes = is_last_reply(done, places.closes, is_fault_response(&told));
     match reply_text::<D>(alloc, &told, closes) {
-        Ok(text) => Ok(Draft { text, closes }),
-        Err(_) => Err(Lack::After),
+        Ok(text) => Ok(FormattedReply { text, closes }),
+        Err(_) => Err(OutOfMemoryPoint::After),
     }
 }
 
@@ -118,7 +118,7 @@ fn execute_and_format_reply<C: Clock, D: Service>(
 /// executed.
 pub fn serve_next_request<R: Read, W: Write, C: Clock, D: Service>(
     alloc: Global,
-    router: &Router<Kind>,
+    router: &Router<RouteKind>,
     reader: &mut R,
     buffer: &mut Vec<u8>,
     writer: &mut W,
@@ -126,15 +126,15 @@ pub fn serve_next_request<R: Read, W: Write, C: Clock, D: Service>(
     desk: &mut D::Desk,
     done: u64,
 ) -> Result<Turn, FaultKind>
-    requires few { done < most_requests }
+    requires few { done < most_requests_per_stream }
     requires routes { router.now ≡ all_router_rows }
     requires named { list_all is_nonempty D.forms.views ≡ Bool.true }
     ensures called { ChangesOnlyByCalls D.acts (call_limit_of_turn result) desk.old desk.new }
-    ensures open { result ≡ Ok Turn.Open → done + 1 < most_requests }
-    ensures ok { IfOk result (λ turn. IfSome (R.remaining reader.old) (λ xs. TurnEndsWith D.forms D.acts C.gives done (buffer.old.items ++ xs)
+    ensures open { result ≡ Ok Turn.Open → done + 1 < most_requests_per_stream }
+    ensures ok { IfOk result (λ turn. IfSome (R.remaining reader.old) (λ xs. ExchangeCompletesWith D.forms D.acts C.gives done (buffer.old.items ++ xs)
         (record { base = desk.old; after = desk.new; clock = clock.old; later = clock.new; old = W.contents writer.old; new = W.contents writer.new })
         (prepend_known buffer.new.items (R.remaining reader.new)) turn)) }
-    ensures err { IfErr result (λ kind. IfSome (R.remaining reader.old) (λ xs. TurnFailsWith D.forms D.acts C.gives done (buffer.old.items ++ xs)
+    ensures err { IfErr result (λ kind. IfSome (R.remaining reader.old) (λ xs. ExchangeFailsWith D.forms D.acts C.gives done (buffer.old.items ++ xs)
         (record { base = desk.old; after = desk.new; clock = clock.old; later = clock.new; old = W.contents writer.old; new = W.contents writer.new }) kind)) }
 {
     let front = match read_next_request(reader, buffer) {
@@ -143,8 +143,8 @@ pub fn serve_next_request<R: Read, W: Write, C: Clock, D: Service>(
         Err(InputFault::Memory) => return Err(FaultKind::Memory),
     };
     match front {
-        Front::Ended => Ok(Turn::Ended),
-        Front::Broken(problem) => {
+        NextRequest::Ended => Ok(Turn::Ended),
+        NextRequest::Broken(problem) => {
             let Ok(text) = format_problem_reply(alloc, problem) else {
                 return Err(FaultKind::Memory);
             };
@@ -153,13 +153,13 @@ pub fn serve_next_request<R: Read, W: Write, C: Clock, D: Service>(
                 Err(_) => Err(FaultKind::Write),
             }
         }
-        Front::Whole(places) => {
+        NextRequest::Whole(places) => {
             let draft = match execute_and_format_reply::<C, D>(
                 alloc, router, clock, desk, buffer, places, done,
             ) {
                 Ok(draft) => draft,
-                Err(Lack::Before) => return Err(FaultKind::Memory),
-                Err(Lack::After) => return Err(FaultKind::Memory),
+                Err(OutOfMemoryPoint::Before) => return Err(FaultKind::Memory),
+                Err(OutOfMemoryPoint::After) => return Err(FaultKind::Memory),
             };
             match write_all_bytes(writer, draft.text.as_bytes()) {
                 Ok(()) => {}

@@ -3,11 +3,11 @@
 #![tactic(auto, unfolding(crate::proofs::OnLiterals::web_on_literals))]
 
 ghost use Rattle.std.specs.Prelude.{◌≡◌, ◌∷◌, [], ℕ, Ok, Err, Some, None, codes};
-ghost use Rattle.brk_http_model.specs.Asked.{HasResponse, Asked, model_parsers, demand_of_request};
+ghost use Rattle.brk_http_model.specs.Asked.{ResponseOnly, RequestDemand, model_parsers, demand_of_request};
 ghost use Rattle.brk_http_model.specs.Bodies.{texts_of_body};
 ghost use Rattle.brk_http_model.specs.Fields.{body_length_of_fields};
 ghost use Rattle.brk_http_model.specs.Heads.{head_end, head_end_within};
-ghost use Rattle.brk_http_model.specs.Replies.{Wrong};
+ghost use Rattle.brk_http_model.specs.Replies.{FromProblem};
 ghost use Rattle.brk_http_model.specs.Routes.{ToRow, ToView, split_at_byte, route_of_target};
 ghost use Rattle.brk_http_model.specs.declared.head_end.HeadEnd.TheVariants.{At, Cut, Nothing, TooLong};
 ghost use Rattle.brk_http_model.specs.declared.problem.Problem.TheVariants.{BadRequest, NotAllowed, NotFound, NotImplemented, TooLarge};
@@ -16,63 +16,63 @@ ghost use Rattle.brk_http_examples.specs.Streams.{get_request, post_request};
 /// Shows that a head ends with its first empty line, which must end within the limit.
 pub fn head_ends_at_first_empty_line()
     ensures first { head_end (codes "GET / HTTP/1.1\r\n\r\nGET") ≡ At 18 }
-    ensures bare { head_end (codes "a\n\nb\r\n\r\n") ≡ At 3 }
-    ensures mixed { head_end (codes "a\n\r\nb") ≡ At 4 }
-    ensures none { head_end [] ≡ Nothing }
+    ensures line_feeds { head_end (codes "a\n\nb\r\n\r\n") ≡ At 3 }
+    ensures mixed_line_ends { head_end (codes "a\n\r\nb") ≡ At 4 }
+    ensures no_bytes { head_end [] ≡ Nothing }
     ensures cut { head_end (codes "a\r\n\r") ≡ Cut }
-    ensures within { head_end_within 4 (codes "ab\n\nc") ≡ At 4 }
-    ensures beyond { head_end_within 4 (codes "abc\n\n") ≡ TooLong }
-    ensures hopeless { head_end_within 4 (codes "\0\0\0\0") ≡ TooLong }
+    ensures within_limit { head_end_within 4 (codes "ab\n\nc") ≡ At 4 }
+    ensures beyond_limit { head_end_within 4 (codes "abc\n\n") ≡ TooLong }
+    ensures no_empty_line { head_end_within 4 (codes "\0\0\0\0") ≡ TooLong }
 {}
 
 /// Shows the length of a body by the fields of a head, or the problem of its length. Names of
 /// fields are compared in any case of letters, and a Transfer-Encoding is a problem whatever the
 /// length.
 pub fn content_length_gives_body_length()
-    ensures absent { body_length_of_fields ((codes "Host", codes "x") ∷ []) ≡ Ok 0 }
-    ensures zeros { body_length_of_fields ((codes "content-LENGTH", codes "000000012") ∷ []) ≡ Ok 12 }
-    ensures most { body_length_of_fields ((codes "Content-Length", codes "65536") ∷ []) ≡ Ok 65536 }
-    ensures more { body_length_of_fields ((codes "Content-Length", codes "65537") ∷ []) ≡ Err TooLarge }
-    ensures long { body_length_of_fields ((codes "Content-Length", codes "0000000002") ∷ []) ≡ Err TooLarge }
+    ensures no_field { body_length_of_fields ((codes "Host", codes "x") ∷ []) ≡ Ok 0 }
+    ensures leading_zeros { body_length_of_fields ((codes "content-LENGTH", codes "000000012") ∷ []) ≡ Ok 12 }
+    ensures greatest { body_length_of_fields ((codes "Content-Length", codes "65536") ∷ []) ≡ Ok 65536 }
+    ensures above_greatest { body_length_of_fields ((codes "Content-Length", codes "65537") ∷ []) ≡ Err TooLarge }
+    ensures ten_digits { body_length_of_fields ((codes "Content-Length", codes "0000000002") ∷ []) ≡ Err TooLarge }
     ensures signed { body_length_of_fields ((codes "Content-Length", codes "+2") ∷ []) ≡ Err BadRequest }
     ensures empty { body_length_of_fields ((codes "Content-Length", []) ∷ []) ≡ Err BadRequest }
-    ensures twice { body_length_of_fields ((codes "Content-Length", codes "2") ∷ (codes "Content-Length", codes "2") ∷ []) ≡ Err BadRequest }
-    ensures coded { body_length_of_fields ((codes "Content-Length", codes "x") ∷ (codes "Transfer-Encoding", []) ∷ []) ≡ Err NotImplemented }
+    ensures two_fields { body_length_of_fields ((codes "Content-Length", codes "2") ∷ (codes "Content-Length", codes "2") ∷ []) ≡ Err BadRequest }
+    ensures transfer_encoding { body_length_of_fields ((codes "Content-Length", codes "x") ∷ (codes "Transfer-Encoding", []) ∷ []) ≡ Err NotImplemented }
 {}
 
 /// Shows the routes of some targets, targets without a route, and a text that is split at its
 /// commas.
 pub fn routes_of_request_targets()
-    ensures row { route_of_target model_parsers.views (codes "/rows") ≡ Some (ToRow None) }
-    ensures keyed { route_of_target model_parsers.views (codes "/rows/A.b-c_1/1000000000000") ≡ Some (ToRow (Some (record { batch = codes "A.b-c_1"; row = 1000000000000 }))) }
+    ensures row_without_key { route_of_target model_parsers.views (codes "/rows") ≡ Some (ToRow None) }
+    ensures row_with_key { route_of_target model_parsers.views (codes "/rows/A.b-c_1/1000000000000") ≡ Some (ToRow (Some (record { batch = codes "A.b-c_1"; row = 1000000000000 }))) }
     ensures view { route_of_target model_parsers.views (codes "/ask/lots") ≡ Some (ToView (codes "lots")) }
-    ensures unknown { route_of_target model_parsers.views (codes "/ask/nope") ≡ None }
-    ensures zero { route_of_target model_parsers.views (codes "/rows/A/0") ≡ None }
-    ensures padded { route_of_target model_parsers.views (codes "/rows/A/01") ≡ None }
-    ensures beyond { route_of_target model_parsers.views (codes "/rows/A/1000000000001") ≡ None }
-    ensures coded { route_of_target model_parsers.views (codes "/rows/%41/1") ≡ None }
-    ensures slash { route_of_target model_parsers.views (codes "/rows/") ≡ None }
-    ensures asked { route_of_target model_parsers.views (codes "/ask/lots?x=1") ≡ None }
-    ensures whole { route_of_target model_parsers.views (codes "http://h/rows") ≡ None }
-    ensures parts { split_at_byte 44 (codes "1,SBMT,,") ≡ codes "1" ∷ codes "SBMT" ∷ [] ∷ [] ∷ [] }
+    ensures unknown_view { route_of_target model_parsers.views (codes "/ask/nope") ≡ None }
+    ensures row_number_zero { route_of_target model_parsers.views (codes "/rows/A/0") ≡ None }
+    ensures leading_zero { route_of_target model_parsers.views (codes "/rows/A/01") ≡ None }
+    ensures row_number_too_great { route_of_target model_parsers.views (codes "/rows/A/1000000000001") ≡ None }
+    ensures percent_encoding { route_of_target model_parsers.views (codes "/rows/%41/1") ≡ None }
+    ensures empty_batch_name { route_of_target model_parsers.views (codes "/rows/") ≡ None }
+    ensures query_string { route_of_target model_parsers.views (codes "/ask/lots?x=1") ≡ None }
+    ensures absolute_target { route_of_target model_parsers.views (codes "http://h/rows") ≡ None }
+    ensures split_text { split_at_byte 44 (codes "1,SBMT,,") ≡ codes "1" ∷ codes "SBMT" ∷ [] ∷ [] ∷ [] }
 {}
 
 /// Shows bodies that are JSON lists of texts, and bodies that are not.
-pub fn bodies_that_are_lists_of_texts()
-    ensures none { texts_of_body (codes " [ ] ") ≡ Some [] }
-    ensures escaped { texts_of_body (codes "[\"\\u0041\\n\",\"\"]") ≡ Some ((65 ∷ 10 ∷ []) ∷ [] ∷ []) }
-    ensures empty { texts_of_body [] ≡ None }
-    ensures number { texts_of_body (codes "[\"a\",2]") ≡ None }
-    ensures list { texts_of_body (codes "[[]]") ≡ None }
+pub fn json_lists_of_texts_are_read()
+    ensures empty_list { texts_of_body (codes " [ ] ") ≡ Some [] }
+    ensures escaped_characters { texts_of_body (codes "[\"\\u0041\\n\",\"\"]") ≡ Some ((65 ∷ 10 ∷ []) ∷ [] ∷ []) }
+    ensures empty_body { texts_of_body [] ≡ None }
+    ensures number_in_list { texts_of_body (codes "[\"a\",2]") ≡ None }
+    ensures nested_list { texts_of_body (codes "[[]]") ≡ None }
     ensures object { texts_of_body (codes "{}") ≡ None }
-    ensures surrogate { texts_of_body (codes "[\"\\ud83d\"]") ≡ None }
-    ensures bytes { texts_of_body (91 ∷ 34 ∷ 255 ∷ 34 ∷ 93 ∷ []) ≡ None }
-    ensures mark { texts_of_body (239 ∷ 187 ∷ 191 ∷ 91 ∷ 93 ∷ []) ≡ None }
+    ensures lone_surrogate { texts_of_body (codes "[\"\\ud83d\"]") ≡ None }
+    ensures invalid_utf8 { texts_of_body (91 ∷ 34 ∷ 255 ∷ 34 ∷ 93 ∷ []) ≡ None }
+    ensures byte_order_mark { texts_of_body (239 ∷ 187 ∷ 191 ∷ 91 ∷ 93 ∷ []) ≡ None }
 {}
 
 /// Shows that the route is checked before the method, and the method before the body.
-pub fn order_of_request_checks()
-    ensures route { demand_of_request model_parsers (get_request (codes "/ask/nope")) ≡ HasResponse (Wrong NotFound) }
-    ensures method { demand_of_request model_parsers (get_request (codes "/ask/lots")) ≡ HasResponse (Wrong NotAllowed) }
-    ensures body { demand_of_request model_parsers (post_request (codes "/ask/lots") (codes "[")) ≡ HasResponse (Wrong BadRequest) }
+pub fn route_is_checked_before_method_and_body()
+    ensures route { demand_of_request model_parsers (get_request (codes "/ask/nope")) ≡ ResponseOnly (FromProblem NotFound) }
+    ensures method { demand_of_request model_parsers (get_request (codes "/ask/lots")) ≡ ResponseOnly (FromProblem NotAllowed) }
+    ensures body { demand_of_request model_parsers (post_request (codes "/ask/lots") (codes "[")) ≡ ResponseOnly (FromProblem BadRequest) }
 {}

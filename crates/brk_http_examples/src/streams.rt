@@ -40,7 +40,7 @@ pub fn stream_ends_after_close_request()
 {}
 
 /// Shows the replies to an order, to its retry, to a view of it, and to a refused cancel.
-pub fn order_replies_over_http()
+pub fn replies_to_order_over_http()
     ensures { HasRepliesInSetting
         (post_request (codes "/rows/H/1") (codes "[\"order\",\"100\",\"TMB\",\"ABC\",\"100\",\"\",\"cash\",\"fifo\",\"Ann\",\"Lee\",\"T10\"]")
         ∷ post_request (codes "/rows/H/1") (codes "[\"order\",\"100\",\"TMB\",\"ABC\",\"100\",\"\",\"cash\",\"fifo\",\"Ann\",\"Lee\",\"T10\"]")

@@ -19,7 +19,7 @@ pub trait StreamServer {
     ghost serves: { Self.Clock → Self.Desk → Self.Stream → Result ℕ ServeFault → Self.Clock → Self.Desk → Type 0 };
 
     /// Serves a stream to its end, and returns the number of requests that were answered.
-    fn serve(
+    fn serve_accepted_stream(
         alloc: Global,
         stream: Self::Stream,
         clock: &mut Self::Clock,

@@ -23,7 +23,7 @@ fn serve_next_stream<L: Listener, H: StreamServer<Stream = L::Stream>>(
         Err(AcceptFault::Aborted) => return Ok(()),
         Err(AcceptFault::Failed) => return Err(ListenFault::Net),
     };
-    let Err(fault) = H::serve(alloc, stream, clock, desk) else {
+    let Err(fault) = H::serve_accepted_stream(alloc, stream, clock, desk) else {
         return Ok(());
     };
     match fault.kind {

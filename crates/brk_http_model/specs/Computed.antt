@@ -9,21 +9,21 @@ use Rattle.brk_model.specs.Commands.{Answer}
 use Rattle.brk_model.specs.Keyed.{keyed_step}
 use Rattle.brk_model.specs.Queries.{View}
 use Rattle.brk_model.specs.Run.{Do, Ask, Outcome, Did, Saw, NoView, Failed}
-use Rattle.brk_http_model.specs.Asked.{Asked, HasResponse, Calls, model_parsers, demand_of_request}
+use Rattle.brk_http_model.specs.Asked.{RequestDemand, ResponseOnly, DeskCall, model_parsers, demand_of_request}
 use Rattle.brk_http_model.specs.Found.{Request}
-use Rattle.brk_http_model.specs.Replies.{Response, Came, is_fault_response, reply_text}
-use Rattle.brk_http_model.specs.Stream.{most_requests}
+use Rattle.brk_http_model.specs.Replies.{Response, FromOutcome, is_fault_response, reply_text}
+use Rattle.brk_http_model.specs.Stream.{most_requests_per_stream}
 
 -- A response, the clock readings that remain, and the base after it.
-pub record Responded : Type 0 where
+pub record ResponseAndBase : Type 0 where
   pub response : Response
   pub moments : List ℕ
   pub base : Base
 
 -- The response with the answer to a command, the clock readings `moments` that remain, and the base
 -- after the command.
-abbrev pub responded_to_command : List ℕ → Answer × Base → Responded
-responded_to_command moments (answer, base) = record { response = Came (Did answer); moments = moments; base = base }
+abbrev pub response_to_command : List ℕ → Answer × Base → ResponseAndBase
+response_to_command moments (answer, base) = record { response = FromOutcome (Did answer); moments = moments; base = base }
 
 -- The outcome of a query: its view or its refusal.
 abbrev pub outcome_of_query_result : Result View Refusal → Outcome
@@ -32,25 +32,25 @@ outcome_of_query_result (Err refusal) = NoView refusal
 
 -- The response to a demand on `base`, the clock readings that remain and the base after it, if no
 -- call fails. A command for which no clock reading remains has the fault `Store`.
-abbrev pub response_to_demand : Base → List ℕ → Asked → Responded
-response_to_demand base moments (HasResponse said) = record { response = said; moments = moments; base = base }
-response_to_demand base moments (Calls (Ask query)) = record { response = Came (outcome_of_query_result (ask base query)); moments = moments; base = base }
-response_to_demand base (now ∷ moments) (Calls (Do command key)) = responded_to_command moments (keyed_step base now command key)
-response_to_demand base [] (Calls (Do command key)) = record { response = Came (Failed Store); moments = []; base = base }
+abbrev pub response_to_demand : Base → List ℕ → RequestDemand → ResponseAndBase
+response_to_demand base moments (ResponseOnly said) = record { response = said; moments = moments; base = base }
+response_to_demand base moments (DeskCall (Ask query)) = record { response = FromOutcome (outcome_of_query_result (ask base query)); moments = moments; base = base }
+response_to_demand base (now ∷ moments) (DeskCall (Do command key)) = response_to_command moments (keyed_step base now command key)
+response_to_demand base [] (DeskCall (Do command key)) = record { response = FromOutcome (Failed Store); moments = []; base = base }
 
 -- True if the response is the last of its stream, after `n` earlier requests: the request is number
--- `most_requests` or asks to close the stream, or the response is a fault.
+-- `most_requests_per_stream` or asks to close the stream, or the response is a fault.
 abbrev pub is_last_response : ℕ → Request → Response → Bool
-is_last_response n request response = (n + 1 == most_requests) || request.closes || is_fault_response response
+is_last_response n request response = (n + 1 == most_requests_per_stream) || request.closes || is_fault_response response
 
 -- The reply to a request, followed by the replies that `more` returns for the base and the clock
 -- readings after it, unless the reply ends the stream.
-abbrev pub reply_then_more : ℕ → Request → Responded → (Base → List ℕ → List Text) → List Text
-reply_then_more n request r more = reply_text r.response (is_last_response n request r.response) ∷ (if is_last_response n request r.response then [] else more r.base r.moments)
+abbrev pub reply_followed_by_more : ℕ → Request → ResponseAndBase → (Base → List ℕ → List Text) → List Text
+reply_followed_by_more n request r more = reply_text r.response (is_last_response n request r.response) ∷ (if is_last_response n request r.response then [] else more r.base r.moments)
 
 -- The replies to the requests, executed in sequence from `base` on with the clock readings
 -- `moments`, after `n` earlier requests of the stream. Requests after the last reply have none.
 abbrev pub replies_to_requests : ℕ → Base → List ℕ → List Request → List Text
 replies_to_requests n base moments [] = []
 replies_to_requests n base moments (request ∷ requests) =
-    reply_then_more n request (response_to_demand base moments (demand_of_request model_parsers request)) (λ after left. replies_to_requests (n + 1) after left requests)
+    reply_followed_by_more n request (response_to_demand base moments (demand_of_request model_parsers request)) (λ after left. replies_to_requests (n + 1) after left requests)

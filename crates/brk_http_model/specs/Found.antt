@@ -18,13 +18,13 @@ pub record Request : Type 0 where
   pub body : Text
 
 -- The result of reading a request at the front of a stream.
-pub data Found : Type 0 where
+pub data RequestReading : Type 0 where
   -- No byte is left.
-  NoMore : Found
+  NoBytesLeft : RequestReading
   -- No request can be read because of this problem, and the stream ends.
-  Unreadable : Problem → Found
+  Unreadable : Problem → RequestReading
   -- A request, and the bytes that are left after it.
-  Asks : Request → Text → Found
+  CompleteRequest : Request → Text → RequestReading
 
 -- The greatest number of fields of a request's head; a head with more fields is malformed.
 abbrev pub most_head_fields : ℕ
@@ -33,16 +33,16 @@ most_head_fields = 100
 -- The result of reading a request with the head `h`, whose body has the given length or problem,
 -- from the bytes `rest` after the head. The request cannot be read if the length is a problem, or
 -- if `rest` is shorter than the body.
-abbrev pub request_with_body_length : RequestHead → Text → Result ℕ Problem → Found
-request_with_body_length h rest (Err problem) = Unreadable problem
-request_with_body_length h rest (Ok n) =
+abbrev pub reading_with_body_length : RequestHead → Text → Result ℕ Problem → RequestReading
+reading_with_body_length h rest (Err problem) = Unreadable problem
+reading_with_body_length h rest (Ok n) =
     if nat_lt (length rest) n then Unreadable BadRequest
-    else Asks (record { method = h.method; target = h.target; closes = (h.minor == 0) || asks_to_close_stream (map name_and_value h.fields); body = take n rest }) (drop n rest)
+    else CompleteRequest (record { method = h.method; target = h.target; closes = (h.minor == 0) || asks_to_close_stream (map name_and_value h.fields); body = take n rest }) (drop n rest)
 
 -- The result of reading a request with the head `h` from the bytes `rest` after the head: the
 -- request and the bytes after its body, or the problem for which it cannot be read.
-abbrev pub request_after_head : RequestHead → Text → Found
-request_after_head h rest = request_with_body_length h rest (body_length_of_fields (map name_and_value h.fields))
+abbrev pub reading_after_head : RequestHead → Text → RequestReading
+reading_after_head h rest = reading_with_body_length h rest (body_length_of_fields (map name_and_value h.fields))
 
 -- The bytes `front` are exactly the request head `h`, which has at most `most_head_fields` fields.
 abbrev pub IsRequestHead : Text → RequestHead → Type 0
@@ -50,20 +50,20 @@ IsRequestHead front h = ReadsRequest front h [] × (length h.fields ≤ most_hea
 
 -- Either `front` is a request head and `found` is the result of reading its body from `rest`, or
 -- `front` is no request head and `found` is the problem `BadRequest`.
-abbrev pub ReadsHeadAndBody : Text → Text → Found → Type 0
+abbrev pub ReadsHeadAndBody : Text → Text → RequestReading → Type 0
 ReadsHeadAndBody front rest found =
-    ((h : RequestHead) × IsRequestHead front h × (found ≡ request_after_head h rest))
+    ((h : RequestHead) × IsRequestHead front h × (found ≡ reading_after_head h rest))
     ⊎ (((h : RequestHead) → ¬ (IsRequestHead front h)) × (found ≡ Unreadable BadRequest))
 
 -- Reading a request at the front of `input` results in `found`, if the end of its head is as the
 -- first parameter states.
-abbrev pub ReadsByHeadEnd : HeadEnd → Text → Found → Type 0
-ReadsByHeadEnd Nothing input found = found ≡ NoMore
+abbrev pub ReadsByHeadEnd : HeadEnd → Text → RequestReading → Type 0
+ReadsByHeadEnd Nothing input found = found ≡ NoBytesLeft
 ReadsByHeadEnd TooLong input found = found ≡ Unreadable TooLarge
 ReadsByHeadEnd Cut input found = found ≡ Unreadable BadRequest
 ReadsByHeadEnd (At n) input found = ReadsHeadAndBody (take n input) (drop n input) found
 
 -- Reading a request at the front of `input`, the bytes that remain on the stream, results in
 -- `found`.
-abbrev pub ReadsFirstRequest : Text → Found → Type 0
+abbrev pub ReadsFirstRequest : Text → RequestReading → Type 0
 ReadsFirstRequest input found = ReadsByHeadEnd (head_end input) input found

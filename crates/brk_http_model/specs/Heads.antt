@@ -21,15 +21,15 @@ abbrev pub line_end_length_after_byte : ℕ → Text → Option ℕ
 line_end_length_after_byte b bytes = if b == 10 then leading_line_end_length bytes else None
 
 -- The first number plus 1 if there is one, otherwise `further` plus 1; none if there is neither.
-abbrev pub incremented_first_present : Option ℕ → Option ℕ → Option ℕ
-incremented_first_present None further = option_map (λ n. n + 1) further
-incremented_first_present (Some n) further = Some (n + 1)
+abbrev pub first_present_plus_one : Option ℕ → Option ℕ → Option ℕ
+first_present_plus_one None further = option_map (λ n. n + 1) further
+first_present_plus_one (Some n) further = Some (n + 1)
 
 -- The number of bytes up to the end of the first empty line (LF LF or LF CR LF); none if there is
 -- no empty line.
 unfoldable pub head_length : Text → Option ℕ
 head_length [] = None
-head_length (b ∷ bytes) = incremented_first_present (line_end_length_after_byte b bytes) (head_length bytes)
+head_length (b ∷ bytes) = first_present_plus_one (line_end_length_after_byte b bytes) (head_length bytes)
 
 -- The end of a head in an input of `len` bytes: after `n` bytes if the second parameter is
 -- `Some n`, the end of the first empty line. Without an empty line it is `Nothing` for an empty

@@ -14,8 +14,8 @@ use Rattle.brk_http_model.specs.declared.problem.Problem.TheVariants.{TooLarge, 
 
 -- The response to a request: a problem, or the outcome of a call of the desk.
 pub data Response : Type 0 where
-  Wrong : Problem → Response
-  Came : Outcome → Response
+  FromProblem : Problem → Response
+  FromOutcome : Outcome → Response
 
 -- The HTTP status of a problem: its number and its phrase.
 abbrev pub http_status_of_problem : Problem → Text
@@ -55,8 +55,8 @@ http_status_of_outcome (Failed fault) = codes "503 Service Unavailable"
 
 -- The HTTP status of a response: its number and phrase.
 abbrev pub http_status_of_response : Response → Text
-http_status_of_response (Wrong problem) = http_status_of_problem problem
-http_status_of_response (Came outcome) = http_status_of_outcome outcome
+http_status_of_response (FromProblem problem) = http_status_of_problem problem
+http_status_of_response (FromOutcome outcome) = http_status_of_outcome outcome
 
 -- The body of the reply for an answer: its word and its fields; a stored line is split at its
 -- commas.
@@ -74,25 +74,25 @@ outcome_body (Failed fault) = json_error_object (fault_word fault)
 
 -- The body of the reply for a response.
 abbrev pub response_body : Response → Text
-response_body (Wrong problem) = json_error_object (text_of_problem problem)
-response_body (Came outcome) = outcome_body outcome
+response_body (FromProblem problem) = json_error_object (text_of_problem problem)
+response_body (FromOutcome outcome) = outcome_body outcome
 
 -- True if the response is the problem `NotAllowed`, whose reply alone has the field `Allow: POST`.
 abbrev pub names_allowed_method : Response → Bool
-names_allowed_method (Wrong NotAllowed) = true
-names_allowed_method (Wrong TooLarge) = false
-names_allowed_method (Wrong BadRequest) = false
-names_allowed_method (Wrong NotImplemented) = false
-names_allowed_method (Wrong NotFound) = false
-names_allowed_method (Came outcome) = false
+names_allowed_method (FromProblem NotAllowed) = true
+names_allowed_method (FromProblem TooLarge) = false
+names_allowed_method (FromProblem BadRequest) = false
+names_allowed_method (FromProblem NotImplemented) = false
+names_allowed_method (FromProblem NotFound) = false
+names_allowed_method (FromOutcome outcome) = false
 
 -- True if the response is a fault of the desk; its reply ends the stream.
 abbrev pub is_fault_response : Response → Bool
-is_fault_response (Came (Failed fault)) = true
-is_fault_response (Came (Did answer)) = false
-is_fault_response (Came (Saw view)) = false
-is_fault_response (Came (NoView refusal)) = false
-is_fault_response (Wrong problem) = false
+is_fault_response (FromOutcome (Failed fault)) = true
+is_fault_response (FromOutcome (Did answer)) = false
+is_fault_response (FromOutcome (Saw view)) = false
+is_fault_response (FromOutcome (NoView refusal)) = false
+is_fault_response (FromProblem problem) = false
 
 -- The line of a head with the text `text`, ended by CR LF.
 abbrev pub head_line : Text → Text

@@ -13,9 +13,9 @@ use Rattle.httparse.proofs.ChunkLemmas.{digits_value_after_push}
 use Rattle.httparse.specs.Spans.{header_bytes}
 use Rattle.httparse.specs.declared.spans.HeaderSpan.{HeaderSpan}
 use Rattle.brk_http_model.specs.Fields.{HeadField, equals_ignoring_case, values_of_field, has_field_named, body_length_of_values, body_length_of_value}
-use Rattle.brk_http_reader.specs.Seen.{facts_with_field, facts_of_fields}
+use Rattle.brk_http_reader.specs.FieldFactUpdates.{facts_with_field, facts_of_fields}
 use Rattle.brk_http_model.specs.declared.problem.Problem.TheVariants.{BadRequest}
-use Rattle.brk_http_reader.specs.declared.fields.Seen.{Seen}
+use Rattle.brk_http_reader.specs.declared.fields.FieldFactsSoFar.{FieldFactsSoFar}
 
 or_last : (a b c : Bool) → a || (b || c) ≡ (a || b) || c
 or_last true b c = refl
@@ -73,7 +73,7 @@ seen_push ps q =
     let e = len_push (codes "content-length") ps q in
     (let made : facts_of_fields (ps ++ q ∷ []) ≡ facts_with_field (facts_of_fields ps) q = cc (a, b, d, e) in made)
 
-pub seen_more : (front : List ℕ) (hs : List HeaderSpan) (i : ℕ) (d : HeaderSpan) (s : Seen) → i < length hs
+pub seen_more : (front : List ℕ) (hs : List HeaderSpan) (i : ℕ) (d : HeaderSpan) (s : FieldFactsSoFar) → i < length hs
     → s ≡ facts_of_fields (map (header_bytes front) (take i hs))
     → facts_with_field s (header_bytes front (get_or hs i d)) ≡ facts_of_fields (map (header_bytes front) (take (i + 1) hs))
 seen_more front hs i d s within all =

@@ -3,25 +3,25 @@ use Rattle.std.proofs.Common.{◌≡◌, ℕ, zero, suc, ◌+◌, ◌<◌, ◌�
 use Rattle.std.specs.Prelude.{◌==◌, ◌&&◌, nat_le, if◌then◌else◌}
 use Rattle.std.specs.Io.KnownBytes.{Consumes, IsAtEnd}
 use Rattle.std.proofs.lemmas.List.{append-nil, take_all, length-append, take-append-le}
-use Rattle.brk_http_model.specs.Heads.{leading_line_end_length, incremented_first_present, line_end_length_after_byte, head_length, head_end_within}
+use Rattle.brk_http_model.specs.Heads.{leading_line_end_length, first_present_plus_one, line_end_length_after_byte, head_length, head_end_within}
 use Rattle.std.proofs.lemmas.Bool.Decides.{nat_tests}
 use Rattle.brk_http_reader.specs.Moves.{ReadsIntoBuffer}
 use Rattle.brk_http_model.specs.declared.head_end.HeadEnd.TheVariants.{Nothing, TooLong, Cut, At}
 
 -- The number in the option plus `n`, or `None`.
-abbrev pub raise : ℕ → Option ℕ → Option ℕ
-raise n None = None
-raise n (Some k) = Some (k + n)
+abbrev pub option_plus : ℕ → Option ℕ → Option ℕ
+option_plus n None = None
+option_plus n (Some k) = Some (k + n)
 
 -- The length of the line end at the front of `bytes` if `t` is true, otherwise `None`.
-abbrev here : Bool → List ℕ → Option ℕ
-here t bytes = if t then leading_line_end_length bytes else None
+abbrev line_end_length_if : Bool → List ℕ → Option ℕ
+line_end_length_if t bytes = if t then leading_line_end_length bytes else None
 
-pub raise_zero : (o : Option ℕ) → raise 0 o ≡ o
+pub raise_zero : (o : Option ℕ) → option_plus 0 o ≡ o
 raise_zero None = refl
 raise_zero (Some k) = ap (λ (n : ℕ). Some n) (omega arith)
 
-pub raise_further : (i : ℕ) (o : Option ℕ) → raise i (incremented_first_present None o) ≡ raise (i + 1) o
+pub raise_further : (i : ℕ) (o : Option ℕ) → option_plus i (first_present_plus_one None o) ≡ option_plus (i + 1) o
 raise_further i None = refl
 raise_further i (Some k) = ap (λ (n : ℕ). Some n) (omega arith)
 
@@ -29,11 +29,11 @@ pub head_len-nil : head_length [] ≡ None
 unfolding head_length
 head_len-nil = refl
 
-pub head_len-cons : (b : ℕ) (bytes : List ℕ) → head_length (b ∷ bytes) ≡ incremented_first_present (line_end_length_after_byte b bytes) (head_length bytes)
+pub head_len-cons : (b : ℕ) (bytes : List ℕ) → head_length (b ∷ bytes) ≡ first_present_plus_one (line_end_length_after_byte b bytes) (head_length bytes)
 unfolding head_length
 head_len-cons b bytes = refl
 
-none_here : (t : Bool) → here t [] ≡ None
+none_here : (t : Bool) → line_end_length_if t [] ≡ None
 none_here true = refl
 none_here false = refl
 
@@ -54,11 +54,11 @@ begins_within [] = tt
 begins_within (b ∷ []) = begins_one (b == 10)
 begins_within (b ∷ c ∷ bytes) = begins_two (b == 10) (b == 13) (c == 10) (length bytes)
 
-here_within : (t : Bool) (bytes : List ℕ) → IfSome (here t bytes) (λ n. n ≤ length bytes)
+here_within : (t : Bool) (bytes : List ℕ) → IfSome (line_end_length_if t bytes) (λ n. n ≤ length bytes)
 here_within true bytes = begins_within bytes
 here_within false bytes = tt
 
-within_further : (x y : Option ℕ) (len : ℕ) → IfSome x (λ n. n ≤ len) → IfSome y (λ n. n ≤ len) → IfSome (incremented_first_present x y) (λ n. n ≤ suc len)
+within_further : (x y : Option ℕ) (len : ℕ) → IfSome x (λ n. n ≤ len) → IfSome y (λ n. n ≤ len) → IfSome (first_present_plus_one x y) (λ n. n ≤ suc len)
 within_further (Some k) y len p q = omega arith
 within_further None (Some k) len p q = omega arith
 within_further None None len p q = tt
@@ -70,7 +70,7 @@ head_len_within (b ∷ bytes) =
 
 -- ---- in a longer text
 
-further_same : (x y z : Option ℕ) (n : ℕ) → ((m : ℕ) → y ≡ Some m → z ≡ Some m) → incremented_first_present x y ≡ Some n → incremented_first_present x z ≡ Some n
+further_same : (x y z : Option ℕ) (n : ℕ) → ((m : ℕ) → y ≡ Some m → z ≡ Some m) → first_present_plus_one x y ≡ Some n → first_present_plus_one x z ≡ Some n
 further_same (Some k) y z n f found = found
 further_same None (Some m) z n f found = rw (f m refl) found
 further_same None None z n f found = cc
@@ -78,13 +78,13 @@ further_same None None z n f found = cc
 one_none : (c : ℕ) → head_length (c ∷ []) ≡ None
 one_none c = rw (head_len-cons, head_len-nil) (rw (none_here (c == 10)) refl)
 
-further_here : (x z : Option ℕ) (n : ℕ) → incremented_first_present x None ≡ Some n → incremented_first_present x z ≡ Some n
+further_here : (x z : Option ℕ) (n : ℕ) → first_present_plus_one x None ≡ Some n → first_present_plus_one x z ≡ Some n
 further_here (Some k) z n found = found
 further_here None z n found = cc
 
 begins_longer : (t s : Bool) (c : ℕ) (more : List ℕ) (n : ℕ) (z : Option ℕ) → (c == 10) ≡ s
-    → incremented_first_present (if t then (if s then Some 1 else None) else None) None ≡ Some n
-    → incremented_first_present (here t (c ∷ more)) z ≡ Some n
+    → first_present_plus_one (if t then (if s then Some 1 else None) else None) None ≡ Some n
+    → first_present_plus_one (line_end_length_if t (c ∷ more)) z ≡ Some n
 begins_longer true true c [] n z e found = rw e found
 begins_longer true true c (d ∷ more) n z e found = rw e found
 begins_longer true false c more n z e found = cc
@@ -125,7 +125,7 @@ moved_all a b x y l e (p, h, f) = moved b (subst (λ o. Consumes o b p) e h)
 -- ---- a step of the search
 
 pub found_here : (i n b : ℕ) (bytes rest : List ℕ) → drop i bytes ≡ b ∷ rest → line_end_length_after_byte b rest ≡ Some n
-    → raise i (head_length (drop i bytes)) ≡ head_length bytes → Some (i + 1 + n) ≡ head_length bytes
+    → option_plus i (head_length (drop i bytes)) ≡ head_length bytes → Some (i + 1 + n) ≡ head_length bytes
 found_here i n b bytes rest cut found all =
     let e : head_length (drop i bytes) ≡ Some (n + 1) = rw (cut, head_len-cons, found) refl in
     let f = rw e at all in
@@ -133,9 +133,9 @@ found_here i n b bytes rest cut found all =
     rw g f
 
 pub passed_here : (i b : ℕ) (bytes rest : List ℕ) → drop i bytes ≡ b ∷ rest → line_end_length_after_byte b rest ≡ None
-    → raise i (head_length (drop i bytes)) ≡ head_length bytes → raise (i + 1) (head_length rest) ≡ head_length bytes
+    → option_plus i (head_length (drop i bytes)) ≡ head_length bytes → option_plus (i + 1) (head_length rest) ≡ head_length bytes
 passed_here i b bytes rest cut none all =
-    let e : head_length (drop i bytes) ≡ incremented_first_present None (head_length rest) = rw (cut, head_len-cons, none) refl in
+    let e : head_length (drop i bytes) ≡ first_present_plus_one None (head_length rest) = rw (cut, head_len-cons, none) refl in
     let f = rw e at all in
     sym (raise_further i (head_length rest)) ∙ f
 
@@ -191,8 +191,8 @@ end_nothing limit (b ∷ buffer) empty = absurd (omega arith)
 -- ---- the same of what a reader has left and a buffer holds
 
 -- The type of the remaining bytes of a reader, or `None` if they are unknown.
-abbrev Left : Type 0
-Left = Option (List ℕ)
+abbrev RemainingBytes : Type 0
+RemainingBytes = Option (List ℕ)
 
 pub head_at : (limit : ℕ) (a b : Option (List ℕ)) (x y : List ℕ) (n : ℕ) → ReadsIntoBuffer a b x y → head_length (take (min (length y) limit) y) ≡ Some n
     → IfSome a (λ xs. At n ≡ head_end_within limit (x ++ xs))

@@ -4,7 +4,7 @@ use Rattle.std.specs.Prelude.{◌==◌, ◌&&◌, if◌then◌else◌, nat_le}
 use Rattle.std.specs.List.{flat_map}
 use Rattle.std.proofs.lemmas.List.{length-append, nil_from_length}
 use Rattle.httparse.specs.Grammar.{LineEnd, crlf, lf, print_end, Field, print_field, print_section, RequestHead, print_request, ReadsRequest}
-use Rattle.brk_http_model.specs.Heads.{leading_line_end_length, incremented_first_present, line_end_length_after_byte, head_length}
+use Rattle.brk_http_model.specs.Heads.{leading_line_end_length, first_present_plus_one, line_end_length_after_byte, head_length}
 use Rattle.brk_http_reader.proofs.FrontLemmas.{head_len-cons, head_len-nil}
 use Rattle.brk_http_model.specs.Heads.{head_end_within}
 use Rattle.brk_http_model.specs.declared.head_end.HeadEnd.TheVariants.{Nothing, TooLong, Cut, At}
@@ -24,12 +24,12 @@ field_lf : (f : Field) → EndsInLf (print_field f)
 field_lf f = after _ (print_end f.end) (end_lf f.end)
 
 -- The list ends with an empty line.
-pub record EndsEmpty (xs : List ℕ) : Type 0 where
+pub record EndsWithEmptyLine (xs : List ℕ) : Type 0 where
   pub before : List ℕ
   pub end : LineEnd
   pub is : xs ≡ before ++ 10 ∷ print_end end
 
-section_empty : (fields : List Field) (last : LineEnd) (xs : List ℕ) → EndsInLf xs → EndsEmpty (xs ++ print_section fields last)
+section_empty : (fields : List Field) (last : LineEnd) (xs : List ℕ) → EndsInLf xs → EndsWithEmptyLine (xs ++ print_section fields last)
 section_empty [] last xs (before, e) = record { before = before; end = last; is = ap (λ l. l ++ print_end last) e ∙ append_assoc before (10 ∷ []) (print_end last) }
 section_empty (f ∷ fields) last xs ends =
     let r = section_empty fields last (xs ++ print_field f) (after xs (print_field f) (field_lf f)) in
@@ -37,7 +37,7 @@ section_empty (f ∷ fields) last xs ends =
     ap (λ l. xs ++ l) (append_assoc (print_field f) (flat_map print_field fields) (print_end last)) ∙ sym (append_assoc xs (print_field f) (print_section fields last)) in
     record { before = r.before; end = r.end; is = e ∙ r.is }
 
-pub head_empty : (h : RequestHead) → EndsEmpty (print_request h)
+pub head_empty : (h : RequestHead) → EndsWithEmptyLine (print_request h)
 unfolding print_request
 head_empty h = section_empty h.fields h.last _ (after _ (print_end h.line_end) (end_lf h.line_end))
 
@@ -49,9 +49,9 @@ begins_end lf [] = refl
 begins_end lf (b ∷ rest) = refl
 
 -- The option has a number, which is at most `n`.
-abbrev AtMost : Option ℕ → ℕ → Type 0
-AtMost None n = ⊥
-AtMost (Some k) n = k ≤ n
+abbrev IsSomeAtMost : Option ℕ → ℕ → Type 0
+IsSomeAtMost None n = ⊥
+IsSomeAtMost (Some k) n = k ≤ n
 
 short_two : (s t u : Bool) → IfSome (if s then Some 1 else (if t && u then Some 2 else None)) (λ k. k ≤ 2)
 short_two true t u = omega arith
@@ -75,7 +75,7 @@ short_after b bytes = by (b == 10)
     by true = short bytes
     by false = tt
 
-further_most : (x y : Option ℕ) (n : ℕ) → IfSome x (λ k. k ≤ 2) → 2 ≤ n → AtMost y n → AtMost (incremented_first_present x y) (suc n)
+further_most : (x y : Option ℕ) (n : ℕ) → IfSome x (λ k. k ≤ 2) → 2 ≤ n → IsSomeAtMost y n → IsSomeAtMost (first_present_plus_one x y) (suc n)
 further_most (Some k) y n p two q = omega arith
 further_most None (Some k) n p two q = omega arith
 further_most None None n p two q = absurd q
@@ -87,7 +87,7 @@ end_some lf = omega arith
 most_here : (n k : ℕ) → n + 1 ≡ suc k → n + 1 ≤ suc k
 most_here n k e = omega arith
 
-pub first_by : (before rest : List ℕ) (e : LineEnd) → AtMost (head_length ((before ++ 10 ∷ print_end e) ++ rest)) (length (before ++ 10 ∷ print_end e))
+pub first_by : (before rest : List ℕ) (e : LineEnd) → IsSomeAtMost (head_length ((before ++ 10 ∷ print_end e) ++ rest)) (length (before ++ 10 ∷ print_end e))
 first_by [] rest e = rw (head_len-cons 10 (print_end e ++ rest), begins_end e rest) (omega arith)
 first_by (b ∷ before) rest e =
     let two : 2 ≤ length (before ++ 10 ∷ print_end e) = omega (arith, length-append before (10 ∷ print_end e), end_some e) in
@@ -100,7 +100,7 @@ pub head_whole : (front rest : List ℕ) (h : RequestHead) → head_length front
 head_whole front rest h first reads =
     let w = head_empty h in
     let e : front ≡ (w.before ++ 10 ∷ print_end w.end) ++ rest = reads.1 ∙ ap (λ l. l ++ rest) w.is in
-    let P : List ℕ → Type 0 = λ l. AtMost (head_length l) (length (w.before ++ 10 ∷ print_end w.end)) in
+    let P : List ℕ → Type 0 = λ l. IsSomeAtMost (head_length l) (length (w.before ++ 10 ∷ print_end w.end)) in
     let m : P front = subst P (sym e) (first_by w.before rest w.end) in
     let n : length front ≤ length (w.before ++ 10 ∷ print_end w.end) = rw first at m in
     let l : length front ≡ length (w.before ++ 10 ∷ print_end w.end) + length rest = ap length e ∙ length-append _ rest in
@@ -161,7 +161,7 @@ head_len-take (b ∷ bytes) n e =
     let f = rw (head_len-cons b bytes) at e in
     by (line_end_length_after_byte b bytes) (head_length bytes) refl refl f (λ m. head_len-take bytes m)
   where
-    by : (x y : Option ℕ) → line_end_length_after_byte b bytes ≡ x → head_length bytes ≡ y → incremented_first_present x y ≡ Some n
+    by : (x y : Option ℕ) → line_end_length_after_byte b bytes ≡ x → head_length bytes ≡ y → first_present_plus_one x y ≡ Some n
         → ((m : ℕ) → head_length bytes ≡ Some m → head_length (take m bytes) ≡ Some m) → head_length (take n (b ∷ bytes)) ≡ Some n
     by (Some k) y p q f ih =
         let g : k + 1 ≡ n = cc in

@@ -1,4 +1,4 @@
 pub mod Moves
 pub mod Heads
-pub mod Seen
-pub mod Shown
+pub mod FieldFactUpdates
+pub mod FirstRequests

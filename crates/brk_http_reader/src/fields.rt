@@ -5,7 +5,7 @@ ghost use Rattle.std.specs.Char.{is_ascii_digit};
 ghost use Rattle.std.specs.Str.Parse.{digits_value};
 ghost use Rattle.httparse.specs.Spans.{header_bytes, IsHeaderWithin};
 ghost use Rattle.brk_http_model.specs.Fields as spec;
-ghost use Rattle.brk_http_reader.specs.Seen.{facts_with_field};
+ghost use Rattle.brk_http_reader.specs.FieldFactUpdates.{facts_with_field};
 
 use brk_http_model::Problem;
 use httparse::spans::HeaderSpan;
@@ -27,7 +27,7 @@ fn equals_ignoring_case(a: &[u8], b: &[u8]) -> bool
 }
 
 // Returns true if every byte of `value` is an ASCII digit; also if `value` is empty.
-fn consists_of_digits(value: &[u8]) -> bool
+fn every_byte_is_digit(value: &[u8]) -> bool
     ensures { result ≡ list_all is_ascii_digit value.now }
 {
     value.iter().all(|b| b.is_ascii_digit())
@@ -37,7 +37,7 @@ fn consists_of_digits(value: &[u8]) -> bool
 fn has_only_digits(value: &[u8]) -> bool
     ensures { result ≡ spec.has_only_digits value.now }
 {
-    value.len() > 0 && consists_of_digits(value)
+    value.len() > 0 && every_byte_is_digit(value)
 }
 
 /// Returns the decimal value of at most nine digits.
@@ -78,7 +78,7 @@ fn body_length_of_value(value: &[u8]) -> Result<usize, Problem>
 /// The facts of the fields that were read so far: whether the body is chunked, whether the request
 /// asks to close the stream, whether a length was given, and the length or the problem with it.
 #[derive(Clone, Copy, Debug)]
-struct Seen {
+struct FieldFactsSoFar {
     chunked: bool,
     closes: bool,
     any_length: bool,
@@ -86,7 +86,7 @@ struct Seen {
 }
 
 /// Returns the facts `seen` of the fields read so far, with those of one more field.
-fn add_field_facts(seen: Seen, name: &[u8], value: &[u8]) -> Seen
+fn facts_with_one_more_field(seen: FieldFactsSoFar, name: &[u8], value: &[u8]) -> FieldFactsSoFar
     ensures value { result ≡ facts_with_field seen (name.now, value.now) }
     ensures small { IfOk seen.len (λ n. n ≤ 65536) → IfOk result.len (λ n. n ≤ 65536) }
 {
@@ -100,7 +100,7 @@ fn add_field_facts(seen: Seen, name: &[u8], value: &[u8]) -> Seen
             false => body_length_of_value(value),
         },
     };
-    Seen {
+    FieldFactsSoFar {
         chunked: seen.chunked || equals_ignoring_case(name, b"transfer-encoding"),
         closes: seen.closes || is_close,
         any_length: seen.any_length || is_length,
@@ -119,14 +119,14 @@ pub fn facts_from_fields(front: &[u8], headers: &[HeaderSpan]) -> FieldFacts
     ensures small { IfOk result.len (λ n. n ≤ 65536) }
     ensures closes { result.closes ≡ spec.asks_to_close_stream (map (header_bytes front.now) headers.now) }
 {
-    let mut seen = Seen {
+    let mut seen = FieldFactsSoFar {
         chunked: false,
         closes: false,
         any_length: false,
         len: Ok(0),
     };
     for header in headers {
-        seen = add_field_facts(seen, header.name.of(front), header.value.of(front));
+        seen = facts_with_one_more_field(seen, header.name.of(front), header.value.of(front));
     }
     FieldFacts {
         len: if seen.chunked {

@@ -10,7 +10,7 @@ use brk_http_model::Problem;
 use httparse::Status;
 use httparse::spans::{EMPTY_HEADER_SPAN, Span, parse_request};
 
-const MOST_FIELDS: usize = 100;
+const MAXIMUM_HEAD_FIELDS: usize = 100;
 
 /// The parts of a request's head: the positions of method and target, the close flag, and the body
 /// length.
@@ -39,7 +39,7 @@ pub fn parse_head(front: &[u8]) -> Option<HeadFacts>
     ensures head { IfSome result (λ facts. (h : RequestHead) × (rest : List ℕ) × FactsDescribeHead front.now facts h rest) }
     ensures none { IfNone result ((h : RequestHead) → ¬ (IsRequestHead front.now h)) }
 {
-    let mut headers = [EMPTY_HEADER_SPAN; MOST_FIELDS];
+    let mut headers = [EMPTY_HEADER_SPAN; MAXIMUM_HEAD_FIELDS];
     match parse_request(front, &mut headers) {
         Ok(Status::Complete(found)) => {
             let fields = facts_from_fields(front, &headers[..found.headers]);

@@ -9,7 +9,7 @@ use std::alloc::{AllocError, Global};
 use std::io::Read;
 
 /// The greatest length of a head in bytes, including the empty line after it.
-const HEAD_LIMIT: usize = 16384;
+const MAXIMUM_HEAD_BYTES: usize = 16384;
 
 /// A failure to read from the input into the buffer.
 #[derive(Clone, Copy, Debug, PartialEq, Eq)]
@@ -33,7 +33,7 @@ impl From<AllocError> for InputFault {
 
 /// Returns the length in bytes of the line end, LF or CR LF, at the front of `bytes`, or `None` if
 /// there is none.
-fn line_end_len(bytes: &[u8]) -> Option<usize>
+fn line_end_length_in_bytes(bytes: &[u8]) -> Option<usize>
     ensures { result ≡ spec.leading_line_end_length bytes.now }
 {
     match bytes {
@@ -49,7 +49,7 @@ fn line_end_length_after_byte(byte: u8, rest: &[u8]) -> Option<usize>
     ensures { result ≡ spec.line_end_length_after_byte byte rest.now }
 {
     if byte == b'\n' {
-        line_end_len(rest)
+        line_end_length_in_bytes(rest)
     } else {
         None
     }
@@ -57,7 +57,7 @@ fn line_end_length_after_byte(byte: u8, rest: &[u8]) -> Option<usize>
 
 /// Returns the number of bytes up to and including the first empty line, or `None` if there is
 /// none.
-pub fn head_len(bytes: &[u8]) -> Option<usize>
+pub fn head_length_in_bytes(bytes: &[u8]) -> Option<usize>
     ensures value { result ≡ spec.head_length bytes.now }
     ensures within { IfSome result (λ n. n ≤ length bytes.now) }
 {
@@ -98,12 +98,12 @@ pub fn read_head<R: Read>(reader: &mut R, buffer: &mut Vec<u8>) -> Result<HeadEn
 {
     'filling: loop {
         let len = buffer.len();
-        let seen = len.min(HEAD_LIMIT);
-        match head_len(&buffer[..seen]) {
+        let seen = len.min(MAXIMUM_HEAD_BYTES);
+        match head_length_in_bytes(&buffer[..seen]) {
             Some(n) => return Ok(HeadEnd::At(n)),
             None => {}
         }
-        if len >= HEAD_LIMIT {
+        if len >= MAXIMUM_HEAD_BYTES {
             return Ok(HeadEnd::TooLong);
         }
         if !read_into_buffer(reader, buffer)? {
@@ -125,7 +125,7 @@ pub fn read_body<R: Read>(
     len: usize,
 ) -> Result<bool, InputFault>
     ensures moves { OnOk result (ReadsIntoBuffer (R.remaining reader.old) (R.remaining reader.new) buffer.old.items buffer.new.items) }
-    ensures there { result ≡ Ok true → len ≤ length buffer.new.items }
+    ensures whole { result ≡ Ok true → len ≤ length buffer.new.items }
     ensures short { result ≡ Ok false → (length buffer.new.items < len) × IsAtEnd (R.remaining reader.new) }
 {
     'filling: loop {

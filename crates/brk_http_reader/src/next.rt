@@ -1,8 +1,8 @@
 //! The next request of a stream.
 ghost use Rattle.std.specs.Prelude.{◌≡◌, ◌++◌, List, ℕ, length, IfOk, OnOk, IfSome};
-ghost use Rattle.brk_http_model.specs.Found.{Found, ReadsFirstRequest};
+ghost use Rattle.brk_http_model.specs.Found.{RequestReading, ReadsFirstRequest};
 ghost use Rattle.brk_http_reader.specs.Moves.{ReadsIntoBuffer};
-ghost use Rattle.brk_http_reader.specs.Shown.{MatchesNextRequest, IsRequestWithin};
+ghost use Rattle.brk_http_reader.specs.FirstRequests.{MatchesNextRequest, IsRequestWithin};
 
 use crate::head::parse_head;
 use crate::input::{InputFault, read_body, read_head};
@@ -12,7 +12,7 @@ use std::io::Read;
 
 /// The positions of a request's parts in the buffer. The body is its last part.
 #[derive(Clone, Copy, Debug)]
-pub struct Places {
+pub struct RequestPositions {
     pub method: Span,
     pub target: Span,
     pub closes: bool,
@@ -21,44 +21,44 @@ pub struct Places {
 
 /// The result of reading the next request of a stream.
 #[derive(Clone, Copy, Debug)]
-pub enum Front {
+pub enum NextRequest {
     /// No byte is left.
     Ended,
     /// No request can be read, for this reason.
     Broken(Problem),
     /// A whole request, at these positions.
-    Whole(Places),
+    Whole(RequestPositions),
 }
 
 /// Reads the next request into the buffer, up to the end of its body, and returns its positions.
 ///
 /// Returns `Ended` if no byte is left, and `Broken` with a problem if no request can be read. Fails
 /// with `Read` or `Memory`.
-pub fn read_next_request<R: Read>(reader: &mut R, buffer: &mut Vec<u8>) -> Result<Front, InputFault>
+pub fn read_next_request<R: Read>(reader: &mut R, buffer: &mut Vec<u8>) -> Result<NextRequest, InputFault>
     ensures moves { OnOk result (ReadsIntoBuffer (R.remaining reader.old) (R.remaining reader.new) buffer.old.items buffer.new.items) }
     ensures within { IfOk result (λ front. IsRequestWithin front (length buffer.new.items)) }
-    ensures found { IfOk result (λ front. IfSome (R.remaining reader.old) (λ xs. (found : Found) × ReadsFirstRequest (buffer.old.items ++ xs) found
+    ensures found { IfOk result (λ front. IfSome (R.remaining reader.old) (λ xs. (found : RequestReading) × ReadsFirstRequest (buffer.old.items ++ xs) found
         × MatchesNextRequest front buffer.new.items (R.remaining reader.new) found)) }
 {
     let end = match read_head(reader, buffer)? {
-        HeadEnd::Nothing => return Ok(Front::Ended),
-        HeadEnd::TooLong => return Ok(Front::Broken(Problem::TooLarge)),
-        HeadEnd::Cut => return Ok(Front::Broken(Problem::BadRequest)),
+        HeadEnd::Nothing => return Ok(NextRequest::Ended),
+        HeadEnd::TooLong => return Ok(NextRequest::Broken(Problem::TooLarge)),
+        HeadEnd::Cut => return Ok(NextRequest::Broken(Problem::BadRequest)),
         HeadEnd::At(end) => end,
     };
     let Some(facts) = parse_head(&buffer[..end]) else {
-        return Ok(Front::Broken(Problem::BadRequest));
+        return Ok(NextRequest::Broken(Problem::BadRequest));
     };
     let len = match facts.len {
         Ok(len) => len,
-        Err(problem) => return Ok(Front::Broken(problem)),
+        Err(problem) => return Ok(NextRequest::Broken(problem)),
     };
     let stop = end + len;
     let there = read_body(reader, buffer, stop)?;
     if !there {
-        return Ok(Front::Broken(Problem::BadRequest));
+        return Ok(NextRequest::Broken(Problem::BadRequest));
     }
-    Ok(Front::Whole(Places {
+    Ok(NextRequest::Whole(RequestPositions {
         method: facts.method,
         target: facts.target,
         closes: facts.closes,

@@ -13,9 +13,9 @@ ghost use Rattle.brk_http_model.specs.Routes.{split_at_byte};
 
 /// Proves that the line of a reply, split at its commas, results in the fields of the reply, so
 /// that a stored reply is returned over HTTP with exactly the fields of the first reply.
-pub fn reply_fields_have_no_comma()
-    ensures cut { (reply : Reply) → split_at_byte 44 (line_text reply) ≡ reply_fields reply }
-    ensures told { (reply : Reply) → answer_body (Again (line_text reply)) ≡ json_texts_object (codes "again") (reply_fields reply) }
+pub fn reply_line_splits_into_its_fields()
+    ensures fields { (reply : Reply) → split_at_byte 44 (line_text reply) ≡ reply_fields reply }
+    ensures retry_body { (reply : Reply) → answer_body (Again (line_text reply)) ≡ json_texts_object (codes "again") (reply_fields reply) }
 {}
 
 /// Proves that batches and requests share keys. If a batch accepted a row, a request with the row
@@ -23,10 +23,10 @@ pub fn reply_fields_have_no_comma()
 /// batch answers the row under its key with the stored reply. Any calls may lie between, and the
 /// retry leaves the base unchanged.
 pub fn key_is_idempotent_across_interfaces()
-    ensures booked_by_a_batch { (base mid after : Base) (now later : ℕ) (command : Command) (key : Key) (reply : Reply) (calls : List (ℕ × Call)) (outcomes : List Outcome)
+    ensures accepted_in_batch { (base mid after : Base) (now later : ℕ) (command : Command) (key : Key) (reply : Reply) (calls : List (ℕ × Call)) (outcomes : List Outcome)
         → step_of_row base now command key ≡ (Done reply, mid) → Run mid calls outcomes after
         → IsOutcomeOfCall after later (Do command (Some key)) (Did (Again (line_text reply))) after }
-    ensures booked_by_a_request { (base mid after : Base) (now later : ℕ) (command : Command) (key : Key) (reply : Reply) (calls : List (ℕ × Call)) (outcomes : List Outcome)
+    ensures accepted_as_request { (base mid after : Base) (now later : ℕ) (command : Command) (key : Key) (reply : Reply) (calls : List (ℕ × Call)) (outcomes : List Outcome)
         → IsOutcomeOfCall base now (Do command (Some key)) (Did (Done reply)) mid → Run mid calls outcomes after
         → step_of_row after later command key ≡ (Again (line_text reply), after) }
 {}

@@ -9,7 +9,7 @@ use Rattle.brk_batch_engine.specs.declared.counts.Counts.{Counts}
 use Rattle.brk_desk.proofs.Made.{run_of}
 use Rattle.brk_desk.specs.Answers.{model_outcome}
 use Rattle.brk_desk.specs.Commands.{model_call}
-use Rattle.brk_desk.specs.Keeping.{OutcomePost}
+use Rattle.brk_desk.specs.CallPosts.{OutcomePost}
 use Rattle.brk_desk.specs.Runs.{IsRunWithOutcomes}
 use Rattle.brk_desk.specs.declared.call.Call.{Call}
 use Rattle.brk_desk.specs.declared.call.Outcome.{Outcome}
@@ -25,10 +25,10 @@ use Rattle.brk_money.specs.Spelling.{Text}
 
 module _ {S : Type 0} (g : Ghosts S) where
   -- A call of the desk for a row has this outcome (`RowCallHasOutcome`).
-  abbrev Acts : Held S → ℕ → Command × Key → run.Outcome → Held S → Type 0
-  Acts old now row outcome new = RowCallHasOutcome g old now row outcome new
+  abbrev RowOutcome : Held S → ℕ → Command × Key → run.Outcome → Held S → Type 0
+  RowOutcome old now row outcome new = RowCallHasOutcome g old now row outcome new
 
-  as_made : (old new : Held S) (rows : RowCalls Command) (outcomes : List run.Outcome) → IsCallSequence Acts old rows outcomes new
+  as_made : (old new : Held S) (rows : RowCalls Command) (outcomes : List run.Outcome) → IsCallSequence RowOutcome old rows outcomes new
       → (made : List (ℕ × Call)) × (came : List Outcome) × (map model_call made ≡ map desk_call_of_row rows) × (map model_outcome came ≡ outcomes)
       × IsCallSequence (λ old now call outcome new. OutcomePost g old new now call outcome) old made came new
   as_made old new [] [] same = ([], [], refl, refl, same)
@@ -45,7 +45,7 @@ module _ {S : Type 0} (g : Ghosts S) where
 
   -- the calls of the rows are a run of the desk
   pub tells_run : {C : Type 0} (gives : C → ℕ → C → Type 0) (text : Option Text) (first last : Held S) (outside : ClockAndWriterChange C) (result : Result Counts BatchFault)
-      → ChangesOnlyByRowCalls Acts (parse_by_first_field row_parsers) gives text first last outside result
+      → ChangesOnlyByRowCalls RowOutcome (parse_by_first_field row_parsers) gives text first last outside result
       → (calls : List (ℕ × Call)) × (outcomes : List Outcome) × IsRunWithOutcomes g first last calls outcomes
       × BatchMatchesRowCalls gives text (map model_call calls) (map model_outcome outcomes) outside result
   tells_run gives text first last outside result (script, made, told) =

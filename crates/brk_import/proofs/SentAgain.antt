@@ -12,10 +12,10 @@ use Rattle.brk_money.specs.declared.fault.Fault.{Fault}
 use Rattle.brk_model.specs.Answers.{Fields, calls_of_rows, well_formed_rows_from}
 use Rattle.brk_model.specs.Base.{Base}
 use Rattle.brk_model.specs.Batch as model
-use Rattle.brk_model.specs.Batch.{AreDecided, Ending, MatchesEnding, step_of_row}
+use Rattle.brk_model.specs.Batch.{BatchRowsAreDecided, BatchEnding, MatchesEnding, step_of_row}
 use Rattle.brk_model.specs.Commands.{Answer, Command}
 use Rattle.brk_model.specs.Forms.{ReadResult}
-use Rattle.brk_model.specs.Input.{BeginsWithRecords, IsEndRecord, end_record_after, batch_header}
+use Rattle.brk_model.specs.Input.{BeginsWithRecords, IsEndRecord, correct_end_record, batch_header}
 use Rattle.brk_model.specs.Lines.{batch_end_line, answer_lines_from}
 use Rattle.brk_model.specs.Sheets.{sheets}
 use Rattle.brk_model_theorems.specs.Laws.{NextRowLeadsTo, IsCompletedByRetry}
@@ -24,13 +24,13 @@ use Rattle.brk_model_theorems.proofs.LeftLaws.{done-kept, left-over, one-run}
 use Rattle.brk_model_theorems.proofs.StoppedLaws.{booked-completed, completed, next-goes-on, rows-go-on}
 use Rattle.brk_io.specs.Moments.{ClockReturnsInOrder}
 use Rattle.brk_io.specs.Span.{ClockAndWriterChange, change_with_bases}
-use Rattle.brk_store.specs.Audited.{AdoptPost, OnAuditAnswer, Represents, IsConsistent}
-use Rattle.brk_store.specs.Holds.{AreTreesOfRows}
-use Rattle.brk_desk.specs.Reopening.{IsReopenedAfterCrash, RepresentsDurableBase}
-use Rattle.brk_desk.proofs.Reopened.{Settles, kept_can_be, taken_over}
+use Rattle.brk_store.specs.Audited.{AdoptPost, AuditAnswerSatisfies, Represents, IsConsistent}
+use Rattle.brk_store.specs.Holds.{IsDiskContentOfRows}
+use Rattle.brk_desk.specs.Reopening.{IsNewConnectionAfterCrash, RepresentsDurableBase}
+use Rattle.brk_desk.proofs.Reopened.{RecoversOnlyLastCommit, kept_can_be, taken_over}
 use Rattle.brk_batch_engine.specs.Batch.{IsBatchResult, BatchEndsWith, BatchFailsWith, CrashMayCommitFailedRow, BatchRefinesModel, BoundsBatchCrashStates, IsBatchCrashSafe, BatchProgress}
-use Rattle.brk_import.specs.Leaving.{CrashExposesOnlyOneOf}
-use Rattle.brk_import.specs.SentAgain.{RunAndRetryEqualOneRun, RetryCompletesBatch}
+use Rattle.brk_import.specs.CrashTables.{CrashExposesOnlyOneOf}
+use Rattle.brk_import.specs.Retries.{RunAndRetryEqualOneRun, RetryCompletesBatch}
 use Rattle.brk_io.specs.declared.batch_fault.BatchFault.{BatchFault}
 use Rattle.brk_io.specs.declared.batch_fault.FaultKind.{FaultKind}
 use Rattle.brk_io.specs.declared.batch_fault.FaultKind.TheVariants as kinds
@@ -39,23 +39,23 @@ use Rattle.brk_batch_engine.proofs.Pushes.{moments_push}
 use Rattle.brk_batch_engine.proofs.Reading.{begins_front, begins_less}
 use Rattle.brk_import.proofs.Settled.{settled_push}
 
-module _ {S C : Type 0} (g : Ghosts S) (rests : Settles g) (form : Fields → ReadResult Command) (apart : (n : ℕ) (command : Command) → form (end_record_after n) ≡ Ok command → ⊥) (gives : C → ℕ → C → Type 0)
+module _ {S C : Type 0} (g : Ghosts S) (rests : RecoversOnlyLastCommit g) (form : Fields → ReadResult Command) (apart : (n : ℕ) (command : Command) → form (correct_end_record n) ≡ Ok command → ⊥) (gives : C → ℕ → C → Type 0)
     (text : Text) (one : ClockAndWriterChange C) (base : Base) where
   -- The rows that the first run decided, from the base before it to `after`.
-  record Part (after : Base) : Type 0 where
+  record FirstRunRows (after : Base) : Type 0 where
     pub name : Text
     pub rows : List Fields
     pub answers : List Answer
     pub moments : List ℕ
     pub mid : C
     pub taken : ClockReturnsInOrder gives one.clock moments mid
-    pub settled : AreDecided form step_of_row name base moments rows answers after
+    pub settled : BatchRowsAreDecided form step_of_row name base moments rows answers after
     pub begins : BeginsWithRecords (Some text) (batch_header name ∷ rows)
 
   -- The row after the decided rows was committed: `stood` is the base after its command, executed
   -- on `after`.
-  record Under (after stood : Base) : Type 0 where
-    pub part : Part after
+  record CommittedUnansweredRow (after stood : Base) : Type 0 where
+    pub part : FirstRunRows after
     pub row : Fields
     pub begins : BeginsWithRecords (Some text) (batch_header part.name ∷ (part.rows ++ row ∷ []))
     pub command : Command
@@ -65,28 +65,28 @@ module _ {S C : Type 0} (g : Ghosts S) (rests : Settles g) (form : Fields → Re
     pub booked : (step_of_row after moment command (record { batch = part.name; row = length part.rows + 1 })).1 ≡ stood
 
   -- The first run decided no row and `after` is the base before it, or it decided some rows.
-  abbrev First : Base → Type 0
-  First after = (after ≡ base) ⊎ Part after
+  abbrev DecidesRowsOrNone : Base → Type 0
+  DecidesRowsOrNone after = (after ≡ base) ⊎ FirstRunRows after
 
   -- A base whose tables are in the exposed disk contents: that after the decided rows, or after one
   -- more committed row.
-  record Found (trees : Trees) : Type 0 where
+  record IsExposedBase (trees : Trees) : Type 0 where
     pub after : Base
     pub stood : Base
     pub can : IsConsistent stood
-    pub are : AreTreesOfRows (sheets stood) trees
-    pub how : ((stood ≡ after) × First after) ⊎ Under after stood
+    pub are : IsDiskContentOfRows (sheets stood) trees
+    pub how : ((stood ≡ after) × DecidesRowsOrNone after) ⊎ CommittedUnansweredRow after stood
 
   -- ---- the first run
 
-  ending_begins : (ending : Ending) (name : Text) (rows : List Fields) (answers told : List Answer) (out : Text) → MatchesEnding (Some text) ending name rows answers told out → BeginsWithRecords (Some text) (batch_header name ∷ rows)
-  ending_begins model.EndedWell name rows answers told out ends = begins_front (Some text) (batch_header name ∷ rows) (end_record_after (length rows) ∷ []) ends.0
+  ending_begins : (ending : BatchEnding) (name : Text) (rows : List Fields) (answers told : List Answer) (out : Text) → MatchesEnding (Some text) ending name rows answers told out → BeginsWithRecords (Some text) (batch_header name ∷ rows)
+  ending_begins model.CorrectEnd name rows answers told out ends = begins_front (Some text) (batch_header name ∷ rows) (correct_end_record (length rows) ∷ []) ends.0
   ending_begins model.BadEnd name rows answers told out ends = begins_front (Some text) (batch_header name ∷ rows) (ends.0.0 ∷ []) ends.0.3
   ending_begins model.NoEnd name rows answers told out (inl cut, said) = ([], subst (λ (rs : List Fields). records default_config text ≡ batch_header name ∷ (rs ++ [])) (sym cut.0) cut.1)
   ending_begins model.NoEnd name rows answers told out (inr cut, said) = (cut.0 ∷ [], cut.2)
   ending_begins model.BadHeader name rows answers told out ends = absurd ends
 
-  ended : (ending : Ending) (count : ℕ) (after : Base) → BatchEndsWith form step_of_row gives (Some text) (change_with_bases base after one) ending count → Part after
+  ended : (ending : BatchEnding) (count : ℕ) (after : Base) → BatchEndsWith form step_of_row gives (Some text) (change_with_bases base after one) ending count → FirstRunRows after
   ended ending count after c = record {
     name = c.answered.name;
     rows = c.answered.rows;
@@ -98,7 +98,7 @@ module _ {S C : Type 0} (g : Ghosts S) (rests : Settles g) (form : Fields → Re
     begins = ending_begins ending c.answered.name c.answered.rows c.answered.answers c.answered.told c.lines c.answered.ends;
   }
 
-  abbrev stopped : (count : ℕ) (after : Base) → BatchProgress form step_of_row gives (Some text) (change_with_bases base after one) count → Part after
+  abbrev stopped : (count : ℕ) (after : Base) → BatchProgress form step_of_row gives (Some text) (change_with_bases base after one) count → FirstRunRows after
   stopped count after s = record {
     name = s.name;
     rows = s.rows;
@@ -110,7 +110,7 @@ module _ {S C : Type 0} (g : Ghosts S) (rests : Settles g) (form : Fields → Re
     begins = s.begins;
   }
 
-  by_kind : (count : ℕ) (kind : FaultKind) (after : Base) → BatchFailsWith form step_of_row gives (Some text) (change_with_bases base after one) count kind → First after
+  by_kind : (count : ℕ) (kind : FaultKind) (after : Base) → BatchFailsWith form step_of_row gives (Some text) (change_with_bases base after one) count kind → DecidesRowsOrNone after
   by_kind count kinds.BadHeader after f = inl f.0.base
   by_kind count kinds.NoEnd after f = inr (ended model.NoEnd count after f)
   by_kind count kinds.BadEnd after f = inr (ended model.BadEnd count after f)
@@ -121,12 +121,12 @@ module _ {S C : Type 0} (g : Ghosts S) (rests : Settles g) (form : Fields → Re
   by_kind count (kinds.Desk fault) after (inr (inl f)) = inr (stopped count after f.0)
   by_kind count (kinds.Desk fault) after (inr (inr f)) = inr (stopped count after f.0)
 
-  by_result : (result : Result Counts BatchFault) (after : Base) → IsBatchResult form step_of_row gives (Some text) (change_with_bases base after one) result → First after
-  by_result (Ok counts) after h = inr (ended model.EndedWell (counts.ok + counts.again + counts.no) after h.0)
+  by_result : (result : Result Counts BatchFault) (after : Base) → IsBatchResult form step_of_row gives (Some text) (change_with_bases base after one) result → DecidesRowsOrNone after
+  by_result (Ok counts) after h = inr (ended model.CorrectEnd (counts.ok + counts.again + counts.no) after h.0)
   by_result (Err fault) after h = by_kind fault.rows fault.kind after h
 
   under_way : (after : Base) (left : Held S) (fault : BatchFault) (w : CrashMayCommitFailedRow form step_of_row gives (CrashExposesOnlyOneOf g) (Some text) (change_with_bases base after one) left fault)
-      → Under after (step_of_row after w.failed.moment w.failed.command (record { batch = w.failed.stopped.name; row = fault.rows + 1 })).1
+      → CommittedUnansweredRow after (step_of_row after w.failed.moment w.failed.command (record { batch = w.failed.stopped.name; row = fault.rows + 1 })).1
   under_way after left fault w = record {
     part = stopped fault.rows after w.failed.stopped;
     row = w.failed.row;
@@ -140,8 +140,8 @@ module _ {S C : Type 0} (g : Ghosts S) (rests : Settles g) (form : Fields → Re
         (sym (w.failed.stopped.counted ∙ ap (λ (l : List Answer). length l) w.failed.told ∙ w.failed.stopped.settled.each));
   }
 
-  module _ (left : Held S) (trees : Trees) (may : (state g left).may_leave trees) (after : Base) (keeps : Represents g left after) (first : First after) where
-    found_alone : CrashExposesOnlyOneOf g left after after → Found trees
+  module _ (left : Held S) (trees : Trees) (may : (state g left).may_leave trees) (after : Base) (keeps : Represents g left after) (first : DecidesRowsOrNone after) where
+    found_alone : CrashExposesOnlyOneOf g left after after → IsExposedBase trees
     found_alone only = record {
       after = after;
       stood = after;
@@ -150,7 +150,7 @@ module _ {S C : Type 0} (g : Ghosts S) (rests : Settles g) (form : Fields → Re
       how = inl (refl, first);
     }
 
-    found_under : (fault : BatchFault) → CrashMayCommitFailedRow form step_of_row gives (CrashExposesOnlyOneOf g) (Some text) (change_with_bases base after one) left fault → Found trees
+    found_under : (fault : BatchFault) → CrashMayCommitFailedRow form step_of_row gives (CrashExposesOnlyOneOf g) (Some text) (change_with_bases base after one) left fault → IsExposedBase trees
     found_under fault w = elim (w.may trees may) [
       | inl are ↦ record { after = after; stood = after; can = kept_can_be g left after keeps; are = are; how = inl (refl, first) }
       | inr booked ↦ record {
@@ -162,23 +162,23 @@ module _ {S C : Type 0} (g : Ghosts S) (rests : Settles g) (form : Fields → Re
       }
     ]
 
-    found_at : (result : Result Counts BatchFault) → BoundsBatchCrashStates form step_of_row gives (CrashExposesOnlyOneOf g) (Some text) (change_with_bases base after one) left result → Found trees
+    found_at : (result : Result Counts BatchFault) → BoundsBatchCrashStates form step_of_row gives (CrashExposesOnlyOneOf g) (Some text) (change_with_bases base after one) left result → IsExposedBase trees
     found_at (Ok counts) only = found_alone only
     found_at (Err fault) (inl only) = found_alone only
     found_at (Err fault) (inr w) = found_under fault w
 
   found : (first left : Held S) (result : Result Counts BatchFault) → RepresentsDurableBase g first base
       → IsBatchCrashSafe (λ desk. HasCleanDisk (state g desk)) (λ desk. Represents g desk) (CrashExposesOnlyOneOf g) form step_of_row gives (Some text) first left one result
-      → HasCleanDisk (state g left) → (trees : Trees) → (state g left).may_leave trees → Found trees
+      → HasCleanDisk (state g left) → (trees : Trees) → (state g left).may_leave trees → IsExposedBase trees
   found first left result at leaves clean trees may =
-      let l = leaves clean base at.keeps (λ t m. inl (at.alone t m)) in
+      let l = leaves clean base at.represented (λ t m. inl (at.alone t m)) in
       found_at left trees may l.0 l.1 (by_result result l.0 l.2) result l.3
 
   -- ---- the retry
 
-  module _ (after stood last : Base) (two : ClockAndWriterChange C) (count : ℕ) (c : BatchEndsWith form step_of_row gives (Some text) (change_with_bases stood last two) model.EndedWell count) where
+  module _ (after stood last : Base) (two : ClockAndWriterChange C) (count : ℕ) (c : BatchEndsWith form step_of_row gives (Some text) (change_with_bases stood last two) model.CorrectEnd count) where
     -- if no row was decided, the rows are none
-    none_settled : after ≡ base → Part after
+    none_settled : after ≡ base → FirstRunRows after
     none_settled same = record {
       name = c.answered.name;
       rows = [];
@@ -187,21 +187,21 @@ module _ {S C : Type 0} (g : Ghosts S) (rests : Settles g) (form : Fields → Re
       mid = one.clock;
       taken = refl;
       settled = record { named = c.answered.settled.named; rows_only = tt; answered = record { replies = []; one_each = refl; run = same; all = refl }; each = refl };
-      begins = begins_front (Some text) (batch_header c.answered.name ∷ []) (c.answered.rows ++ end_record_after (length c.answered.rows) ∷ []) c.answered.ends.0;
+      begins = begins_front (Some text) (batch_header c.answered.name ∷ []) (c.answered.rows ++ correct_end_record (length c.answered.rows) ∷ []) c.answered.ends.0;
     }
 
-    part_of : First after → Part after
+    part_of : DecidesRowsOrNone after → FirstRunRows after
     part_of (inl same) = none_settled same
     part_of (inr part) = part
 
     wrote : Appends two.old two.new (answer_lines_from 1 c.answered.answers ++ batch_end_line c.answered.answers)
     wrote = subst (λ l. Appends two.old two.new l) c.answered.ends.2 c.written
 
-    module _ (p : Part after) (more : List Fields) (named : p.name ≡ c.answered.name) (rows_are : c.answered.rows ≡ p.rows ++ more) where
-      second : AreDecided form step_of_row p.name stood c.moments (p.rows ++ more) c.answered.answers last
+    module _ (p : FirstRunRows after) (more : List Fields) (named : p.name ≡ c.answered.name) (rows_are : c.answered.rows ≡ p.rows ++ more) where
+      second : BatchRowsAreDecided form step_of_row p.name stood c.moments (p.rows ++ more) c.answered.answers last
       second =
-          subst (λ (rs : List Fields). AreDecided form step_of_row p.name stood c.moments rs c.answered.answers last) rows_are
-          (subst (λ (n : Text). AreDecided form step_of_row n stood c.moments c.answered.rows c.answered.answers last) (sym named) c.answered.settled)
+          subst (λ (rs : List Fields). BatchRowsAreDecided form step_of_row p.name stood c.moments rs c.answered.answers last) rows_are
+          (subst (λ (n : Text). BatchRowsAreDecided form step_of_row n stood c.moments c.answered.rows c.answered.answers last) (sym named) c.answered.settled)
 
       named_again : (moments : List ℕ) (answers : List Answer) → IsCompletedByRetry form p.name base moments c.moments (p.rows ++ more) answers c.answered.answers last
           → IsCompletedByRetry form c.answered.name base moments c.moments c.answered.rows answers c.answered.answers last
@@ -210,7 +210,7 @@ module _ {S C : Type 0} (g : Ghosts S) (rests : Settles g) (form : Fields → Re
           (subst (λ (rs : List Fields). IsCompletedByRetry form p.name base moments c.moments rs answers c.answered.answers last) (sym rows_are) k)
 
     -- no call failed, or its row was not committed
-    from_part : stood ≡ after → Part after → RetryCompletesBatch form gives (Some text) base last one two
+    from_part : stood ≡ after → FirstRunRows after → RetryCompletesBatch form gives (Some text) base last one two
     from_part same p = record {
       name = c.answered.name;
       rows = c.answered.rows;
@@ -219,20 +219,20 @@ module _ {S C : Type 0} (g : Ghosts S) (rests : Settles g) (form : Fields → Re
       moments = p.moments;
       mid = p.mid;
       taken = p.taken;
-      told = c.answered.answers;
+      retry_answers = c.answered.answers;
       others = c.moments;
       asked = c.taken;
       written = wrote;
       completed = λ none. inl (named_again p on.1.0 on.0 on.1.1 p.moments p.answers
           (completed form p.name base after last p.moments c.moments p.rows on.1.0 p.answers c.answered.answers none p.settled
-          (subst (λ (b : Base). AreDecided form step_of_row p.name b c.moments (p.rows ++ on.1.0) c.answered.answers last) same (second p on.1.0 on.0 on.1.1))));
+          (subst (λ (b : Base). BatchRowsAreDecided form step_of_row p.name b c.moments (p.rows ++ on.1.0) c.answered.answers last) same (second p on.1.0 on.0 on.1.1))));
     }
       where
         on : (p.name ≡ c.answered.name) × ((back : List Fields) × (c.answered.rows ≡ p.rows ++ back))
         on = rows-go-on text p.name c.answered.name p.rows c.answered.rows p.settled.rows_only p.begins c.answered.ends.0
 
     -- a row was committed and not answered
-    from_under : Under after stood → RetryCompletesBatch form gives (Some text) base last one two
+    from_under : CommittedUnansweredRow after stood → RetryCompletesBatch form gives (Some text) base last one two
     from_under u = record {
       name = c.answered.name;
       rows = c.answered.rows;
@@ -241,7 +241,7 @@ module _ {S C : Type 0} (g : Ghosts S) (rests : Settles g) (form : Fields → Re
       moments = p.moments;
       mid = p.mid;
       taken = p.taken;
-      told = c.answered.answers;
+      retry_answers = c.answered.answers;
       others = c.moments;
       asked = c.taken;
       written = wrote;
@@ -252,7 +252,7 @@ module _ {S C : Type 0} (g : Ghosts S) (rests : Settles g) (form : Fields → Re
           ];
     }
       where
-        p : Part after
+        p : FirstRunRows after
         p = u.part
 
         on : (p.name ≡ c.answered.name) × ((rest : List Fields) × (c.answered.rows ≡ p.rows ++ u.row ∷ rest))
@@ -264,13 +264,13 @@ module _ {S C : Type 0} (g : Ghosts S) (rests : Settles g) (form : Fields → Re
         next : NextRowLeadsTo form p.name after p.rows (u.row ∷ on.1.0) u.moment answer stood
         next = record { row = u.row; rest = on.1.0; next = refl; command = u.command; formed = u.formed; booked = ap (λ (b : Base). (answer, b)) u.booked }
 
-    from_how : ((stood ≡ after) × First after) ⊎ Under after stood → RetryCompletesBatch form gives (Some text) base last one two
+    from_how : ((stood ≡ after) × DecidesRowsOrNone after) ⊎ CommittedUnansweredRow after stood → RetryCompletesBatch form gives (Some text) base last one two
     from_how (inl (same, first)) = from_part same (part_of first)
     from_how (inr u) = from_under u
 
     -- whatever was refused, both runs are one: the rows that the first run accepted, then the others
     one_run_of : (front back : List Fields) (moments : List ℕ) (mid : C) (answers : List Answer) → ClockReturnsInOrder gives one.clock moments mid → c.answered.rows ≡ front ++ back
-        → AreDecided form step_of_row c.answered.name base moments front answers stood → RunAndRetryEqualOneRun form gives (Some text) base last one two
+        → BatchRowsAreDecided form step_of_row c.answered.name base moments front answers stood → RunAndRetryEqualOneRun form gives (Some text) base last one two
     one_run_of front back moments mid answers taken split first = record {
       name = c.answered.name;
       rows = c.answered.rows;
@@ -282,9 +282,9 @@ module _ {S C : Type 0} (g : Ghosts S) (rests : Settles g) (form : Fields → Re
       mid = mid;
       taken = taken;
       answers = answers;
-      stood = stood;
+      mid_base = stood;
       first = first;
-      told = c.answered.answers;
+      retry_answers = c.answered.answers;
       others = c.moments;
       asked = c.taken;
       second = c.answered.settled;
@@ -295,25 +295,25 @@ module _ {S C : Type 0} (g : Ghosts S) (rests : Settles g) (form : Fields → Re
       repeated = (left-over stood last (calls_of_rows c.answered.name c.moments (well_formed_rows_from form 1 c.answered.rows)) c.answered.settled.answered.replies c.answered.settled.answered.run).1;
     }
 
-    one_from_part : stood ≡ after → Part after → RunAndRetryEqualOneRun form gives (Some text) base last one two
+    one_from_part : stood ≡ after → FirstRunRows after → RunAndRetryEqualOneRun form gives (Some text) base last one two
     one_from_part same p =
         one_run_of p.rows on.1.0 p.moments p.mid p.answers p.taken on.1.1
-        (subst (λ (n : Text). AreDecided form step_of_row n base p.moments p.rows p.answers stood) on.0
-        (subst (λ (b : Base). AreDecided form step_of_row p.name base p.moments p.rows p.answers b) (sym same) p.settled))
+        (subst (λ (n : Text). BatchRowsAreDecided form step_of_row n base p.moments p.rows p.answers stood) on.0
+        (subst (λ (b : Base). BatchRowsAreDecided form step_of_row p.name base p.moments p.rows p.answers b) (sym same) p.settled))
       where
         on : (p.name ≡ c.answered.name) × ((back : List Fields) × (c.answered.rows ≡ p.rows ++ back))
         on = rows-go-on text p.name c.answered.name p.rows c.answered.rows p.settled.rows_only p.begins c.answered.ends.0
 
-    one_from_under : Under after stood → RunAndRetryEqualOneRun form gives (Some text) base last one two
+    one_from_under : CommittedUnansweredRow after stood → RunAndRetryEqualOneRun form gives (Some text) base last one two
     one_from_under u =
         one_run_of (p.rows ++ u.row ∷ []) on.1.0 (p.moments ++ u.moment ∷ []) one.later (p.answers ++ answer ∷ [])
         (moments_push gives one.clock p.mid one.later p.moments u.moment p.taken u.given) split
-        (subst (λ (n : Text). AreDecided form step_of_row n base (p.moments ++ u.moment ∷ []) (p.rows ++ u.row ∷ []) (p.answers ++ answer ∷ []) stood) on.0
+        (subst (λ (n : Text). BatchRowsAreDecided form step_of_row n base (p.moments ++ u.moment ∷ []) (p.rows ++ u.row ∷ []) (p.answers ++ answer ∷ []) stood) on.0
         (settled_push form step_of_row p.name base after stood p.moments p.rows p.answers p.settled u.row u.command u.formed u.moment answer
         acted
         (All-front (λ row. ¬ (IsEndRecord row)) (p.rows ++ u.row ∷ []) on.1.0 (subst (λ (rs : List Fields). AllByRecursion (λ row. ¬ (IsEndRecord row)) rs) split c.answered.settled.rows_only))))
       where
-        p : Part after
+        p : FirstRunRows after
         p = u.part
 
         on : (p.name ≡ c.answered.name) × ((rest : List Fields) × (c.answered.rows ≡ p.rows ++ u.row ∷ rest))
@@ -330,7 +330,7 @@ module _ {S C : Type 0} (g : Ghosts S) (rests : Settles g) (form : Fields → Re
         split : c.answered.rows ≡ (p.rows ++ u.row ∷ []) ++ on.1.0
         split = on.1.1 ∙ sym (append_assoc p.rows (u.row ∷ []) on.1.0)
 
-    one_from_how : ((stood ≡ after) × First after) ⊎ Under after stood → RunAndRetryEqualOneRun form gives (Some text) base last one two
+    one_from_how : ((stood ≡ after) × DecidesRowsOrNone after) ⊎ CommittedUnansweredRow after stood → RunAndRetryEqualOneRun form gives (Some text) base last one two
     one_from_how (inl (same, first)) = one_from_part same (part_of first)
     one_from_how (inr u) = one_from_under u
 
@@ -338,8 +338,8 @@ module _ {S C : Type 0} (g : Ghosts S) (rests : Settles g) (form : Fields → Re
 
   pub sent_again : (first left conn store last : Held S) (two : ClockAndWriterChange C) (ended : Result Counts BatchFault) (taken : Result (Unit {0}) Fault) (counts : Counts) → RepresentsDurableBase g first base
       → IsBatchCrashSafe (λ desk. HasCleanDisk (state g desk)) (λ desk. Represents g desk) (CrashExposesOnlyOneOf g) form step_of_row gives (Some text) first left one ended
-      → HasCleanDisk (state g left) → IsReopenedAfterCrash g left conn → AdoptPost g conn store taken → HasCleanDisk (state g store)
-      → OnAuditAnswer taken (λ failing. failing ≡ None)
+      → HasCleanDisk (state g left) → IsNewConnectionAfterCrash g left conn → AdoptPost g conn store taken → HasCleanDisk (state g store)
+      → AuditAnswerSatisfies taken (λ failing. failing ≡ None)
       × (BatchRefinesModel (λ desk. HasCleanDisk (state g desk)) (λ desk. Represents g desk) form step_of_row gives (Some text) store last two (Ok counts) → HasCleanDisk (state g last)
       → (after : Base) × Represents g last after × RetryCompletesBatch form gives (Some text) base after one two × RunAndRetryEqualOneRun form gives (Some text) base after one two)
   sent_again first left conn store last two ended taken counts at leaves clean again adopted next =
@@ -347,6 +347,6 @@ module _ {S C : Type 0} (g : Ghosts S) (rests : Settles g) (form : Fields → Re
       let t = taken_over g rests again.0 conn store taken again.2 adopted next f.stood f.can f.are (λ (b : Base). b ≡ f.stood) refl in (
         t.undamaged,
         λ keeps good.
-            let k = keeps good f.stood (subst (Represents g store) t.may t.stands.keeps) in
+            let k = keeps good f.stood (subst (Represents g store) t.may t.represented.represented) in
             (k.0, k.1, from_how f.after f.stood k.0 two (counts.ok + counts.again + counts.no) k.2.0 f.how, one_from_how f.after f.stood k.0 two (counts.ok + counts.again + counts.no) k.2.0 f.how),
       )

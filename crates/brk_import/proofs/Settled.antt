@@ -5,7 +5,7 @@ use Rattle.std.specs.List.{AllByRecursion}
 use Rattle.std.proofs.lemmas.List.{length-append}
 use Rattle.brk_money.specs.Spelling.{Text}
 use Rattle.brk_model.specs.Answers.{Fields, CallsHaveAnswers, RowCall, RowStep, answer_to_row_call, calls_of_rows, well_formed_rows_from, with_well_formed_row, answers_interleaved_with_refusals}
-use Rattle.brk_model.specs.Batch.{AreDecided}
+use Rattle.brk_model.specs.Batch.{BatchRowsAreDecided}
 use Rattle.brk_model.specs.Commands.{Answer}
 use Rattle.brk_model.specs.Forms.{ReadResult}
 use Rattle.brk_model.specs.Input.{IsEndRecord}
@@ -19,7 +19,7 @@ turned step base after (c ∷ cs) [] r = absurd r
 turned step base after (c ∷ cs) (a ∷ rs) r = let more = turned step (answer_to_row_call step base c).1 after cs rs r.1 in omega arith
 
 module _ {S X : Type 0} (form : Fields → ReadResult X) (step : RowStep S X) (name : Text) (base mid after : S) (moments : List ℕ) (rows : List Fields) (answers : List Answer)
-    (h : AreDecided form step name base moments rows answers mid) (row : Fields) (command : X) (formed : form row ≡ Ok command) (moment : ℕ) (answer : Answer)
+    (h : BatchRowsAreDecided form step name base moments rows answers mid) (row : Fields) (command : X) (formed : form row ≡ Ok command) (moment : ℕ) (answer : Answer)
     (acted : step mid moment command (record { batch = name; row = 1 + length rows }) ≡ (answer, after)) where
   calls : well_formed_rows_from form 1 (rows ++ row ∷ []) ≡ well_formed_rows_from form 1 rows ++ (1 + length rows, command) ∷ []
   calls = formed_push form 1 rows row ∙ ap (λ (o : ReadResult X). well_formed_rows_from form 1 rows ++ with_well_formed_row o (1 + length rows) []) formed
@@ -38,7 +38,7 @@ module _ {S X : Type 0} (form : Fields → ReadResult X) (step : RowStep S X) (n
   wove : answers_interleaved_with_refusals form (rows ++ row ∷ []) (h.answered.replies ++ answer ∷ []) ≡ answers_interleaved_with_refusals form rows h.answered.replies ++ answer ∷ []
   wove = rw formed at (woven_push form 1 rows row h.answered.replies (answer ∷ []) replied)
 
-  pub settled_push : AllByRecursion (λ r. ¬ (IsEndRecord r)) (rows ++ row ∷ []) → AreDecided form step name base (moments ++ moment ∷ []) (rows ++ row ∷ []) (answers ++ answer ∷ []) after
+  pub settled_push : AllByRecursion (λ r. ¬ (IsEndRecord r)) (rows ++ row ∷ []) → BatchRowsAreDecided form step name base (moments ++ moment ∷ []) (rows ++ row ∷ []) (answers ++ answer ∷ []) after
   settled_push only = record {
     named = h.named;
     rows_only = only;

@@ -12,7 +12,7 @@ use Rattle.brk_model.specs.Commands.{Command}
 use Rattle.brk_model.specs.Records.{Key}
 use Rattle.brk_model.specs.Run.{Did, Failed}
 use Rattle.brk_model.specs.Sheets.{sheets}
-use Rattle.brk_store.specs.Holds.{AreTreesOfRows}
+use Rattle.brk_store.specs.Holds.{IsDiskContentOfRows}
 use Rattle.brk_commit.specs.Answers.{model_answer}
 use Rattle.brk_commit.specs.Booked.{CallPost}
 use Rattle.brk_store.specs.Audited.{Represents, IsConsistent}
@@ -28,7 +28,7 @@ use Rattle.brk_commit.specs.declared.answer.Answer.TheVariants as given
 use Rattle.brk_desk.proofs.Reopened.{booked_can_be}
 use Rattle.brk_desk.proofs.Stopping.{quiet_leaves}
 use Rattle.brk_batch_engine.specs.Answers.{CallRefinesStep, IsFailedCallCrashSafe, RepresentsDurably}
-use Rattle.brk_import.specs.Leaving.{CrashExposesOnlyOneOf}
+use Rattle.brk_import.specs.CrashTables.{CrashExposesOnlyOneOf}
 use Rattle.brk_import.specs.Rows.{RowCallHasOutcome}
 
 module _ {S : Type 0} (g : Ghosts S) (old new : Held S) (now : ℕ) (command : Command) where
@@ -43,14 +43,14 @@ module _ {S : Type 0} (g : Ghosts S) (old new : Held S) (now : ℕ) (command : C
         (
           told.1,
           λ trees may. elim (called.survives.crash clean trees may) [
-            | inl earlier ↦ inl (subst (λ b. AreTreesOfRows (sheets b) trees) (sym same) (either trees base (sure.1 trees earlier)))
-            | inr come ↦ inl (subst (λ b. AreTreesOfRows (sheets b) trees) step (come.1 base sure.0))
+            | inl earlier ↦ inl (subst (λ b. IsDiskContentOfRows (sheets b) trees) (sym same) (either trees base (sure.1 trees earlier)))
+            | inr come ↦ inl (subst (λ b. IsDiskContentOfRows (sheets b) trees) step (come.1 base sure.0))
           ],
         ),
         told.2,
       )
     where
-      either : (trees : Trees) (base : Base) → AreTreesOfRows (sheets base) trees ⊎ (AreTreesOfRows (sheets base) trees × IsConsistent base) → AreTreesOfRows (sheets base) trees
+      either : (trees : Trees) (base : Base) → IsDiskContentOfRows (sheets base) trees ⊎ (IsDiskContentOfRows (sheets base) trees × IsConsistent base) → IsDiskContentOfRows (sheets base) trees
       either trees base (inl are) = are
       either trees base (inr are) = are.0
 
@@ -60,7 +60,7 @@ module _ {S : Type 0} (g : Ghosts S) (old new : Held S) (now : ℕ) (command : C
       let told = called.answered clean base sure.0 in
       let step : (step_of_row base now command key).1 ≡ told.0 = ap (λ (x : model.Answer × Base). x.1) told.2 in (
         told.0,
-        (told.1, λ trees may. inl (subst (λ b. AreTreesOfRows (sheets b) trees) step (called.durable clean tt base sure.0 trees may))),
+        (told.1, λ trees may. inl (subst (λ b. IsDiskContentOfRows (sheets b) trees) step (called.durable clean tt base sure.0 trees may))),
         told.2,
       )
   answered_left key (given.Again line) called = quiet_left key (given.Again line) (λ base after e. quiet_leaves base now command (Some key) (model_answer (given.Again line)) after e tt) called

@@ -1,3 +1,3 @@
-pub mod Leaving
+pub mod CrashTables
 pub mod Rows
-pub mod SentAgain
+pub mod Retries

@@ -7,7 +7,7 @@ use Rattle.brk_batch_engine.specs.Script.{RowCalls}
 use Rattle.brk_batch_engine.specs.declared.counts.Counts.{Counts}
 use Rattle.brk_desk.specs.Answers.{model_outcome}
 use Rattle.brk_desk.specs.Commands.{model_call}
-use Rattle.brk_desk.specs.Keeping.{OutcomePost}
+use Rattle.brk_desk.specs.CallPosts.{OutcomePost}
 use Rattle.brk_desk.specs.declared.call.Call as made
 use Rattle.brk_desk.specs.declared.call.Outcome as came
 use Rattle.brk_io.specs.Span.{ClockAndWriterChange}

@@ -8,7 +8,7 @@ ghost use Rattle.brk_commands.specs.Commands.{abstract_command};
 ghost use Rattle.brk_commit.specs.Answers.{model_answer};
 ghost use Rattle.brk_plans.specs.Replies.{abstract_reply};
 ghost use Rattle.brk_store.specs.Audited.{Represents};
-ghost use Rattle.brk_import.specs.Leaving.{CrashExposesOnlyOneOf};
+ghost use Rattle.brk_import.specs.CrashTables.{CrashExposesOnlyOneOf};
 ghost use Rattle.brk_import.specs.Rows.{RowCallHasOutcome};
 ghost use Rattle.sqlite.specs.Held.{state};
 ghost use Rattle.sqlite.specs.State.{HasCleanDisk};

@@ -9,13 +9,13 @@ ghost use Rattle.brk_desk.specs.Commands.{model_call};
 ghost use Rattle.brk_desk.specs.Runs.{IsRunWithOutcomes};
 ghost use Rattle.brk_desk.specs.declared.call.Call as made;
 ghost use Rattle.brk_desk.specs.declared.call.Outcome as came;
-ghost use Rattle.brk_import.specs.Leaving.{CrashExposesOnlyOneOf};
+ghost use Rattle.brk_import.specs.CrashTables.{CrashExposesOnlyOneOf};
 ghost use Rattle.brk_import.specs.Rows.{BatchMatchesRowCalls};
 ghost use Rattle.sqlite.specs.Held.{state};
 ghost use Rattle.sqlite.specs.State.{HasCleanDisk};
 
 use crate::at_desk::DeskRows;
-use brk_batch_engine::{Counts, run};
+use brk_batch_engine::{Counts, execute_batch_on_desk};
 use brk_desk::Desk;
 use brk_io::{BatchFault, Clock};
 use sqlite::Alter;
@@ -49,20 +49,20 @@ pub fn run_batch<R: Read + Drop, W: Write, C: Clock, S: Alter>(
     // guarantee of a run holds. Each decided row that is well-formed and has a record after it is
     // one of the calls, under its key, and one more call may have failed at the end. The clock is
     // read once for each call, and the lines follow from the outcomes.
-    ensures told { (calls : List (ℕ × made.Call)) × (outcomes : List came.Outcome) × IsRunWithOutcomes S.Store desk.old desk.new calls outcomes
+    ensures changed_only_by_calls { (calls : List (ℕ × made.Call)) × (outcomes : List came.Outcome) × IsRunWithOutcomes S.Store desk.old desk.new calls outcomes
         × BatchMatchesRowCalls C.gives (option_map input_text (R.remaining reader)) (map model_call calls) (map model_outcome outcomes)
         (record { clock = clock.old; later = clock.new; old = W.contents writer.old; new = W.contents writer.new }) result }
     // Under the disk assumption, for every base that the desk represented before the batch, the
     // answers equal those of the model from this base, and the desk represents the base after them.
-    ensures kept { BatchRefinesModel (λ desk. HasCleanDisk (state S.Store desk)) (λ desk. Represents S.Store desk) (parse_by_first_field row_parsers) step_of_row C.gives
+    ensures refines_model { BatchRefinesModel (λ desk. HasCleanDisk (state S.Store desk)) (λ desk. Represents S.Store desk) (parse_by_first_field row_parsers) step_of_row C.gives
         (option_map input_text (R.remaining reader)) desk.old desk.new
         (record { clock = clock.old; later = clock.new; old = W.contents writer.old; new = W.contents writer.new }) result }
     // Crash safety: if a crash before the batch exposes only the tables of such a base, a crash
     // after the batch exposes the tables of the base after it. If the call of a row failed, a crash
     // may also expose the tables after the command of this row.
-    ensures left { IsBatchCrashSafe (λ desk. HasCleanDisk (state S.Store desk)) (λ desk. Represents S.Store desk) (CrashExposesOnlyOneOf S.Store) (parse_by_first_field row_parsers) step_of_row
+    ensures crash_safe { IsBatchCrashSafe (λ desk. HasCleanDisk (state S.Store desk)) (λ desk. Represents S.Store desk) (CrashExposesOnlyOneOf S.Store) (parse_by_first_field row_parsers) step_of_row
         C.gives (option_map input_text (R.remaining reader)) desk.old desk.new
         (record { clock = clock.old; later = clock.new; old = W.contents writer.old; new = W.contents writer.new }) result }
 {
-    run::<R, W, C, DeskRows<S>>(alloc, reader, writer, clock, desk)
+    execute_batch_on_desk::<R, W, C, DeskRows<S>>(alloc, reader, writer, clock, desk)
 }

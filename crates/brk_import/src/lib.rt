@@ -7,5 +7,5 @@ pub mod sent_again;
 
 pub use at_desk::DeskRows;
 pub use batch::run_batch;
-pub use brk_batch_engine::{BatchFault, Clock, Counts, FaultKind, MOST_BYTES};
+pub use brk_batch_engine::{BatchFault, Clock, Counts, FaultKind, MAXIMUM_INPUT_BYTES};
 pub use brk_desk;

@@ -23,7 +23,7 @@ use Rattle.brk_book_theorems.specs.Books.{BooksInvariant, HasDistinctMovementSta
 use Rattle.brk_book_theorems.proofs.Same.{All-map, All-mapped}
 use Rattle.brk_book_theorems.proofs.Reading.{find-id, find-map}
 use Rattle.brk_audit_theorems.specs.Passing.{PassesAudit}
-use Rattle.brk_audit_theorems.specs.Told.{HasValidTransitions, HasNoStrayTexts, HasValidHistories, HasAscendingStamps}
+use Rattle.brk_audit_theorems.specs.Told.{HasValidStatusSequence, HasNoStrayTexts, HasValidHistories, HasAscendingStatusStamps}
 use Rattle.brk_audit_theorems.proofs.Again.{IsRead, reads, found_first, posted_in, posting_again, turn_one}
 use Rattle.brk_audit_theorems.proofs.Climbs.{list_all_true}
 use Rattle.brk_model_theorems.proofs.Conjunctions.{parts3}
@@ -85,8 +85,8 @@ told_of t p s k rises =
     let status = All-map t.trades (λ r e. parts3 (is_valid_status_sequence (map (λ m. m.status) (status_changes_of_trade t r.id))) (is_strictly_ascending (map (λ m. m.stamp) (status_changes_of_trade t r.id))) (matches_last_status_change r (status_changes_of_trade t r.id)) e)
     (list_all_true (has_valid_status_history t) t.trades (and_parts (list_all (has_valid_status_history t) t.trades) (all_distinct (completion_stamps t ++ movement_stamps t)) s).0) in
     record {
-      stamps = All-mapped HasAscendingStamps (trade_of_row t) t.trades (All-map t.trades (λ r e. e.1) status);
-      ways = All-mapped HasValidTransitions (trade_of_row t) t.trades (All-map t.trades (λ r e. e.0) status);
+      stamps = All-mapped HasAscendingStatusStamps (trade_of_row t) t.trades (All-map t.trades (λ r e. e.1) status);
+      ways = All-mapped HasValidStatusSequence (trade_of_row t) t.trades (All-map t.trades (λ r e. e.0) status);
       words = All-mapped HasNoStrayTexts (trade_of_row t) t.trades (All-map t.trades (λ r e. words_of t p r e) (All-unmapped (IsRead (base_of_tables t)) (trade_of_row t) t.trades k));
       movements = rises;
     }

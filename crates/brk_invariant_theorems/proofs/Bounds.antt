@@ -8,7 +8,7 @@ use Rattle.std.proofs.lemmas.List.Sums.{sum_by-cons}
 use Rattle.brk_money.specs.Amounts.{commission, half_up, tax}
 use Rattle.brk_money.specs.declared.side.Side.{Side}
 use Rattle.brk_money.specs.declared.side.Side.TheVariants.{Buy, Sell}
-use Rattle.brk_model.specs.Shares.{Share, Deal, closed_share_count_of_deal, closed_shares, closed_value_at_deal_price, realised_gain, remaining_shares, opposes_position, opened_share, opened_shares, closed_value_at_opening, sell_value, sell_value_for_side, shares_after_deal, buy_value}
+use Rattle.brk_model.specs.Shares.{Share, Deal, closed_share_count_of_deal, closed_shares, closed_value_at_deal_price, realised_gain, remaining_shares, opposes_position, opened_share, opened_shares, closed_value_at_opening_prices, sell_value, sell_value_for_side, shares_after_deal, buy_value}
 use Rattle.brk_model.specs.Derived.{signed_proceeds}
 use Rattle.brk_model.specs.Orders.{tax_on_deal}
 use Rattle.brk_model.specs.Base.{Base, customer_id_of_account, is_taxable_account, tax_rate_sum_of_customer}
@@ -76,7 +76,7 @@ closed_long d shares = by_end d.is_lifo
     by_end true = let e = length-drop (length shares - k) shares in omega (arith, e)
     by_end false = let e = length-take k shares in omega (arith, e)
 
-opening_high : (d : Deal) (shares : List Share) → d.qty ≤ 9999999 → AllByRecursion IsCheap shares → closed_value_at_opening d shares ≤ 10 ^ 14
+opening_high : (d : Deal) (shares : List Share) → d.qty ≤ 9999999 → AllByRecursion IsCheap shares → closed_value_at_opening_prices d shares ≤ 10 ^ 14
 opening_high d shares q h =
     let cheap : AllByRecursion IsCheap (closed_shares d shares) =
     All-cond IsCheap d.is_lifo (drop (length shares - closed_share_count_of_deal d shares) shares) (take (closed_share_count_of_deal d shares) shares)

@@ -15,7 +15,7 @@ use Rattle.brk_model.specs.Schemas.{third_schema}
 use Rattle.brk_model.specs.Limits.{greatest_amount, greatest_charge, greatest_summary, greatest_tax_rate, most_accounts_per_customer, greatest_id}
 use Rattle.brk_model.specs.Lists.{insert_by, is_zero, sort_by, total_by}
 use Rattle.brk_model.specs.Records.{Account, Customer, Trade}
-use Rattle.brk_model.specs.Base.{Base, account_with_id, broker_with_id, completed_trades, customer_with_id, is_completed, last_status_stamp_of_trade, tax_rate_sum_of_customer, security_with_symbol, tax_rate_of_id, trade_with_id}
+use Rattle.brk_model.specs.Base.{Base, account_with_id, broker_with_id, completed_trades, customer_with_id, is_completed, last_status_stamp_of_trade, tax_rate_sum_of_customer, security_with_symbol, tax_rate_record_with_id, trade_with_id}
 use Rattle.brk_model.specs.Derived.{settlement_amount, balance_of_account, cash_trades, commission_total_of_broker, due_day, trades_of_account, trades_of_broker, trades_of_position, holding_summary_quantity, postings_to_account, posting_of_movement, posting_of_trade, postings_of_base, due_day_of_completion_stamp}
 use Rattle.brk_model.specs.Shares.{signed_by_side}
 use Rattle.brk_model.specs.Tables.{Tables, account_row, broker_row, history_rows, last_trade_row, security_row, settlement_row, summary_rows, tables_of_base_in_schema, trade_row}
@@ -35,7 +35,7 @@ use Rattle.brk_book_theorems.proofs.References.{no_broker_trades, no_trades_of, 
 use Rattle.brk_book_theorems.proofs.LotReading.{numbered_rise, rise_apart}
 use Rattle.brk_book_theorems.proofs.TradeReading.{reads_trade}
 use Rattle.brk_book_theorems.proofs.Tested.{All-back, All-front}
-use Rattle.brk_audit_theorems.specs.Told.{HasValidTransitions, HasNoStrayTexts, HasValidHistories, HasAscendingStamps, broker_id_key}
+use Rattle.brk_audit_theorems.specs.Told.{HasValidStatusSequence, HasNoStrayTexts, HasValidHistories, HasAscendingStatusStamps, broker_id_key}
 use Rattle.brk_audit_theorems.proofs.Again.{IsRead, both_all, reads}
 use Rattle.brk_audit_theorems.proofs.Climbs.{Climbs, list_all_true, not_itself, of_all}
 use Rattle.brk_audit_theorems.proofs.Members.{found_in}
@@ -43,7 +43,7 @@ use Rattle.brk_audit_theorems.proofs.Parts.{KeyParts, key_parts}
 use Rattle.brk_model_theorems.specs.FormParts.{SatisfiesFormParts}
 use Rattle.brk_model_theorems.proofs.FormParts.{form_parts}
 use Rattle.brk_model_theorems.proofs.Conjunctions.{parts3, parts4, parts5, parts6, parts10}
-use Rattle.brk_invariant_theorems.specs.Sound.{AuditInvariant, BaseTradeAuditInvariant, HasDistinctKeys, TaxCustomerIsListed, customer_tax_id_key, has_cash_text_for_name, is_well_formed_movement}
+use Rattle.brk_invariant_theorems.specs.Sound.{AuditInvariant, BaseTradeAuditInvariant, HasDistinctKeys, TaxCustomerIsListed, customer_tax_id_key, has_cash_text_with_security_name, is_well_formed_movement}
 use Rattle.brk_invariant_theorems.proofs.OneTrade.{false_true}
 use Rattle.brk_model_theorems.proofs.Conjunctions.{and5, and6}
 use Rattle.brk_invariant_theorems.proofs.FormRows.{any_mark, found_trades, has_account_is, has_customer_is, has_rate_is, rates_same, row_of, same_name}
@@ -178,7 +178,7 @@ rates_back base customer payers h =
     by_some (is_some (customer_with_id base customer)) _
     (λ e. let f = found_item (λ c. c.id == customer) base.customers (λ c. tax_rate_sum_of_customer base c.id ≤ greatest_tax_rate) h e in
     subst (λ n. tax_rate_sum_of_customer base n ≤ greatest_tax_rate) (eqb-true f.0.id customer f.1.1) f.1.0)
-    (λ e. sum_none (λ x. option_map_or (λ r. r.rate) (tax_rate_of_id base x.tax) 0) (filter (λ x. x.customer == customer) base.customer_taxes) greatest_tax_rate
+    (λ e. sum_none (λ x. option_map_or (λ r. r.rate) (tax_rate_record_with_id base x.tax) 0) (filter (λ x. x.customer == customer) base.customer_taxes) greatest_tax_rate
     (filter-none (λ x. x.customer == customer) base.customer_taxes (All-map base.customer_taxes (λ x k. other_id (customer_with_id base) customer x.customer e k) payers)))
 
 -- the summary of a position whose row is in form, if there is one
@@ -224,8 +224,8 @@ summaries_back base account symbol books h =
 record Read (base : Base) (t : Trade) : Type 0 where
   pub row : is_well_formed_trade_row third_schema (sheets base) (trade_row t) ≡ true
   pub history : AllByRecursion (λ r. is_well_formed_history_row (sheets base) r ≡ true) (history_rows t)
-  pub stamps : HasAscendingStamps t
-  pub way : HasValidTransitions t
+  pub stamps : HasAscendingStatusStamps t
+  pub way : HasValidStatusSequence t
   pub words : HasNoStrayTexts t
   pub found : trade_with_id base t.id ≡ Some t
   pub read : IsRead base t
@@ -263,7 +263,7 @@ trade_back base t books told h =
       due = All-map t.marks (λ m k. k.2) marks;
       cash_name = λ d.
           let c = and_parts (is_completed t) t.is_cash d in
-          sym (ap (has_cash_text_for_name t) (same_name base t.symbol books told)) ∙ sym (ap (λ o. option_map_or (is_cash_row_name_of_trade T t.cash_name) o false) row) ∙ (h.moved c.0 c.1).name;
+          sym (ap (has_cash_text_with_security_name t) (same_name base t.symbol books told)) ∙ sym (ap (λ o. option_map_or (is_cash_row_name_of_trade T t.cash_name) o false) row) ∙ (h.moved c.0 c.1).name;
       amount = λ d. (parts3 (option_map_or (λ row. is_cash_type_of_trade row.is_cash t.cash_type) (trade_row_with_id T t.id) false) (nat_le (due_day base.rule t) greatest_day) (is_within_amount_limit (settlement_amount base.accounts t)) (h.settled d)).2;
     }
 

@@ -14,7 +14,7 @@ use Rattle.brk_model.specs.Records.{Account, StatusChange, Security, Trade}
 use Rattle.brk_model.specs.Base.{Base, completed_trades, has_status, is_completed, last_status_stamp_of_trade}
 use Rattle.brk_model.specs.Derived.{cash_trades, deal_of_trade, deals_of_position, trades_of_account, trades_of_position, pending_trades, holding_summary_quantity, postings_sorted_by_stamp, postings_of_base}
 use Rattle.brk_model.specs.Shares.{Deal, Share, shares_after_deal}
-use Rattle.brk_model.specs.Tables.{HistoryRow, SummaryRow, account_row, broker_row, cash_row, history_rows, holding_row, last_trade_row, holding_history_rows_of_lot, lot_rows_of_deals, request_row, security_row, settlement_row, summary_rows, tables_of_base_in_schema, trade_row}
+use Rattle.brk_model.specs.Tables.{HistoryRow, SummaryRow, account_row, broker_row, cash_row, history_rows, holding_row, last_trade_row, holding_history_rows_of_lot, holding_history_rows_of_deals, request_row, security_row, settlement_row, summary_rows, tables_of_base_in_schema, trade_row}
 use Rattle.brk_model.specs.Sheets.{sheets, tables_sorted_by_key}
 use Rattle.brk_model.specs.Form.{tables_are_sorted_by_unique_key, is_sorted_by_unique_key}
 use Rattle.brk_model.specs.Keys.{KeyPart, number, word, kept_key, broker_key, customer_key, account_key, permission_key, security_key, last_trade_key, charge_key, band_key, tax_rate_key, customer_tax_key, trade_key, history_key, request_key, holding_key, summary_key, holding_history_key, settlement_key, cash_key, move_key}
@@ -119,16 +119,16 @@ accounts_other done ss (a ∷ as') d = (
 
 -- what holds of a lot and of each deal's trade holds of the rows of that lot
 pub All-lots : (P : ℕ → ℕ → Type 0) (lot : ℕ) (shares : List Share) (deals : List Deal) → AllByRecursion (λ d. P lot d.trade) deals
-    → AllByRecursion (λ r. P r.lot r.trade) (lot_rows_of_deals lot shares deals)
+    → AllByRecursion (λ r. P r.lot r.trade) (holding_history_rows_of_deals lot shares deals)
 All-lots P lot shares [] h = tt
 All-lots P lot shares (d ∷ deals) h = (h.0, All-lots P lot (shares_after_deal shares d) deals h.1)
 
 pub All-history : (P : ℕ → ℕ → Type 0) (done : List Trade) (t : Trade) → AllByRecursion (λ d. P t.id d.trade) (deals_of_position done t.account t.symbol)
     → AllByRecursion (λ r. P r.lot r.trade) (holding_history_rows_of_lot done t)
 All-history P done t h =
-    All-filter (λ r. P r.lot r.trade) (λ row. not (is_zero (row.before -ℤ row.after))) (lot_rows_of_deals t.id [] (deals_of_position done t.account t.symbol)) (All-lots P t.id [] (deals_of_position done t.account t.symbol) h)
+    All-filter (λ r. P r.lot r.trade) (λ row. not (is_zero (row.before -ℤ row.after))) (holding_history_rows_of_deals t.id [] (deals_of_position done t.account t.symbol)) (All-lots P t.id [] (deals_of_position done t.account t.symbol) h)
 
-lots_apart : (lot : ℕ) (shares : List Share) (deals : List Deal) → HasDistinctKeys (λ d. number d.trade ∷ []) deals → HasDistinctKeys holding_history_key (lot_rows_of_deals lot shares deals)
+lots_apart : (lot : ℕ) (shares : List Share) (deals : List Deal) → HasDistinctKeys (λ d. number d.trade ∷ []) deals → HasDistinctKeys holding_history_key (holding_history_rows_of_deals lot shares deals)
 lots_apart lot shares [] a = tt
 lots_apart lot shares (d ∷ deals) a = (
   All-lots (λ l n. number l ∷ number n ∷ [] ≡ number lot ∷ number d.trade ∷ [] → ⊥) lot (shares_after_deal shares d) deals
@@ -139,7 +139,7 @@ lots_apart lot shares (d ∷ deals) a = (
 history_apart : (done : List Trade) (t : Trade) → HasDistinctKeys id_key done → HasDistinctKeys holding_history_key (holding_history_rows_of_lot done t)
 history_apart done t a =
     let before : Trade → Trade → Bool = λ x y. nat_lt (last_status_stamp_of_trade x) (last_status_stamp_of_trade y) in
-    apart_filter holding_history_key (λ row. not (is_zero (row.before -ℤ row.after))) (lot_rows_of_deals t.id [] (deals_of_position done t.account t.symbol))
+    apart_filter holding_history_key (λ row. not (is_zero (row.before -ℤ row.after))) (holding_history_rows_of_deals t.id [] (deals_of_position done t.account t.symbol))
     (lots_apart t.id [] (deals_of_position done t.account t.symbol)
     (apart_map id_key (λ d. number d.trade ∷ []) deal_of_trade (sort_by before (trades_of_position done t.account t.symbol)) (λ u. refl)
     (apart_sort id_key before (trades_of_position done t.account t.symbol)

@@ -16,7 +16,7 @@ use Rattle.brk_model.specs.Schemas.{third_schema}
 use Rattle.brk_model.specs.Limits.{greatest_amount, greatest_charge, greatest_summary, greatest_tax_rate, most_accounts_per_customer, greatest_id}
 use Rattle.brk_model.specs.Lists.{all_distinct, is_zero, sort_by}
 use Rattle.brk_model.specs.Records.{Account, Customer, StatusChange, Permission, Security, Trade, Movement}
-use Rattle.brk_model.specs.Base.{Base, account_with_id, broker_id_in_accounts, broker_with_id, completed_trades, customer_with_id, has_status, is_completed, last_status_change, last_status_stamp_of_trade, completion_price, tax_rate_sum_of_customer, security_name, security_with_symbol, tax_rate_of_id, trade_with_id}
+use Rattle.brk_model.specs.Base.{Base, account_with_id, broker_id_in_accounts, broker_with_id, completed_trades, customer_with_id, has_status, is_completed, last_status_change, last_status_stamp_of_trade, completion_price, tax_rate_sum_of_customer, security_name, security_with_symbol, tax_rate_record_with_id, trade_with_id}
 use Rattle.brk_model.specs.Derived.{settlement_amount, balance_of_account, cash_trades, commission_total_of_broker, deal_of_trade, due_day, trades_of_account, trades_of_position, pending_trades, holding_summary_quantity, postings_sorted_by_stamp, posting_of_movement, posting_of_trade, postings_of_base, due_day_of_completion_stamp}
 use Rattle.brk_model.specs.Tables.{HistoryRow, Tables, account_row, broker_row, history_rows, holding_row, last_trade_row, holding_history_rows_of_lot, request_row, security_row, settlement_row, summary_rows, tables_of_base_in_schema, trade_row, numbered_move_rows}
 use Rattle.brk_model.specs.Sheets.{sheets, tables_sorted_by_key}
@@ -26,10 +26,10 @@ use Rattle.brk_model.specs.Form.{is_well_formed_account_row, is_well_formed_band
 use Rattle.brk_model.specs.Forms.{is_acl, is_exchange, is_name, is_symbol, is_tax_id}
 use Rattle.brk_model.specs.Keys.{KeyPart, word, rows_sorted_by_key, is_row_key_less, account_key, band_key, broker_key, cash_key, charge_key, customer_key, customer_tax_key, history_key, holding_history_key, holding_key, kept_key, last_trade_key, permission_key, request_key, security_key, settlement_key, summary_key, tax_rate_key, trade_key, move_key}
 use Rattle.brk_model.specs.Ways.{is_valid_status_sequence}
-use Rattle.brk_model.specs.Names.{AccountOfTradeExists, BrokerOfAccountExists, CustomerOfAccountExists, SecurityOfTradeExists, AreNumberedFrom}
+use Rattle.brk_model.specs.Names.{AccountOfTradeExists, BrokerOfAccountExists, CustomerOfAccountExists, SecurityOfTradeExists, TradesAreNumberedFrom}
 use Rattle.brk_model_theorems.proofs.FormParts.{form_whole}
 use Rattle.brk_model_theorems.proofs.Conjunctions.{and10, and3, and4, and5, and6, parts3, parts4, parts5, parts6}
-use Rattle.brk_book_theorems.specs.Books.{BooksInvariant, HasVolumeWithinLimit, MovementAccountExists, IsMovementUpToLastStamp}
+use Rattle.brk_book_theorems.specs.Books.{BooksInvariant, HasVolumeWithinLimit, MovementAccountExists, MovementStampIsAtMostLast}
 use Rattle.brk_book_theorems.proofs.Bools.{numbers_back}
 use Rattle.brk_book_theorems.proofs.Postings.{numbered_stay}
 use Rattle.brk_book_theorems.proofs.Order.{by_key-filter}
@@ -45,7 +45,7 @@ use Rattle.brk_audit_theorems.proofs.AgainStatus.{all_list, first_of_two, some_l
 use Rattle.brk_audit_theorems.proofs.Marks.{filtered, last_has, no_more_ways, three_ways}
 use Rattle.brk_audit_theorems.proofs.Members.{All-flat_map}
 use Rattle.brk_audit_theorems.proofs.Sorted.{All-rows}
-use Rattle.brk_invariant_theorems.specs.Sound.{HasDueDayInCalendar, StatusChangeIsUpToLastStamp, AuditInvariant, BaseTradeAuditInvariant, PermissionAccountIsListed, TaxCustomerIsListed, TaxRateIsListed, is_well_formed_account, is_well_formed_security, has_cash_text_for_name, is_well_formed_movement}
+use Rattle.brk_invariant_theorems.specs.Sound.{HasDueDayInCalendar, StatusStampIsAtMostLast, AuditInvariant, BaseTradeAuditInvariant, PermissionAccountIsListed, TaxCustomerIsListed, TaxRateIsListed, is_well_formed_account, is_well_formed_security, has_cash_text_with_security_name, is_well_formed_movement}
 use Rattle.brk_invariant_theorems.proofs.OneTrade.{false_true, price_of_done}
 use Rattle.brk_invariant_theorems.proofs.SoundRecords.{sum-same}
 use Rattle.brk_invariant_theorems.proofs.SortedRows.{bands_sort, overlap_none, tax_ids_apart}
@@ -69,7 +69,7 @@ has_customer_is base id = ap is_some (reads_customer base id)
 pub has_broker_is : (base : Base) (id : ℕ) → has_broker (sheets base) id ≡ is_some (broker_with_id base id)
 has_broker_is base id = ap is_some (reads_broker base id) ∙ is_some-map (broker_row base.accounts (completed_trades base)) (broker_with_id base id)
 
-pub has_rate_is : (base : Base) (id : ℕ) → list_any (λ r. r.id == id) (sheets base).tax_rates ≡ is_some (tax_rate_of_id base id)
+pub has_rate_is : (base : Base) (id : ℕ) → list_any (λ r. r.id == id) (sheets base).tax_rates ≡ is_some (tax_rate_record_with_id base id)
 has_rate_is base id = sym (some-is-any (λ r. r.id == id) (sheets base).tax_rates) ∙ ap is_some (reads_tax_rate base id)
 
 pub has_last_is : (base : Base) (symbol : Text) → list_any (λ l. bytes_eq l.symbol symbol) (sheets base).last_trades ≡ is_some (security_with_symbol base symbol)
@@ -126,7 +126,7 @@ last_of t (m ∷ ms) e w = let l = some_last m ms in (l.0, ap (last_or None) e �
 moment_past : (base : Base) (t : Trade) → BaseTradeAuditInvariant base t → is_up_to_last_stamp base.last (last_status_stamp_of_trade t) ≡ true
 moment_past base t h =
     let l = last_of t t.marks refl h.way in
-    ap (λ o. is_up_to_last_stamp base.last (option_map_or (λ m. m.stamp) o 0)) l.1 ∙ last_has (StatusChangeIsUpToLastStamp base.last) None t.marks l.0 tt h.past l.1
+    ap (λ o. is_up_to_last_stamp base.last (option_map_or (λ m. m.stamp) o 0)) l.1 ∙ last_has (StatusStampIsAtMostLast base.last) None t.marks l.0 tt h.past l.1
 
 moment_due : (base : Base) (t : Trade) → BaseTradeAuditInvariant base t → is_completed t ≡ true → nat_le (due_day base.rule t) greatest_day ≡ true
 moment_due base t h d =
@@ -172,12 +172,12 @@ trade_whole base t h =
     (is_up_to_last_stamp base.last (last_status_stamp_of_trade t)) (has_security (sheets base) t.symbol) (has_account (sheets base) t.account) (price_matches_completion (sheets base) (trade_row t))
     f.0 f.1 f.2 f.3 f.4 f.5 (moment_past base t h.sound) (has_security_is base t.symbol ∙ h.security) (has_account_is base t.account ∙ h.account) (priced_row base t h)
 
-numbers_whole : (n : ℕ) (ts : List Trade) → AreNumberedFrom n ts → are_equal_number_lists (map (λ row. row.id) (map trade_row ts)) (range_with_len n (length (map trade_row ts))) ≡ true
+numbers_whole : (n : ℕ) (ts : List Trade) → TradesAreNumberedFrom n ts → are_equal_number_lists (map (λ row. row.id) (map trade_row ts)) (range_with_len n (length (map trade_row ts))) ≡ true
 numbers_whole n [] k = refl
 numbers_whole n (t ∷ ts) k =
     and_from (t.id == n) (are_equal_number_lists (map (λ row. row.id) (map trade_row ts)) (range_with_len (n + 1) (length (map trade_row ts)))) (eq-eqb t.id n k.0) (numbers_whole (n + 1) ts k.1)
 
-mark_whole : (base : Base) (t : Trade) (m : StatusChange) → Known base t → StatusChangeIsUpToLastStamp base.last m → HasDueDayInCalendar base.rule m → is_well_formed_history_row (sheets base) (row_of t.id m) ≡ true
+mark_whole : (base : Base) (t : Trade) (m : StatusChange) → Known base t → StatusStampIsAtMostLast base.last m → HasDueDayInCalendar base.rule m → is_well_formed_history_row (sheets base) (row_of t.id m) ≡ true
 unfolding tables_sorted_by_key tables_of_base_in_schema
 mark_whole base t m h p d =
     and3 (has_trade (sheets base) t.id) (is_up_to_last_stamp base.last m.stamp) (not (is_same_trade_status m.status Completed) || nat_le (due_day_of_completion_stamp base.rule m.stamp) greatest_day) (there base t h) p d
@@ -214,18 +214,18 @@ posted_whole : (base : Base) (t : Trade) → BooksInvariant base → HasValidHis
 unfolding tables_sorted_by_key tables_of_base_in_schema
 posted_whole base t books told h c = record {
   account = has_account_is base t.account ∙ h.0.account;
-  name = ap (λ o. option_map_or (is_cash_row_name_of_trade (sheets base) t.cash_name) o false) (row_in base t h.0) ∙ ap (has_cash_text_for_name t) (same_name base t.symbol books told)
+  name = ap (λ o. option_map_or (is_cash_row_name_of_trade (sheets base) t.cash_name) o false) (row_in base t h.0) ∙ ap (has_cash_text_with_security_name t) (same_name base t.symbol books told)
       ∙ h.0.sound.cash_name (and_from (is_completed t) t.is_cash h.1 c);
   stamp = moment_past base t h.0.sound;
   amount = h.0.sound.amount h.1;
 }
 
-made_past : (o : Option ℕ) (m : Movement) → IsMovementUpToLastStamp o m → is_up_to_last_stamp o m.stamp ≡ true
+made_past : (o : Option ℕ) (m : Movement) → MovementStampIsAtMostLast o m → is_up_to_last_stamp o m.stamp ≡ true
 made_past None m e = absurd e
 made_past (Some l) m e = le-leb m.stamp l e
 
 -- and so has what a movement posts
-moved_whole : (base : Base) (m : Movement) → is_well_formed_movement m ≡ true → MovementAccountExists base.accounts m → IsMovementUpToLastStamp base.last m → HasForm (sheets base) (posting_of_movement m)
+moved_whole : (base : Base) (m : Movement) → is_well_formed_movement m ≡ true → MovementAccountExists base.accounts m → MovementStampIsAtMostLast base.last m → HasForm (sheets base) (posting_of_movement m)
 unfolding tables_sorted_by_key tables_of_base_in_schema
 moved_whole base m f h e =
     let k = and_parts (is_movement_name_and_amount m.name m.amount) (is_within_amount_limit m.amount) f in
@@ -239,8 +239,8 @@ all_posted base books k told dones =
     (All-map (cash_trades (completed_trades base)) (λ t h. posted_whole base t books told h.0 h.1) (filtered (Done base) (λ t. t.is_cash) (completed_trades base) dones)))
     (All-mapped (HasForm (sheets base)) posting_of_movement base.movements
     (All-map base.movements (λ m h. moved_whole base m h.0 h.1.0 h.1.1)
-    (both_all (λ m. is_well_formed_movement m ≡ true) (λ m. MovementAccountExists base.accounts m × IsMovementUpToLastStamp base.last m) base.movements k.cash.fields
-    (both_all (MovementAccountExists base.accounts) (IsMovementUpToLastStamp base.last) base.movements books.movements.holders books.movements.early))))
+    (both_all (λ m. is_well_formed_movement m ≡ true) (λ m. MovementAccountExists base.accounts m × MovementStampIsAtMostLast base.last m) base.movements k.cash.fields
+    (both_all (MovementAccountExists base.accounts) (MovementStampIsAtMostLast base.last) base.movements books.movements.holders books.movements.early))))
 
 ids_low : (base : Base) → AuditInvariant base → AllByRecursion (λ u. u.id ≤ greatest_id) base.trades
 ids_low base k = All-map base.trades (λ t h.
@@ -358,7 +358,7 @@ form_of base books k =
       numbers = subst (λ rows. are_equal_number_lists (map (λ row. row.id) rows) (range_with_len 1 (length rows)) ≡ true) (sym (trades_in_order base books.numbered)) (numbers_whole 1 base.trades books.numbered);
       history = rows_form (is_well_formed_history_row T) history_key (flat_map history_rows base.trades)
           (All-flat_map (λ r. is_well_formed_history_row T r ≡ true) history_rows base.trades (All-map base.trades (λ t h. All-mapped (λ r. is_well_formed_history_row T r ≡ true) (row_of t.id) t.marks
-          (All-map t.marks (λ m p. mark_whole base t m h p.0 p.1) (both_all (StatusChangeIsUpToLastStamp base.last) (HasDueDayInCalendar base.rule) t.marks h.sound.past h.sound.due))) known));
+          (All-map t.marks (λ m p. mark_whole base t m h p.0 p.1) (both_all (StatusStampIsAtMostLast base.last) (HasDueDayInCalendar base.rule) t.marks h.sound.past h.sound.due))) known));
       requests = mapped_form (is_well_formed_request_row third_schema T) request_key (request_row base.accounts) (pending_trades base.trades)
           (All-map (pending_trades base.trades) (λ t h. request_whole base t books h) (All-filter (Known base) (has_status Pending) base.trades known));
       holdings = rows_form (is_well_formed_holding_row T) holding_key (filter (λ row. not (is_zero row.qty)) (map (holding_row done) done))

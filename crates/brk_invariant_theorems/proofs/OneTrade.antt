@@ -20,9 +20,9 @@ use Rattle.brk_model.specs.Ways.{is_strictly_ascending, is_valid_status_sequence
 use Rattle.brk_book_theorems.proofs.Same.{All-filter, All-map, All-mapped, map-last}
 use Rattle.brk_book_theorems.proofs.Completing.{All-passing}
 use Rattle.brk_book_theorems.proofs.LotReading.{All-sort}
-use Rattle.brk_audit_theorems.specs.Told.{HasValidTransitions, HasAscendingStamps}
+use Rattle.brk_audit_theorems.specs.Told.{HasValidStatusSequence, HasAscendingStatusStamps}
 use Rattle.brk_audit_theorems.proofs.Marks.{no_more_ways, same_statuses, three_ways, two_ways}
-use Rattle.brk_invariant_theorems.specs.Sound.{StatusChangeIsUpToLastStamp, AuditInvariant, TradeAuditInvariant, BaseTradeAuditInvariant, has_price_exactly_if_completed}
+use Rattle.brk_invariant_theorems.specs.Sound.{StatusStampIsAtMostLast, AuditInvariant, TradeAuditInvariant, BaseTradeAuditInvariant, has_price_exactly_if_completed}
 use Rattle.brk_invariant_theorems.proofs.Bounds.{IsCheap, replay_all}
 
 pub false_true : {A : Type 0} → false ≡ true → A
@@ -49,7 +49,7 @@ rising_more (m ∷ o ∷ ms) n e h =
     and_from (nat_lt m o) (is_strictly_ascending (o ∷ ms ++ n ∷ [])) p.0 (rising_more (o ∷ ms) n p.1 h.1)
 
 -- the stamps of a trade that comes to a status at the next stamp
-pub stamps_more : (base : Base) (now : ℕ) (status : Status) (t : Trade) → HasAscendingStamps t → AllByRecursion (StatusChangeIsUpToLastStamp base.last) t.marks → HasAscendingStamps (trade_with_status_change (stamp_of_next_command base now) status t)
+pub stamps_more : (base : Base) (now : ℕ) (status : Status) (t : Trade) → HasAscendingStatusStamps t → AllByRecursion (StatusStampIsAtMostLast base.last) t.marks → HasAscendingStatusStamps (trade_with_status_change (stamp_of_next_command base now) status t)
 stamps_more base now status t r h =
     ap is_strictly_ascending (map-last (λ m. m.stamp) t.marks (record { stamp = stamp_of_next_command base now; status = status }))
     ∙ rising_more (map (λ m. m.stamp) t.marks) (stamp_of_next_command base now) r
@@ -83,10 +83,10 @@ open_way s (m ∷ n ∷ []) k w h = false_true (sym (two_ways m.status n.status 
 open_way s (m ∷ n ∷ o ∷ []) k w h = let j = three_ways m.status n.status o.status w in false_true (sym (ap (λ s. is_same_trade_status s Pending) j.2) ∙ h)
 open_way s (m ∷ n ∷ o ∷ p ∷ ms) k w h = absurd (no_more_ways m.status n.status o.status p.status (map (λ m. m.status) ms) w)
 
-pub completes_way : (stamp : ℕ) (t : Trade) → HasValidTransitions t → has_status Submitted t ≡ true → HasValidTransitions (trade_with_status_change stamp Completed t)
+pub completes_way : (stamp : ℕ) (t : Trade) → HasValidStatusSequence t → has_status Submitted t ≡ true → HasValidStatusSequence (trade_with_status_change stamp Completed t)
 completes_way stamp t w h = ap is_valid_status_sequence (map-last (λ m. m.status) t.marks (record { stamp = stamp; status = Completed })) ∙ done_way t.marks w h
 
-pub leaves_way : (stamp : ℕ) (status : Status) (t : Trade) → is_valid_status_sequence (Pending ∷ status ∷ []) ≡ true → HasValidTransitions t → has_status Pending t ≡ true → HasValidTransitions (trade_with_status_change stamp status t)
+pub leaves_way : (stamp : ℕ) (status : Status) (t : Trade) → is_valid_status_sequence (Pending ∷ status ∷ []) ≡ true → HasValidStatusSequence t → has_status Pending t ≡ true → HasValidStatusSequence (trade_with_status_change stamp status t)
 leaves_way stamp status t k w h = ap is_valid_status_sequence (map-last (λ m. m.status) t.marks (record { stamp = stamp; status = status })) ∙ open_way status t.marks k w h
 
 -- ---- prices and quantities

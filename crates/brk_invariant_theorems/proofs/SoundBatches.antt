@@ -7,7 +7,7 @@ use Rattle.brk_money.specs.Spelling.{Text}
 use Rattle.brk_model.specs.Limits.{greatest_id}
 use Rattle.brk_model.specs.Base.{Base}
 use Rattle.brk_model.specs.Batch.{step_of_row}
-use Rattle.brk_model.specs.Answers.{AreAnswered, Fields, CallsHaveAnswers, RowCall, calls_of_rows, answer_to_row_call, well_formed_rows_from, with_well_formed_row}
+use Rattle.brk_model.specs.Answers.{RowsAreAnswered, Fields, CallsHaveAnswers, RowCall, calls_of_rows, answer_to_row_call, well_formed_rows_from, with_well_formed_row}
 use Rattle.brk_model.specs.Commands.{Answer, Command}
 use Rattle.brk_model.specs.Form.{is_id}
 use Rattle.brk_model.specs.Formed.{IsWellFormedCommand}
@@ -55,7 +55,7 @@ turns_both base (call ∷ calls) (answer ∷ answers) after f r h =
     turns_both (answer_to_row_call step_of_row base call).1 calls answers after f.1 r.1 (keyed_both base call.now call.command (Some call.key) h f.0.0 f.0.1)
 
 pub batch_both : (base : Base) (name : Text) (moments : List ℕ) (rows : List Fields) (answers : List Answer) (after : Base) → is_batch_name name ≡ true → length rows ≤ greatest_id
-    → AreAnswered parse_row step_of_row name base moments rows answers after → Both base → Both after
+    → RowsAreAnswered parse_row step_of_row name base moments rows answers after → Both base → Both after
 batch_both base name moments rows answers after e l a h =
     turns_both base (calls_of_rows name moments (well_formed_rows_from parse_row 1 rows)) a.replies after
     (calls_all name moments (well_formed_rows_from parse_row 1 rows) e (formed_all 1 rows (omega arith) (omega (arith, l)))) a.run h

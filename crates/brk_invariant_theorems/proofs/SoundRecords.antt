@@ -10,7 +10,7 @@ use Rattle.brk_model.specs.Schemas.{third_schema}
 use Rattle.brk_model.specs.Lists.{total_by}
 use Rattle.brk_model.specs.Limits.{greatest_amount, greatest_commission_rate, greatest_tax_rate, most_accounts_per_customer}
 use Rattle.brk_model.specs.Records.{Account, Band, Broker, Charge, Customer, CustomerTax, Kept, Key, Permission, Security, TaxRate, Trade}
-use Rattle.brk_model.specs.Base.{Base, account_with_id, broker_id_in_accounts, completed_trades, customer_with_id, tax_rate_sum_of_customer, tax_rate_of_id}
+use Rattle.brk_model.specs.Base.{Base, account_with_id, broker_id_in_accounts, completed_trades, customer_with_id, tax_rate_sum_of_customer, tax_rate_record_with_id}
 use Rattle.brk_model.specs.Derived.{settlement_amount, balance_of_account, cash_trades, commission_total_of_broker, trades_of_account, trades_of_broker, postings_to_account, postings, postings_of_base}
 use Rattle.brk_model.specs.Commands.{Command, Listing, Reply, AddBroker, AddCustomer, AddAccount, AddPermission, AddSecurity, AddCharge, AddBand, AddTaxRate, AddCustomerTax}
 use Rattle.brk_model.specs.Form.{is_well_formed_band_row, is_well_formed_charge_row, is_well_formed_customer_row, is_id, is_up_to_last_stamp, is_quantity_in_schema, is_tier, is_well_formed_kept_row, is_well_formed_tax_rate_row, has_well_formed_permission_texts}
@@ -34,7 +34,7 @@ use Rattle.brk_book_theorems.proofs.Steps.{in_order}
 use Rattle.brk_audit_theorems.proofs.Again.{both_all}
 use Rattle.brk_model_theorems.proofs.Conjunctions.{parts3, parts5}
 use Rattle.brk_audit_theorems.specs.Told.{broker_id_key}
-use Rattle.brk_invariant_theorems.specs.Sound.{AuditInvariant, TradeAuditInvariant, BaseTradeAuditInvariant, HasDistinctKeys, PermissionAccountIsListed, TaxCustomerIsListed, TaxRateIsListed, is_well_formed_account, is_well_formed_broker, has_cash_text_for_name, is_well_formed_security, customer_tax_id_key}
+use Rattle.brk_invariant_theorems.specs.Sound.{AuditInvariant, TradeAuditInvariant, BaseTradeAuditInvariant, HasDistinctKeys, PermissionAccountIsListed, TaxCustomerIsListed, TaxRateIsListed, is_well_formed_account, is_well_formed_broker, has_cash_text_with_security_name, is_well_formed_security, customer_tax_id_key}
 use Rattle.brk_invariant_theorems.specs.InForm.{MeetsAuditFormats, IsWellFormedKey}
 use Rattle.brk_invariant_theorems.proofs.OneTrade.{past_itself, sound_last}
 
@@ -211,7 +211,7 @@ more_rates : (base : Base) (r : TaxRate) (customer : ℕ) → AllByRecursion (Ta
     → tax_rate_sum_of_customer (record base { tax_rates = base.tax_rates ++ r ∷ [] }) customer ≡ tax_rate_sum_of_customer base customer
 more_rates base r customer h =
     let paid : List CustomerTax = filter (λ x. x.customer == customer) base.customer_taxes in
-    sum-same (λ x. option_map_or (λ r. r.rate) (find (λ s. s.id == x.tax) (base.tax_rates ++ r ∷ [])) 0) (λ x. option_map_or (λ r. r.rate) (tax_rate_of_id base x.tax) 0) paid
+    sum-same (λ x. option_map_or (λ r. r.rate) (find (λ s. s.id == x.tax) (base.tax_rates ++ r ∷ [])) 0) (λ x. option_map_or (λ r. r.rate) (tax_rate_record_with_id base x.tax) 0) paid
     (All-map paid (λ x n. ap (λ o. option_map_or (λ r. r.rate) o 0) (find-more (λ s. s.id == x.tax) base.tax_rates (r ∷ []) n))
     (All-filter (TaxRateIsListed base.tax_rates) (λ x. x.customer == customer) base.customer_taxes h))
 
@@ -241,7 +241,7 @@ sound_tax_rate base now x k books form e =
     }
 
 abbrev rate_in : Base → CustomerTax → ℕ
-rate_in base x = option_map_or (λ r. r.rate) (tax_rate_of_id base x.tax) 0
+rate_in base x = option_map_or (λ r. r.rate) (tax_rate_record_with_id base x.tax) 0
 
 paid_more : (base : Base) (x : CustomerTax) → tax_rate_sum_of_customer base x.customer + rate_in base x ≤ greatest_tax_rate → ((customer : ℕ) → tax_rate_sum_of_customer base customer ≤ greatest_tax_rate)
     → (customer : ℕ) → tax_rate_sum_of_customer (record base { customer_taxes = base.customer_taxes ++ x ∷ [] }) customer ≤ greatest_tax_rate
@@ -285,7 +285,7 @@ sound_customer_tax base now x k books form e =
         tax_rate_keys = l.tax_rate_keys;
         customer_tax_keys = apart_more customer_tax_key base.customer_taxes x (customer_tax_new x base.customer_taxes (any-none (λ y. (y.customer == x.customer) && (y.tax == x.tax)) base.customer_taxes p.1.1.0)) k.customer_tax_keys;
         payers = All-append (TaxCustomerIsListed base.customers) base.customer_taxes (x ∷ []) k.payers (not_not (is_some (customer_with_id base x.customer)) p.0, tt);
-        taxes = All-append (TaxRateIsListed base.tax_rates) base.customer_taxes (x ∷ []) k.taxes (not_not (is_some (tax_rate_of_id base x.tax)) p.1.0, tt);
+        taxes = All-append (TaxRateIsListed base.tax_rates) base.customer_taxes (x ∷ []) k.taxes (not_not (is_some (tax_rate_record_with_id base x.tax)) p.1.0, tt);
         rates = paid_more base x (ltb-false greatest_tax_rate _ p.1.1.1.0) k.rates;
       };
       listed = l.listed;
@@ -299,7 +299,7 @@ sound_customer_tax base now x k books form e =
 pub trade_listed : (base : Base) (ss : List Security) (t : Trade)
     → option_map_or (λ s. s.name) (find (λ s. bytes_eq s.symbol t.symbol) ss) [] ≡ option_map_or (λ s. s.name) (find (λ s. bytes_eq s.symbol t.symbol) base.securities) []
     → BaseTradeAuditInvariant base t → TradeAuditInvariant base.last base.rule base.accounts ss t
-trade_listed base ss t e k = record { alone = k.alone; past = k.past; due = k.due; cash_name = λ d. ap (has_cash_text_for_name t) e ∙ k.cash_name d; amount = k.amount }
+trade_listed base ss t e k = record { alone = k.alone; past = k.past; due = k.due; cash_name = λ d. ap (has_cash_text_with_security_name t) e ∙ k.cash_name d; amount = k.amount }
 
 pub sound_security : (base : Base) (now : ℕ) (l : Listing) → LeavesSound base now (AddSecurity l)
 unfolding base_after_command_unstamped checks_of_command

@@ -12,7 +12,7 @@ use Rattle.brk_money.specs.declared.status.Status.TheVariants.{Completed, Submit
 use Rattle.brk_model.specs.Schemas.{third_schema}
 use Rattle.brk_model.specs.Limits.{greatest_amount, greatest_charge, greatest_commission_rate, greatest_summary}
 use Rattle.brk_model.specs.Records.{Account, Band, Trade, Movement}
-use Rattle.brk_model.specs.Base.{Base, commission_band_for, broker_id_in_accounts, completed_trades, customer_id_of_account, exchange_of_security, has_status, is_completed, is_withholding_status, tax_status_in_accounts, tier_of_account, trade_with_id}
+use Rattle.brk_model.specs.Base.{Base, commission_band_for_quantity, broker_id_in_accounts, completed_trades, customer_id_of_account, exchange_of_security, has_status, is_completed, is_withholding_status, tax_status_in_accounts, tier_of_account, trade_with_id}
 use Rattle.brk_model.specs.Derived.{balance_of_account, commission_total_of_broker, shares_of_position, holding_summary_quantity, postings, due_day_of_completion_stamp}
 use Rattle.brk_model.specs.Commands.{CompleteTrade}
 use Rattle.brk_model.specs.Orders.{commission_by_band}
@@ -30,7 +30,7 @@ use Rattle.brk_book_theorems.proofs.Positions.{summary_other}
 use Rattle.brk_book_theorems.proofs.Sums.{margin_balance, other_account, other_broker}
 use Rattle.brk_book_theorems.proofs.ResultRows.{done_now, done_then, status_then, trades_then}
 use Rattle.brk_book_theorems.proofs.ResultKeeping.{Found, found_at, result_passed, submitted}
-use Rattle.brk_invariant_theorems.specs.Sound.{HasDueDayInCalendar, StatusChangeIsUpToLastStamp, AuditInvariant, BaseTradeAuditInvariant}
+use Rattle.brk_invariant_theorems.specs.Sound.{HasDueDayInCalendar, StatusStampIsAtMostLast, AuditInvariant, BaseTradeAuditInvariant}
 use Rattle.brk_invariant_theorems.proofs.Bounds.{amount_within, commission_low, tax_within}
 use Rattle.brk_invariant_theorems.proofs.OneTrade.{cheap_shares, completes_way, false_true, past_itself, past_then, price_low, qty_low, sound_last, stamps_more, trade_last}
 
@@ -84,9 +84,9 @@ rate_low b e =
 
 pub commission_within : (base : Base) (account : ℕ) (kind : TradeType) (symbol : Text) (qty price : ℕ) → AllByRecursion (λ b. is_well_formed_band_row third_schema b ≡ true) base.bands → qty ≤ 9999999 → price ≤ 9999999
     → unwrap_or (commission_by_band base account kind symbol qty price) 0 ≤ 10 ^ 14
-commission_within base account kind symbol qty price h q p = by_band (commission_band_for base (tier_of_account base account) kind (exchange_of_security base symbol) qty) refl
+commission_within base account kind symbol qty price h q p = by_band (commission_band_for_quantity base (tier_of_account base account) kind (exchange_of_security base symbol) qty) refl
   where
-    by_band : (o : Option Band) → commission_band_for base (tier_of_account base account) kind (exchange_of_security base symbol) qty ≡ o
+    by_band : (o : Option Band) → commission_band_for_quantity base (tier_of_account base account) kind (exchange_of_security base symbol) qty ≡ o
         → unwrap_or (option_map (λ b. commission b.rate qty price) o) 0 ≤ 10 ^ 14
     by_band None e = omega arith
     by_band (Some b) e = commission_low b.rate qty price (rate_low b (find-All (λ b. is_well_formed_band_row third_schema b ≡ true) _ base.bands b h e)) q p
@@ -133,7 +133,7 @@ completed_sound base now id price t k books form e accepted h =
         };
         cash_type = λ d. first_type t.is_cash;
       };
-      past = All-append (StatusChangeIsUpToLastStamp (Some stamp)) t.marks (record { stamp = stamp; status = Completed } ∷ []) (All-map t.marks (λ m e. past_then base.last now m.stamp e) h.past) (past_itself stamp, tt);
+      past = All-append (StatusStampIsAtMostLast (Some stamp)) t.marks (record { stamp = stamp; status = Completed } ∷ []) (All-map t.marks (λ m e. past_then base.last now m.stamp e) h.past) (past_itself stamp, tt);
       due = All-append (HasDueDayInCalendar base.rule) t.marks (record { stamp = stamp; status = Completed } ∷ []) h.due (le-leb (due_day_of_completion_stamp base.rule stamp) greatest_day due, tt);
       cash_name = λ d.
           let cash : t.is_cash ≡ true = (and_parts (is_completed u) t.is_cash d).1 in

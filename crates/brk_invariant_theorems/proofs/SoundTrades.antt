@@ -21,17 +21,17 @@ use Rattle.brk_model.specs.Records.{Account, Charge, StatusChange, Security, Tra
 use Rattle.brk_model.specs.Base.{Base, broker_id_in_accounts, charge_for_type_and_tier, completed_trades, has_status, is_completed, last_price, trade_with_status_change, last_status_stamp_of_trade, opening_balance_in_accounts, security_with_symbol, tier_of_account, trade_with_id}
 use Rattle.brk_model.specs.Derived.{settlement_amount, balance_of_account, commission_total_of_broker, holding_summary_quantity, postings_to_account, posting_of_movement, postings, due_day_of_completion_stamp}
 use Rattle.brk_model.specs.Commands.{Order, Tick, PlaceOrder, FeedTicks, CancelTrade, ChangeExecutors, ChangeCashTypes, ChangeCashNames}
-use Rattle.brk_model.specs.Orders.{estimate, first_status, ordered_trade, requested_price}
+use Rattle.brk_model.specs.Orders.{estimate, first_status, trade_of_order, requested_price}
 use Rattle.brk_model.specs.Feed.{is_triggered_by_tick, security_after_tick, base_after_tick, base_after_ticks}
 use Rattle.brk_model.specs.Results.{cash_row_name}
 use Rattle.brk_model.specs.Shares.{signed_by_side}
-use Rattle.brk_model.specs.Updates.{updated_cash_row_name, updated_cash_type, updated_executor_name, selected_trade_ids, selected_ids_of_account, selected_ids_of_symbol, trade_stamp_is_between, trades_oldest_first, alternate_word}
+use Rattle.brk_model.specs.Updates.{updated_cash_row_name, updated_cash_type, updated_executor_name, selected_trade_ids, selected_ids_of_account, selected_ids_of_symbol, trade_stamp_is_between, trades_oldest_first, toggled_word}
 use Rattle.brk_model.specs.Form.{is_well_formed_charge_row, is_cash_type_of_trade, is_up_to_last_stamp, is_price, is_quantity_in_schema, is_tier, is_id}
 use Rattle.brk_model.specs.Forms.{is_exchange, is_name, is_symbol}
 use Rattle.brk_model.specs.Step.{base_after_command_unstamped}
 use Rattle.brk_model.specs.Tests.{stamp_of_next_command, checks_of_command, status_check}
 use Rattle.brk_model.specs.Ways.{is_strictly_ascending, is_valid_status_sequence}
-use Rattle.brk_model.specs.Names.{AreNumberedFrom}
+use Rattle.brk_model.specs.Names.{TradesAreNumberedFrom}
 use Rattle.brk_book_theorems.proofs.Same.{All-append, All-map, All-mapped, find-All, map-last}
 use Rattle.brk_book_theorems.proofs.Places.{FoundAt, find-at, some_of}
 use Rattle.brk_book_theorems.proofs.Tested.{not_not, passed}
@@ -41,12 +41,12 @@ use Rattle.brk_book_theorems.proofs.Completions.{completed_tick, completed_unsee
 use Rattle.brk_book_theorems.proofs.Completing.{one_of_id}
 use Rattle.brk_book_theorems.proofs.LotReading.{All-sort, numbered_rise, rise_apart}
 use Rattle.brk_book_theorems.proofs.Ordering.{first_not_completed, ordered_done}
-use Rattle.brk_audit_theorems.specs.Told.{HasAscendingStamps}
+use Rattle.brk_audit_theorems.specs.Told.{HasAscendingStatusStamps}
 use Rattle.brk_audit_theorems.proofs.Again.{both_all}
 use Rattle.brk_audit_theorems.proofs.Climbs.{In, each_in, of_all}
 use Rattle.brk_audit_theorems.proofs.Marks.{filtered}
 use Rattle.brk_model_theorems.proofs.Conjunctions.{parts5}
-use Rattle.brk_invariant_theorems.specs.Sound.{HasDueDayInCalendar, StatusChangeIsUpToLastStamp, AuditInvariant, BaseTradeAuditInvariant, is_well_formed_security}
+use Rattle.brk_invariant_theorems.specs.Sound.{HasDueDayInCalendar, StatusStampIsAtMostLast, AuditInvariant, BaseTradeAuditInvariant, is_well_formed_security}
 use Rattle.brk_invariant_theorems.specs.InForm.{MeetsAuditFormats, TickMeetsAuditFormats}
 use Rattle.brk_invariant_theorems.proofs.Bounds.{All-take}
 use Rattle.brk_invariant_theorems.proofs.OneTrade.{false_true, leaves_way, past_before, past_itself, price_low, qty_low, rising_more, sound_last, updated_all}
@@ -109,10 +109,10 @@ next_is_id : (n : ℕ) → nat_le greatest_id n ≡ false → is_id (n + 1) ≡ 
 next_is_id n e = grind (arith, nat_tests)
 
 ordered_sound : (base : Base) (stamp : ℕ) (o : Order) (ts : List Trade) → is_id (length base.trades + 1) ≡ true → AuditInvariant base → MeetsAuditFormats (PlaceOrder o) → is_some (security_with_symbol base o.symbol) ≡ true
-    → BaseTradeAuditInvariant (record base { trades = ts; last = Some stamp }) (ordered_trade base stamp o)
+    → BaseTradeAuditInvariant (record base { trades = ts; last = Some stamp }) (trade_of_order base stamp o)
 unfolding estimate
 ordered_sound base stamp o ts number k form known =
-    let u : Trade = ordered_trade base stamp o in
+    let u : Trade = trade_of_order base stamp o in
     let now : is_completed u ≡ false = first_not_completed (trade_type_of_order o.order_type) in
     let bid : is_price u.bid ≡ true = requested_is_price base o form.price (last_is_price base o.symbol k.securities known) in
     let c : u.commission ≤ 10 ^ 14 = commission_within base o.account (trade_type_of_order o.order_type) o.symbol o.qty u.bid k.bands (qty_low o.qty form.qty) (price_low u.bid bid) in
@@ -139,7 +139,7 @@ sound_order base now o k books form e =
     let stamp : ℕ = stamp_of_next_command base now in
     let c : Base = record base { last = Some stamp } in
     let l : AuditInvariant c = sound_last base now k in
-    let t : Trade = ordered_trade base stamp o in
+    let t : Trade = trade_of_order base stamp o in
     let ts : List Trade = base.trades ++ t ∷ [] in
     let known : is_some (security_with_symbol base o.symbol) ≡ true = not_not (is_some (security_with_symbol base o.symbol)) p.1.0 in
     sound_moved c base.securities ts l k.securities l.moments
@@ -148,7 +148,7 @@ sound_order base now o k books form e =
 
 -- ---- a trade that waited comes to another status
 
-stamps_below : (stamp : ℕ) (status : Status) (t : Trade) → HasAscendingStamps t → AllByRecursion (λ m. m.stamp < stamp) t.marks → HasAscendingStamps (trade_with_status_change stamp status t)
+stamps_below : (stamp : ℕ) (status : Status) (t : Trade) → HasAscendingStatusStamps t → AllByRecursion (λ m. m.stamp < stamp) t.marks → HasAscendingStatusStamps (trade_with_status_change stamp status t)
 stamps_below stamp status t r h =
     ap is_strictly_ascending (map-last (λ m. m.stamp) t.marks (record { stamp = stamp; status = status }))
     ∙ rising_more (map (λ m. m.stamp) t.marks) stamp r (All-mapped (λ n. n < stamp) (λ m. m.stamp) t.marks h)
@@ -171,7 +171,7 @@ marked_sound b stamp status t w other k below h =
         words = record { settled = λ e. k.words.settled was; moved = λ e. k.words.moved (ap (λ b. b && t.is_cash) was) };
         cash_type = λ d. false_true (sym now ∙ d);
       };
-      past = All-append (StatusChangeIsUpToLastStamp (Some stamp)) t.marks (m ∷ []) k.past (past_itself stamp, tt);
+      past = All-append (StatusStampIsAtMostLast (Some stamp)) t.marks (m ∷ []) k.past (past_itself stamp, tt);
       due = All-append (HasDueDayInCalendar b.rule) t.marks (m ∷ []) k.due (ap (λ c. not c || nat_le (due_day_of_completion_stamp b.rule stamp) greatest_day) other, tt);
       cash_name = λ d. false_true (sym now ∙ (and_parts (is_completed u) t.is_cash d).0);
       amount = λ d. false_true (sym now ∙ d);
@@ -180,18 +180,18 @@ marked_sound b stamp status t w other k below h =
 -- ---- a cancel
 
 -- what holds of the trade with an id holds of each trade with that id
-named_all : (P : Trade → Type 0) (base : Base) (id : ℕ) (t : Trade) → AreNumberedFrom 1 base.trades → trade_with_id base id ≡ Some t → P t
+named_all : (P : Trade → Type 0) (base : Base) (id : ℕ) (t : Trade) → TradesAreNumberedFrom 1 base.trades → trade_with_id base id ≡ Some t → P t
     → AllByRecursion (λ u. (u.id == id) ≡ true → P u) base.trades
 named_all P base id t n e w =
     let f : FoundAt Trade (λ u. u.id == id) t base.trades = find-at (λ u. u.id == id) base.trades t e in
     let same : t.id ≡ id = eqb-true t.id id f.passes in
-    let behind = subst (λ m. AllByRecursion (λ u. (u.id == m) ≡ false) f.after) same (numbered_after 1 f.before t f.after (subst (AreNumberedFrom 1) f.stands n)) in
+    let behind = subst (λ m. AllByRecursion (λ u. (u.id == m) ≡ false) f.after) same (numbered_after 1 f.before t f.after (subst (TradesAreNumberedFrom 1) f.stands n)) in
     let others : (us : List Trade) → AllByRecursion (λ u. (u.id == id) ≡ false) us → AllByRecursion (λ u. (u.id == id) ≡ true → P u) us =
     λ us h. All-map us (λ u other same. false_true (sym other ∙ same)) h in
     subst (AllByRecursion (λ u. (u.id == id) ≡ true → P u)) (sym f.stands)
     (All-append (λ u. (u.id == id) ≡ true → P u) f.before (t ∷ f.after) (others f.before f.others) ((λ same. w), others f.after behind))
 
-waiting_named : (base : Base) (id : ℕ) (o : Option Trade) → AreNumberedFrom 1 base.trades → trade_with_id base id ≡ o
+waiting_named : (base : Base) (id : ℕ) (o : Option Trade) → TradesAreNumberedFrom 1 base.trades → trade_with_id base id ≡ o
     → AllByRecursion (λ test. test.0 ≡ false) (option_map_or (λ t. status_check (has_status Pending t) t ∷ []) o ((true, NoTrade) ∷ []))
     → AllByRecursion (λ t. (t.id == id) ≡ true → has_status Pending t ≡ true) base.trades
 waiting_named base id None n e k = let h : true ≡ false = k.0 in absurd (cc)
@@ -205,14 +205,14 @@ sound_cancel base now id k books form e =
     let l : AuditInvariant c = sound_last base now k in
     let ts : List Trade = update_where (λ t. t.id == id) (trade_with_status_change stamp Canceled) base.trades in
     let waits = waiting_named base id (trade_with_id base id) books.numbered refl (passed base now (CancelTrade id) e) in
-    let P : Trade → Type 0 = λ t. BaseTradeAuditInvariant c t × (AllByRecursion (StatusChangeIsUpToLastStamp base.last) t.marks × ((t.id == id) ≡ true → has_status Pending t ≡ true)) in
+    let P : Trade → Type 0 = λ t. BaseTradeAuditInvariant c t × (AllByRecursion (StatusStampIsAtMostLast base.last) t.marks × ((t.id == id) ≡ true → has_status Pending t ≡ true)) in
     let past = All-map base.trades (λ t h. h.past) k.trades in
     sound_moved c base.securities ts l k.securities l.moments
     (updated_all P (BaseTradeAuditInvariant (record c { trades = ts })) (λ t. t.id == id) (trade_with_status_change stamp Canceled) base.trades
     (λ t i h. marked_sound base stamp Canceled t refl refl h.0 (All-map t.marks (λ m b. past_before base.last now m.stamp b) h.1.0) (h.1.1 i))
     (λ t h. h.0)
-    (both_all (BaseTradeAuditInvariant c) (λ t. AllByRecursion (StatusChangeIsUpToLastStamp base.last) t.marks × ((t.id == id) ≡ true → has_status Pending t ≡ true)) base.trades l.trades
-    (both_all (λ t. AllByRecursion (StatusChangeIsUpToLastStamp base.last) t.marks) (λ t. (t.id == id) ≡ true → has_status Pending t ≡ true) base.trades past waits)))
+    (both_all (BaseTradeAuditInvariant c) (λ t. AllByRecursion (StatusStampIsAtMostLast base.last) t.marks × ((t.id == id) ≡ true → has_status Pending t ≡ true)) base.trades l.trades
+    (both_all (λ t. AllByRecursion (StatusStampIsAtMostLast base.last) t.marks) (λ t. (t.id == id) ≡ true → has_status Pending t ≡ true) base.trades past waits)))
     (completed_unseen (λ t. t.id == id) (trade_with_status_change stamp Canceled) base.trades (λ t. status_of_marked stamp Canceled Completed t)
     (All-map base.trades (λ t w i. pending_not_completed t (w i)) waits))
 
@@ -431,7 +431,7 @@ chosen_one P ts (u ∷ us) v m h c = by_test (u.id == v.id) refl c (chosen_one P
 abbrev Chosen : (Trade → Bool) → Trade → Type 0
 Chosen test t = (is_completed t ≡ true) × (test t ≡ true)
 
-chosen_all : (base : Base) (test : Trade → Bool) (first last : ℕ) → AreNumberedFrom 1 base.trades
+chosen_all : (base : Base) (test : Trade → Bool) (first last : ℕ) → TradesAreNumberedFrom 1 base.trades
     → AllByRecursion (λ v. contains_number v.id (selected_trade_ids base test first last) ≡ true → Chosen test v) base.trades
 chosen_all base test first last n =
     let Q : Trade → Type 0 = λ w. AllByRecursion (λ v. (v.id == w.id) ≡ true → v ≡ w) base.trades in
@@ -449,7 +449,7 @@ chosen_all base test first last n =
 
 -- ---- the words of settlements and cash rows
 
-other_type : (b : Bool) (text : Text) → is_cash_type_of_trade b (cond b (alternate_word (codes "Cash Account") (codes "Cash") text) (alternate_word (codes "Margin Account") (codes "Margin") text)) ≡ true
+other_type : (b : Bool) (text : Text) → is_cash_type_of_trade b (cond b (toggled_word (codes "Cash Account") (codes "Cash") text) (toggled_word (codes "Margin Account") (codes "Margin") text)) ≡ true
 other_type true text = by_word (bytes_eq text (codes "Cash Account"))
   where
     by_word : (c : Bool) → is_cash_type_of_trade true (cond c (codes "Cash") (codes "Cash Account")) ≡ true

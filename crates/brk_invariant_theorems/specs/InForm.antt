@@ -8,7 +8,7 @@ use Rattle.brk_model.specs.Limits.{greatest_amount, greatest_commission_rate, is
 use Rattle.brk_model.specs.Schemas.{third_schema}
 use Rattle.brk_model.specs.Records.{Band, Key}
 use Rattle.brk_model.specs.Commands.{Command, Listing, Order, Tick, AddBroker, AddCustomer, AddAccount, AddPermission, AddSecurity, AddCharge, AddBand, AddTaxRate, AddCustomerTax, PlaceOrder, FeedTicks, CancelTrade, CompleteTrade, ChangeExecutors, ChangeCashTypes, ChangeCashNames, DepositCash, WithdrawCash, SetOneDay}
-use Rattle.brk_model.specs.Form.{has_well_formed_bounds, is_well_formed_charge_row, is_well_formed_customer_row, is_price, is_quantity_in_schema, is_well_formed_key, are_well_formed_listing_texts, is_well_formed_tax_rate_row, has_well_formed_permission_texts}
+use Rattle.brk_model.specs.Form.{has_well_formed_tier_exchange_and_bounds, is_well_formed_charge_row, is_well_formed_customer_row, is_price, is_quantity_in_schema, is_well_formed_key, are_well_formed_listing_texts, is_well_formed_tax_rate_row, has_well_formed_permission_texts}
 use Rattle.brk_invariant_theorems.specs.Sound.{is_well_formed_account, is_well_formed_broker}
 
 -- True if the symbol, name, exchange, sector and price of the listing are well-formed.
@@ -18,7 +18,7 @@ is_well_formed_listing l = are_well_formed_listing_texts l.symbol l.name l.excha
 -- True if the tier, the exchange, both bounds and the rate of the band are well-formed. The order
 -- of the bounds is not checked here.
 abbrev pub is_well_formed_band : Band → Bool
-is_well_formed_band b = has_well_formed_bounds third_schema b && nat_le b.rate greatest_commission_rate
+is_well_formed_band b = has_well_formed_tier_exchange_and_bounds third_schema b && nat_le b.rate greatest_commission_rate
 
 -- The order's quantity is well-formed, and also its price if it has one.
 pub record OrderMeetsAuditFormats (o : Order) : Type 0 where

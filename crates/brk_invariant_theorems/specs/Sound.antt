@@ -12,7 +12,7 @@ use Rattle.brk_model.specs.Schemas.{third_schema}
 use Rattle.brk_model.specs.Form.{is_well_formed_band_row, is_well_formed_charge_row, is_well_formed_customer_row, is_cash_type_of_trade, is_due_within_calendar, is_movement_name_and_amount, is_up_to_last_stamp, is_price, has_price_exactly_if, is_well_formed_kept_row, are_well_formed_listing_texts, is_well_formed_tax_rate_row, are_well_formed_account_fields, are_well_formed_id_and_name, has_well_formed_permission_texts, are_trade_numbers_in_range, is_settlement_day_in_calendar}
 use Rattle.brk_model.specs.Ways.{is_strictly_ascending}
 use Rattle.brk_model.specs.Keys.{KeyPart, word, charge_key, customer_key, customer_tax_key, kept_key, tax_rate_key}
-use Rattle.brk_audit_theorems.specs.Told.{HasValidTransitions, HasNoStrayTexts, HasAscendingStamps, broker_id_key}
+use Rattle.brk_audit_theorems.specs.Told.{HasValidStatusSequence, HasNoStrayTexts, HasAscendingStatusStamps, broker_id_key}
 
 -- No two records of the list have the same key by the function `key`.
 abbrev pub HasDistinctKeys : {Row : Type 0} → (Row → List KeyPart) → List Row → Type 0
@@ -44,8 +44,8 @@ has_trade_numbers_in_range t = are_trade_numbers_in_range third_schema t.id t.qt
 -- ---- trades
 
 -- The stamp of the status change is at most the last stamp `last`. False if `last` is `None`.
-abbrev pub StatusChangeIsUpToLastStamp : Option ℕ → StatusChange → Type 0
-StatusChangeIsUpToLastStamp last m = is_up_to_last_stamp last m.stamp ≡ true
+abbrev pub StatusStampIsAtMostLast : Option ℕ → StatusChange → Type 0
+StatusStampIsAtMostLast last m = is_up_to_last_stamp last m.stamp ≡ true
 
 -- If the status change is a completion, its due day by the settlement day `rule` is within the
 -- calendar. Vacuous for other statuses.
@@ -58,22 +58,22 @@ has_price_exactly_if_completed t = has_price_exactly_if (is_completed t) t.price
 
 -- True if the trade's cash text is one of the two texts for its type, its quantity and the security
 -- name `name`.
-abbrev pub has_cash_text_for_name : Trade → Text → Bool
-has_cash_text_for_name t name =
+abbrev pub has_cash_text_with_security_name : Trade → Text → Bool
+has_cash_text_with_security_name t name =
     bytes_eq t.cash_name (cash_row_name_from_parts (codes " shares of ") t.kind t.qty name)
     || bytes_eq t.cash_name (cash_row_name_from_parts (codes " Shares of ") t.kind t.qty name)
 
 -- True if the trade's cash text is one of the two texts for its type, its quantity and the name of
 -- its security.
 abbrev pub has_cash_text_of_security : List Security → Trade → Bool
-has_cash_text_of_security securities t = has_cash_text_for_name t (security_name_in_list securities t.symbol)
+has_cash_text_of_security securities t = has_cash_text_with_security_name t (security_name_in_list securities t.symbol)
 
 -- The trade satisfies the conditions of the audit invariant that depend on the trade alone.
 pub record TradeOnlyAuditInvariant (t : Trade) : Type 0 where
   pub fields : has_trade_numbers_in_range t ≡ true
   -- Its statuses are a valid status sequence, with stamps in ascending order.
-  pub stamps : HasAscendingStamps t
-  pub way : HasValidTransitions t
+  pub stamps : HasAscendingStatusStamps t
+  pub way : HasValidStatusSequence t
   -- It has a price if and only if it is completed, no stray text, and one of the two settlement
   -- texts if it is completed.
   pub priced : has_price_exactly_if_completed t ≡ true
@@ -86,7 +86,7 @@ pub record TradeAuditInvariant (last : Option ℕ) (rule : SettleRule) (accounts
   pub alone : TradeOnlyAuditInvariant t
   pub open alone use *
   -- Its stamps are at most the last stamp.
-  pub past : AllByRecursion (StatusChangeIsUpToLastStamp last) t.marks
+  pub past : AllByRecursion (StatusStampIsAtMostLast last) t.marks
   -- The due day of its completion is within the calendar.
   pub due : AllByRecursion (HasDueDayInCalendar rule) t.marks
   -- A completed cash trade has one of the two cash texts for its security.

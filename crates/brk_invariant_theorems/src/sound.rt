@@ -4,7 +4,7 @@
 ghost use Rattle.std.specs.Prelude.{◌≡◌, ◌≤◌, ◌↔◌, ℕ, IfOk, IfSome, IsTrue, List, Ok, Option, length};
 ghost use Rattle.brk_money.specs.Spelling.{Text};
 ghost use Rattle.std.specs.List.{AllByRecursion};
-ghost use Rattle.brk_model.specs.Answers.{AreAnswered, Fields};
+ghost use Rattle.brk_model.specs.Answers.{RowsAreAnswered, Fields};
 ghost use Rattle.brk_model.specs.Batch.{step_of_row};
 ghost use Rattle.brk_model.specs.Formed.{IsWellFormedCommand};
 ghost use Rattle.brk_model.specs.Forms.{is_batch_name};
@@ -31,9 +31,9 @@ ghost use Rattle.brk_invariant_theorems.specs.Sound.{AuditInvariant};
 /// Proves that a base that satisfies the books invariant satisfies the audit invariant if and only
 /// if it has valid histories and its tables satisfy the condition `Form`. The tables of a base with
 /// both invariants pass the audit of the third schema.
-pub fn audit_invariant_makes_tables_pass()
+pub fn audit_invariant_makes_tables_pass_audit()
     ensures form { (base : Base) → BooksInvariant base → AuditInvariant base → IsTrue (satisfies_form_condition third_schema (sheets base)) }
-    ensures told { (base : Base) → AuditInvariant base → HasValidHistories base }
+    ensures histories { (base : Base) → AuditInvariant base → HasValidHistories base }
     ensures passes { (base : Base) → BooksInvariant base → AuditInvariant base → PassesAudit third_schema (sheets base) }
     ensures exact { (base : Base) → BooksInvariant base → AuditInvariant base ↔ (HasValidHistories base × IsTrue (satisfies_form_condition third_schema (sheets base))) }
 {}
@@ -64,7 +64,7 @@ pub fn commands_preserve_audit_invariant()
 /// the base of rows that pass an audit, pass an audit. The tables after a run from the empty base
 /// whose calls satisfy `IsWellFormedCall` pass an audit too.
 pub fn tables_after_runs_pass_the_audit()
-    ensures sound { (base : Base) (calls : List (ℕ × Call)) (outcomes : List Outcome) (after : Base)
+    ensures preserved { (base : Base) (calls : List (ℕ × Call)) (outcomes : List Outcome) (after : Base)
         → BooksInvariant base → AuditInvariant base → AllByRecursion CallMeetsAuditFormats calls → Run base calls outcomes after → AuditInvariant after }
     ensures first { (calls : List (ℕ × Call)) (outcomes : List Outcome) (after : Base)
         → AllByRecursion CallMeetsAuditFormats calls → Run empty_base calls outcomes after → PassesAudit third_schema (sheets after) }
@@ -86,6 +86,6 @@ pub fn parsed_rows_meet_audit_formats()
 /// of ids.
 pub fn batches_preserve_both_invariants()
     ensures { (base : Base) (name : Text) (moments : List ℕ) (rows : List Fields) (answers : List Answer) (after : Base)
-        → IsTrue (is_batch_name name) → length rows ≤ greatest_id → AreAnswered parse_row step_of_row name base moments rows answers after
+        → IsTrue (is_batch_name name) → length rows ≤ greatest_id → RowsAreAnswered parse_row step_of_row name base moments rows answers after
         → BooksInvariant base × AuditInvariant base → BooksInvariant after × AuditInvariant after }
 {}

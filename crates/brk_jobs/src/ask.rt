@@ -1,5 +1,5 @@
 use crate::borrowed::bytes_of_arguments;
-use brk_ask::{Form, ask};
+use brk_ask::{Form, parse_query_and_write_view};
 use brk_desk::Desk;
 use brk_exit::Ending;
 use brk_money::Fault;
@@ -20,7 +20,7 @@ pub(crate) fn execute_ask_job<S: Alter, W: Write>(
     let Ok(arguments) = bytes_of_arguments(alloc, arguments) else {
         return Ending::Open(Fault::Memory);
     };
-    match ask(alloc, desk, view, &arguments, form, output) {
+    match parse_query_and_write_view(alloc, desk, view, &arguments, form, output) {
         Ok(()) => Ending::Done,
         Err(fault) => Ending::Report(fault),
     }

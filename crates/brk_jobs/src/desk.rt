@@ -4,7 +4,7 @@ use crate::{ask, batch, explain, serve, statement};
 use brk_args::Job;
 use brk_ask::Form;
 use brk_desk::Desk;
-use brk_exit::{Ending, merge_close_result};
+use brk_exit::{Ending, ending_after_close};
 use brk_files as file;
 use brk_files::FileDesk;
 use brk_money::Fault;
@@ -85,7 +85,7 @@ pub(crate) fn execute_job_in_file<R: Read + Drop, W: Write>(
     match opened {
         Ok(store) => {
             let (ending, store) = execute_job_at_store(rt, store, job, input, output);
-            merge_close_result(ending, file::close(store))
+            ending_after_close(ending, file::close_desk_file(store))
         }
         Err(fault) => Ending::Open(fault),
     }

@@ -19,16 +19,16 @@ fn write_help_text<W: Write>(text: String, output: &mut W) -> Ending {
 enum Place<'a> {
     Memory,
     /// In the file at a path, created if it is missing or empty.
-    Made(&'a str),
+    FileOrNewFile(&'a str),
     /// In the file at a path, which must exist.
-    Kept(&'a str),
+    ExistingFile(&'a str),
 }
 
 // Returns the place of a desk for an optional path: a file that is created if it is missing or
 // empty, or memory if there is no path.
 fn place_of_optional_file(db: &Option<String>) -> Place<'_> {
     match db {
-        Some(path) => Place::Made(path.as_str()),
+        Some(path) => Place::FileOrNewFile(path.as_str()),
         None => Place::Memory,
     }
 }
@@ -38,10 +38,10 @@ fn place_of_job(job: &Job) -> Place<'_> {
     match job {
         Job::Batch { db, .. } => place_of_optional_file(db),
         Job::Serve { db, .. } => place_of_optional_file(db),
-        Job::Statement { db, .. } => Place::Kept(db.as_str()),
-        Job::Ask { db, .. } => Place::Kept(db.as_str()),
-        Job::Explain { db, .. } => Place::Kept(db.as_str()),
-        Job::Audit { db } => Place::Kept(db.as_str()),
+        Job::Statement { db, .. } => Place::ExistingFile(db.as_str()),
+        Job::Ask { db, .. } => Place::ExistingFile(db.as_str()),
+        Job::Explain { db, .. } => Place::ExistingFile(db.as_str()),
+        Job::Audit { db } => Place::ExistingFile(db.as_str()),
     }
 }
 
@@ -55,14 +55,14 @@ fn execute_job<R: Read + Drop, W: Write>(
 ) -> Ending {
     let ending = match place_of_job(job) {
         Place::Memory => execute_job_in_memory(rt, job, input, output),
-        Place::Made(path) => execute_job_in_file(
+        Place::FileOrNewFile(path) => execute_job_in_file(
             rt,
-            file::open_or_create(rt, path),
+            file::open_or_create_desk_file(rt, path),
             job,
             input,
             output,
         ),
-        Place::Kept(path) => execute_job_in_file(rt, file::open(rt, path), job, input, output),
+        Place::ExistingFile(path) => execute_job_in_file(rt, file::open_desk_file(rt, path), job, input, output),
     };
     match (job, ending) {
         (Job::Audit { .. }, Ending::Done) => write_audit_ok(output),

@@ -10,7 +10,7 @@ use Rattle.brk_money.specs.declared.side.Side.TheVariants.{Buy, Sell}
 use Rattle.brk_model.specs.Lists.{is_zero}
 use Rattle.brk_model.specs.Shares.{Share, Deal, Touch, signed_by_side, replay, shares_after_deal, opened_share, closed_share_count_of_deal, lot_quantity, changes_lot_quantity, touch_of_lot}
 use Rattle.brk_lots.specs.Deals.{IsLaterDeal, AreAscendingDeals}
-use Rattle.brk_model.specs.Tables.{HoldingHistoryRow, row_changes_quantity, lot_rows_of_deals, touch_of_row, holding_history_row}
+use Rattle.brk_model.specs.Tables.{HoldingHistoryRow, row_changes_quantity, holding_history_rows_of_deals, touch_of_row, holding_history_row}
 use Rattle.brk_lots.specs.Chains.{changes_of_lot, ShrinksTowardZero, IsLotHistory}
 use Rattle.brk_lots.proofs.Runs.{count_of, without}
 use Rattle.brk_lots.proofs.Changes.{all_from, shares_appended}
@@ -38,7 +38,7 @@ change_by t d s us one h =
 -- The HOLDING_HISTORY rows of the lot of the trade `t` that change its quantity, by the deals `ds`
 -- on the shares `us`.
 abbrev moved : ℕ → List Deal → List Share → List HoldingHistoryRow
-moved t ds us = filter row_changes_quantity (lot_rows_of_deals t us ds)
+moved t ds us = filter row_changes_quantity (holding_history_rows_of_deals t us ds)
 
 -- where no deal opens the lot again, it falls
 falls : (t : ℕ) (ds : List Deal) (s : Side) (us : List Share) → OneSide s us → AllByRecursion (λ d. d.trade ≢ t) ds → ShrinksTowardZero (lot_quantity us t) (changes_of_lot t ds us) (lot_quantity (fold shares_after_deal us ds) t)

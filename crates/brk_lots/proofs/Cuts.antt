@@ -9,7 +9,7 @@ use Rattle.brk_lots.specs.declared.lot.Lot.{Lot}
 use Rattle.brk_lots.specs.declared.lot.Touch.{Touch}
 use Rattle.brk_lots.specs.Lots.{side_of_qty, list_in_closing_order}
 use Rattle.brk_lots.specs.Position.{HasSameSideAndOtherTrade, IsPositionInAnyOrder}
-use Rattle.brk_lots.specs.Walks.{touches_of_first_shares, lots_after_touches, lot_with_quantity}
+use Rattle.brk_lots.specs.Walks.{touches_of_first_shares, lots_after_touches, lot_with_nonzero_quantity}
 use Rattle.brk_lots.proofs.Runs.{size_positive, signed_back}
 use Rattle.brk_lots.proofs.Ends.{reverse_first, drop_reverse, all_reverse, walk_reverse, walk_end}
 use Rattle.brk_lots.proofs.Left.{kept, with_shares, smaller_with, left_kept, left_end}
@@ -50,7 +50,7 @@ none_taken (suc k) (l ∷ ls) w e =
 -- the last of the lots that the rows cut off is left with what its row says
 cut : (k : ℕ) (ls : List Lot) → IsPositionInAnyOrder ls → (t : Touch) (l : Lot) → 0 < length (touches_of_first_shares k ls)
     → t ≡ get_or (touches_of_first_shares k ls) (length (touches_of_first_shares k ls) - 1) t → l ≡ get_or ls (length (touches_of_first_shares k ls) - 1) l
-    → kept k ls ≡ lot_with_quantity t.after l ++ drop (length (touches_of_first_shares k ls)) ls
+    → kept k ls ≡ lot_with_nonzero_quantity t.after l ++ drop (length (touches_of_first_shares k ls)) ls
 cut k [] w t l p e f = absurd (omega (arith, p))
 cut zero (m ∷ ls) w t l p e f = absurd (omega (arith, p))
 cut (suc k) (m ∷ ls) w t l p e f = at (length (touches_of_first_shares (suc k - unsigned_abs m.qty) ls)) refl (cut (suc k - unsigned_abs m.qty) ls w.2 t l) where
@@ -75,7 +75,7 @@ cut (suc k) (m ∷ ls) w t l p e f = at (length (touches_of_first_shares (suc k 
   f' : l ≡ get_or (m ∷ ls) (suc (length later) - 1) l
   f' = rw rows at f
 
-  at : (j : ℕ) → length later ≡ j → (0 < length later → t ≡ get_or later (length later - 1) t → l ≡ get_or ls (length later - 1) l → kept (suc k - n) ls ≡ lot_with_quantity t.after l ++ drop (length later) ls) → kept (suc k) (m ∷ ls) ≡ lot_with_quantity t.after l ++ drop (length (touches_of_first_shares (suc k) (m ∷ ls))) (m ∷ ls)
+  at : (j : ℕ) → length later ≡ j → (0 < length later → t ≡ get_or later (length later - 1) t → l ≡ get_or ls (length later - 1) l → kept (suc k - n) ls ≡ lot_with_nonzero_quantity t.after l ++ drop (length later) ls) → kept (suc k) (m ∷ ls) ≡ lot_with_nonzero_quantity t.after l ++ drop (length (touches_of_first_shares (suc k) (m ∷ ls))) (m ∷ ls)
   at zero z rec =
       let i : suc (length later) - 1 ≡ 0 = omega (arith, z) in
       let t0 : t ≡ row = rw i at e' in
@@ -84,18 +84,18 @@ cut (suc k) (m ∷ ls) w t l p e f = at (length (touches_of_first_shares (suc k 
       let cut_off : drop (length (touches_of_first_shares (suc k) (m ∷ ls))) (m ∷ ls) ≡ ls = ap (λ (ts : List Touch). drop (length ts) (m ∷ ls)) rows ∙ ap (λ i. drop (suc i) (m ∷ ls)) z in
       ap (λ (ms : List Lot). with_shares (n - suc k) m ++ ms) rest
       ∙ ap (λ (ms : List Lot). ms ++ ls) (sym (smaller_with m (n - suc k)))
-      ∙ ap (λ (s : Touch). lot_with_quantity s.after m ++ ls) (sym t0)
-      ∙ ap (λ (x : Lot). lot_with_quantity t.after x ++ ls) (sym l0)
-      ∙ ap (λ (ms : List Lot). lot_with_quantity t.after l ++ ms) (sym cut_off)
+      ∙ ap (λ (s : Touch). lot_with_nonzero_quantity s.after m ++ ls) (sym t0)
+      ∙ ap (λ (x : Lot). lot_with_nonzero_quantity t.after x ++ ls) (sym l0)
+      ∙ ap (λ (ms : List Lot). lot_with_nonzero_quantity t.after l ++ ms) (sym cut_off)
   at (suc j) z rec =
       let i : suc (length later) - 1 ≡ suc (length later - 1) = omega (arith, z) in
       let t0 : t ≡ get_or later (length later - 1) t = rw i at e' in
       let l0 : l ≡ get_or ls (length later - 1) l = rw i at f' in
-      let rest : kept (suc k - n) ls ≡ lot_with_quantity t.after l ++ drop (length later) ls = rec (omega (arith, z)) t0 l0 in
+      let rest : kept (suc k - n) ls ≡ lot_with_nonzero_quantity t.after l ++ drop (length later) ls = rec (omega (arith, z)) t0 l0 in
       let whole : n ≤ suc k = some_later (suc k) n ls (omega (arith, z)) in
       let gone : n - suc k ≡ 0 = omega (arith, whole) in
       let cut_off : drop (length (touches_of_first_shares (suc k) (m ∷ ls))) (m ∷ ls) ≡ drop (length later) ls = ap (λ (ts : List Touch). drop (length ts) (m ∷ ls)) rows in
-      ap (λ x. with_shares x m ++ kept (suc k - n) ls) gone ∙ rest ∙ ap (λ (ms : List Lot). lot_with_quantity t.after l ++ ms) (sym cut_off) where
+      ap (λ x. with_shares x m ++ kept (suc k - n) ls) gone ∙ rest ∙ ap (λ (ms : List Lot). lot_with_nonzero_quantity t.after l ++ ms) (sym cut_off) where
         some_later : (k n : ℕ) (ls : List Lot) → 0 < length (touches_of_first_shares (k - n) ls) → n ≤ k
         some_later k n [] p = absurd (omega (arith, p))
         some_later k n (l ∷ ls) p = nonzero (k - n) refl p where
@@ -107,15 +107,15 @@ cut (suc k) (m ∷ ls) w t l p e f = at (length (touches_of_first_shares (suc k 
 
 -- from the front
 cut_front : (k : ℕ) (ls : List Lot) → IsPositionInAnyOrder ls → (ts : List Touch) → ts ≡ touches_of_first_shares k ls → 0 < length ts → (t : Touch) (l : Lot) → t ≡ get_or ts (length ts - 1) t → l ≡ get_or ls (length ts - 1) l
-    → lots_after_touches ts ls ≡ lot_with_quantity t.after l ++ drop (length ts) ls
+    → lots_after_touches ts ls ≡ lot_with_nonzero_quantity t.after l ++ drop (length ts) ls
 cut_front k ls w ts e p t l te le =
     let t0 : t ≡ get_or (touches_of_first_shares k ls) (length (touches_of_first_shares k ls) - 1) t = subst (λ (rs : List Touch). t ≡ get_or rs (length rs - 1) t) e te in
     let l0 : l ≡ get_or ls (length (touches_of_first_shares k ls) - 1) l = subst (λ (rs : List Touch). l ≡ get_or ls (length rs - 1) l) e le in
     ap (λ (rs : List Touch). lots_after_touches rs ls) e ∙ left_kept k ls w
     ∙ cut k ls w t l (subst (λ (rs : List Touch). 0 < length rs) e p) t0 l0
-    ∙ ap (λ (rs : List Touch). lot_with_quantity t.after l ++ drop (length rs) ls) (sym e)
+    ∙ ap (λ (rs : List Touch). lot_with_nonzero_quantity t.after l ++ drop (length rs) ls) (sym e)
 
-smaller_reverse : (q : ℤ) (l : Lot) → reverse (lot_with_quantity q l) ≡ lot_with_quantity q l
+smaller_reverse : (q : ℤ) (l : Lot) → reverse (lot_with_nonzero_quantity q l) ≡ lot_with_nonzero_quantity q l
 smaller_reverse q l = at (int_eq q (pos 0)) where
   at : (b : Bool) → reverse (cond {A = List Lot} b [] (record { trade = l.trade; price = l.price; qty = q; stamp = l.stamp } ∷ [])) ≡ cond {A = List Lot} b [] (record { trade = l.trade; price = l.price; qty = q; stamp = l.stamp } ∷ [])
   at true = refl
@@ -123,16 +123,16 @@ smaller_reverse q l = at (int_eq q (pos 0)) where
 
 -- from the back
 cut_back : (k : ℕ) (ls : List Lot) → IsPositionInAnyOrder ls → (ts : List Touch) → ts ≡ touches_of_first_shares k (reverse ls) → 0 < length ts → (t : Touch) (l : Lot) → t ≡ get_or ts (length ts - 1) t → l ≡ get_or ls (length ls - length ts) l
-    → lots_after_touches ts ls ≡ take (length ls - length ts) ls ++ lot_with_quantity t.after l
+    → lots_after_touches ts ls ≡ take (length ls - length ts) ls ++ lot_with_nonzero_quantity t.after l
 cut_back k ls w ts e p t l te le =
     let walk = reverse ls in
     let n : length walk ≡ length ls = length-reverse ls in
     let fit : length ts ≤ length ls = subst (λ (rs : List Touch). length rs ≤ length ls) (sym e) (rows_fit_end true k ls) in
     let i : length ls - 1 - (length ts - 1) ≡ length ls - length ts = omega (arith, p, fit) in
     let l0 : l ≡ get_or walk (length ts - 1) l = le ∙ ap (λ j. get_or ls j l) (sym i) ∙ sym (get_or-reverse ls (length ts - 1) l (omega (arith, p, fit))) in
-    let front : lots_after_touches ts walk ≡ lot_with_quantity t.after l ++ drop (length ts) walk = cut_front k walk (walk_reverse ls w) ts e p t l te l0 in
-    left_end true ts ls ∙ ap reverse front ∙ reverse-append (lot_with_quantity t.after l) (drop (length ts) walk)
-    ∙ ap (λ (ms : List Lot). ms ++ reverse (lot_with_quantity t.after l)) (drop_reverse (length ts) walk ∙ rw (n, reverse-reverse ls) refl)
+    let front : lots_after_touches ts walk ≡ lot_with_nonzero_quantity t.after l ++ drop (length ts) walk = cut_front k walk (walk_reverse ls w) ts e p t l te l0 in
+    left_end true ts ls ∙ ap reverse front ∙ reverse-append (lot_with_nonzero_quantity t.after l) (drop (length ts) walk)
+    ∙ ap (λ (ms : List Lot). ms ++ reverse (lot_with_nonzero_quantity t.after l)) (drop_reverse (length ts) walk ∙ rw (n, reverse-reverse ls) refl)
     ∙ ap (λ (ms : List Lot). take (length ls - length ts) ls ++ ms) (smaller_reverse t.after l)
 
 -- where the oldest lot is also the newest there is no other
@@ -158,7 +158,7 @@ first_row (suc k) (l ∷ ls) t f p e =
 
 -- the first row names the oldest lot where the lots were taken from the front, and of one lot either way
 pub left_front : (lifo : Bool) (k : ℕ) (ls : List Lot) → IsPositionInAnyOrder ls → (ts : List Touch) → ts ≡ touches_of_first_shares k (list_in_closing_order lifo ls) → 0 < length ts → (s : Touch) (f : Lot) → s ≡ get_or ts 0 s → f ≡ get_or ls 0 f → s.lot ≡ f.trade
-    → (t : Touch) (l : Lot) → t ≡ get_or ts (length ts - 1) t → l ≡ get_or ls (length ts - 1) l → lots_after_touches ts ls ≡ lot_with_quantity t.after l ++ drop (length ts) ls
+    → (t : Touch) (l : Lot) → t ≡ get_or ts (length ts - 1) t → l ≡ get_or ls (length ts - 1) l → lots_after_touches ts ls ≡ lot_with_nonzero_quantity t.after l ++ drop (length ts) ls
 left_front false k ls w ts e p s f se fe same t l te le = cut_front k ls w ts e p t l te le
 left_front true k ls w ts e p s f se fe same t l te le =
     let some : 0 < length ls = omega (arith, p, subst (λ (rs : List Touch). length rs ≤ length ls) (sym e) (rows_fit_end true k ls)) in
@@ -168,7 +168,7 @@ left_front true k ls w ts e p s f se fe same t l te le =
     cut_front k ls w ts (e ∙ ap (touches_of_first_shares k) one) p t l te le
 
 pub left_back : (lifo : Bool) (k : ℕ) (ls : List Lot) → IsPositionInAnyOrder ls → (ts : List Touch) → ts ≡ touches_of_first_shares k (list_in_closing_order lifo ls) → 0 < length ts → (s : Touch) (f : Lot) → s ≡ get_or ts 0 s → f ≡ get_or ls 0 f → s.lot ≢ f.trade
-    → (t : Touch) (l : Lot) → t ≡ get_or ts (length ts - 1) t → l ≡ get_or ls (length ls - length ts) l → lots_after_touches ts ls ≡ take (length ls - length ts) ls ++ lot_with_quantity t.after l
+    → (t : Touch) (l : Lot) → t ≡ get_or ts (length ts - 1) t → l ≡ get_or ls (length ls - length ts) l → lots_after_touches ts ls ≡ take (length ls - length ts) ls ++ lot_with_nonzero_quantity t.after l
 left_back true k ls w ts e p s f se fe other t l te le = cut_back k ls w ts e p t l te le
 left_back false k ls w ts e p s f se fe other t l te le =
     let s0 : s ≡ get_or (touches_of_first_shares k ls) 0 s = subst (λ (rs : List Touch). s ≡ get_or rs 0 s) e se in

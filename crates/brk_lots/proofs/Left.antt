@@ -17,8 +17,8 @@ use Rattle.brk_lots.specs.declared.lot.Touch.{Touch}
 use Rattle.brk_lots.specs.declared.closing.Closing.{Closing}
 use Rattle.brk_lots.specs.Closing.{IsApplicableClosing}
 use Rattle.brk_lots.specs.Lots.{side_of_qty, share_of_lot, shares_of_lots, list_in_closing_order}
-use Rattle.brk_lots.specs.Position.{HasSameSideAndOtherTrade, IsPositionInAnyOrder, IsLaterInPosition, IsPosition, AreOpenedByOtherTrades, AreOpenedBefore}
-use Rattle.brk_lots.specs.Walks.{closed_share_count, touches_of_first_shares, quantity_after_touches, lot_with_quantity, rest_after_touches, lots_after_touches}
+use Rattle.brk_lots.specs.Position.{HasSameSideAndOtherTrade, IsPositionInAnyOrder, IsLaterInPosition, IsPosition, AreOpenedByOtherTrades, AreOpenedBeforeStamp}
+use Rattle.brk_lots.specs.Walks.{closed_share_count, touches_of_first_shares, quantity_after_touches, lot_with_nonzero_quantity, rest_of_lot_after_touches, lots_after_touches}
 use Rattle.brk_lots.proofs.Runs.{without, run_lots, size_positive, signed_back, drop_run, length_run}
 use Rattle.brk_lots.proofs.Walks.{touches_none}
 use Rattle.brk_lots.proofs.Changes.{all_from}
@@ -52,7 +52,7 @@ qty_rest (suc k) l m ls h =
 pub int_differ : (x y : ℤ) → x ≢ y → int_eq x y ≡ false
 int_differ x y h = elim (cases_Bool (int_eq x y)) [ inl e ↦ absurd (h ((Decides-int_eq x y).0 e)) | inr e ↦ e ]
 
-pub smaller_with : (l : Lot) (m : ℕ) → lot_with_quantity (signed_by_side (side_of_qty l.qty) m) l ≡ with_shares m l
+pub smaller_with : (l : Lot) (m : ℕ) → lot_with_nonzero_quantity (signed_by_side (side_of_qty l.qty) m) l ≡ with_shares m l
 smaller_with l m = each (side_of_qty l.qty) m refl where
   each : (s : Side) (n : ℕ) → s ≡ side_of_qty l.qty → cond (int_eq (signed_by_side s n) (pos 0)) [] (record { trade = l.trade; price = l.price; qty = signed_by_side s n; stamp = l.stamp } ∷ []) ≡ with_shares n l
   each Buy zero e = refl
@@ -60,15 +60,15 @@ smaller_with l m = each (side_of_qty l.qty) m refl where
   each Buy (suc n) e = let d : int_eq (pos (suc n)) (pos 0) ≡ false = int_differ (pos (suc n)) (pos 0) (λ z. omega (arith, ints, z)) in rw (d, ← e) refl
   each Sell (suc n) e = rw (← e) refl
 
-left_with : (ts : List Touch) (l : Lot) (m : ℕ) → quantity_after_touches ts l ≡ signed_by_side (side_of_qty l.qty) m → rest_after_touches ts l ≡ with_shares m l
-left_with ts l m e = ap (λ q. lot_with_quantity q l) e ∙ smaller_with l m
+left_with : (ts : List Touch) (l : Lot) (m : ℕ) → quantity_after_touches ts l ≡ signed_by_side (side_of_qty l.qty) m → rest_of_lot_after_touches ts l ≡ with_shares m l
+left_with ts l m e = ap (λ q. lot_with_nonzero_quantity q l) e ∙ smaller_with l m
 
 -- rows that agree on lots leave the same of them
 left_agree : (ts us : List Touch) (ls : List Lot) → AllByRecursion (λ l. quantity_after_touches ts l ≡ quantity_after_touches us l) ls → lots_after_touches ts ls ≡ lots_after_touches us ls
 left_agree ts us [] h = refl
 left_agree ts us (l ∷ ls) h =
-    let one : rest_after_touches ts l ≡ rest_after_touches us l = ap (λ q. cond (int_eq q (pos 0)) [] (record { trade = l.trade; price = l.price; qty = q; stamp = l.stamp } ∷ [])) h.0 in
-    ap (λ (ms : List Lot). ms ++ lots_after_touches ts ls) one ∙ ap (λ (ms : List Lot). rest_after_touches us l ++ ms) (left_agree ts us ls h.1)
+    let one : rest_of_lot_after_touches ts l ≡ rest_of_lot_after_touches us l = ap (λ q. cond (int_eq q (pos 0)) [] (record { trade = l.trade; price = l.price; qty = q; stamp = l.stamp } ∷ [])) h.0 in
+    ap (λ (ms : List Lot). ms ++ lots_after_touches ts ls) one ∙ ap (λ (ms : List Lot). rest_of_lot_after_touches us l ++ ms) (left_agree ts us ls h.1)
 
 pub left_kept : (k : ℕ) (ls : List Lot) → IsPositionInAnyOrder ls → lots_after_touches (touches_of_first_shares k ls) ls ≡ kept k ls
 left_kept k [] w = refl
@@ -100,10 +100,10 @@ left_reverse : (ts : List Touch) (ls : List Lot) → lots_after_touches ts (reve
 left_reverse ts [] = refl
 left_reverse ts (l ∷ ls) =
     ap (lots_after_touches ts) (reverse-append (l ∷ []) ls)
-    ∙ flat_map-append (rest_after_touches ts) (reverse ls) (l ∷ [])
-    ∙ ap (λ (ms : List Lot). ms ++ (rest_after_touches ts l ++ [])) (left_reverse ts ls)
-    ∙ ap (λ (ms : List Lot). reverse (lots_after_touches ts ls) ++ ms) (append-nil (rest_after_touches ts l) ∙ one (int_eq (quantity_after_touches ts l) (pos 0)))
-    ∙ sym (reverse-append (rest_after_touches ts l) (lots_after_touches ts ls)) where
+    ∙ flat_map-append (rest_of_lot_after_touches ts) (reverse ls) (l ∷ [])
+    ∙ ap (λ (ms : List Lot). ms ++ (rest_of_lot_after_touches ts l ++ [])) (left_reverse ts ls)
+    ∙ ap (λ (ms : List Lot). reverse (lots_after_touches ts ls) ++ ms) (append-nil (rest_of_lot_after_touches ts l) ∙ one (int_eq (quantity_after_touches ts l) (pos 0)))
+    ∙ sym (reverse-append (rest_of_lot_after_touches ts l) (lots_after_touches ts ls)) where
       one : (b : Bool) → cond {A = List Lot} b [] (record { trade = l.trade; price = l.price; qty = quantity_after_touches ts l; stamp = l.stamp } ∷ []) ≡ reverse (cond {A = List Lot} b [] (record { trade = l.trade; price = l.price; qty = quantity_after_touches ts l; stamp = l.stamp } ∷ []))
       one true = refl
       one false = refl
@@ -146,7 +146,7 @@ OfShares P l = (m : ℕ) → AllByRecursion P (with_shares m l)
 all_left : (P : Lot → Type 0) (ts : List Touch) (ls : List Lot) → AllByRecursion (Shrinks ts) ls → AllByRecursion (OfShares P) ls → AllByRecursion P (lots_after_touches ts ls)
 all_left P ts [] s h = tt
 all_left P ts (l ∷ ls) s h =
-    all_join P (rest_after_touches ts l) (lots_after_touches ts ls) (rw (left_with ts l s.0.0 s.0.1) (h.0 s.0.0)) (all_left P ts ls s.1 h.1)
+    all_join P (rest_of_lot_after_touches ts l) (lots_after_touches ts ls) (rw (left_with ts l s.0.0 s.0.1) (h.0 s.0.0)) (all_left P ts ls s.1 h.1)
 
 side_signed : (s : Side) (m : ℕ) → side_of_qty (signed_by_side s (suc m)) ≡ s
 side_signed Buy m = refl
@@ -245,7 +245,7 @@ opened_after lifo q n u (l ∷ ls) p f a e = each (is_same_side (side_of_qty l.q
 
 -- ---- a deal upon lots leaves lots
 
-lawful : (lifo : Bool) (q : ℕ) (u : Share) (ls : List Lot) → IsPosition ls → AreOpenedByOtherTrades u.trade ls → AreOpenedBefore u.stamp ls → (n : ℕ) → q - closed_share_count u.side q ls ≡ n → IsPosition (lots_after_touches (touches_of_first_shares (closed_share_count u.side q ls) (list_in_closing_order lifo ls)) ls ++ run_lots n u)
+lawful : (lifo : Bool) (q : ℕ) (u : Share) (ls : List Lot) → IsPosition ls → AreOpenedByOtherTrades u.trade ls → AreOpenedBeforeStamp u.stamp ls → (n : ℕ) → q - closed_share_count u.side q ls ≡ n → IsPosition (lots_after_touches (touches_of_first_shares (closed_share_count u.side q ls) (list_in_closing_order lifo ls)) ls ++ run_lots n u)
 lawful lifo q u ls p f a zero e = rw (append-nil (lots_after_touches (touches_of_first_shares (closed_share_count u.side q ls) (list_in_closing_order lifo ls)) ls)) (position_left (touches_of_first_shares (closed_share_count u.side q ls) (list_in_closing_order lifo ls)) ls p (end_shrinks lifo (closed_share_count u.side q ls) ls (walk_of ls p)))
 lawful lifo q u ls p f a (suc n) e =
     position_push (lots_after_touches (touches_of_first_shares (closed_share_count u.side q ls) (list_in_closing_order lifo ls)) ls) (new_lot u n)
@@ -258,7 +258,7 @@ abbrev pub lots_after : Deal → List Lot → List Lot
 lots_after d ls = lots_after_touches (touches_of_first_shares (closed_share_count d.side d.qty ls) (list_in_closing_order d.is_lifo ls)) ls ++ run_lots (d.qty - closed_share_count d.side d.qty ls) (opened_share d)
 
 -- they are a position, and their shares are those of the deal upon the shares before
-pub booked_lots : (d : Deal) (ls : List Lot) → IsPosition ls → AreOpenedByOtherTrades d.trade ls → AreOpenedBefore d.stamp ls → IsPosition (lots_after d ls) × (shares_of_lots (lots_after d ls) ≡ shares_after_deal (shares_of_lots ls) d)
+pub booked_lots : (d : Deal) (ls : List Lot) → IsPosition ls → AreOpenedByOtherTrades d.trade ls → AreOpenedBeforeStamp d.stamp ls → IsPosition (lots_after d ls) × (shares_of_lots (lots_after d ls) ≡ shares_after_deal (shares_of_lots ls) d)
 booked_lots d ls p f a =
     let u = opened_share d in
     let k : ℕ = closed_share_count d.side d.qty ls in

@@ -8,7 +8,7 @@ use Rattle.std.proofs.lemmas.Bool.Decides.{Decides-int_eq}
 use Rattle.std.proofs.lemmas.List.Sums.{sum_by-cons}
 use Rattle.std.proofs.lemmas.List.Sorted.{sum_by-IsPermutation}
 use Rattle.brk_lots.specs.declared.lot.Lot.{Lot}
-use Rattle.brk_lots.specs.Order.{FirstLotSatisfies, IsLaterOnSameSide, IsOneSidedByStamp, NeighboursDifferInTrade}
+use Rattle.brk_lots.specs.Order.{FirstLotSatisfies, IsLaterOnSameSide, IsOneSidedAndAscending, NeighboursDifferInTrade}
 use Rattle.brk_lots.specs.Position.{IsLaterInPosition, IsPosition, AreOpenedByOtherTrades}
 use Rattle.brk_lots.proofs.Changes.{all_from}
 
@@ -28,12 +28,12 @@ first_of_all : (P : Lot → Type 0) (ls : List Lot) → AllByRecursion P ls → 
 first_of_all P [] h = tt
 first_of_all P (l ∷ ls) h = h.0
 
-higher_all : (l : Lot) (ls : List Lot) → FirstLotSatisfies (IsLaterOnSameSide l) ls → IsOneSidedByStamp ls → AllByRecursion (IsLaterOnSameSide l) ls
+higher_all : (l : Lot) (ls : List Lot) → FirstLotSatisfies (IsLaterOnSameSide l) ls → IsOneSidedAndAscending ls → AllByRecursion (IsLaterOnSameSide l) ls
 higher_all l [] h c = tt
 higher_all l (m ∷ ls) h c =
     (h, all_from (IsLaterOnSameSide m) (IsLaterOnSameSide m) (IsLaterOnSameSide l) (λ k p q. (p.0 ∙ h.0, let a = h.1 in let b = p.1 in omega (arith, a, b))) ls (higher_all m ls c.1 c.2) (higher_all m ls c.1 c.2))
 
-pub climbs_of : (ls : List Lot) → IsPosition ls → IsOneSidedByStamp ls
+pub climbs_of : (ls : List Lot) → IsPosition ls → IsOneSidedAndAscending ls
 climbs_of [] p = tt
 climbs_of (l ∷ ls) p = (p.0, first_of_all (IsLaterOnSameSide l) ls (all_from (IsLaterInPosition l) (IsLaterInPosition l) (IsLaterOnSameSide l) (λ m a b. (a.0.0, a.1)) ls p.1 p.1), climbs_of ls p.2)
 
@@ -41,7 +41,7 @@ pub distinct_of : (ls : List Lot) → IsPosition ls → Distinct ls
 distinct_of [] p = tt
 distinct_of (l ∷ ls) p = (all_from (IsLaterInPosition l) (IsLaterInPosition l) (λ m. m.trade ≢ l.trade) (λ m a b. a.0.1) ls p.1 p.1, distinct_of ls p.2)
 
-pub position_of : (ls : List Lot) → IsOneSidedByStamp ls → Distinct ls → IsPosition ls
+pub position_of : (ls : List Lot) → IsOneSidedAndAscending ls → Distinct ls → IsPosition ls
 position_of [] c d = tt
 position_of (l ∷ ls) c d = (c.0, all_from (IsLaterOnSameSide l) (λ m. m.trade ≢ l.trade) (IsLaterInPosition l) (λ m a b. ((a.0, b), a.1)) ls (higher_all l ls c.1 c.2) d.0, position_of ls c.2 d.1)
 
@@ -155,7 +155,7 @@ no_later n l = cond (ltb n l.stamp) 0 1
 abbrev beside : Lot → Lot → ℕ
 beside m l = cond (eqb l.stamp m.stamp) (cond (same_lot l m) 0 1) 0
 
-pub one_order : (xs ys : List Lot) → IsOneSidedByStamp xs → Ascends (λ l. l.stamp) ys → ((f : Lot → ℕ) → sum_by f ys ≡ sum_by f xs) → ys ≡ xs
+pub one_order : (xs ys : List Lot) → IsOneSidedAndAscending xs → Ascends (λ l. l.stamp) ys → ((f : Lot → ℕ) → sum_by f ys ≡ sum_by f xs) → ys ≡ xs
 one_order [] [] c a h = refl
 one_order [] (y ∷ ys) c a h = let e = h (λ l. 1) in absurd (omega (arith, e, sum_by-cons (λ (l : Lot). 1) y ys))
 one_order (x ∷ xs) [] c a h = let e = h (λ l. 1) in absurd (omega (arith, e, sum_by-cons (λ (l : Lot). 1) x xs))

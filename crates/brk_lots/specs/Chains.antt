@@ -2,14 +2,14 @@
 use Rattle.std.specs.Prelude.{◌≡◌, ℕ, ◌<◌, ℤ, pos, List, [], ◌∷◌, ◌++◌, filter, map}
 use Rattle.brk_money.specs.declared.side.Side.{Side}
 use Rattle.brk_model.specs.Shares.{Share, Deal, Lot, Touch, signed_by_side, shares_after_deal, lots_of_shares, opened_shares, touches_of_existing_lots}
-use Rattle.brk_model.specs.Tables.{HoldingHistoryRow, row_changes_quantity, lot_rows_of_deals, touch_of_row, holding_history_row}
+use Rattle.brk_model.specs.Tables.{HoldingHistoryRow, row_changes_quantity, holding_history_rows_of_deals, touch_of_row, holding_history_row}
 use Rattle.brk_lots.specs.declared.replay.DealTouch.{DealTouch}
 use Rattle.brk_lots.specs.Lots.{list_in_closing_order}
 
 -- The changes of the lot of the trade `trade` by the deals `ds`, executed in order from the shares
 -- `us`. A deal that does not change the lot has no change in the list.
 abbrev pub changes_of_lot : ℕ → List Deal → List Share → List Touch
-changes_of_lot trade ds us = map touch_of_row (filter row_changes_quantity (lot_rows_of_deals trade us ds))
+changes_of_lot trade ds us = map touch_of_row (filter row_changes_quantity (holding_history_rows_of_deals trade us ds))
 
 -- The quantity `after` has the side of `before` and fewer shares.
 abbrev pub IsNearerToZero : ℤ → ℤ → Type 0

@@ -5,7 +5,7 @@ use Rattle.brk_model.specs.Shares.{Deal, lots_of_shares, touches_of_existing_lot
 use Rattle.brk_lots.specs.declared.lot.Lot.{Lot}
 use Rattle.brk_lots.specs.declared.closing.Closing.{Closing}
 use Rattle.brk_lots.specs.Lots.{shares_of_lots, list_in_closing_order, abstract_lot, abstract_touch}
-use Rattle.brk_lots.specs.Position.{AreOpenedByOtherTrades, AreOpenedBefore}
+use Rattle.brk_lots.specs.Position.{AreOpenedByOtherTrades, AreOpenedBeforeStamp}
 
 -- The value `closing` has the effect of the deal `d` on the shares of the lots `ls`: the touched
 -- lots, the opened lot, the buy value and the sell value.
@@ -23,4 +23,4 @@ pub record IsClosingOfDeal (d : Deal) (ls : List Lot) (closing : Closing) : Type
 pub record IsApplicableClosing (d : Deal) (ls : List Lot) (closing : Closing) : Type 0 where
   pub closes : IsClosingOfDeal d ls closing
   pub fresh : AreOpenedByOtherTrades d.trade ls
-  pub later : AreOpenedBefore d.stamp ls
+  pub later : AreOpenedBeforeStamp d.stamp ls

@@ -15,9 +15,9 @@ IsLaterOnSameSide l m = (side_of_qty m.qty ≡ side_of_qty l.qty) × (l.stamp < 
 
 -- No lot of the list has 0 shares, and each lot after the first has the side of the lot before it
 -- and a later stamp.
-abbrev pub IsOneSidedByStamp : List Lot → Type 0
-IsOneSidedByStamp [] = ⊤
-IsOneSidedByStamp (l ∷ ls) = (l.qty ≢ pos 0) × FirstLotSatisfies (IsLaterOnSameSide l) ls × IsOneSidedByStamp ls
+abbrev pub IsOneSidedAndAscending : List Lot → Type 0
+IsOneSidedAndAscending [] = ⊤
+IsOneSidedAndAscending (l ∷ ls) = (l.qty ≢ pos 0) × FirstLotSatisfies (IsLaterOnSameSide l) ls × IsOneSidedAndAscending ls
 
 -- No two neighbours of the list were opened by the same trade.
 abbrev pub NeighboursDifferInTrade : List Lot → Type 0

@@ -29,5 +29,5 @@ abbrev pub AreOpenedByOtherTrades : ℕ → List Lot → Type 0
 AreOpenedByOtherTrades trade ls = AllByRecursion (λ l. l.trade ≢ trade) ls
 
 -- All lots of the list were opened before the stamp `stamp`.
-abbrev pub AreOpenedBefore : ℕ → List Lot → Type 0
-AreOpenedBefore stamp ls = AllByRecursion (λ l. l.stamp < stamp) ls
+abbrev pub AreOpenedBeforeStamp : ℕ → List Lot → Type 0
+AreOpenedBeforeStamp stamp ls = AllByRecursion (λ l. l.stamp < stamp) ls

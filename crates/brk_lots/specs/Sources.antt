@@ -6,8 +6,8 @@ use Rattle.brk_lots.specs.Position.{IsPositionInAnyOrder}
 
 -- The disk assumption of a source, `told`, holds, and `ls` satisfies `remaining`: these are the
 -- lots that the source still yields.
-abbrev pub IsFaithfulRemainder : Type 0 → (List Lot → Type 0) → List Lot → Type 0
-IsFaithfulRemainder told remaining ls = told × remaining ls
+abbrev pub AreLotsOfFaithfulSource : Type 0 → (List Lot → Type 0) → List Lot → Type 0
+AreLotsOfFaithfulSource told remaining ls = told × remaining ls
 
 -- The lots `ls` form a position, in any order, and their list satisfies `given`: reversed if `lifo`
 -- is true, otherwise as it is.

@@ -19,7 +19,7 @@ closing_values_by_side side closed opened = record { buy_value = buy_value_by_si
 -- `over`, `taken` and `worth` are the result of a trade of `qty` shares at `price` on `side`
 -- against the lots `ls`: the quantity that closed no share, the touched lots, and the buy value and
 -- the sell value of the closed shares.
-pub record IsTradeAgainstLots (side : Side) (qty price : ℕ) (ls : List Lot) (taken : List Touch) (over : ℕ) (worth : Values) : Type 0 where
+pub record IsResultOfTradeAgainstLots (side : Side) (qty price : ℕ) (ls : List Lot) (taken : List Touch) (over : ℕ) (worth : Values) : Type 0 where
   pub left : over + closed_share_count side qty ls ≡ qty
   pub rows : taken ≡ touches_of_first_shares (closed_share_count side qty ls) ls
   pub values : worth ≡ closing_values_by_side side (closed_share_count side qty ls * price) (cost_of_first_shares (closed_share_count side qty ls) ls)

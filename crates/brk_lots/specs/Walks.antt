@@ -32,7 +32,7 @@ cost_of_first_shares k (l ∷ ls) = min k (unsigned_abs l.qty) * l.price + cost_
 -- `over`, `taken` and `cost` are the result of closing the lots `ls` by a trade of `qty` shares on
 -- `side`: the quantity that closed no share, the touched lots, and the value at which the closed
 -- shares were opened.
-pub record IsCloseAgainstLots (side : Side) (qty : ℕ) (ls : List Lot) (taken : List Touch) (over cost : ℕ) : Type 0 where
+pub record IsResultOfClosingLots (side : Side) (qty : ℕ) (ls : List Lot) (taken : List Touch) (over cost : ℕ) : Type 0 where
   pub left : over + closed_share_count side qty ls ≡ qty
   pub rows : taken ≡ touches_of_first_shares (closed_share_count side qty ls) ls
   pub shares : cost ≡ cost_of_first_shares (closed_share_count side qty ls) ls
@@ -56,14 +56,14 @@ quantity_after_touches [] l = l.qty
 quantity_after_touches (t ∷ ts) l = if nat_eq t.lot l.trade then t.after else quantity_after_touches ts l
 
 -- The lot `l` with the quantity `qty`, as a list of one element, or the empty list if `qty` is 0.
-abbrev pub lot_with_quantity : ℤ → Lot → List Lot
-lot_with_quantity qty l = if int_eq qty (pos 0) then [] else record { trade = l.trade; price = l.price; qty = qty; stamp = l.stamp } ∷ []
+abbrev pub lot_with_nonzero_quantity : ℤ → Lot → List Lot
+lot_with_nonzero_quantity qty l = if int_eq qty (pos 0) then [] else record { trade = l.trade; price = l.price; qty = qty; stamp = l.stamp } ∷ []
 
 -- The rest of the lot `l` after the touches, as a list of one element, or the empty list if they
 -- close it.
-abbrev pub rest_after_touches : List Touch → Lot → List Lot
-rest_after_touches ts l = lot_with_quantity (quantity_after_touches ts l) l
+abbrev pub rest_of_lot_after_touches : List Touch → Lot → List Lot
+rest_of_lot_after_touches ts l = lot_with_nonzero_quantity (quantity_after_touches ts l) l
 
 -- The rests of the lots `ls` after the touches, without the lots that these close.
 abbrev pub lots_after_touches : List Touch → List Lot → List Lot
-lots_after_touches ts ls = flat_map (rest_after_touches ts) ls
+lots_after_touches ts ls = flat_map (rest_of_lot_after_touches ts) ls

@@ -28,7 +28,7 @@ pub fn closes_lots(side: Side, held: i64) -> bool
 
 /// Returns the effect of a trade that closes no lot: it opens a lot of all its shares
 /// (Trade-Result). Both values are 0.
-pub fn open_without_closing(
+pub fn open_lot_without_closing(
     alloc: Global,
     side: Side,
     qty: Qty,
@@ -50,7 +50,7 @@ pub fn open_without_closing(
 }
 
 /// Returns the buy value and the sell value of an order that would close no share: both are 0.
-pub fn zero_values() -> Values
+pub fn zero_closing_values() -> Values
     ensures { (d : model.Deal) (ls : List Lot) → IsPositionInAnyOrder ls → closes_lots d.side (lot_quantity_sum ls) ≡ false → result ≡ closing_values_of_deal d (shares_of_lots ls) }
 {
     Values {

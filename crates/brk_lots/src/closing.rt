@@ -6,11 +6,11 @@ ghost use Rattle.brk_lots.specs.declared.lot.Lot.{Lot};
 ghost use Rattle.brk_lots.specs.Lots.{abstract_lot, shares_of_lots};
 ghost use Rattle.brk_lots.specs.Position.{AreOpenedByOtherTrades};
 ghost use Rattle.brk_lots.specs.Closing.{IsClosingOfDeal};
-ghost use Rattle.brk_lots.specs.Sources.{YieldsPosition, IsFaithfulRemainder};
+ghost use Rattle.brk_lots.specs.Sources.{YieldsPosition, AreLotsOfFaithfulSource};
 
 use crate::lot::{Lot, Touch, signed_qty};
 use crate::source::LotSource;
-use crate::walk::close_source_lots;
+use crate::walk::close_lots_with_values;
 use brk_money::{Fault, Id, Price, Qty, Side, Stamp, Wide};
 use std::alloc::Global;
 
@@ -67,7 +67,7 @@ pub fn close<L: LotSource>(
     ensures leads { L.leads source.old source.new }
     // Over the lots of a position from the trade's end, it is the effect of the trade on the shares
     // of that position.
-    ensures closing { IfOk result (λ closing. (ls : List Lot) (lifo : Bool) → YieldsPosition (IsFaithfulRemainder (L.reads_faithfully source.new) (L.remaining source.old)) lifo ls → AreOpenedByOtherTrades trade ls →
+    ensures closing { IfOk result (λ closing. (ls : List Lot) (lifo : Bool) → YieldsPosition (AreLotsOfFaithfulSource (L.reads_faithfully source.new) (L.remaining source.old)) lifo ls → AreOpenedByOtherTrades trade ls →
         IsClosingOfDeal (record { trade = trade; side = side; qty = qty; price = price; stamp = stamp; is_lifo = lifo }) ls closing) }
     // Both values are at least 0, and at most that of the quantity at the greatest price.
     ensures bought { IfOk result (λ closing. (pos 0 ≤ℤ closing.buy_value) × (closing.buy_value ≤ℤ pos (qty * greatest_price))) }
@@ -75,16 +75,16 @@ pub fn close<L: LotSource>(
     ensures asked { IfOk result (λ closing. L.asked source.new ≤ L.asked source.old + vec_len closing.touched + 1) }
     // Also if it fails, it has requested at most one lot a share, and at most one lot more than the
     // trade touches.
-    ensures few { L.asked source.new ≤ L.asked source.old + qty }
-    ensures most { (ls : List Lot) (lifo : Bool) → YieldsPosition (IsFaithfulRemainder (L.reads_faithfully source.new) (L.remaining source.old)) lifo ls → AreOpenedByOtherTrades trade ls →
+    ensures requests_at_most_shares { L.asked source.new ≤ L.asked source.old + qty }
+    ensures requests_at_most_touched { (ls : List Lot) (lifo : Bool) → YieldsPosition (AreLotsOfFaithfulSource (L.reads_faithfully source.new) (L.remaining source.old)) lifo ls → AreOpenedByOtherTrades trade ls →
         L.asked source.new ≤ L.asked source.old + length (touches_of_existing_lots (record { trade = trade; side = side; qty = qty; price = price; stamp = stamp; is_lifo = lifo }) (shares_of_lots ls)) + 1 }
     // Every fault of the source is returned, unchanged.
     ensures faulted { IfOk result (λ closing. L.faulted source.new ≡ L.faulted source.old) }
     ensures fault { IfErr result (λ fault. (fault ≡ Fault.Memory) ⊎ ((before : L) × L.fails before fault source.new)) }
-    ensures rest { (ls : List Lot) → IsFaithfulRemainder (L.reads_faithfully source.new) (L.remaining source.old) ls → (n : ℕ) × L.remaining source.new (drop n ls) }
+    ensures remaining { (ls : List Lot) → AreLotsOfFaithfulSource (L.reads_faithfully source.new) (L.remaining source.old) ls → (n : ℕ) × L.remaining source.new (drop n ls) }
 {
     let mut touched = Vec::new(alloc);
-    let taken = close_source_lots(source, side, qty, price, &mut touched)?;
+    let taken = close_lots_with_values(source, side, qty, price, &mut touched)?;
     Ok(Closing {
         touched,
         opened: opened_lot(side, taken.left, trade, price, stamp),

@@ -2,7 +2,7 @@ ghost use Rattle.std.specs.Prelude.{◌≡◌, ◌++◌, ◌+◌, ◌<◌, ◌�
 ghost use Rattle.brk_lots.specs.declared.lot.Lot.{Lot};
 ghost use Rattle.brk_lots.specs.Lots.{list_in_closing_order};
 ghost use Rattle.brk_lots.specs.Position.{IsPositionInAnyOrder};
-ghost use Rattle.brk_lots.specs.Walks.{touches_of_first_shares, lots_after_touches, lot_with_quantity};
+ghost use Rattle.brk_lots.specs.Walks.{touches_of_first_shares, lots_after_touches, lot_with_nonzero_quantity};
 
 use crate::lot::{Lot, Touch};
 
@@ -10,7 +10,7 @@ use crate::lot::{Lot, Touch};
 // closes that lot too if `qty` is 0. Returns the index of the first remaining lot.
 fn remove_front_lots(lots: &mut Vec<Lot>, last: usize, qty: i64) -> usize
     requires { last < vec_len lots.old }
-    ensures left { (lot : Lot) → lot ≡ slice_index_or lots.old.items last lot → drop result lots.new.items ≡ lot_with_quantity qty lot ++ drop (last + 1) lots.old.items }
+    ensures left { (lot : Lot) → lot ≡ slice_index_or lots.old.items last lot → drop result lots.new.items ≡ lot_with_nonzero_quantity qty lot ++ drop (last + 1) lots.old.items }
     ensures within { result ≤ vec_len lots.new }
     ensures capacity { vec_capacity lots.new ≡ vec_capacity lots.old }
     ensures len { vec_len lots.new ≡ vec_len lots.old }
@@ -26,7 +26,7 @@ fn remove_front_lots(lots: &mut Vec<Lot>, last: usize, qty: i64) -> usize
 // removes that lot too if `qty` is 0.
 fn remove_back_lots(lots: &mut Vec<Lot>, last: usize, qty: i64)
     requires { last < vec_len lots.old }
-    ensures left { (lot : Lot) → lot ≡ slice_index_or lots.old.items last lot → lots.new.items ≡ take last lots.old.items ++ lot_with_quantity qty lot }
+    ensures left { (lot : Lot) → lot ≡ slice_index_or lots.old.items last lot → lots.new.items ≡ take last lots.old.items ++ lot_with_nonzero_quantity qty lot }
     ensures capacity { vec_capacity lots.new ≡ vec_capacity lots.old }
     ensures len { vec_len lots.new ≤ vec_len lots.old }
     ensures within { last ≤ vec_len lots.new }

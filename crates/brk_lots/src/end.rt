@@ -68,5 +68,5 @@ impl LotSource for PositionEnd<'_> {
 
     ghost transitive = { λ _ _ _ _ _. tt };
 
-    ghost told_before = { λ _ _ _ _. tt };
+    ghost faithful_before = { λ _ _ _ _. tt };
 }

@@ -1,7 +1,7 @@
 ghost use Rattle.std.specs.Prelude.{◌≡◌, ◌≢◌, ◌<◌, IsTrue, IsPermutation, ◌↔◌};
 ghost use Rattle.std.specs.List.{All};
 ghost use Rattle.std.specs.List.Sorted.{IsNonDecreasingBy};
-ghost use Rattle.brk_lots.specs.Order.{IsOneSidedByStamp, NeighboursDifferInTrade, FirstLotSatisfies, IsLaterOnSameSide};
+ghost use Rattle.brk_lots.specs.Order.{IsOneSidedAndAscending, NeighboursDifferInTrade, FirstLotSatisfies, IsLaterOnSameSide};
 ghost use Rattle.brk_lots.specs.Position.{IsPosition};
 
 use crate::lot::{Lot, are_same_side};
@@ -19,8 +19,8 @@ fn next_lot_is_later_on_same_side(lot: &Lot, rest: &[Lot]) -> bool
 
 // Returns true if no lot has 0 shares, all lots have one side, and their stamps are strictly
 // ascending.
-fn is_one_sided_by_stamp(lots: &[Lot]) -> bool
-    ensures { IsTrue result ↔ IsOneSidedByStamp lots.now }
+fn is_one_sided_and_ascending(lots: &[Lot]) -> bool
+    ensures { IsTrue result ↔ IsOneSidedAndAscending lots.now }
 {
     for (i, lot) in lots.iter().enumerate() {
         if lot.qty == 0 || !next_lot_is_later_on_same_side(lot, &lots[i + 1..]) {
@@ -53,7 +53,7 @@ fn neighbours_differ_in_trade(lots: &[Lot]) -> bool
 }
 
 // Sorts the lots by the trade that opened them.
-fn sort_by_trade(lots: &mut [Lot])
+fn sort_lots_by_trade(lots: &mut [Lot])
     ensures permutation { IsPermutation lots.old lots.new }
     ensures order { IsNonDecreasingBy (λ l. l.trade) lots.new }
 {
@@ -61,7 +61,7 @@ fn sort_by_trade(lots: &mut [Lot])
 }
 
 // Sorts the lots by stamp.
-fn sort_by_stamp(lots: &mut [Lot])
+fn sort_lots_by_stamp(lots: &mut [Lot])
     ensures permutation { IsPermutation lots.old lots.new }
     ensures order { IsNonDecreasingBy (λ l. l.stamp) lots.new }
 {
@@ -73,19 +73,19 @@ fn sort_by_stamp(lots: &mut [Lot])
 // restores their order since the stamps are strictly ascending.
 pub(crate) fn is_position(lots: &mut [Lot]) -> bool
     ensures lots { lots.new ≡ lots.old }
-    ensures lawful { IsTrue result ↔ IsPosition lots.old }
+    ensures position { IsTrue result ↔ IsPosition lots.old }
 {
-    if !is_one_sided_by_stamp(lots) {
+    if !is_one_sided_and_ascending(lots) {
         return false;
     }
-    sort_by_trade(lots);
+    sort_lots_by_trade(lots);
     let distinct = neighbours_differ_in_trade(lots);
-    sort_by_stamp(lots);
+    sort_lots_by_stamp(lots);
     distinct
 }
 
 // Returns true if all lots were opened before the stamp and by other trades.
-pub(crate) fn all_precede_trade(lots: &[Lot], trade: Id, stamp: Stamp) -> bool
+pub(crate) fn all_lots_precede_trade(lots: &[Lot], trade: Id, stamp: Stamp) -> bool
     ensures { IsTrue result ↔ All (λ l. (l.trade ≢ trade) × (l.stamp < stamp)) lots.now }
 {
     lots.iter()

@@ -25,7 +25,7 @@ pub fn replayed_lots_match_their_deals()
 /// before it ended and ends strictly nearer to 0, and the last ends at the current quantity. Proves
 /// also that the lot of a deal's trade has the shares that the deal opens.
 pub fn lot_histories_are_chains()
-    ensures life { (deals : List Deal) (trade : ℕ) → AreAscendingDeals deals → IsLotHistory (changes_of_lot trade deals []) (lot_quantity (replay deals) trade) }
+    ensures history { (deals : List Deal) (trade : ℕ) → AreAscendingDeals deals → IsLotHistory (changes_of_lot trade deals []) (lot_quantity (replay deals) trade) }
     ensures opened { (d : Deal) (ls : List Lot) → IsPosition ls → AreOpenedByOtherTrades d.trade ls →
         lot_quantity (shares_after_deal (shares_of_lots ls) d) d.trade ≡ signed_by_side d.side (d.qty - closed_share_count_of_deal d (shares_of_lots ls)) }
 {}

@@ -17,7 +17,7 @@ pub mod source;
 pub mod values;
 mod walk;
 
-pub use against::{closes_lots, open_without_closing, zero_values};
+pub use against::{closes_lots, open_lot_without_closing, zero_closing_values};
 pub use closing::{Closing, close};
 pub use deal::Deal;
 pub use end::PositionEnd;
@@ -25,4 +25,4 @@ pub use lot::{Lot, Touch, are_same_side};
 pub use position::Position;
 pub use replay::DealTouch;
 pub use source::LotSource;
-pub use values::{Values, estimate_values};
+pub use values::{Values, estimate_closing_values};

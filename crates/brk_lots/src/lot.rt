@@ -45,7 +45,7 @@ impl Lot {
     }
 
     // Returns the quantity with `shares` shares less, with the sign of the lot.
-    fn quantity_without(&self, shares: u32) -> i64
+    fn quantity_after_closing(&self, shares: u32) -> i64
         requires { shares ≤ unsigned_abs self.now.qty }
         ensures { result ≡ signed_by_side (side_of_qty self.now.qty) (unsigned_abs self.now.qty - shares) }
     {
@@ -57,14 +57,14 @@ impl Lot {
     }
 
     // Returns the change of the lot that closes `shares` of its shares.
-    pub(crate) fn touch(&self, shares: u32) -> Touch
+    pub(crate) fn touch_closing_shares(&self, shares: u32) -> Touch
         requires { shares ≤ unsigned_abs self.now.qty }
         ensures { result ≡ record { lot = self.now.trade; before = self.now.qty; after = signed_by_side (side_of_qty self.now.qty) (unsigned_abs self.now.qty - shares) } }
     {
         Touch {
             lot: self.trade,
             before: self.qty,
-            after: self.quantity_without(shares),
+            after: self.quantity_after_closing(shares),
         }
     }
 }

@@ -1,13 +1,13 @@
 ghost use Rattle.std.specs.Prelude.{◌≡◌, ℕ, List, [], map, IsTrue, ◌↔◌, OnOk, IfErr, MatchOption};
 ghost use Rattle.brk_model.specs.Shares as model;
 ghost use Rattle.brk_lots.specs.Lots.{shares_of_lots, list_in_closing_order, abstract_lot};
-ghost use Rattle.brk_lots.specs.Position.{IsPosition, IsPositionInAnyOrder, AreOpenedByOtherTrades, AreOpenedBefore};
+ghost use Rattle.brk_lots.specs.Position.{IsPosition, IsPositionInAnyOrder, AreOpenedByOtherTrades, AreOpenedBeforeStamp};
 ghost use Rattle.brk_lots.specs.Closing.{IsApplicableClosing};
 
 use crate::closing::Closing;
 use crate::cutting::apply_touches_to_lots;
 use crate::end::PositionEnd;
-use crate::lawful::{all_precede_trade, is_position};
+use crate::lawful::{all_lots_precede_trade, is_position};
 use crate::lot::Lot;
 use crate::source::LotSource;
 use brk_money::{Fault, Id, Stamp};
@@ -62,7 +62,7 @@ impl Position {
     /// Returns the lots, the oldest first.
     pub fn lots(&self) -> &[Lot]
         ensures lots { result.now ≡ self.now }
-        ensures lawful { IsPosition self.now }
+        ensures position { IsPosition self.now }
         ensures walk { IsPositionInAnyOrder self.now }
     {
         &self.lots[self.first..]
@@ -71,9 +71,9 @@ impl Position {
     /// Returns true if a trade with this id and stamp can be applied to the position: it opened
     /// none of the lots, and its stamp is later than all of theirs.
     pub fn accepts_trade(&self, trade: Id, stamp: Stamp) -> bool
-        ensures { IsTrue result ↔ (AreOpenedByOtherTrades trade self.now × AreOpenedBefore stamp self.now) }
+        ensures { IsTrue result ↔ (AreOpenedByOtherTrades trade self.now × AreOpenedBeforeStamp stamp self.now) }
     {
-        all_precede_trade(self.lots(), trade, stamp)
+        all_lots_precede_trade(self.lots(), trade, stamp)
     }
 
     /// Applies the closing of this position by a trade, from either end. The position then has the

@@ -70,13 +70,13 @@ impl Position {
         ensures fault { IfErr result (λ fault. fault ≡ Fault.Memory) }
     {
         let mut rows = Vec::new(alloc);
-        Position::replay_with(alloc, deals, &mut rows)
+        Position::replay_with_lot_changes(alloc, deals, &mut rows)
     }
 
     /// Returns the position after deals of distinct trades with ascending stamps. Appends to
     /// `rows`, deal by deal, the lots that it touched, from its end, and the lot that it opened.
     /// Fails with `Memory` only.
-    pub fn replay_with(
+    pub fn replay_with_lot_changes(
         alloc: Global,
         deals: &[Deal],
         rows: &mut Vec<DealTouch>,

@@ -7,7 +7,7 @@ use crate::lot::Touch;
 use brk_money::Fault;
 
 // A receiver of the lots that a walk touches, one at a time.
-pub(crate) trait Rows {
+pub(crate) trait TouchReceiver {
     // Relates the receiver to the rows that were added.
     ghost holds: { Self → List Touch → Type 0 };
 
@@ -21,7 +21,7 @@ pub(crate) trait Rows {
 }
 
 // Stores the rows.
-impl Rows for Vec<Touch> {
+impl TouchReceiver for Vec<Touch> {
     ghost holds = { λ kept rows. kept.items ≡ rows };
 
     ghost fails = { λ fault. fault ≡ Memory };
@@ -35,9 +35,9 @@ impl Rows for Vec<Touch> {
 
 // Stores no rows, and never allocates.
 #[derive(Drop)]
-pub(crate) struct NoRows;
+pub(crate) struct TouchDiscarder;
 
-impl Rows for NoRows {
+impl TouchReceiver for TouchDiscarder {
     ghost holds = { λ _ _. Unit {0} };
 
     ghost fails = { λ _. ⊥ };

@@ -38,7 +38,7 @@ pub trait LotSource {
         // No returned lot is of 0 shares, even if the disk assumption fails.
         ensures some_shares { IfOk result (λ given. IfSome given (λ lot. lot.qty ≢ pos 0)) }
         ensures fault { IfErr result (λ fault. fails self.old fault self.new) }
-        ensures kept { IfErr result (λ _. (ls : List Lot) → remaining self.old ls → remaining self.new ls) }
+        ensures unchanged { IfErr result (λ _. (ls : List Lot) → remaining self.old ls → remaining self.new ls) }
         ensures asked { asked self.new ≤ asked self.old + 1 }
         ensures faulted { IfOk result (λ given. faulted self.new ≡ faulted self.old) };
 
@@ -49,5 +49,5 @@ pub trait LotSource {
     ghost transitive: { (p q r : Self) → leads p q → leads q r → leads p r };
 
     /// If reads met the disk assumption up to a later state, they did up to an earlier one.
-    ghost told_before: { (p q : Self) → leads p q → reads_faithfully q → reads_faithfully p };
+    ghost faithful_before: { (p q : Self) → leads p q → reads_faithfully q → reads_faithfully p };
 }

@@ -4,12 +4,12 @@ ghost use Rattle.brk_model.specs.Shares.{touches_of_existing_lots};
 ghost use Rattle.brk_lots.specs.declared.lot.Lot.{Lot};
 ghost use Rattle.brk_lots.specs.Lots.{shares_of_lots};
 ghost use Rattle.brk_lots.specs.Position.{AreOpenedByOtherTrades};
-ghost use Rattle.brk_lots.specs.Sources.{YieldsPosition, IsFaithfulRemainder};
+ghost use Rattle.brk_lots.specs.Sources.{YieldsPosition, AreLotsOfFaithfulSource};
 ghost use Rattle.brk_lots.specs.Values.{closing_values_by_side, closing_values_of_deal};
 
-use crate::rows::NoRows;
+use crate::rows::TouchDiscarder;
 use crate::source::LotSource;
-use crate::walk::close_source_lots;
+use crate::walk::close_lots_with_values;
 use brk_money::{Amount, Fault, Price, Qty, Side};
 
 /// Buy value and sell value of the shares that an order would close, in cents.
@@ -45,7 +45,7 @@ pub(crate) fn closing_values(side: Side, traded: u64, opened: u64) -> Values
 ///
 /// It requests at most one lot more than it would touch, also if it fails. Fails with a fault of
 /// the source only.
-pub fn estimate_values<L: LotSource>(
+pub fn estimate_closing_values<L: LotSource>(
     source: &mut L,
     side: Side,
     qty: Qty,
@@ -55,19 +55,19 @@ pub fn estimate_values<L: LotSource>(
     // Over the lots of a position from the order's end, these are the values of exactly the shares
     // that a trade at that price would close.
     ensures values { IfOk result (λ values. (ls : List Lot) (trade stamp : ℕ) (lifo : Bool) →
-        YieldsPosition (IsFaithfulRemainder (L.reads_faithfully source.new) (L.remaining source.old)) lifo ls →
+        YieldsPosition (AreLotsOfFaithfulSource (L.reads_faithfully source.new) (L.remaining source.old)) lifo ls →
         values ≡ closing_values_of_deal (record { trade = trade; side = side; qty = qty; price = price; stamp = stamp; is_lifo = lifo }) (shares_of_lots ls)) }
     // It requests at most one lot a share, and at most one lot more than a trade that opened none
     // of them would touch, also if it fails.
-    ensures few { L.asked source.new ≤ L.asked source.old + qty }
-    ensures asked { (ls : List Lot) (trade stamp : ℕ) (lifo : Bool) →
-        YieldsPosition (IsFaithfulRemainder (L.reads_faithfully source.new) (L.remaining source.old)) lifo ls → AreOpenedByOtherTrades trade ls →
+    ensures requests_at_most_shares { L.asked source.new ≤ L.asked source.old + qty }
+    ensures requests_at_most_touched { (ls : List Lot) (trade stamp : ℕ) (lifo : Bool) →
+        YieldsPosition (AreLotsOfFaithfulSource (L.reads_faithfully source.new) (L.remaining source.old)) lifo ls → AreOpenedByOtherTrades trade ls →
         L.asked source.new ≤ L.asked source.old + length (touches_of_existing_lots (record { trade = trade; side = side; qty = qty; price = price; stamp = stamp; is_lifo = lifo }) (shares_of_lots ls)) + 1 }
     // Every fault of the source is returned, unchanged.
     ensures faulted { IfOk result (λ values. L.faulted source.new ≡ L.faulted source.old) }
     ensures fault { IfErr result (λ fault. (before : L) × L.fails before fault source.new) }
-    ensures rest { (ls : List Lot) → IsFaithfulRemainder (L.reads_faithfully source.new) (L.remaining source.old) ls → (n : ℕ) × L.remaining source.new (drop n ls) }
+    ensures remaining { (ls : List Lot) → AreLotsOfFaithfulSource (L.reads_faithfully source.new) (L.remaining source.old) ls → (n : ℕ) × L.remaining source.new (drop n ls) }
 {
-    let taken = close_source_lots(source, side, qty, price, &mut NoRows)?;
+    let taken = close_lots_with_values(source, side, qty, price, &mut TouchDiscarder)?;
     Ok(taken.values)
 }

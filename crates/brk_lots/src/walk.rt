@@ -3,12 +3,12 @@ ghost use Rattle.brk_model.specs.Limits.{greatest_price};
 ghost use Rattle.brk_lots.specs.declared.lot.Lot.{Lot};
 ghost use Rattle.brk_lots.specs.declared.lot.Touch.{Touch};
 ghost use Rattle.brk_lots.specs.Position.{IsPositionInAnyOrder};
-ghost use Rattle.brk_lots.specs.Sources.{IsFaithfulRemainder};
-ghost use Rattle.brk_lots.specs.Values.{IsTradeAgainstLots};
-ghost use Rattle.brk_lots.specs.Walks.{IsCloseAgainstLots, closed_share_count, touches_of_first_shares};
+ghost use Rattle.brk_lots.specs.Sources.{AreLotsOfFaithfulSource};
+ghost use Rattle.brk_lots.specs.Values.{IsResultOfTradeAgainstLots};
+ghost use Rattle.brk_lots.specs.Walks.{IsResultOfClosingLots, closed_share_count, touches_of_first_shares};
 
 use crate::lot::are_same_side;
-use crate::rows::Rows;
+use crate::rows::TouchReceiver;
 use crate::source::LotSource;
 use crate::values::{Values, closing_values};
 use brk_money::{Fault, Price, Qty, Side};
@@ -16,40 +16,40 @@ use brk_money::{Fault, Price, Qty, Side};
 // The quantity that closed no share, and the value at which the closed shares were opened, in
 // cents.
 #[derive(Drop)]
-struct Walked {
+struct CloseCost {
     left: u32,
     cost: u64,
 }
 
 // The quantity that closed no share, and the buy value and the sell value of the closed shares.
 #[derive(Drop)]
-pub(crate) struct Taken {
+pub(crate) struct CloseValues {
     pub left: u32,
     pub values: Values,
 }
 
 // Closes lots of the other side until the quantity is used up, and adds each touched lot to `rows`.
 // Returns the quantity that closed no share and the value at which the closed shares were opened.
-fn walk<L: LotSource, R: Rows>(
+fn close_lots_with_cost<L: LotSource, R: TouchReceiver>(
     source: &mut L,
     side: Side,
     qty: Qty,
     rows: &mut R,
-) -> Result<Walked, Fault>
+) -> Result<CloseCost, Fault>
     requires { R.holds rows.old [] }
     ensures leads { L.leads source.old source.new }
     // The rows that it passed, each for one request, are those of the lots.
     ensures taken { IfOk result (λ walked. (touched : List Touch) × R.holds rows.new touched × (L.asked source.new ≤ L.asked source.old + length touched + 1)
-        × ((ls : List Lot) → IsFaithfulRemainder (L.reads_faithfully source.new) (L.remaining source.old) ls → IsPositionInAnyOrder ls → IsCloseAgainstLots side qty ls touched walked.left walked.cost)) }
+        × ((ls : List Lot) → AreLotsOfFaithfulSource (L.reads_faithfully source.new) (L.remaining source.old) ls → IsPositionInAnyOrder ls → IsResultOfClosingLots side qty ls touched walked.left walked.cost)) }
     ensures left { IfOk result (λ walked. walked.left ≤ qty) }
     ensures limit { IfOk result (λ walked. walked.cost ≤ qty * greatest_price) }
     // It requests at most one lot a share, and at most one lot more than it passes rows of these
     // lots, also if it fails.
-    ensures few { L.asked source.new ≤ L.asked source.old + qty }
-    ensures most { (ls : List Lot) → IsFaithfulRemainder (L.reads_faithfully source.new) (L.remaining source.old) ls → IsPositionInAnyOrder ls → L.asked source.new ≤ L.asked source.old + length (touches_of_first_shares (closed_share_count side qty ls) ls) + 1 }
+    ensures requests_at_most_shares { L.asked source.new ≤ L.asked source.old + qty }
+    ensures requests_at_most_touched { (ls : List Lot) → AreLotsOfFaithfulSource (L.reads_faithfully source.new) (L.remaining source.old) ls → IsPositionInAnyOrder ls → L.asked source.new ≤ L.asked source.old + length (touches_of_first_shares (closed_share_count side qty ls) ls) + 1 }
     ensures faulted { OnOk result (L.faulted source.new ≡ L.faulted source.old) }
     ensures fault { IfErr result (λ fault. R.fails fault ⊎ ((before : L) × L.fails before fault source.new)) }
-    ensures rest { (ls : List Lot) → IsFaithfulRemainder (L.reads_faithfully source.new) (L.remaining source.old) ls → (n : ℕ) × L.remaining source.new (drop n ls) }
+    ensures remaining { (ls : List Lot) → AreLotsOfFaithfulSource (L.reads_faithfully source.new) (L.remaining source.old) ls → (n : ℕ) × L.remaining source.new (drop n ls) }
 {
     let mut left = qty.get();
     let mut cost: u64 = 0;
@@ -61,41 +61,41 @@ fn walk<L: LotSource, R: Rows>(
             break;
         }
         let shares = lot.share_count().min(u64::from(left)) as u32;
-        rows.add(lot.touch(shares))?;
+        rows.add(lot.touch_closing_shares(shares))?;
         cost += u64::from(shares) * u64::from(lot.price.get());
         left -= shares;
     }
-    Ok(Walked { left, cost })
+    Ok(CloseCost { left, cost })
 }
 
 // Closes lots of the other side until the quantity is used up, and adds each touched lot to `rows`.
 // Returns the quantity that closed no share and the values of the closed shares.
-pub(crate) fn close_source_lots<L: LotSource, R: Rows>(
+pub(crate) fn close_lots_with_values<L: LotSource, R: TouchReceiver>(
     source: &mut L,
     side: Side,
     qty: Qty,
     price: Price,
     rows: &mut R,
-) -> Result<Taken, Fault>
+) -> Result<CloseValues, Fault>
     requires { R.holds rows.old [] }
     ensures leads { L.leads source.old source.new }
     // The rows that it passed, each for one request, are those of the lots.
     ensures taken { IfOk result (λ taken. (touched : List Touch) × R.holds rows.new touched × (L.asked source.new ≤ L.asked source.old + length touched + 1)
-        × ((ls : List Lot) → IsFaithfulRemainder (L.reads_faithfully source.new) (L.remaining source.old) ls → IsPositionInAnyOrder ls → IsTradeAgainstLots side qty price ls touched taken.left taken.values)) }
+        × ((ls : List Lot) → AreLotsOfFaithfulSource (L.reads_faithfully source.new) (L.remaining source.old) ls → IsPositionInAnyOrder ls → IsResultOfTradeAgainstLots side qty price ls touched taken.left taken.values)) }
     ensures bought { IfOk result (λ taken. taken.values.buy_value ≤ qty * greatest_price) }
     ensures sold { IfOk result (λ taken. taken.values.sell_value ≤ qty * greatest_price) }
     // It requests at most one lot a share, and at most one lot more than it passes rows of these
     // lots, also if it fails.
-    ensures few { L.asked source.new ≤ L.asked source.old + qty }
-    ensures most { (ls : List Lot) → IsFaithfulRemainder (L.reads_faithfully source.new) (L.remaining source.old) ls → IsPositionInAnyOrder ls → L.asked source.new ≤ L.asked source.old + length (touches_of_first_shares (closed_share_count side qty ls) ls) + 1 }
+    ensures requests_at_most_shares { L.asked source.new ≤ L.asked source.old + qty }
+    ensures requests_at_most_touched { (ls : List Lot) → AreLotsOfFaithfulSource (L.reads_faithfully source.new) (L.remaining source.old) ls → IsPositionInAnyOrder ls → L.asked source.new ≤ L.asked source.old + length (touches_of_first_shares (closed_share_count side qty ls) ls) + 1 }
     ensures faulted { OnOk result (L.faulted source.new ≡ L.faulted source.old) }
     ensures fault { IfErr result (λ fault. R.fails fault ⊎ ((before : L) × L.fails before fault source.new)) }
-    ensures rest { (ls : List Lot) → IsFaithfulRemainder (L.reads_faithfully source.new) (L.remaining source.old) ls → (n : ℕ) × L.remaining source.new (drop n ls) }
+    ensures remaining { (ls : List Lot) → AreLotsOfFaithfulSource (L.reads_faithfully source.new) (L.remaining source.old) ls → (n : ℕ) × L.remaining source.new (drop n ls) }
 {
-    let walked = walk(source, side, qty, rows)?;
+    let walked = close_lots_with_cost(source, side, qty, rows)?;
     let closed = qty.get() - walked.left;
     let traded = u64::from(closed) * u64::from(price.get());
-    Ok(Taken {
+    Ok(CloseValues {
         left: walked.left,
         values: closing_values(side, traded, walked.cost),
     })

@@ -55,20 +55,20 @@ calls_of_rows batch (moment ∷ moments) [] = []
 
 -- The answers to a row and those after it: its refusal if the row is malformed, otherwise the next
 -- of `answers` if there is one, followed by what `more` returns for the remaining answers.
-abbrev pub answers_from_row_on : {C : Type 0} → ReadResult C → (List Answer → List Answer) → List Answer → List Answer
-answers_from_row_on (Err refusal) more answers = Refused refusal ∷ more answers
-answers_from_row_on (Ok command) more (answer ∷ answers) = answer ∷ more answers
-answers_from_row_on (Ok command) more [] = more []
+abbrev pub answers_to_row_and_rest : {C : Type 0} → ReadResult C → (List Answer → List Answer) → List Answer → List Answer
+answers_to_row_and_rest (Err refusal) more answers = Refused refusal ∷ more answers
+answers_to_row_and_rest (Ok command) more (answer ∷ answers) = answer ∷ more answers
+answers_to_row_and_rest (Ok command) more [] = more []
 
 -- The answers to the rows in sequence: the refusal of a malformed row, otherwise the next of
 -- `answers`.
 abbrev pub answers_interleaved_with_refusals : {C : Type 0} → (Fields → ReadResult C) → List Fields → List Answer → List Answer
 answers_interleaved_with_refusals form [] answers = []
-answers_interleaved_with_refusals form (row ∷ rows) answers = answers_from_row_on (form row) (answers_interleaved_with_refusals form rows) answers
+answers_interleaved_with_refusals form (row ∷ rows) answers = answers_to_row_and_rest (form row) (answers_interleaved_with_refusals form rows) answers
 
 -- The rows of the batch have exactly these answers and lead from `base` to `after`. Malformed rows
 -- are refused; the others are executed in sequence by `step`, with one clock reading each.
-pub record AreAnswered {B C : Type 0} (form : Fields → ReadResult C) (step : RowStep B C) (batch : Text) (base : B) (moments : List ℕ)
+pub record RowsAreAnswered {B C : Type 0} (form : Fields → ReadResult C) (step : RowStep B C) (batch : Text) (base : B) (moments : List ℕ)
     (rows : List Fields) (answers : List Answer) (after : B) : Type 0 where
   pub replies : List Answer
   pub one_each : length moments ≡ length (well_formed_rows_from form 1 rows)

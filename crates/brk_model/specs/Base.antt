@@ -91,8 +91,8 @@ abbrev pub tax_rate_with_id_in_list : List TaxRate → ℕ → Option TaxRate
 tax_rate_with_id_in_list tax_rates id = find (λ r. r.id == id) tax_rates
 
 -- The first tax rate record of `base` with the id `id`; none if there is no such record.
-abbrev pub tax_rate_of_id : Base → ℕ → Option TaxRate
-tax_rate_of_id base id = tax_rate_with_id_in_list base.tax_rates id
+abbrev pub tax_rate_record_with_id : Base → ℕ → Option TaxRate
+tax_rate_record_with_id base id = tax_rate_with_id_in_list base.tax_rates id
 
 -- The first trade of `base` with the id `id`; none if there is no such trade.
 abbrev pub trade_with_id : Base → ℕ → Option Trade
@@ -106,8 +106,8 @@ charge_for_type_and_tier base kind tier = find (λ c. is_same_trade_type c.kind 
 -- The first commission band of `base` for the tier `tier`, the trade type `kind` and the exchange
 -- `exchange` whose bounds contain the quantity `qty`, both bounds included; none if there is no
 -- such band.
-abbrev pub commission_band_for : Base → ℕ → TradeType → Text → ℕ → Option Band
-commission_band_for base tier kind exchange qty =
+abbrev pub commission_band_for_quantity : Base → ℕ → TradeType → Text → ℕ → Option Band
+commission_band_for_quantity base tier kind exchange qty =
     find (λ b. (b.tier == tier) && is_same_trade_type b.kind kind && bytes_eq b.exchange exchange && nat_le b.from_qty qty && nat_le qty b.to_qty) base.bands
 
 -- The id of the broker of the account `account` in the list `accounts`; 0 if the list has no such

@@ -10,33 +10,33 @@ use Rattle.brk_model.specs.Base.{Base}
 use Rattle.brk_model.specs.Forms.{ReadResult}
 use Rattle.brk_model.specs.Commands.{Command, Answer, Refused}
 use Rattle.brk_model.specs.Keyed.{keyed_step}
-use Rattle.brk_model.specs.Answers.{Fields, RowStep, AreAnswered}
-use Rattle.brk_model.specs.Input.{input_text, BeginsWithRecords, HasExactlyRecords, IsBatchName, IsEndRecord, batch_header, end_record_after}
+use Rattle.brk_model.specs.Answers.{Fields, RowStep, RowsAreAnswered}
+use Rattle.brk_model.specs.Input.{input_text, BeginsWithRecords, HasExactlyRecords, IsBatchName, IsEndRecord, batch_header, correct_end_record}
 use Rattle.brk_model.specs.Lines.{answer_lines_from, batch_end_line}
 
 -- The ways in which a batch ends: complete, without a header, without an end record, or with a
 -- wrong end record.
-pub data Ending : Type 0 where
-  EndedWell : Ending
-  BadHeader : Ending
-  NoEnd : Ending
-  BadEnd : Ending
+pub data BatchEnding : Type 0 where
+  CorrectEnd : BatchEnding
+  BadHeader : BatchEnding
+  NoEnd : BatchEnding
+  BadEnd : BatchEnding
 
 -- The result of a batch: the bytes that answer it, the base after it, how it ends, and the number
 -- of rows that were decided.
-pub record Batch (B : Type 0) : Type 0 where
+pub record BatchResult (B : Type 0) : Type 0 where
   pub text : Text
   pub base : B
-  pub ending : Ending
+  pub ending : BatchEnding
   pub rows : ℕ
 
 -- The batch name is well-formed, none of the rows is an end record, and the rows have exactly these
 -- answers, one each, and lead from `base` to `after`.
-pub record AreDecided {B C : Type 0} (form : Fields → ReadResult C) (step : RowStep B C) (name : Text) (base : B) (moments : List ℕ)
+pub record BatchRowsAreDecided {B C : Type 0} (form : Fields → ReadResult C) (step : RowStep B C) (name : Text) (base : B) (moments : List ℕ)
     (rows : List Fields) (answers : List Answer) (after : B) : Type 0 where
   pub named : IsBatchName name
   pub rows_only : AllByRecursion (λ row. ¬ (IsEndRecord row)) rows
-  pub answered : AreAnswered form step name base moments rows answers after
+  pub answered : RowsAreAnswered form step name base moments rows answers after
   pub each : length answers ≡ length rows
 
 -- The text has no record, or its first record is no header. An unknown text always satisfies this.
@@ -54,34 +54,34 @@ EndsWithoutEndRecord text name rows answers told =
 
 -- The text has, after its header and `rows`, an end record that is not the correct one for the
 -- number of `rows`. An unknown text always satisfies this.
-abbrev pub EndsWithWrongRecord : Option Text → Text → List Fields → Type 0
-EndsWithWrongRecord text name rows =
-    (last : Fields) × IsEndRecord last × (last ≡ end_record_after (length rows) → ⊥) × BeginsWithRecords text (batch_header name ∷ (rows ++ (last ∷ [])))
+abbrev pub EndsWithWrongEndRecord : Option Text → Text → List Fields → Type 0
+EndsWithWrongEndRecord text name rows =
+    (last : Fields) × IsEndRecord last × (last ≡ correct_end_record (length rows) → ⊥) × BeginsWithRecords text (batch_header name ∷ (rows ++ (last ∷ [])))
 
--- The records of the text, the answers `told` of the rows and the output `out` are those of a batch
+-- The records of the text, the answers `told` of the rows and the output `removed` are those of a batch
 -- with a header and this ending. It is false for `BadHeader`.
-abbrev pub MatchesEnding : Option Text → Ending → Text → List Fields → List Answer → List Answer → Text → Type 0
-MatchesEnding text EndedWell name rows answers told out =
-    BeginsWithRecords text (batch_header name ∷ (rows ++ (end_record_after (length rows) ∷ []))) × (told ≡ answers) × (out ≡ answer_lines_from 1 answers ++ batch_end_line answers)
+abbrev pub MatchesEnding : Option Text → BatchEnding → Text → List Fields → List Answer → List Answer → Text → Type 0
+MatchesEnding text CorrectEnd name rows answers told out =
+    BeginsWithRecords text (batch_header name ∷ (rows ++ (correct_end_record (length rows) ∷ []))) × (told ≡ answers) × (out ≡ answer_lines_from 1 answers ++ batch_end_line answers)
 MatchesEnding text NoEnd name rows answers told out = EndsWithoutEndRecord text name rows answers told × (out ≡ answer_lines_from 1 told)
-MatchesEnding text BadEnd name rows answers told out = EndsWithWrongRecord text name rows × (told ≡ answers) × (out ≡ answer_lines_from 1 answers)
+MatchesEnding text BadEnd name rows answers told out = EndsWithWrongEndRecord text name rows × (told ≡ answers) × (out ≡ answer_lines_from 1 answers)
 MatchesEnding text BadHeader name rows answers told out = ⊥
 
 -- The batch is the result of a text with a header: its output, its ending, its base and its number
 -- of decided rows follow from the rows of the text and their answers, executed by `step` from
 -- `base` on with the clock readings `moments`.
-pub record IsAnswered {B C : Type 0} (form : Fields → ReadResult C) (step : RowStep B C) (base : B) (moments : List ℕ) (text : Option Text) (batch : Batch B) : Type 0 where
+pub record IsResultOfTextWithHeader {B C : Type 0} (form : Fields → ReadResult C) (step : RowStep B C) (base : B) (moments : List ℕ) (text : Option Text) (batch : BatchResult B) : Type 0 where
   pub name : Text
   pub rows : List Fields
   pub answers : List Answer
   pub told : List Answer
-  pub settled : AreDecided form step name base moments rows answers batch.base
+  pub settled : BatchRowsAreDecided form step name base moments rows answers batch.base
   pub ends : MatchesEnding text batch.ending name rows answers told batch.text
   pub counted : batch.rows ≡ length told
 
 -- The batch is the result of a text without a header: no clock reading is used, the base is
 -- unchanged, the output is empty, and no row was decided.
-pub record IsUnanswered {B : Type 0} (base : B) (moments : List ℕ) (text : Option Text) (batch : Batch B) : Type 0 where
+pub record IsResultOfTextWithoutHeader {B : Type 0} (base : B) (moments : List ℕ) (text : Option Text) (batch : BatchResult B) : Type 0 where
   pub headless : HasNoHeader text
   pub ending : batch.ending ≡ BadHeader
   pub asked : moments ≡ []
@@ -91,9 +91,9 @@ pub record IsUnanswered {B : Type 0} (base : B) (moments : List ℕ) (text : Opt
 
 -- The batch is the result of the bytes `input` executed by `step` from `base` on, with `moments` as
 -- the clock readings of the executed rows, one each.
-abbrev pub IsResultOfBatch : {B C : Type 0} → (Fields → ReadResult C) → RowStep B C → B → List ℕ → Text → Batch B → Type 0
+abbrev pub IsResultOfBatch : {B C : Type 0} → (Fields → ReadResult C) → RowStep B C → B → List ℕ → Text → BatchResult B → Type 0
 IsResultOfBatch form step base moments input batch =
-    IsAnswered form step base moments (Some (input_text input)) batch ⊎ IsUnanswered base moments (Some (input_text input)) batch
+    IsResultOfTextWithHeader form step base moments (Some (input_text input)) batch ⊎ IsResultOfTextWithoutHeader base moments (Some (input_text input)) batch
 
 -- The answer to the command of a row under its key at the clock reading `now`, and the base after
 -- it.

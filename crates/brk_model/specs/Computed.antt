@@ -10,7 +10,7 @@ use Rattle.brk_model.specs.Commands.{Answer, Refused}
 use Rattle.brk_model.specs.Answers.{Fields, RowStep, RowCall, answer_to_row_call, well_formed_rows_from, calls_of_rows, answers_interleaved_with_refusals}
 use Rattle.brk_model.specs.Input.{input_text}
 use Rattle.brk_model.specs.Lines.{answer_lines_from, batch_end_line}
-use Rattle.brk_model.specs.Batch.{Batch, Ending, EndedWell, BadHeader, NoEnd, BadEnd, step_of_row}
+use Rattle.brk_model.specs.Batch.{BatchResult, BatchEnding, CorrectEnd, BadHeader, NoEnd, BadEnd, step_of_row}
 
 -- The type of a run: a list of answers, with the base after them.
 abbrev pub AnswersAndBase : Type 0 → Type 0
@@ -72,48 +72,48 @@ has_correct_row_count n _ = false
 
 -- The result of a batch with these answers and this ending: its output is one line for each answer,
 -- without an `end` line.
-abbrev pub batch_without_end_line : {B : Type 0} → AnswersAndBase B → Ending → Batch B
+abbrev pub batch_without_end_line : {B : Type 0} → AnswersAndBase B → BatchEnding → BatchResult B
 batch_without_end_line run ending = record { text = answer_lines_from 1 run.0; base = run.1; ending = ending; rows = length run.0 }
 
 -- The result of a complete batch with these answers: its output is one line for each answer and the
 -- `end` line.
-abbrev pub complete_batch : {B : Type 0} → AnswersAndBase B → Batch B
-complete_batch run = record { text = answer_lines_from 1 run.0 ++ batch_end_line run.0; base = run.1; ending = EndedWell; rows = length run.0 }
+abbrev pub complete_batch : {B : Type 0} → AnswersAndBase B → BatchResult B
+complete_batch run = record { text = answer_lines_from 1 run.0 ++ batch_end_line run.0; base = run.1; ending = CorrectEnd; rows = length run.0 }
 
 -- The result of a batch without an end record: one more row than these answers is refused with
 -- `BadText` and not executed.
-abbrev pub batch_with_refused_last_row : {B : Type 0} → AnswersAndBase B → Batch B
+abbrev pub batch_with_refused_last_row : {B : Type 0} → AnswersAndBase B → BatchResult B
 batch_with_refused_last_row run = batch_without_end_line (run.0 ++ Refused BadText ∷ [], run.1) NoEnd
 
 -- The result of a batch whose rows are followed by the end record `last`: complete if this record
 -- is correct, otherwise with the ending `BadEnd`.
-abbrev pub batch_with_end_record : {B C : Type 0} → (Fields → ReadResult C) → RowStep B C → Text → B → List ℕ → List Fields → Fields → Batch B
+abbrev pub batch_with_end_record : {B C : Type 0} → (Fields → ReadResult C) → RowStep B C → Text → B → List ℕ → List Fields → Fields → BatchResult B
 batch_with_end_record form step name base moments rows last =
     if has_correct_row_count (length rows) last then complete_batch (answers_and_base_of_rows form step name base moments rows)
     else batch_without_end_line (answers_and_base_of_rows form step name base moments rows) BadEnd
 
 -- The result of a batch without an end record: its last row is refused and not executed.
-abbrev pub batch_without_end_record : {B C : Type 0} → (Fields → ReadResult C) → RowStep B C → Text → B → List ℕ → List Fields → Batch B
+abbrev pub batch_without_end_record : {B C : Type 0} → (Fields → ReadResult C) → RowStep B C → Text → B → List ℕ → List Fields → BatchResult B
 batch_without_end_record form step name base moments [] = batch_without_end_line (answers_and_base_of_rows form step name base moments []) NoEnd
 batch_without_end_record form step name base moments (row ∷ rows) = batch_with_refused_last_row (answers_and_base_of_rows form step name base moments (take (length rows) (row ∷ rows)))
 
 -- The result of a batch with these rows, with or without an end record.
-abbrev pub batch_of_rows : {B C : Type 0} → (Fields → ReadResult C) → RowStep B C → Text → B → List ℕ → RowsAndEndRecord → Batch B
+abbrev pub batch_of_rows : {B C : Type 0} → (Fields → ReadResult C) → RowStep B C → Text → B → List ℕ → RowsAndEndRecord → BatchResult B
 batch_of_rows form step name base moments (rows, Some last) = batch_with_end_record form step name base moments rows last
 batch_of_rows form step name base moments (rows, None) = batch_without_end_record form step name base moments rows
 
 -- The result of a batch with the records `rows` after its header; without a batch name nothing is
 -- executed and the ending is `BadHeader`.
-abbrev pub batch_of_named_rows : {B C : Type 0} → (Fields → ReadResult C) → RowStep B C → Option Text → B → List ℕ → List Fields → Batch B
-batch_of_named_rows form step None base moments rows = record { text = []; base = base; ending = BadHeader; rows = 0 }
-batch_of_named_rows form step (Some name) base moments rows = batch_of_rows form step name base moments (split_at_end_record rows)
+abbrev pub batch_with_optional_name : {B C : Type 0} → (Fields → ReadResult C) → RowStep B C → Option Text → B → List ℕ → List Fields → BatchResult B
+batch_with_optional_name form step None base moments rows = record { text = []; base = base; ending = BadHeader; rows = 0 }
+batch_with_optional_name form step (Some name) base moments rows = batch_of_rows form step name base moments (split_at_end_record rows)
 
 -- The result of a batch with these records, of which the first must be a header.
-abbrev pub batch_of_records : {B C : Type 0} → (Fields → ReadResult C) → RowStep B C → B → List ℕ → List Fields → Batch B
-batch_of_records form step base moments [] = batch_of_named_rows form step None base moments []
-batch_of_records form step base moments (header ∷ rows) = batch_of_named_rows form step (batch_name_of_header header) base moments rows
+abbrev pub batch_of_records : {B C : Type 0} → (Fields → ReadResult C) → RowStep B C → B → List ℕ → List Fields → BatchResult B
+batch_of_records form step base moments [] = batch_with_optional_name form step None base moments []
+batch_of_records form step base moments (header ∷ rows) = batch_with_optional_name form step (batch_name_of_header header) base moments rows
 
 -- The result of a batch with the bytes `input`, executed from `base` on with the clock readings
 -- `moments`.
-unfoldable pub batch_of_input : Base → List ℕ → Text → Batch Base
+unfoldable pub batch_of_input : Base → List ℕ → Text → BatchResult Base
 batch_of_input base moments input = batch_of_records parse_row step_of_row base moments (records default_config (input_text input))

@@ -159,8 +159,8 @@ is_well_formed_charge_row c = is_tier c.tier && nat_le c.amount greatest_charge
 
 -- True if the tier and the exchange of the band are well-formed, and both bounds are within the
 -- limits of the schema `schema`.
-abbrev pub has_well_formed_bounds : Schema → Band → Bool
-has_well_formed_bounds schema b =
+abbrev pub has_well_formed_tier_exchange_and_bounds : Schema → Band → Bool
+has_well_formed_tier_exchange_and_bounds schema b =
     is_tier b.tier
     && is_exchange b.exchange
     && is_quantity_in_schema schema b.from_qty
@@ -170,7 +170,7 @@ has_well_formed_bounds schema b =
 -- well-formed in the schema `schema`, and its lower bound is at most its upper bound.
 abbrev pub is_well_formed_band_row : Schema → Band → Bool
 is_well_formed_band_row schema b =
-    has_well_formed_bounds schema b
+    has_well_formed_tier_exchange_and_bounds schema b
     && nat_le b.from_qty b.to_qty
     && nat_le b.rate greatest_commission_rate
 
@@ -316,7 +316,7 @@ trade_ids_of_cash_rows rows = flat_map (λ r. option_to_list r.trade) rows
 
 -- True if the tables that the schema `schema` lacks have no rows: CASH_MOVE, and SETTLE_RULE.
 abbrev pub lacks_rows_of_later_schemas : Schema → Tables → Bool
-lacks_rows_of_later_schemas schema t = (schema.has_moves || (length t.moves == 0)) && (schema.has_rule || is_none t.rule)
+lacks_rows_of_later_schemas schema t = (schema.has_cash_move_table || (length t.moves == 0)) && (schema.has_settle_rule_table || is_none t.rule)
 
 -- True if no two bands of the list share a quantity for one tier, trade type and exchange.
 abbrev pub bands_are_disjoint : List Band → Bool

@@ -40,5 +40,5 @@ abbrev pub IsEndRecord : Fields → Type 0
 IsEndRecord row = field_at row 0 ≡ Some (codes "end")
 
 -- The correct end record of a batch of `n` rows: the word `end` and the number.
-abbrev pub end_record_after : ℕ → Fields
-end_record_after n = codes "end" ∷ decimal n ∷ []
+abbrev pub correct_end_record : ℕ → Fields
+correct_end_record n = codes "end" ∷ decimal n ∷ []

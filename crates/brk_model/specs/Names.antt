@@ -24,6 +24,6 @@ abbrev pub AccountOfMovementExists : Base → Movement → Type 0
 AccountOfMovementExists base m = is_some (account_with_id base m.account) ≡ true
 
 -- The ids of the trades are `n`, `n + 1` and so on, in the sequence of the list.
-abbrev pub AreNumberedFrom : ℕ → List Trade → Type 0
-AreNumberedFrom n [] = ⊤
-AreNumberedFrom n (t ∷ ts) = (t.id ≡ n) × AreNumberedFrom (n + 1) ts
+abbrev pub TradesAreNumberedFrom : ℕ → List Trade → Type 0
+TradesAreNumberedFrom n [] = ⊤
+TradesAreNumberedFrom n (t ∷ ts) = (t.id ≡ n) × TradesAreNumberedFrom (n + 1) ts

@@ -10,7 +10,7 @@ use Rattle.brk_money.specs.declared.status.Status.{Status}
 use Rattle.brk_money.specs.declared.status.Status.TheVariants.{Submitted, Pending}
 use Rattle.brk_money.specs.declared.trade_type.TradeType.{TradeType}
 use Rattle.brk_model.specs.Records.{Customer, Permission, Executor, Trade}
-use Rattle.brk_model.specs.Base.{Base, completed_trades, customer_with_id, charge_for_type_and_tier, commission_band_for, customer_id_of_account, tier_of_account, exchange_of_security, last_price, tax_rate_sum_of_customer, is_taxable_account}
+use Rattle.brk_model.specs.Base.{Base, completed_trades, customer_with_id, charge_for_type_and_tier, commission_band_for_quantity, customer_id_of_account, tier_of_account, exchange_of_security, last_price, tax_rate_sum_of_customer, is_taxable_account}
 use Rattle.brk_model.specs.Shares.{Share, Deal, buy_value, sell_value, realised_gain}
 use Rattle.brk_model.specs.Derived.{shares_of_position, postings_of_base, balance_of_account, holdings_market_value}
 use Rattle.brk_model.specs.Commands.{Order, Estimate, Reply, Ordered}
@@ -22,15 +22,15 @@ executor_has_identity e first last tax_id = bytes_eq e.first_name first && bytes
 
 -- True if the executor `e` is the customer `c`, or if one of the `permissions` has the executor's
 -- first name, last name and tax id (Trade-Order, frame 2).
-abbrev pub permitted : Customer → List Permission → Executor → Bool
-permitted c permissions e =
+abbrev pub is_customer_or_has_permission : Customer → List Permission → Executor → Bool
+is_customer_or_has_permission c permissions e =
     executor_has_identity e c.first_name c.last_name c.tax_id || list_any (λ p. executor_has_identity e p.first_name p.last_name p.tax_id) permissions
 
 -- True if the executor `e` is the customer of the account `account` or has a permission for it;
 -- also true if the customer does not exist.
 abbrev pub may_order_for_account : Base → ℕ → Executor → Bool
 may_order_for_account base account e =
-    option_map_or (λ c. permitted c (filter (λ p. p.account == account) base.permissions) e) (customer_with_id base (customer_id_of_account base account)) true
+    option_map_or (λ c. is_customer_or_has_permission c (filter (λ p. p.account == account) base.permissions) e) (customer_with_id base (customer_id_of_account base account)) true
 
 -- The price, in cents, that the order `o` asks for, or the last price of its security if its type
 -- has no price (Trade-Order, frame 3); 0 if that security does not exist.
@@ -41,7 +41,7 @@ requested_price base o = unwrap_or (price_of_order o.order_type) (last_price bas
 -- the trade type `kind`; none if no commission band applies.
 abbrev pub commission_by_band : Base → ℕ → TradeType → Text → ℕ → ℕ → Option ℕ
 commission_by_band base account kind symbol qty price =
-    option_map (λ b. commission b.rate qty price) (commission_band_for base (tier_of_account base account) kind (exchange_of_security base symbol) qty)
+    option_map (λ b. commission b.rate qty price) (commission_band_for_quantity base (tier_of_account base account) kind (exchange_of_security base symbol) qty)
 
 -- The tax, in cents, on the gain of the deal `d` against the position `shares` of the account
 -- `account`; 0 if the account is not taxable.
@@ -86,8 +86,8 @@ executor_name e = e.first_name ++ 32 ∷ e.last_name
 
 -- The trade that the order `o` creates at `stamp`, with its estimated charge and commission, tax 0
 -- and no price. Its id is the number of trades of `base` plus 1.
-abbrev pub ordered_trade : Base → ℕ → Order → Trade
-ordered_trade base stamp o = record {
+abbrev pub trade_of_order : Base → ℕ → Order → Trade
+trade_of_order base stamp o = record {
   id = length base.trades + 1;
   account = o.account;
   kind = trade_type_of_order o.order_type;
@@ -108,7 +108,7 @@ ordered_trade base stamp o = record {
 
 -- The base `base` with the trade of the order `o` added at the end.
 abbrev pub base_after_order : Base → ℕ → Order → Base
-base_after_order base stamp o = record base { trades = base.trades ++ ordered_trade base stamp o ∷ [] }
+base_after_order base stamp o = record base { trades = base.trades ++ trade_of_order base stamp o ∷ [] }
 
 -- The reply to the order `o` that is accepted at `stamp`: the stamp, the trade's id, its first
 -- status and the estimate.

@@ -52,13 +52,13 @@ read_charge (kind ∷ tier ∷ amount ∷ []) =
 read_charge _ = Err BadText
 
 -- The two quantities if the first is at most the second, otherwise the refusal `BadQty`.
-abbrev pub ordered_bounds : ℕ × ℕ → ReadResult (ℕ × ℕ)
-ordered_bounds bounds = if nat_le bounds.0 bounds.1 then Ok bounds else Err BadQty
+abbrev pub bounds_if_ascending : ℕ × ℕ → ReadResult (ℕ × ℕ)
+bounds_if_ascending bounds = if nat_le bounds.0 bounds.1 then Ok bounds else Err BadQty
 
 -- The least and the greatest quantity of a band that two texts parse as; the refusal `BadQty` if
 -- one is malformed, or if the least is greater than the greatest.
 abbrev pub read_quantity_bounds : Text → Text → ReadResult (ℕ × ℕ)
-read_quantity_bounds low high = check_read_value ordered_bounds (Ok (λ a b. (a, b)) ⊛ read_quantity low ⊛ read_quantity high)
+read_quantity_bounds low high = check_read_value bounds_if_ascending (Ok (λ a b. (a, b)) ⊛ read_quantity low ⊛ read_quantity high)
 
 -- The commission band that six fields parse as (tier, type, exchange, least quantity, greatest
 -- quantity, rate), or the refusal of a malformed field.

@@ -17,8 +17,8 @@ deal_of_result stamp price t = record { trade = t.id; side = side_of_trade_type 
 
 -- The cash type of the settlement of the trade `t` at its completion (SE_CASH_TYPE): `Cash Account`
 -- for a cash trade, otherwise `Margin`.
-abbrev pub first_cash_type : Trade → Text
-first_cash_type t = if t.is_cash then codes "Cash Account" else codes "Margin"
+abbrev pub cash_type_at_completion : Trade → Text
+cash_type_at_completion t = if t.is_cash then codes "Cash Account" else codes "Margin"
 
 -- The name of the cash row of a trade with the type `kind` and the quantity `qty` in a security with
 -- the name `security`: the name of the type, a space, the quantity, the text `words`, and
@@ -33,8 +33,8 @@ cash_row_name words base t = cash_row_name_from_parts words t.kind t.qty (securi
 
 -- The name of the cash row of the trade `t` at its completion (CM_NAME; CT_NAME in the first
 -- schema); empty if the trade is not a cash trade.
-abbrev pub first_cash_name : Base → Trade → Text
-first_cash_name base t = if t.is_cash then cash_row_name (codes " shares of ") base t else []
+abbrev pub cash_row_name_at_completion : Base → Trade → Text
+cash_row_name_at_completion base t = if t.is_cash then cash_row_name (codes " shares of ") base t else []
 
 -- The trade `t` after its completion at `price`: with the price, the commission, tax, cash type and
 -- cash row name that `base` determines, and with the status `Completed` at `stamp`. The commission
@@ -44,8 +44,8 @@ completed_trade base stamp price t = trade_with_status_change stamp Completed (r
   price = Some price;
   commission = unwrap_or (commission_by_band base t.account t.kind t.symbol t.qty price) 0;
   tax = tax_on_deal base t.account (deal_of_result stamp price t) (shares_of_position (completed_trades base) t.account t.symbol);
-  cash_type = first_cash_type t;
-  cash_name = first_cash_name base t;
+  cash_type = cash_type_at_completion t;
+  cash_name = cash_row_name_at_completion base t;
 })
 
 -- The base `base` in which the trade with the id of `t` is completed at `price` with the stamp

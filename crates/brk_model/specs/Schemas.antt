@@ -9,9 +9,9 @@ pub record Schema : Type 0 where
   pub number : ℕ
   -- True if cash rows are numbered and may have no trade (CASH_MOVE); otherwise each belongs to a
   -- trade (CASH_TRANSACTION).
-  pub has_moves : Bool
+  pub has_cash_move_table : Bool
   -- True if the table of the settlement day exists (SETTLE_RULE).
-  pub has_rule : Bool
+  pub has_settle_rule_table : Bool
   -- The greatest quantity of a trade, a request and a commission band, in shares (T_QTY, TR_QTY,
   -- CR_FROM_QTY, CR_TO_QTY).
   pub greatest_qty : ℕ
@@ -21,14 +21,14 @@ pub record Schema : Type 0 where
 -- The first schema: cash rows of trades only, no settlement day, quantities of at most 999,999
 -- shares and summaries of at most 999,999,999.
 abbrev pub first_schema : Schema
-first_schema = record { number = 1; has_moves = false; has_rule = false; greatest_qty = 999999; greatest_summary = 999999999 }
+first_schema = record { number = 1; has_cash_move_table = false; has_settle_rule_table = false; greatest_qty = 999999; greatest_summary = 999999999 }
 
 -- The second schema: cash rows of trades and of movements, no settlement day, quantities of at most
 -- 999,999 shares and summaries of at most 999,999,999.
 abbrev pub second_schema : Schema
-second_schema = record { number = 2; has_moves = true; has_rule = false; greatest_qty = 999999; greatest_summary = 999999999 }
+second_schema = record { number = 2; has_cash_move_table = true; has_settle_rule_table = false; greatest_qty = 999999; greatest_summary = 999999999 }
 
 -- The third schema, which a desk uses: cash rows of trades and of movements, the settlement day,
 -- quantities of at most 9,999,999 shares and summaries of at most 9,999,999,999.
 abbrev pub third_schema : Schema
-third_schema = record { number = 3; has_moves = true; has_rule = true; greatest_qty = greatest_qty; greatest_summary = greatest_summary }
+third_schema = record { number = 3; has_cash_move_table = true; has_settle_rule_table = true; greatest_qty = greatest_qty; greatest_summary = greatest_summary }

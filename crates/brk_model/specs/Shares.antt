@@ -66,8 +66,8 @@ abbrev pub replay : List Deal → List Share
 replay deals = fold shares_after_deal [] deals
 
 -- The sum of the prices at which the shares that the deal `d` closes were opened, in cents.
-abbrev pub closed_value_at_opening : Deal → List Share → ℕ
-closed_value_at_opening d shares = sum_by (λ share. share.price) (closed_shares d shares)
+abbrev pub closed_value_at_opening_prices : Deal → List Share → ℕ
+closed_value_at_opening_prices d shares = sum_by (λ share. share.price) (closed_shares d shares)
 
 -- The number of shares that the deal `d` closes, times its price, in cents.
 abbrev pub closed_value_at_deal_price : Deal → List Share → ℕ
@@ -76,7 +76,7 @@ closed_value_at_deal_price d shares = closed_share_count_of_deal d shares * d.pr
 -- The buy value, in cents, of the shares that the deal `d` closes (buy_value of Trade-Order and
 -- Trade-Result): their value at opening prices for a sale, and at the deal's price for a purchase.
 abbrev pub buy_value_for_side : Side → Deal → List Share → ℕ
-buy_value_for_side Sell d shares = closed_value_at_opening d shares
+buy_value_for_side Sell d shares = closed_value_at_opening_prices d shares
 buy_value_for_side Buy d shares = closed_value_at_deal_price d shares
 
 -- The buy value, in cents, of the shares of the position `shares` that the deal `d` closes.
@@ -87,7 +87,7 @@ buy_value d shares = buy_value_for_side d.side d shares
 -- Trade-Result): their value at the deal's price for a sale, and at opening prices for a purchase.
 abbrev pub sell_value_for_side : Side → Deal → List Share → ℕ
 sell_value_for_side Sell d shares = closed_value_at_deal_price d shares
-sell_value_for_side Buy d shares = closed_value_at_opening d shares
+sell_value_for_side Buy d shares = closed_value_at_opening_prices d shares
 
 -- The sell value, in cents, of the shares of the position `shares` that the deal `d` closes.
 unfoldable pub sell_value : Deal → List Share → ℕ

@@ -10,7 +10,7 @@ use Rattle.brk_model.specs.Lists.{sort_by, sort_by_key, total_by, is_text_less}
 use Rattle.brk_model.specs.Tables.{Tables, AccountRow, HoldingRow, MoveRow}
 use Rattle.brk_model.specs.Rows.{nonnegative_cents_text}
 use Rattle.brk_model.specs.Joins.{account_row_with_id, move_rows_of_account}
-use Rattle.brk_model.specs.PositionView.{asset_total}
+use Rattle.brk_model.specs.PositionView.{market_value_of_account_row}
 
 -- The text padded with spaces on its right to `places` bytes; unchanged if it is longer.
 abbrev pub left_aligned_text : ℕ → Text → Text
@@ -42,14 +42,14 @@ abbrev pub cash_row_total : List MoveRow → ℤ
 cash_row_total rows = total_by (λ row. row.amount) rows
 
 -- The HOLDING rows of the account `account`, sorted by symbol, then by stamp, both ascending.
-abbrev pub lot_rows_of_account : Tables → ℕ → List HoldingRow
-lot_rows_of_account tables account =
+abbrev pub holding_rows_of_account : Tables → ℕ → List HoldingRow
+holding_rows_of_account tables account =
     sort_by (λ a b. is_text_less a.symbol b.symbol || (bytes_eq a.symbol b.symbol && nat_lt a.stamp b.stamp))
     (filter (λ row. row.account == account) tables.holdings)
 
 -- The statement line of a cash row: its day, its amount and its name.
-abbrev pub text_line_of_cash_row : MoveRow → Text
-text_line_of_cash_row row = day_text (day_of row.stamp) ++ 32 ∷ right_aligned_text 22 (cents_text row.amount) ++ 32 ∷ row.name
+abbrev pub cash_row_line : MoveRow → Text
+cash_row_line row = day_text (day_of row.stamp) ++ 32 ∷ right_aligned_text 22 (cents_text row.amount) ++ 32 ∷ row.name
 
 -- The statement line of a lot: its symbol, the trade that opened it, its quantity and its price.
 abbrev pub lot_line : HoldingRow → Text
@@ -64,11 +64,11 @@ statement_lines tables a from to rows =
     ∷ a.name
     ∷ (codes "From " ++ day_text from ++ codes " to " ++ day_text to)
     ∷ amount_line (codes "Opening") (a.opening +ℤ cash_row_total (cash_move_rows_before_day from rows))
-    ∷ map text_line_of_cash_row (cash_move_rows_within_days from to rows)
+    ∷ map cash_row_line (cash_move_rows_within_days from to rows)
     ++ amount_line (codes "Closing") (a.opening +ℤ cash_row_total (cash_move_rows_before_day from rows) +ℤ cash_row_total (cash_move_rows_within_days from to rows))
-    ∷ map lot_line (lot_rows_of_account tables a.id)
-    ++ amount_line (codes "Holdings") (asset_total tables a)
-    ∷ (codes "Cash rows " ++ decimal (length (cash_move_rows_within_days from to rows)) ++ codes ", lots " ++ decimal (length (lot_rows_of_account tables a.id)))
+    ∷ map lot_line (holding_rows_of_account tables a.id)
+    ++ amount_line (codes "Holdings") (market_value_of_account_row tables a)
+    ∷ (codes "Cash rows " ++ decimal (length (cash_move_rows_within_days from to rows)) ++ codes ", lots " ++ decimal (length (holding_rows_of_account tables a.id)))
     ∷ []
 
 -- The text of the lines, each followed by a line feed.

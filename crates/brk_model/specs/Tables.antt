@@ -233,14 +233,14 @@ row_changes_quantity row = changes_lot_quantity (touch_of_row row)
 
 -- One HOLDING_HISTORY row of the lot `lot` for each deal, whether or not it changes the lot; the
 -- deals are applied in sequence, from the position `shares` on.
-abbrev pub lot_rows_of_deals : ℕ → List Share → List Deal → List HoldingHistoryRow
-lot_rows_of_deals lot shares [] = []
-lot_rows_of_deals lot shares (d ∷ deals) = holding_history_row d.trade (touch_of_lot lot d shares) ∷ lot_rows_of_deals lot (shares_after_deal shares d) deals
+abbrev pub holding_history_rows_of_deals : ℕ → List Share → List Deal → List HoldingHistoryRow
+holding_history_rows_of_deals lot shares [] = []
+holding_history_rows_of_deals lot shares (d ∷ deals) = holding_history_row d.trade (touch_of_lot lot d shares) ∷ holding_history_rows_of_deals lot (shares_after_deal shares d) deals
 
 -- The HOLDING_HISTORY rows of the lot that the completed trade `t` opened: one for each deal of its
 -- position that changes the lot's quantity.
 abbrev pub holding_history_rows_of_lot : List Trade → Trade → List HoldingHistoryRow
-holding_history_rows_of_lot done t = filter row_changes_quantity (lot_rows_of_deals t.id [] (deals_of_position done t.account t.symbol))
+holding_history_rows_of_lot done t = filter row_changes_quantity (holding_history_rows_of_deals t.id [] (deals_of_position done t.account t.symbol))
 
 -- The HOLDING_SUMMARY row of the account `account` in the symbol `symbol`; no row if its quantity
 -- is 0.
@@ -269,11 +269,11 @@ numbered_move_rows n (p ∷ posted) = move_row n p ∷ numbered_move_rows (n + 1
 -- The CASH_MOVE rows of the postings `posted`, sorted by stamp and numbered from 1; none if
 -- `schema` does not number cash rows.
 abbrev pub move_rows : Schema → List Posting → List MoveRow
-move_rows schema posted = if schema.has_moves then numbered_move_rows 1 (postings_sorted_by_stamp posted) else []
+move_rows schema posted = if schema.has_cash_move_table then numbered_move_rows 1 (postings_sorted_by_stamp posted) else []
 
 -- The CASH_TRANSACTION rows of the cash trades of `done`; none if `schema` numbers cash rows.
 abbrev pub cash_rows : Schema → List Account → List Trade → List CashRow
-cash_rows schema accounts done = if schema.has_moves then [] else map (cash_row accounts) (cash_trades done)
+cash_rows schema accounts done = if schema.has_cash_move_table then [] else map (cash_row accounts) (cash_trades done)
 
 -- The tables without rows, as they are before any command is accepted.
 abbrev pub tables_without_rows : Tables

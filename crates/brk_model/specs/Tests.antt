@@ -14,7 +14,7 @@ use Rattle.brk_money.specs.declared.refusal.Limit.TheVariants as limit
 use Rattle.brk_money.specs.declared.status.Status.TheVariants.{Pending, Submitted}
 use Rattle.brk_model.specs.Limits.{greatest_amount, greatest_summary, greatest_tax_rate, greatest_id, most_accounts_per_customer}
 use Rattle.brk_model.specs.Records.{Band, Trade, Movement}
-use Rattle.brk_model.specs.Base.{Base, broker_with_id, customer_with_id, account_with_id, security_with_symbol, tax_rate_of_id, trade_with_id, charge_for_type_and_tier, commission_band_for, broker_id_of_account, tier_of_account, exchange_of_security, tax_rate_sum_of_customer, completed_trades, has_status}
+use Rattle.brk_model.specs.Base.{Base, broker_with_id, customer_with_id, account_with_id, security_with_symbol, tax_rate_record_with_id, trade_with_id, charge_for_type_and_tier, commission_band_for_quantity, broker_id_of_account, tier_of_account, exchange_of_security, tax_rate_sum_of_customer, completed_trades, has_status}
 use Rattle.brk_model.specs.Tables.{last_status_of_trade}
 use Rattle.brk_model.specs.Derived.{due_day_of_completion_stamp, holding_summary_quantity, postings_of_base, balance_of_account, commission_total_of_broker}
 use Rattle.brk_model.specs.Orders.{may_order_for_account}
@@ -69,7 +69,7 @@ charge_exists_check base o = (is_none (charge_for_type_and_tier base (trade_type
 
 -- The check that refuses with `NoRate` if no commission band of `base` applies to the order `o`.
 abbrev pub commission_band_exists_check : Base → Order → RefusalCheck
-commission_band_exists_check base o = (is_none (commission_band_for base (tier_of_account base o.account) (trade_type_of_order o.order_type) (exchange_of_security base o.symbol) o.qty), NoRate)
+commission_band_exists_check base o = (is_none (commission_band_for_quantity base (tier_of_account base o.account) (trade_type_of_order o.order_type) (exchange_of_security base o.symbol) o.qty), NoRate)
 
 -- The checks of the order `o`, or of its estimate, in sequence: account, security, permission,
 -- charge and commission band.
@@ -89,7 +89,7 @@ status_check right t = (not right, WrongStatus (last_status_of_trade t))
 abbrev pub checks_of_result : Base → Base → ℕ → Trade → List RefusalCheck
 checks_of_result base after stamp t =
     status_check (has_status Submitted t) t
-    ∷ (is_none (commission_band_for base (tier_of_account base t.account) t.kind (exchange_of_security base t.symbol) t.qty), NoRate)
+    ∷ (is_none (commission_band_for_quantity base (tier_of_account base t.account) t.kind (exchange_of_security base t.symbol) t.qty), NoRate)
     ∷ (nat_lt greatest_summary (nat_abs (holding_summary_quantity (completed_trades after) t.account t.symbol)), Range limit.Summary)
     ∷ (t.is_cash && nat_lt greatest_amount (nat_abs (balance_of_account after.accounts (postings_of_base after) t.account)), Range limit.Balance)
     ∷ (nat_lt greatest_amount (commission_total_of_broker after.accounts (completed_trades after) (broker_id_of_account base t.account)), Range limit.Broker)
@@ -124,11 +124,11 @@ checks_of_command base stamp (AddPermission p) =
 checks_of_command base stamp (AddSecurity s) = duplicate_check (is_some (security_with_symbol base s.symbol)) ∷ []
 checks_of_command base stamp (AddCharge c) = duplicate_check (is_some (charge_for_type_and_tier base c.kind c.tier)) ∷ []
 checks_of_command base stamp (AddBand b) = (nat_lt b.to_qty b.from_qty, BadQty) ∷ (list_any (bands_overlap b) base.bands, Overlap) ∷ []
-checks_of_command base stamp (AddTaxRate r) = duplicate_check (is_some (tax_rate_of_id base r.id)) ∷ []
+checks_of_command base stamp (AddTaxRate r) = duplicate_check (is_some (tax_rate_record_with_id base r.id)) ∷ []
 checks_of_command base stamp (AddCustomerTax x) =
-    customer_exists_check base x.customer ∷ (is_none (tax_rate_of_id base x.tax), NoTax)
+    customer_exists_check base x.customer ∷ (is_none (tax_rate_record_with_id base x.tax), NoTax)
     ∷ duplicate_check (list_any (λ y. (y.customer == x.customer) && (y.tax == x.tax)) base.customer_taxes)
-    ∷ (nat_lt greatest_tax_rate (tax_rate_sum_of_customer base x.customer + option_map_or (λ r. r.rate) (tax_rate_of_id base x.tax) 0), TaxSum) ∷ []
+    ∷ (nat_lt greatest_tax_rate (tax_rate_sum_of_customer base x.customer + option_map_or (λ r. r.rate) (tax_rate_record_with_id base x.tax) 0), TaxSum) ∷ []
 checks_of_command base stamp (PlaceOrder o) = checks_of_order base o ++ (nat_le greatest_id (length base.trades), Range limit.Trades) ∷ []
 checks_of_command base stamp (FeedTicks ticks) =
     (list_any (λ tick. is_none (security_with_symbol base tick.symbol)) ticks, NoSecurity)

@@ -15,16 +15,16 @@ updated_executor_name name =
     if contains_text (codes " X ") name then replace_text (codes " X ") (codes " ") name else replace_text (codes " ") (codes " X ") name
 
 -- The text `other` if `text` equals `word`, otherwise `word`.
-abbrev pub alternate_word : Text → Text → Text → Text
-alternate_word word other text = if bytes_eq text word then other else word
+abbrev pub toggled_word : Text → Text → Text → Text
+toggled_word word other text = if bytes_eq text word then other else word
 
 -- The updated cash type of the settlement of the trade `t` (SE_CASH_TYPE): `Cash` if it is
 -- `Cash Account` and otherwise `Cash Account` for a cash trade, `Margin` if it is `Margin Account`
 -- and otherwise `Margin Account` for a margin trade.
 abbrev pub updated_cash_type : Trade → Text
 updated_cash_type t =
-    if t.is_cash then alternate_word (codes "Cash Account") (codes "Cash") t.cash_type
-    else alternate_word (codes "Margin Account") (codes "Margin") t.cash_type
+    if t.is_cash then toggled_word (codes "Cash Account") (codes "Cash") t.cash_type
+    else toggled_word (codes "Margin Account") (codes "Margin") t.cash_type
 
 -- The updated name of the cash row of the trade `t` (CM_NAME), written anew from the trade and its
 -- security: with " Shares of " if the old name contains " shares of ", otherwise with

@@ -13,4 +13,4 @@ tables_after_upgrade t = record t { cash = []; moves = numbered_move_rows 1 (pos
 -- The tables `t` of the schema `schema` as tables of the third schema: unchanged if `schema`
 -- numbers cash rows, otherwise with all cash rows in CASH_MOVE.
 abbrev pub tables_upgraded_from_schema : Schema → Tables → Tables
-tables_upgraded_from_schema schema t = if schema.has_moves then t else tables_after_upgrade t
+tables_upgraded_from_schema schema t = if schema.has_cash_move_table then t else tables_after_upgrade t

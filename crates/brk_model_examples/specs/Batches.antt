@@ -13,12 +13,12 @@ abbrev pub twenty_clock_readings : List ℕ
 twenty_clock_readings = replicate 20 1709251200000
 
 -- The text of the lines, each ended by a line feed.
-abbrev pub lines_of_texts : List Text → Text
-lines_of_texts lines = flat_map (λ line. line ++ 10 ∷ []) lines
+abbrev pub text_with_line_ends : List Text → Text
+text_with_line_ends lines = flat_map (λ line. line ++ 10 ∷ []) lines
 
 -- The bytes of a batch with the name `name` and these rows: header, rows and end record.
 abbrev pub bytes_of_batch : Text → List Text → Text
-bytes_of_batch name rows = lines_of_texts ((codes "batch," ++ name) ∷ rows ++ (codes "end," ++ decimal (length rows)) ∷ [])
+bytes_of_batch name rows = text_with_line_ends ((codes "batch," ++ name) ∷ rows ++ (codes "end," ++ decimal (length rows)) ∷ [])
 
 -- The base after the batch `T` of these rows, executed from `base` on.
 abbrev pub base_after_batch : Base → List Text → Base
@@ -26,7 +26,7 @@ base_after_batch base rows = (batch_of_input base twenty_clock_readings (bytes_o
 
 -- The batch `T` of these rows, executed from `base` on, has exactly these output lines.
 abbrev pub BatchOutputsLines : Base → List Text → List Text → Type 0
-BatchOutputsLines base rows lines = (batch_of_input base twenty_clock_readings (bytes_of_batch (codes "T") rows)).text ≡ lines_of_texts lines
+BatchOutputsLines base rows lines = (batch_of_input base twenty_clock_readings (bytes_of_batch (codes "T") rows)).text ≡ text_with_line_ends lines
 
 -- The base `base` without its stored rows and replies.
 abbrev pub base_without_stored_replies : Base → Base

@@ -8,8 +8,8 @@ use Rattle.brk_model.specs.Tables.{Tables, AccountRow, TradeRow, HoldingRow, Set
 use Rattle.brk_model_examples.specs.Setting.{setting_base}
 
 -- The tables after the first purchase in the third schema, each sorted by key.
-unfoldable pub bought_tables : Tables
-bought_tables = record {
+unfoldable pub tables_after_first_purchase : Tables
+tables_after_first_purchase = record {
   last = Some 1709251200017;
   kept = [];
   brokers = record { id = 1; name = codes "Bo"; trades = pos 1; commissions = 1010 } ∷ [];
@@ -61,8 +61,8 @@ bought_tables = record {
 }
 
 -- The tables after the first purchase in the first schema, each sorted by key.
-unfoldable pub first_schema_tables : Tables
-first_schema_tables = record bought_tables {
+unfoldable pub first_schema_tables_after_purchase : Tables
+first_schema_tables_after_purchase = record tables_after_first_purchase {
   cash = record { trade = 1; stamp = 1709251200017; amount = negsuc 102509; name = codes "Market-Buy 100 shares of Acme" } ∷ [];
   moves = [];
 }
@@ -70,113 +70,113 @@ first_schema_tables = record bought_tables {
 -- ---- tables that another program changed
 
 -- The tables after the first purchase, in which the trade has the quantity 0.
-unfoldable pub trade_without_quantity : Tables
-trade_without_quantity = record bought_tables { trades = map {B = TradeRow} (λ t. record t { qty = 0 }) bought_tables.trades }
+unfoldable pub tables_with_zero_trade_quantity : Tables
+tables_with_zero_trade_quantity = record tables_after_first_purchase { trades = map {B = TradeRow} (λ t. record t { qty = 0 }) tables_after_first_purchase.trades }
 
 -- The tables after the first purchase, in which the security has no LAST_TRADE row.
-unfoldable pub security_without_last_trade : Tables
-security_without_last_trade = record bought_tables { last_trades = [] }
+unfoldable pub tables_without_last_trade : Tables
+tables_without_last_trade = record tables_after_first_purchase { last_trades = [] }
 
 -- The tables after the first purchase, in which TRADE_HISTORY lacks the row of the submission.
-unfoldable pub history_without_submission : Tables
-history_without_submission = record bought_tables { history = record { trade = 1; status = Completed; stamp = 1709251200017 } ∷ [] }
+unfoldable pub tables_without_submission : Tables
+tables_without_submission = record tables_after_first_purchase { history = record { trade = 1; status = Completed; stamp = 1709251200017 } ∷ [] }
 
 -- The tables after the first purchase, in which the TRADE row has another status than the last one
 -- of its history.
-unfoldable pub changed_trade_status : Tables
-changed_trade_status = record bought_tables { trades = map {B = TradeRow} (λ t. record t { status = Submitted }) bought_tables.trades }
+unfoldable pub tables_with_changed_trade_status : Tables
+tables_with_changed_trade_status = record tables_after_first_purchase { trades = map {B = TradeRow} (λ t. record t { status = Submitted }) tables_after_first_purchase.trades }
 
 -- The tables after the first purchase, in which the completed trade has a TRADE_REQUEST row.
-unfoldable pub request_of_completed_trade : Tables
-request_of_completed_trade = record bought_tables { requests = record { trade = 1; kind = MarketBuy; symbol = codes "ABC"; qty = 100; bid = 1000; broker = 1 } ∷ [] }
+unfoldable pub tables_with_request_of_completed_trade : Tables
+tables_with_request_of_completed_trade = record tables_after_first_purchase { requests = record { trade = 1; kind = MarketBuy; symbol = codes "ABC"; qty = 100; bid = 1000; broker = 1 } ∷ [] }
 
 -- The tables after the first purchase, in which the lot has one share less.
-unfoldable pub changed_lot_quantity : Tables
-changed_lot_quantity = record bought_tables { holdings = map {B = HoldingRow} (λ h. record h { qty = pos 99 }) bought_tables.holdings }
+unfoldable pub tables_with_changed_lot_quantity : Tables
+tables_with_changed_lot_quantity = record tables_after_first_purchase { holdings = map {B = HoldingRow} (λ h. record h { qty = pos 99 }) tables_after_first_purchase.holdings }
 
 -- The tables after the first purchase, in which the lot has another price.
-unfoldable pub changed_lot_price : Tables
-changed_lot_price = record bought_tables { holdings = map {B = HoldingRow} (λ h. record h { price = 1011 }) bought_tables.holdings }
+unfoldable pub tables_with_changed_lot_price : Tables
+tables_with_changed_lot_price = record tables_after_first_purchase { holdings = map {B = HoldingRow} (λ h. record h { price = 1011 }) tables_after_first_purchase.holdings }
 
 -- The tables after the first purchase, in which the trade has another completion price.
-unfoldable pub changed_trade_price : Tables
-changed_trade_price = record bought_tables { trades = map {B = TradeRow} (λ t. record t { price = Some 1011 }) bought_tables.trades }
+unfoldable pub tables_with_changed_trade_price : Tables
+tables_with_changed_trade_price = record tables_after_first_purchase { trades = map {B = TradeRow} (λ t. record t { price = Some 1011 }) tables_after_first_purchase.trades }
 
 -- The tables after the first purchase, in which the HOLDING_HISTORY row has another quantity.
-unfoldable pub changed_lot_history : Tables
-changed_lot_history = record bought_tables { holding_history = record { lot = 1; trade = 1; before = pos 0; after = pos 99 } ∷ [] }
+unfoldable pub tables_with_changed_holding_history : Tables
+tables_with_changed_holding_history = record tables_after_first_purchase { holding_history = record { lot = 1; trade = 1; before = pos 0; after = pos 99 } ∷ [] }
 
 -- The tables after the first purchase, in which the holding summary has one share more.
-unfoldable pub changed_summary : Tables
-changed_summary = record bought_tables { summaries = record { account = 100; symbol = codes "ABC"; qty = pos 101 } ∷ [] }
+unfoldable pub tables_with_changed_summary : Tables
+tables_with_changed_summary = record tables_after_first_purchase { summaries = record { account = 100; symbol = codes "ABC"; qty = pos 101 } ∷ [] }
 
 -- The tables after the first purchase, in which the broker has one trade more.
-unfoldable pub changed_trade_count : Tables
-changed_trade_count = record bought_tables { brokers = record { id = 1; name = codes "Bo"; trades = pos 2; commissions = 1010 } ∷ [] }
+unfoldable pub tables_with_changed_trade_count : Tables
+tables_with_changed_trade_count = record tables_after_first_purchase { brokers = record { id = 1; name = codes "Bo"; trades = pos 2; commissions = 1010 } ∷ [] }
 
 -- The tables after the first purchase, in which the commission total of the broker is one cent
 -- more.
-unfoldable pub changed_broker_commissions : Tables
-changed_broker_commissions = record bought_tables { brokers = record { id = 1; name = codes "Bo"; trades = pos 1; commissions = 1011 } ∷ [] }
+unfoldable pub tables_with_changed_commission_total : Tables
+tables_with_changed_commission_total = record tables_after_first_purchase { brokers = record { id = 1; name = codes "Bo"; trades = pos 1; commissions = 1011 } ∷ [] }
 
 -- The tables after the first purchase, in which the commission of the trade is one cent more.
-unfoldable pub changed_trade_commission : Tables
-changed_trade_commission = record bought_tables { trades = map {B = TradeRow} (λ t. record t { commission = 1011 }) bought_tables.trades }
+unfoldable pub tables_with_changed_trade_commission : Tables
+tables_with_changed_trade_commission = record tables_after_first_purchase { trades = map {B = TradeRow} (λ t. record t { commission = 1011 }) tables_after_first_purchase.trades }
 
 -- The tables after the first purchase, in which the settlement amount is one cent off.
-unfoldable pub changed_settlement : Tables
-changed_settlement = record bought_tables { settlements = map {B = SettlementRow} (λ s. record s { amount = negsuc 102508 }) bought_tables.settlements }
+unfoldable pub tables_with_changed_settlement : Tables
+tables_with_changed_settlement = record tables_after_first_purchase { settlements = map {B = SettlementRow} (λ s. record s { amount = negsuc 102508 }) tables_after_first_purchase.settlements }
 
 -- The tables after the first purchase, in which the amount of the cash row is one cent off.
-unfoldable pub changed_cash_amount : Tables
-changed_cash_amount = record bought_tables { moves = map {B = MoveRow} (λ r. record r { amount = negsuc 102508 }) bought_tables.moves }
+unfoldable pub tables_with_changed_cash_amount : Tables
+tables_with_changed_cash_amount = record tables_after_first_purchase { moves = map {B = MoveRow} (λ r. record r { amount = negsuc 102508 }) tables_after_first_purchase.moves }
 
 -- The tables after the first purchase, in which the cash row has another number.
-unfoldable pub changed_cash_row_number : Tables
-changed_cash_row_number = record bought_tables { moves = map {B = MoveRow} (λ r. record r { id = 2 }) bought_tables.moves }
+unfoldable pub tables_with_changed_cash_row_number : Tables
+tables_with_changed_cash_row_number = record tables_after_first_purchase { moves = map {B = MoveRow} (λ r. record r { id = 2 }) tables_after_first_purchase.moves }
 
 -- The tables after the first purchase, in which the trade has a second cash row.
-unfoldable pub second_cash_row_of_trade : Tables
-second_cash_row_of_trade = record bought_tables { moves = bought_tables.moves ++ map {B = MoveRow} (λ r. record r { id = 2 }) bought_tables.moves }
+unfoldable pub tables_with_second_cash_row_of_trade : Tables
+tables_with_second_cash_row_of_trade = record tables_after_first_purchase { moves = tables_after_first_purchase.moves ++ map {B = MoveRow} (λ r. record r { id = 2 }) tables_after_first_purchase.moves }
 
 -- The tables after the first purchase, in which CASH_TRANSACTION, the cash table of the first
 -- schema, still has its row.
-unfoldable pub cash_row_of_older_schema : Tables
-cash_row_of_older_schema = record bought_tables { cash = first_schema_tables.cash }
+unfoldable pub tables_with_cash_row_of_older_schema : Tables
+tables_with_cash_row_of_older_schema = record tables_after_first_purchase { cash = first_schema_tables_after_purchase.cash }
 
 -- The tables after the first purchase, in which the trade has a quantity above the limit of the
 -- schemas before the third.
-unfoldable pub trade_above_older_limit : Tables
-trade_above_older_limit = record bought_tables { trades = map {B = TradeRow} (λ t. record t { qty = 1000000 }) bought_tables.trades }
+unfoldable pub tables_with_trade_above_older_limit : Tables
+tables_with_trade_above_older_limit = record tables_after_first_purchase { trades = map {B = TradeRow} (λ t. record t { qty = 1000000 }) tables_after_first_purchase.trades }
 
 -- The tables after the first purchase with only one commission band, whose greatest quantity is
 -- above the limit of the schemas before the third.
-unfoldable pub band_above_older_limit : Tables
-band_above_older_limit = record bought_tables { bands = record { tier = 1; kind = MarketBuy; exchange = codes "NYSE"; from_qty = 1; to_qty = 9999999; rate = 100 } ∷ [] }
+unfoldable pub tables_with_band_above_older_limit : Tables
+tables_with_band_above_older_limit = record tables_after_first_purchase { bands = record { tier = 1; kind = MarketBuy; exchange = codes "NYSE"; from_qty = 1; to_qty = 9999999; rate = 100 } ∷ [] }
 
 -- The tables after the first purchase, with the day after the completion as the settlement day.
-unfoldable pub settlement_day_after_completion : Tables
-settlement_day_after_completion = record bought_tables { rule = Some 19784 }
+unfoldable pub tables_with_settlement_day_after_completion : Tables
+tables_with_settlement_day_after_completion = record tables_after_first_purchase { rule = Some 19784 }
 
 -- The tables after the first purchase, with the day of the completion as the settlement day.
-unfoldable pub settlement_day_before_completion : Tables
-settlement_day_before_completion = record bought_tables { rule = Some 19783 }
+unfoldable pub tables_with_settlement_day_at_completion : Tables
+tables_with_settlement_day_at_completion = record tables_after_first_purchase { rule = Some 19783 }
 
 -- The tables after the first purchase, with a second cash row that has no trade, at `stamp`, of
 -- `amount` cents, with the name `name`. The balance includes the amount, and the last stamp is one
 -- millisecond after the completion.
 abbrev pub tables_with_movement : ℕ → ℤ → Text → Tables
-tables_with_movement stamp amount name = record bought_tables {
+tables_with_movement stamp amount name = record tables_after_first_purchase {
   last = Some 1709251200018;
-  moves = bought_tables.moves ++ record { id = 2; account = 100; trade = None; stamp = stamp; amount = amount; name = name } ∷ [];
-  accounts = map {B = AccountRow} (λ a. record a { balance = a.balance +ℤ amount }) bought_tables.accounts;
+  moves = tables_after_first_purchase.moves ++ record { id = 2; account = 100; trade = None; stamp = stamp; amount = amount; name = name } ∷ [];
+  accounts = map {B = AccountRow} (λ a. record a { balance = a.balance +ℤ amount }) tables_after_first_purchase.accounts;
 }
 
 -- The tables after the first purchase, in which the balance of the account is one cent more.
-unfoldable pub changed_account_balance : Tables
-changed_account_balance = record bought_tables { accounts = record { id = 100; customer = 10; broker = 1; name = codes "Main"; tax_status = Withheld; opening = pos 1000000; balance = pos 897491 } ∷ [] }
+unfoldable pub tables_with_changed_account_balance : Tables
+tables_with_changed_account_balance = record tables_after_first_purchase { accounts = record { id = 100; customer = 10; broker = 1; name = codes "Main"; tax_status = Withheld; opening = pos 1000000; balance = pos 897491 } ∷ [] }
 
 -- The tables after the first purchase without lots and holding summaries, so that two conditions
 -- fail.
-unfoldable pub missing_lots_and_summaries : Tables
-missing_lots_and_summaries = record bought_tables { holdings = []; summaries = [] }
+unfoldable pub tables_without_lots_and_summaries : Tables
+tables_without_lots_and_summaries = record tables_after_first_purchase { holdings = []; summaries = [] }

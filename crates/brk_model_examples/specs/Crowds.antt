@@ -32,8 +32,8 @@ pending_limit_sale n = record {
 }
 
 -- The setting with fifty-one pending trades.
-unfoldable pub fifty_one_pending_trades : Base
-fifty_one_pending_trades = record setting_base { trades = map pending_limit_sale (range_with_len 1 51); last = Some 1709251200066 }
+unfoldable pub setting_with_fifty_one_pending_trades : Base
+setting_with_fifty_one_pending_trades = record setting_base { trades = map pending_limit_sale (range_with_len 1 51); last = Some 1709251200066 }
 
 -- A completed purchase of one share on margin with the id `n`.
 abbrev pub margin_purchase : ℕ → Trade
@@ -57,12 +57,12 @@ margin_purchase n = record {
 }
 
 -- The setting with twenty-one completed purchases of one share on margin.
-unfoldable pub twenty_one_margin_purchases : Base
-twenty_one_margin_purchases = record setting_base { trades = map margin_purchase (range_with_len 1 21); last = Some 1709251200057 }
+unfoldable pub setting_with_twenty_one_margin_purchases : Base
+setting_with_twenty_one_margin_purchases = record setting_base { trades = map margin_purchase (range_with_len 1 21); last = Some 1709251200057 }
 
 -- The setting with ` shares of ` in the name of its security.
-unfoldable pub misleading_security_name : Base
-misleading_security_name = record setting_base {
+unfoldable pub setting_with_misleading_security_name : Base
+setting_with_misleading_security_name = record setting_base {
   securities =
       record {
         symbol = codes "ABC";
@@ -77,13 +77,13 @@ misleading_security_name = record setting_base {
 
 -- The id in a record of a view, as a list of one, if it is the record of a trade; otherwise the
 -- empty list.
-abbrev pub trade_id_of_record : List Text → List Text
-trade_id_of_record (word ∷ id ∷ fields) = if bytes_eq word (codes "trade") then id ∷ [] else []
-trade_id_of_record _ = []
+abbrev pub trade_ids_of_record : List Text → List Text
+trade_ids_of_record (word ∷ id ∷ fields) = if bytes_eq word (codes "trade") then id ∷ [] else []
+trade_ids_of_record _ = []
 
 -- The ids of the trades in a view; none if the query is refused.
 abbrev pub trade_ids_of_view : Result View Refusal → List Text
-trade_ids_of_view (Ok view) = flat_map trade_id_of_record view
+trade_ids_of_view (Ok view) = flat_map trade_ids_of_record view
 trade_ids_of_view (Err refusal) = []
 
 -- The first field of a record; empty if it has no field.

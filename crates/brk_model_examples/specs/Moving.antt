@@ -7,8 +7,8 @@ use Rattle.brk_model_examples.specs.Setting.{setting_base}
 use Rattle.brk_model_examples.specs.Trading.{first_purchase, base_after_fifo_sale}
 
 -- The base after the first sale, a deposit of 100.00 and a withdrawal of 9000.00.
-unfoldable pub sold_with_movements : Base
-sold_with_movements = record base_after_fifo_sale {
+unfoldable pub base_after_sale_and_movements : Base
+base_after_sale_and_movements = record base_after_fifo_sale {
   movements =
       record { account = 100; stamp = 1709251200022; amount = pos 10000; name = codes "Deposit" }
       ∷ record { account = 100; stamp = 1709251200023; amount = negsuc 899999; name = codes "Withdrawal" } ∷ [];
@@ -16,10 +16,10 @@ sold_with_movements = record base_after_fifo_sale {
 }
 
 -- The first purchase with both of its stamps one millisecond later.
-abbrev pub purchase_one_stamp_later : Trade
-purchase_one_stamp_later = record first_purchase { marks = record { stamp = 1709251200017; status = Submitted } ∷ record { stamp = 1709251200018; status = Completed } ∷ [] }
+abbrev pub purchase_one_millisecond_later : Trade
+purchase_one_millisecond_later = record first_purchase { marks = record { stamp = 1709251200017; status = Submitted } ∷ record { stamp = 1709251200018; status = Completed } ∷ [] }
 
 -- The setting with the first purchase one millisecond later, and with the settlement day
 -- 2024-03-02.
-unfoldable pub purchase_with_settlement_day : Base
-purchase_with_settlement_day = record setting_base { trades = purchase_one_stamp_later ∷ []; rule = Some 19784; last = Some 1709251200018 }
+unfoldable pub base_after_purchase_with_settlement_day : Base
+base_after_purchase_with_settlement_day = record setting_base { trades = purchase_one_millisecond_later ∷ []; rule = Some 19784; last = Some 1709251200018 }

@@ -17,18 +17,18 @@ abbrev pub customer_ann_lee : Customer
 customer_ann_lee = record { id = 10; tier = 1; tax_id = codes "T10"; last_name = codes "Lee"; first_name = codes "Ann" }
 
 -- The executor who has the names and the tax id of the customer.
-abbrev pub customer_as_executor : Executor
-customer_as_executor = record { first_name = codes "Ann"; last_name = codes "Lee"; tax_id = codes "T10" }
+abbrev pub executor_with_customer_identity : Executor
+executor_with_customer_identity = record { first_name = codes "Ann"; last_name = codes "Lee"; tax_id = codes "T10" }
 
 -- An executor who has the names of the customer and another tax id.
 abbrev pub executor_with_other_tax_id : Executor
 executor_with_other_tax_id = record { first_name = codes "Ann"; last_name = codes "Lee"; tax_id = codes "T11" }
 
 -- A permission with the names and the tax id of `executor_with_other_tax_id`.
-abbrev pub permission_of_namesake : Permission
-permission_of_namesake = record { account = 100; acl = codes "0000"; tax_id = codes "T11"; last_name = codes "Lee"; first_name = codes "Ann" }
+abbrev pub permission_with_other_tax_id : Permission
+permission_with_other_tax_id = record { account = 100; acl = codes "0000"; tax_id = codes "T11"; last_name = codes "Lee"; first_name = codes "Ann" }
 
 -- A permission with another last name, and with the first name and the tax id of
 -- `executor_with_other_tax_id`.
-abbrev pub permission_of_other_name : Permission
-permission_of_other_name = record { account = 100; acl = codes "0000"; tax_id = codes "T11"; last_name = codes "Kay"; first_name = codes "Ann" }
+abbrev pub permission_with_other_last_name : Permission
+permission_with_other_last_name = record { account = 100; acl = codes "0000"; tax_id = codes "T11"; last_name = codes "Kay"; first_name = codes "Ann" }

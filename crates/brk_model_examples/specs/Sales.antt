@@ -17,14 +17,14 @@ deal_against_two_lots side qty is_lifo = record { trade = 9; side = side; qty = 
 
 -- The effect of a deal: the lots that it touches, the number of shares that it opens, and its buy
 -- and sell values.
-pub record Closed : Type 0 where
+pub record DealEffect : Type 0 where
   pub touched : List Touch
   pub opened : ℕ
   pub buy_value : ℕ
   pub sell_value : ℕ
 
 -- The effect of the deal `d` on the position after `two_purchase_deals`.
-unfoldable pub effect_of_deal : Deal → Closed
+unfoldable pub effect_of_deal : Deal → DealEffect
 effect_of_deal d = record {
   touched = touches_of_existing_lots d (replay two_purchase_deals);
   opened = length (opened_shares d (replay two_purchase_deals));

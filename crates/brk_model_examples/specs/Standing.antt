@@ -5,7 +5,7 @@ use Rattle.brk_model.specs.Tables.{Tables, tables_of_base}
 
 -- The lots (trade, quantity), the changes of lots by one trade (lot, before, after), the summaries,
 -- the balances, and the broker totals (trade count, commissions).
-pub record Standing : Type 0 where
+pub record PositionsAndTotals : Type 0 where
   pub lots : List (ℕ × ℤ)
   pub changes : List (ℕ × ℤ × ℤ)
   pub summaries : List ℤ
@@ -14,7 +14,7 @@ pub record Standing : Type 0 where
 
 -- The part of the tables that an example shows, with the changes of lots by the trade with the id
 -- `trade`.
-abbrev pub positions_and_totals_of_tables : Tables → ℕ → Standing
+abbrev pub positions_and_totals_of_tables : Tables → ℕ → PositionsAndTotals
 positions_and_totals_of_tables tables trade = record {
   lots = map {B = ℕ × ℤ} (λ row. (row.trade, row.qty)) tables.holdings;
   changes = map {B = ℕ × ℤ × ℤ} (λ row. (row.lot, row.before, row.after)) (filter (λ row. row.trade == trade) tables.holding_history);
@@ -25,5 +25,5 @@ positions_and_totals_of_tables tables trade = record {
 
 -- The part of the tables of `base` that an example shows, with the changes of lots by the trade
 -- with the id `trade`.
-abbrev pub positions_and_totals_of_base : Base → ℕ → Standing
+abbrev pub positions_and_totals_of_base : Base → ℕ → PositionsAndTotals
 positions_and_totals_of_base base trade = positions_and_totals_of_tables (tables_of_base base) trade

@@ -6,15 +6,15 @@ ghost use Rattle.std.specs.Prelude.{None, Some, pos, negsuc, codes};
 ghost use Rattle.brk_money.specs.declared.fault.Condition.TheVariants as condition;
 ghost use Rattle.brk_model.specs.Audit.{IsAuditResult};
 ghost use Rattle.brk_model.specs.Schemas.{first_schema, second_schema, third_schema};
-ghost use Rattle.brk_model_examples.specs.Bought.{bought_tables, trade_without_quantity, security_without_last_trade, history_without_submission, changed_trade_status, request_of_completed_trade, changed_lot_quantity, changed_lot_price, changed_trade_price, changed_lot_history, changed_summary, changed_trade_count, changed_broker_commissions, changed_trade_commission, changed_settlement, changed_cash_amount, changed_account_balance, missing_lots_and_summaries, first_schema_tables, changed_cash_row_number, second_cash_row_of_trade, cash_row_of_older_schema, trade_above_older_limit, band_above_older_limit, settlement_day_after_completion, settlement_day_before_completion, tables_with_movement};
+ghost use Rattle.brk_model_examples.specs.Bought.{tables_after_first_purchase, tables_with_zero_trade_quantity, tables_without_last_trade, tables_without_submission, tables_with_changed_trade_status, tables_with_request_of_completed_trade, tables_with_changed_lot_quantity, tables_with_changed_lot_price, tables_with_changed_trade_price, tables_with_changed_holding_history, tables_with_changed_summary, tables_with_changed_trade_count, tables_with_changed_commission_total, tables_with_changed_trade_commission, tables_with_changed_settlement, tables_with_changed_cash_amount, tables_with_changed_account_balance, tables_without_lots_and_summaries, first_schema_tables_after_purchase, tables_with_changed_cash_row_number, tables_with_second_cash_row_of_trade, tables_with_cash_row_of_older_schema, tables_with_trade_above_older_limit, tables_with_band_above_older_limit, tables_with_settlement_day_after_completion, tables_with_settlement_day_at_completion, tables_with_movement};
 
 /// Shows that the tables after a purchase pass the audit of each schema, also with a later
 /// settlement day, a deposit or a withdrawal.
 pub fn tables_of_a_base_pass_audit()
-    ensures third { IsAuditResult third_schema bought_tables None }
-    ensures second { IsAuditResult second_schema bought_tables None }
-    ensures first { IsAuditResult first_schema first_schema_tables None }
-    ensures day_set { IsAuditResult third_schema settlement_day_after_completion None }
+    ensures third { IsAuditResult third_schema tables_after_first_purchase None }
+    ensures second { IsAuditResult second_schema tables_after_first_purchase None }
+    ensures first { IsAuditResult first_schema first_schema_tables_after_purchase None }
+    ensures day_set { IsAuditResult third_schema tables_with_settlement_day_after_completion None }
     ensures deposit { IsAuditResult third_schema (tables_with_movement 1709251200018 (pos 10000) (codes "Deposit")) None }
     ensures withdrawal { IsAuditResult second_schema (tables_with_movement 1709251200018 (negsuc 9999) (codes "Withdrawal")) None }
 {}
@@ -22,27 +22,27 @@ pub fn tables_of_a_base_pass_audit()
 /// Shows for each changed table which condition the audit returns, and that it returns the first
 /// one if two conditions fail.
 pub fn audit_returns_first_failed_condition()
-    ensures no_quantity { IsAuditResult third_schema trade_without_quantity (Some condition.Form) }
-    ensures no_last_trade { IsAuditResult third_schema security_without_last_trade (Some condition.Form) }
-    ensures no_submission { IsAuditResult third_schema history_without_submission (Some condition.Status) }
-    ensures other_status { IsAuditResult third_schema changed_trade_status (Some condition.Status) }
-    ensures a_request { IsAuditResult third_schema request_of_completed_trade (Some condition.Requests) }
-    ensures other_lot { IsAuditResult third_schema changed_lot_quantity (Some condition.Lots) }
-    ensures other_lot_price { IsAuditResult third_schema changed_lot_price (Some condition.Lots) }
-    ensures other_trade_price { IsAuditResult third_schema changed_trade_price (Some condition.Lots) }
-    ensures other_history { IsAuditResult third_schema changed_lot_history (Some condition.History) }
-    ensures other_summary { IsAuditResult third_schema changed_summary (Some condition.Summary) }
-    ensures other_count { IsAuditResult third_schema changed_trade_count (Some condition.Count) }
-    ensures other_commissions { IsAuditResult third_schema changed_broker_commissions (Some condition.Commission) }
-    ensures other_commission { IsAuditResult third_schema changed_trade_commission (Some condition.Commission) }
-    ensures other_settlement { IsAuditResult third_schema changed_settlement (Some condition.Settlement) }
-    ensures other_cash { IsAuditResult third_schema changed_cash_amount (Some condition.Cash) }
-    ensures other_number { IsAuditResult third_schema changed_cash_row_number (Some condition.Cash) }
-    ensures second_row { IsAuditResult third_schema second_cash_row_of_trade (Some condition.Form) }
-    ensures left_behind { IsAuditResult third_schema cash_row_of_older_schema (Some condition.Cash) }
-    ensures early_day { IsAuditResult third_schema settlement_day_before_completion (Some condition.Settlement) }
-    ensures other_balance { IsAuditResult third_schema changed_account_balance (Some condition.Balance) }
-    ensures two_changes { IsAuditResult third_schema missing_lots_and_summaries (Some condition.Lots) }
+    ensures no_quantity { IsAuditResult third_schema tables_with_zero_trade_quantity (Some condition.Form) }
+    ensures no_last_trade { IsAuditResult third_schema tables_without_last_trade (Some condition.Form) }
+    ensures no_submission { IsAuditResult third_schema tables_without_submission (Some condition.Status) }
+    ensures other_status { IsAuditResult third_schema tables_with_changed_trade_status (Some condition.Status) }
+    ensures a_request { IsAuditResult third_schema tables_with_request_of_completed_trade (Some condition.Requests) }
+    ensures other_lot { IsAuditResult third_schema tables_with_changed_lot_quantity (Some condition.Lots) }
+    ensures other_lot_price { IsAuditResult third_schema tables_with_changed_lot_price (Some condition.Lots) }
+    ensures other_trade_price { IsAuditResult third_schema tables_with_changed_trade_price (Some condition.Lots) }
+    ensures other_history { IsAuditResult third_schema tables_with_changed_holding_history (Some condition.History) }
+    ensures other_summary { IsAuditResult third_schema tables_with_changed_summary (Some condition.Summary) }
+    ensures other_count { IsAuditResult third_schema tables_with_changed_trade_count (Some condition.Count) }
+    ensures other_commissions { IsAuditResult third_schema tables_with_changed_commission_total (Some condition.Commission) }
+    ensures other_commission { IsAuditResult third_schema tables_with_changed_trade_commission (Some condition.Commission) }
+    ensures other_settlement { IsAuditResult third_schema tables_with_changed_settlement (Some condition.Settlement) }
+    ensures other_cash { IsAuditResult third_schema tables_with_changed_cash_amount (Some condition.Cash) }
+    ensures other_number { IsAuditResult third_schema tables_with_changed_cash_row_number (Some condition.Cash) }
+    ensures second_row { IsAuditResult third_schema tables_with_second_cash_row_of_trade (Some condition.Form) }
+    ensures left_behind { IsAuditResult third_schema tables_with_cash_row_of_older_schema (Some condition.Cash) }
+    ensures early_day { IsAuditResult third_schema tables_with_settlement_day_at_completion (Some condition.Settlement) }
+    ensures other_balance { IsAuditResult third_schema tables_with_changed_account_balance (Some condition.Balance) }
+    ensures two_changes { IsAuditResult third_schema tables_without_lots_and_summaries (Some condition.Lots) }
 {}
 
 /// Shows that an audit checks of a movement that its name fits its sign, that its stamp is not
@@ -59,10 +59,10 @@ pub fn audit_checks_movement_rows()
 /// Shows that an audit applies the limits and the tables of the given schema: larger quantities,
 /// the settlement day and the table of cash rows.
 pub fn audit_applies_limits_of_schema()
-    ensures quantity { IsAuditResult second_schema trade_above_older_limit (Some condition.Form) }
-    ensures band { IsAuditResult second_schema band_above_older_limit (Some condition.Form) }
-    ensures larger_limits { IsAuditResult third_schema band_above_older_limit None }
-    ensures no_rule_yet { IsAuditResult second_schema settlement_day_after_completion (Some condition.Form) }
-    ensures no_moves_yet { IsAuditResult first_schema bought_tables (Some condition.Form) }
-    ensures no_cash_any_more { IsAuditResult second_schema first_schema_tables (Some condition.Cash) }
+    ensures quantity { IsAuditResult second_schema tables_with_trade_above_older_limit (Some condition.Form) }
+    ensures band { IsAuditResult second_schema tables_with_band_above_older_limit (Some condition.Form) }
+    ensures larger_limits { IsAuditResult third_schema tables_with_band_above_older_limit None }
+    ensures no_rule_yet { IsAuditResult second_schema tables_with_settlement_day_after_completion (Some condition.Form) }
+    ensures no_moves_yet { IsAuditResult first_schema tables_after_first_purchase (Some condition.Form) }
+    ensures no_cash_any_more { IsAuditResult second_schema first_schema_tables_after_purchase (Some condition.Cash) }
 {}

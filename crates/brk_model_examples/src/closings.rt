@@ -11,16 +11,16 @@ ghost use Rattle.brk_model_examples.specs.Sales.{deal_against_two_lots, effect_o
 /// 12.00: five sales, of which one closes the last shares first, and a purchase, which closes
 /// nothing.
 pub fn deals_close_shares_of_two_lots()
-    ensures some { effect_of_deal (deal_against_two_lots Sell 99 false)
+    ensures part_of_first_lot { effect_of_deal (deal_against_two_lots Sell 99 false)
         ≡ record { touched = record { lot = 1; before = pos 100; after = pos 1 } ∷ []; opened = 0; buy_value = 99990; sell_value = 128700 } }
-    ensures one { effect_of_deal (deal_against_two_lots Sell 100 false)
+    ensures first_lot { effect_of_deal (deal_against_two_lots Sell 100 false)
         ≡ record { touched = record { lot = 1; before = pos 100; after = pos 0 } ∷ []; opened = 0; buy_value = 101000; sell_value = 130000 } }
-    ensures two { effect_of_deal (deal_against_two_lots Sell 150 false)
+    ensures part_of_second_lot { effect_of_deal (deal_against_two_lots Sell 150 false)
         ≡ record { touched = record { lot = 1; before = pos 100; after = pos 0 } ∷ record { lot = 2; before = pos 200; after = pos 150 } ∷ []; opened = 0; buy_value = 161000; sell_value = 195000 } }
-    ensures last_first { effect_of_deal (deal_against_two_lots Sell 150 true)
+    ensures last_in_first_out { effect_of_deal (deal_against_two_lots Sell 150 true)
         ≡ record { touched = record { lot = 2; before = pos 200; after = pos 50 } ∷ []; opened = 0; buy_value = 180000; sell_value = 195000 } }
-    ensures all { effect_of_deal (deal_against_two_lots Sell 301 false)
+    ensures more_than_all_shares { effect_of_deal (deal_against_two_lots Sell 301 false)
         ≡ record { touched = record { lot = 1; before = pos 100; after = pos 0 } ∷ record { lot = 2; before = pos 200; after = pos 0 } ∷ []; opened = 1; buy_value = 341000; sell_value = 390000 } }
-    ensures more { effect_of_deal (deal_against_two_lots Buy 5 false)
+    ensures purchase { effect_of_deal (deal_against_two_lots Buy 5 false)
         ≡ record { touched = []; opened = 5; buy_value = 0; sell_value = 0 } }
 {}

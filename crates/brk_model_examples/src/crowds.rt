@@ -4,14 +4,14 @@
 ghost use Rattle.std.specs.Prelude.{◌≡◌, ◌∷◌, ◌++◌, [], Ok, codes, decimal, map, replicate};
 ghost use Rattle.std.specs.List.{range_with_len};
 ghost use Rattle.brk_model_examples.specs.Batches.{base_after_batch, BatchOutputsLines, view_by_name_and_arguments};
-ghost use Rattle.brk_model_examples.specs.Crowds.{fifty_one_pending_trades, first_fields_of_view, trade_ids_of_view, twenty_one_margin_purchases};
+ghost use Rattle.brk_model_examples.specs.Crowds.{setting_with_fifty_one_pending_trades, first_fields_of_view, trade_ids_of_view, setting_with_twenty_one_margin_purchases};
 
 /// Shows that the view `recent` returns the last ten trades of an account, and the view `status`
 /// the last fifty.
 pub fn views_return_last_trades()
-    ensures ten { trade_ids_of_view (view_by_name_and_arguments fifty_one_pending_trades (codes "recent") (codes "100" ∷ []))
+    ensures ten { trade_ids_of_view (view_by_name_and_arguments setting_with_fifty_one_pending_trades (codes "recent") (codes "100" ∷ []))
         ≡ codes "51" ∷ codes "50" ∷ codes "49" ∷ codes "48" ∷ codes "47" ∷ codes "46" ∷ codes "45" ∷ codes "44" ∷ codes "43" ∷ codes "42" ∷ [] }
-    ensures fifty { first_fields_of_view (view_by_name_and_arguments fifty_one_pending_trades (codes "status") (codes "100" ∷ []))
+    ensures fifty { first_fields_of_view (view_by_name_and_arguments setting_with_fifty_one_pending_trades (codes "status") (codes "100" ∷ []))
         ≡ codes "Lee" ∷ map (λ n. decimal n)
         (51 ∷ 50 ∷ 49 ∷ 48 ∷ 47 ∷ 46 ∷ 45 ∷ 44 ∷ 43 ∷ 42 ∷ 41 ∷ 40 ∷ 39 ∷ 38 ∷ 37 ∷ 36 ∷ 35 ∷ 34 ∷ 33 ∷ 32 ∷ 31 ∷ 30 ∷ 29 ∷ 28 ∷ 27 ∷ 26
         ∷ 25 ∷ 24 ∷ 23 ∷ 22 ∷ 21 ∷ 20 ∷ 19 ∷ 18 ∷ 17 ∷ 16 ∷ 15 ∷ 14 ∷ 13 ∷ 12 ∷ 11 ∷ 10 ∷ 9 ∷ 8 ∷ 7 ∷ 6 ∷ 5 ∷ 4 ∷ 3 ∷ 2 ∷ []) }
@@ -19,24 +19,24 @@ pub fn views_return_last_trades()
 
 /// Shows that the lookups by account and by symbol return the first twenty trades from a stamp on.
 pub fn lookups_return_first_twenty_trades()
-    ensures by_account { trade_ids_of_view (view_by_name_and_arguments fifty_one_pending_trades (codes "accounttrades") (codes "100" ∷ codes "1709251200018" ∷ codes "1709251200066" ∷ []))
+    ensures by_account { trade_ids_of_view (view_by_name_and_arguments setting_with_fifty_one_pending_trades (codes "accounttrades") (codes "100" ∷ codes "1709251200018" ∷ codes "1709251200066" ∷ []))
         ≡ map (λ n. decimal n) (range_with_len 3 20) }
-    ensures by_symbol { trade_ids_of_view (view_by_name_and_arguments fifty_one_pending_trades (codes "symboltrades") (codes "ABC" ∷ codes "0" ∷ codes "1709251200066" ∷ []))
+    ensures by_symbol { trade_ids_of_view (view_by_name_and_arguments setting_with_fifty_one_pending_trades (codes "symboltrades") (codes "ABC" ∷ codes "0" ∷ codes "1709251200066" ∷ []))
         ≡ map (λ n. decimal n) (range_with_len 1 20) }
 {}
 
 /// Shows that `upcash` updates the first twenty of twenty-one completed trades.
 pub fn update_changes_first_twenty_trades()
-    ensures line { BatchOutputsLines twenty_one_margin_purchases (codes "upcash,100,0,253402300799999" ∷ [])
+    ensures reply { BatchOutputsLines setting_with_twenty_one_margin_purchases (codes "upcash,100,0,253402300799999" ∷ [])
         (codes "1,ok,1709251200058,20"
         ∷ codes "end,1,0,0" ∷ []) }
-    ensures words { map (λ t. t.cash_type) (base_after_batch twenty_one_margin_purchases (codes "upcash,100,0,253402300799999" ∷ [])).trades
+    ensures cash_types { map (λ t. t.cash_type) (base_after_batch setting_with_twenty_one_margin_purchases (codes "upcash,100,0,253402300799999" ∷ [])).trades
         ≡ replicate 20 (codes "Margin Account") ++ codes "Margin" ∷ [] }
 {}
 
 /// Shows that the view `lots` returns the first twenty changes of the lots that a sale touched.
 pub fn lots_view_returns_first_twenty_changes()
-    ensures { view_by_name_and_arguments (base_after_batch twenty_one_margin_purchases
+    ensures { view_by_name_and_arguments (base_after_batch setting_with_twenty_one_margin_purchases
         (codes "order,100,TMS,ABC,21,,cash,fifo,Ann,Lee,T10"
         ∷ codes "result,22,10.00" ∷ [])) (codes "lots") (codes "100" ∷ codes "1709251200059" ∷ [])
         ≡ Ok ((codes "22" ∷ [])

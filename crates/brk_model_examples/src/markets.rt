@@ -7,12 +7,12 @@ ghost use Rattle.brk_model.specs.Tables.{tables_of_base};
 ghost use Rattle.brk_model_examples.specs.Batches.{base_after_batch, BatchOutputsLines, base_without_stored_replies, view_by_name_and_arguments};
 ghost use Rattle.brk_model_examples.specs.Setting.{setting_base};
 ghost use Rattle.brk_model_examples.specs.Waiting.{base_with_pending_orders, pending_order_rows};
-ghost use Rattle.brk_model_examples.specs.Extremes.{volume_near_limit};
+ghost use Rattle.brk_model_examples.specs.Extremes.{setting_with_volume_near_limit};
 
 /// Shows that a feed of two ticks of one symbol triggers two of three pending trades, both by its
 /// second tick, and that this tick gives the last price.
 pub fn feed_triggers_pending_trades()
-    ensures waiting { BatchOutputsLines setting_base pending_order_rows
+    ensures orders { BatchOutputsLines setting_base pending_order_rows
         (codes "1,ok,1709251200016,1,PNDG,9.50,0.00,0.00,0.00,0.95,5.00,10000.00"
         ∷ codes "2,ok,1709251200017,2,PNDG,10.00,0.00,0.00,0.00,1.00,5.00,10000.00"
         ∷ codes "3,ok,1709251200018,3,PNDG,10.50,0.00,0.00,0.00,1.05,5.00,10000.00"
@@ -76,11 +76,11 @@ pub fn cancel_needs_pending_trade()
 /// Shows that a feed is refused if it takes the volume of a security above its limit, also if only
 /// two ticks together do.
 pub fn volume_limit_is_checked()
-    ensures room { BatchOutputsLines volume_near_limit
+    ensures at_limit { BatchOutputsLines setting_with_volume_near_limit
         (codes "feed,ABC,10.00,100" ∷ [])
         (codes "1,ok,1709251200016"
         ∷ codes "end,1,0,0" ∷ []) }
-    ensures none { BatchOutputsLines volume_near_limit
+    ensures above_limit { BatchOutputsLines setting_with_volume_near_limit
         (codes "feed,ABC,10.00,101"
         ∷ codes "feed,ABC,10.00,100,ABC,10.00,1" ∷ [])
         (codes "1,no,14,volume"

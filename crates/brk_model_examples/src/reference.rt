@@ -5,7 +5,7 @@ ghost use Rattle.std.specs.Prelude.{◌≡◌, ◌∷◌, [], ℕ, map, codes};
 ghost use Rattle.brk_model.specs.Base.{empty_base};
 ghost use Rattle.brk_model_examples.specs.Batches.{base_after_batch, BatchOutputsLines, base_without_stored_replies};
 ghost use Rattle.brk_model_examples.specs.Setting.{setting_base, setting_rows};
-ghost use Rattle.brk_model_examples.specs.Extremes.{customer_with_ten_accounts};
+ghost use Rattle.brk_model_examples.specs.Extremes.{setting_with_ten_accounts};
 
 /// Shows the answers to a broker, a customer and two accounts. The second account is refused,
 /// because its customer does not exist, and its key is not recorded. The output of a batch without
@@ -21,12 +21,12 @@ pub fn refused_reference_row_records_no_key()
         ∷ codes "3,ok,1709251200002"
         ∷ codes "4,no,2"
         ∷ codes "end,3,0,1" ∷ []) }
-    ensures kept { map {B = ℕ} (λ k. k.key.row) (base_after_batch empty_base
+    ensures recorded_keys { map {B = ℕ} (λ k. k.key.row) (base_after_batch empty_base
         (codes "broker,1,Bo"
         ∷ codes "customer,10,1,T10,Lee,Ann"
         ∷ codes "account,100,10,1,Main,1,10000.00"
         ∷ codes "account,101,11,1,Side,0,0.00" ∷ [])).kept ≡ 1 ∷ 2 ∷ 3 ∷ [] }
-    ensures none { BatchOutputsLines empty_base
+    ensures empty_batch { BatchOutputsLines empty_base
         []
         (codes "end,0,0,0" ∷ []) }
 {}
@@ -56,7 +56,7 @@ pub fn setting_rows_result_in_setting()
 
 /// Shows eleven reference rows: ten are malformed or inconsistent and are refused, and one tax rate
 /// is accepted.
-pub fn reference_row_refusals()
+pub fn invalid_reference_rows_are_refused()
     ensures { BatchOutputsLines setting_base
         (codes "band,1,TMB,NYSE,999999,999999,50"
         ∷ codes "band,1,TMB,NYSE,2,1,50"
@@ -86,7 +86,7 @@ pub fn reference_row_refusals()
 /// Shows that an eleventh account of a customer is refused, and that a missing broker is checked
 /// before.
 pub fn eleventh_account_is_refused()
-    ensures { BatchOutputsLines customer_with_ten_accounts
+    ensures { BatchOutputsLines setting_with_ten_accounts
         (codes "account,110,10,1,Main,1,0.00"
         ∷ codes "account,110,10,2,Main,1,0.00" ∷ [])
         (codes "1,no,14,accounts"

@@ -3,9 +3,9 @@
 
 ghost use Rattle.std.specs.Prelude.{◌≡◌, ◌∷◌, [], ℕ, map, codes};
 ghost use Rattle.brk_model.specs.Base.{empty_base};
-ghost use Rattle.brk_model.specs.Batch.{NoEnd, BadEnd, BadHeader, EndedWell};
+ghost use Rattle.brk_model.specs.Batch.{NoEnd, BadEnd, BadHeader, CorrectEnd};
 ghost use Rattle.brk_model.specs.Computed.{batch_of_input};
-ghost use Rattle.brk_model_examples.specs.Batches.{twenty_clock_readings, bytes_of_batch, lines_of_texts, base_after_batch, BatchOutputsLines};
+ghost use Rattle.brk_model_examples.specs.Batches.{twenty_clock_readings, bytes_of_batch, text_with_line_ends, base_after_batch, BatchOutputsLines};
 ghost use Rattle.brk_model_examples.specs.Setting.{setting_base, setting_rows};
 
 /// Shows that a retried batch is answered with its stored replies and leaves the base unchanged,
@@ -45,7 +45,7 @@ pub fn retried_batch_changes_nothing()
         ∷ codes "5,again,1709251200020,3,SBMT,10.00,1610.00,1500.00,0.00,15.00,5.00,9545.90"
         ∷ codes "6,again,1709251200021,19.50,68.00,1857.50,2024-03-03,1610.00,1950.00,8403.40"
         ∷ codes "end,0,6,0" ∷ []) }
-    ensures other { BatchOutputsLines (base_after_batch setting_base
+    ensures changed_row { BatchOutputsLines (base_after_batch setting_base
         (codes "order,100,TMB,ABC,100,,cash,fifo,Ann,Lee,T10"
         ∷ codes "result,1,10.10"
         ∷ codes "order,100,TMB,ABC,200,,cash,fifo,Ann,Lee,T10"
@@ -107,7 +107,7 @@ pub fn retried_setting_is_answered_again()
         ∷ codes "15,again,1709251200014"
         ∷ codes "16,again,1709251200015"
         ∷ codes "end,0,16,0" ∷ []) }
-    ensures other { BatchOutputsLines (base_after_batch empty_base setting_rows)
+    ensures changed_row { BatchOutputsLines (base_after_batch empty_base setting_rows)
         (codes "broker,1,Bob"
         ∷ codes "customer,10,1,T10,Lee,Ann"
         ∷ codes "account,100,10,1,Main,1,10000.00"
@@ -149,13 +149,13 @@ pub fn refused_row_may_be_retried()
     ensures { (batch_of_input (batch_of_input (base_after_batch setting_base
         (codes "account,101,11,1,Side,0,0.00" ∷ [])) twenty_clock_readings (bytes_of_batch (codes "U") (codes "customer,11,1,T11,Kay,Kim" ∷ []))).base twenty_clock_readings
         (bytes_of_batch (codes "T") (codes "account,101,11,1,Side,0,0.00" ∷ []))).text
-        ≡ lines_of_texts (codes "1,ok,1709251200017"
+        ≡ text_with_line_ends (codes "1,ok,1709251200017"
         ∷ codes "end,1,0,0" ∷ []) }
 {}
 
 /// Shows that of an input without an end record the last row is refused and not executed.
-pub fn cut_input_refuses_last_row()
-    ensures text { (batch_of_input setting_base twenty_clock_readings (codes "batch,C\nbroker,2,Cy\nbroker,3\nbroker,4,D")).text ≡ lines_of_texts (codes "1,ok,1709251200016"
+pub fn last_row_of_cut_input_is_refused()
+    ensures text { (batch_of_input setting_base twenty_clock_readings (codes "batch,C\nbroker,2,Cy\nbroker,3\nbroker,4,D")).text ≡ text_with_line_ends (codes "1,ok,1709251200016"
         ∷ codes "2,no,18"
         ∷ codes "3,no,18" ∷ []) }
     ensures ending { (batch_of_input setting_base twenty_clock_readings (codes "batch,C\nbroker,2,Cy\nbroker,3\nbroker,4,D")).ending ≡ NoEnd }
@@ -167,13 +167,13 @@ pub fn cut_input_refuses_last_row()
 /// Shows malformed headers and wrong end records. The row before a wrong end record is executed,
 /// and records after a correct end record are ignored.
 pub fn headers_and_end_records_are_checked()
-    ensures nothing { (batch_of_input setting_base twenty_clock_readings []).ending ≡ BadHeader }
+    ensures empty_input { (batch_of_input setting_base twenty_clock_readings []).ending ≡ BadHeader }
     ensures no_name { (batch_of_input setting_base twenty_clock_readings (codes "batch,\nend,0\n")).ending ≡ BadHeader }
-    ensures more { (batch_of_input setting_base twenty_clock_readings (codes "batch,A,B\nend,0\n")).ending ≡ BadHeader }
+    ensures header_with_third_field { (batch_of_input setting_base twenty_clock_readings (codes "batch,A,B\nend,0\n")).ending ≡ BadHeader }
     ensures other_count { (batch_of_input setting_base twenty_clock_readings (codes "batch,C\nbroker,2,Cy\nend,2\n")).ending ≡ BadEnd }
-    ensures zero { (batch_of_input setting_base twenty_clock_readings (codes "batch,C\nend,00\n")).ending ≡ BadEnd }
-    ensures field_more { (batch_of_input setting_base twenty_clock_readings (codes "batch,C\nend,0,\n")).ending ≡ BadEnd }
+    ensures leading_zero { (batch_of_input setting_base twenty_clock_readings (codes "batch,C\nend,00\n")).ending ≡ BadEnd }
+    ensures end_record_with_third_field { (batch_of_input setting_base twenty_clock_readings (codes "batch,C\nend,0,\n")).ending ≡ BadEnd }
     ensures no_count { (batch_of_input setting_base twenty_clock_readings (codes "batch,C\nend\n")).ending ≡ BadEnd }
-    ensures acted { (batch_of_input setting_base twenty_clock_readings (codes "batch,C\nbroker,2,Cy\nend,2\n")).text ≡ lines_of_texts (codes "1,ok,1709251200016" ∷ []) }
-    ensures well { (batch_of_input setting_base twenty_clock_readings (codes "batch,C\nbroker,2,Cy\nend,1\nbroker,3,Di\n")).ending ≡ EndedWell }
+    ensures row_before_wrong_end { (batch_of_input setting_base twenty_clock_readings (codes "batch,C\nbroker,2,Cy\nend,2\n")).text ≡ text_with_line_ends (codes "1,ok,1709251200016" ∷ []) }
+    ensures records_after_end { (batch_of_input setting_base twenty_clock_readings (codes "batch,C\nbroker,2,Cy\nend,1\nbroker,3,Di\n")).ending ≡ CorrectEnd }
 {}

@@ -7,10 +7,10 @@ ghost use Rattle.brk_money.specs.declared.trade_type.TradeType.TheVariants.{Limi
 ghost use Rattle.brk_money.specs.declared.tax_status.TaxStatus.TheVariants.{Reported, Untaxed, Withheld};
 ghost use Rattle.brk_model.specs.Derived.{settlement_amount, balance_of_account, due_day_of_completion_stamp, postings};
 ghost use Rattle.brk_model.specs.Feed.{is_triggering_price};
-ghost use Rattle.brk_model.specs.Orders.{permitted};
+ghost use Rattle.brk_model.specs.Orders.{is_customer_or_has_permission};
 ghost use Rattle.brk_model.specs.Tests.{stamp_of_next_command};
 ghost use Rattle.brk_model_examples.specs.Batches.{base_after_batch};
-ghost use Rattle.brk_model_examples.specs.Rules.{account_with_tax_status, customer_ann_lee, permission_of_namesake, customer_as_executor, executor_with_other_tax_id, first_purchase_on_margin, permission_of_other_name};
+ghost use Rattle.brk_model_examples.specs.Rules.{account_with_tax_status, customer_ann_lee, permission_with_other_tax_id, executor_with_customer_identity, executor_with_other_tax_id, first_purchase_on_margin, permission_with_other_last_name};
 ghost use Rattle.brk_model_examples.specs.Setting.{setting_base};
 ghost use Rattle.brk_model_examples.specs.Trading.{base_after_sale_of_all, first_purchase, sale_first_in_first_out};
 
@@ -47,27 +47,27 @@ pub fn only_cash_trades_change_balance()
 
 /// Shows that a completion settles after two days, and from the settlement day on after one.
 pub fn settlement_takes_one_or_two_days()
-    ensures no_day { due_day_of_completion_stamp None 1709251200000 ≡ 19785 }
-    ensures before { due_day_of_completion_stamp (Some 19784) 1709337599999 ≡ 19785 }
-    ensures from_it { due_day_of_completion_stamp (Some 19784) 1709337600000 ≡ 19785 }
-    ensures after_it { due_day_of_completion_stamp (Some 19784) 1709424000000 ≡ 19786 }
+    ensures no_settlement_day { due_day_of_completion_stamp None 1709251200000 ≡ 19785 }
+    ensures before_settlement_day { due_day_of_completion_stamp (Some 19784) 1709337599999 ≡ 19785 }
+    ensures on_settlement_day { due_day_of_completion_stamp (Some 19784) 1709337600000 ≡ 19785 }
+    ensures after_settlement_day { due_day_of_completion_stamp (Some 19784) 1709424000000 ≡ 19786 }
 {}
 
 /// Shows that the executor must have the first name, last name and tax id of the customer or of one
 /// permission.
 pub fn executor_matches_customer_or_permission()
-    ensures herself { permitted customer_ann_lee [] customer_as_executor ≡ true }
-    ensures namesake { permitted customer_ann_lee [] executor_with_other_tax_id ≡ false }
-    ensures named { permitted customer_ann_lee (permission_of_namesake ∷ []) executor_with_other_tax_id ≡ true }
-    ensures other { permitted customer_ann_lee (permission_of_other_name ∷ []) executor_with_other_tax_id ≡ false }
+    ensures customer { is_customer_or_has_permission customer_ann_lee [] executor_with_customer_identity ≡ true }
+    ensures namesake { is_customer_or_has_permission customer_ann_lee [] executor_with_other_tax_id ≡ false }
+    ensures permitted_namesake { is_customer_or_has_permission customer_ann_lee (permission_with_other_tax_id ∷ []) executor_with_other_tax_id ≡ true }
+    ensures permission_with_other_name { is_customer_or_has_permission customer_ann_lee (permission_with_other_last_name ∷ []) executor_with_other_tax_id ≡ false }
 {}
 
 /// Shows that the stamp of a command is the clock reading if this is after the last stamp,
 /// otherwise the millisecond after the last stamp.
 pub fn stamp_exceeds_last_stamp()
-    ensures behind { stamp_of_next_command base_after_sale_of_all 0 ≡ 1709251200028 }
-    ensures at_it { stamp_of_next_command base_after_sale_of_all 1709251200027 ≡ 1709251200028 }
-    ensures ahead { stamp_of_next_command base_after_sale_of_all 1709337600000 ≡ 1709337600000 }
+    ensures clock_before_last { stamp_of_next_command base_after_sale_of_all 0 ≡ 1709251200028 }
+    ensures clock_at_last { stamp_of_next_command base_after_sale_of_all 1709251200027 ≡ 1709251200028 }
+    ensures clock_after_last { stamp_of_next_command base_after_sale_of_all 1709337600000 ≡ 1709337600000 }
 {}
 
 /// Shows that an order that is retried under its key adds no second trade.

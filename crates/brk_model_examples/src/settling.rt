@@ -4,8 +4,8 @@
 ghost use Rattle.std.specs.Prelude.{◌≡◌, ◌∷◌, [], ℕ, map, Some, replicate, codes};
 ghost use Rattle.brk_model.specs.Tables.{tables_of_base};
 ghost use Rattle.brk_model.specs.Computed.{batch_of_input};
-ghost use Rattle.brk_model_examples.specs.Batches.{base_after_batch, bytes_of_batch, BatchOutputsLines, lines_of_texts, base_without_stored_replies};
-ghost use Rattle.brk_model_examples.specs.Moving.{purchase_with_settlement_day};
+ghost use Rattle.brk_model_examples.specs.Batches.{base_after_batch, bytes_of_batch, BatchOutputsLines, text_with_line_ends, base_without_stored_replies};
+ghost use Rattle.brk_model_examples.specs.Moving.{base_after_purchase_with_settlement_day};
 ghost use Rattle.brk_model_examples.specs.Setting.{setting_base};
 
 /// Shows that the settlement day must be after the day of its command, and can be set only once. A
@@ -26,36 +26,36 @@ pub fn settlement_day_is_set_once()
     ensures base { base_without_stored_replies (base_after_batch setting_base
         (codes "oneday,2024-03-02"
         ∷ codes "order,100,TMB,ABC,100,,cash,fifo,Ann,Lee,T10"
-        ∷ codes "result,1,10.10" ∷ [])) ≡ purchase_with_settlement_day }
-    ensures day { (tables_of_base purchase_with_settlement_day).rule ≡ Some 19784 }
+        ∷ codes "result,1,10.10" ∷ [])) ≡ base_after_purchase_with_settlement_day }
+    ensures day { (tables_of_base base_after_purchase_with_settlement_day).rule ≡ Some 19784 }
 {}
 
 /// Shows that a trade that is completed on the settlement day or later settles after one day. The
 /// due day of a trade that was completed before does not change.
 pub fn settlement_after_one_day()
-    ensures lines { (batch_of_input purchase_with_settlement_day (replicate 2 1709337600000) (bytes_of_batch (codes "G")
+    ensures lines { (batch_of_input base_after_purchase_with_settlement_day (replicate 2 1709337600000) (bytes_of_batch (codes "G")
         (codes "order,100,TMB,ABC,200,,cash,fifo,Ann,Lee,T10"
         ∷ codes "result,2,12.00" ∷ []))).text
-        ≡ lines_of_texts (codes "1,ok,1709337600000,2,SBMT,10.00,0.00,0.00,0.00,20.00,5.00,9974.90"
+        ≡ text_with_line_ends (codes "1,ok,1709337600000,2,SBMT,10.00,0.00,0.00,0.00,20.00,5.00,9974.90"
         ∷ codes "2,ok,1709337600001,24.00,0.00,-2429.00,2024-03-03,0.00,0.00,6545.90"
         ∷ codes "end,2,0,0" ∷ []) }
-    ensures days { map {B = ℕ} (λ row. row.due_day) (tables_of_base (batch_of_input purchase_with_settlement_day (1709337600000 ∷ 1709424000000 ∷ []) (bytes_of_batch (codes "G")
+    ensures days { map {B = ℕ} (λ row. row.due_day) (tables_of_base (batch_of_input base_after_purchase_with_settlement_day (1709337600000 ∷ 1709424000000 ∷ []) (bytes_of_batch (codes "G")
         (codes "order,100,TMB,ABC,200,,cash,fifo,Ann,Lee,T10"
         ∷ codes "result,2,12.00" ∷ []))).base).settlements ≡ 19785 ∷ 19786 ∷ [] }
 {}
 
 /// Shows that 9999-12-30 is the last day for a completion that settles after one day.
 pub fn last_day_for_one_day_settlement()
-    ensures accepted { (batch_of_input purchase_with_settlement_day (253402214399998 ∷ 253402214399999 ∷ []) (bytes_of_batch (codes "Y")
+    ensures accepted { (batch_of_input base_after_purchase_with_settlement_day (253402214399998 ∷ 253402214399999 ∷ []) (bytes_of_batch (codes "Y")
         (codes "order,100,TMB,ABC,100,,cash,fifo,Ann,Lee,T10"
         ∷ codes "result,2,10.00" ∷ []))).text
-        ≡ lines_of_texts (codes "1,ok,253402214399998,2,SBMT,10.00,0.00,0.00,0.00,10.00,5.00,9974.90"
+        ≡ text_with_line_ends (codes "1,ok,253402214399998,2,SBMT,10.00,0.00,0.00,0.00,10.00,5.00,9974.90"
         ∷ codes "2,ok,253402214399999,10.00,0.00,-1015.00,9999-12-31,0.00,0.00,7959.90"
         ∷ codes "end,2,0,0" ∷ []) }
-    ensures refused { (batch_of_input purchase_with_settlement_day (253402214399999 ∷ 253402214400000 ∷ []) (bytes_of_batch (codes "Y")
+    ensures refused { (batch_of_input base_after_purchase_with_settlement_day (253402214399999 ∷ 253402214400000 ∷ []) (bytes_of_batch (codes "Y")
         (codes "order,100,TMB,ABC,100,,cash,fifo,Ann,Lee,T10"
         ∷ codes "result,2,10.00" ∷ []))).text
-        ≡ lines_of_texts (codes "1,ok,253402214399999,2,SBMT,10.00,0.00,0.00,0.00,10.00,5.00,9974.90"
+        ≡ text_with_line_ends (codes "1,ok,253402214399999,2,SBMT,10.00,0.00,0.00,0.00,10.00,5.00,9974.90"
         ∷ codes "2,no,21"
         ∷ codes "end,1,0,1" ∷ []) }
 {}
@@ -81,7 +81,7 @@ pub fn malformed_days_are_refused()
 
 /// Shows that an order of 1,000,000 shares is accepted once a commission band covers it, and that
 /// 10,000,000 is malformed.
-pub fn large_quantities_need_a_band()
+pub fn large_quantities_need_a_commission_band()
     ensures { BatchOutputsLines setting_base
         (codes "order,100,TMB,ABC,1000000,,cash,fifo,Ann,Lee,T10"
         ∷ codes "band,1,TMB,NYSE,1000000,9999999,50"

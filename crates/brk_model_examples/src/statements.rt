@@ -7,13 +7,13 @@ ghost use Rattle.brk_money.specs.Moments.{greatest_day};
 ghost use Rattle.brk_money.specs.declared.refusal.Refusal.TheVariants.{BadText, NoAccount};
 ghost use Rattle.brk_model.specs.Tables.{tables_of_base};
 ghost use Rattle.brk_model.specs.Statement.{amount_line, statement};
-ghost use Rattle.brk_model_examples.specs.Batches.{lines_of_texts};
+ghost use Rattle.brk_model_examples.specs.Batches.{text_with_line_ends};
 ghost use Rattle.brk_model_examples.specs.Trading.{base_after_fifo_sale};
 
 /// Shows the statement after a sale, over its month and over the days after it, and its two
 /// refusals.
 pub fn statement_after_a_sale()
-    ensures month { statement (tables_of_base base_after_fifo_sale) 100 19783 19813 ≡ Ok (lines_of_texts (codes "Statement of account 100"
+    ensures month { statement (tables_of_base base_after_fifo_sale) 100 19783 19813 ≡ Ok (text_with_line_ends (codes "Statement of account 100"
         ∷ codes "Main"
         ∷ codes "From 2024-03-01 to 2024-03-31"
         ∷ codes "Opening                  10000.00"
@@ -24,7 +24,7 @@ pub fn statement_after_a_sale()
         ∷ codes "ABC                         2         150      12.00"
         ∷ codes "Holdings                  1500.00"
         ∷ codes "Cash rows 3, lots 1" ∷ [])) }
-    ensures later { statement (tables_of_base base_after_fifo_sale) 100 19784 19813 ≡ Ok (lines_of_texts (codes "Statement of account 100"
+    ensures days_after_sale { statement (tables_of_base base_after_fifo_sale) 100 19784 19813 ≡ Ok (text_with_line_ends (codes "Statement of account 100"
         ∷ codes "Main"
         ∷ codes "From 2024-03-02 to 2024-03-31"
         ∷ codes "Opening                   8403.40"
@@ -32,8 +32,8 @@ pub fn statement_after_a_sale()
         ∷ codes "ABC                         2         150      12.00"
         ∷ codes "Holdings                  1500.00"
         ∷ codes "Cash rows 0, lots 1" ∷ [])) }
-    ensures turned { statement (tables_of_base base_after_fifo_sale) 999 19784 19783 ≡ Err BadText }
-    ensures unknown { statement (tables_of_base base_after_fifo_sale) 999 19783 19813 ≡ Err NoAccount }
+    ensures reversed_days { statement (tables_of_base base_after_fifo_sale) 999 19784 19783 ≡ Err BadText }
+    ensures unknown_account { statement (tables_of_base base_after_fifo_sale) 999 19783 19813 ≡ Err NoAccount }
 {}
 
 /// Shows that an amount is right-aligned in its column, and that an amount wider than the column is

@@ -4,11 +4,11 @@
 ghost use Rattle.std.specs.Prelude.{◌≡◌, ◌∷◌, [], Ok, codes};
 ghost use Rattle.brk_model.specs.Tables.{tables_of_base};
 ghost use Rattle.brk_model.specs.Computed.{batch_of_input};
-ghost use Rattle.brk_model_examples.specs.Batches.{bytes_of_batch, lines_of_texts, base_after_batch, BatchOutputsLines, view_by_name_and_arguments};
+ghost use Rattle.brk_model_examples.specs.Batches.{bytes_of_batch, text_with_line_ends, base_after_batch, BatchOutputsLines, view_by_name_and_arguments};
 ghost use Rattle.brk_model_examples.specs.Setting.{setting_base};
 ghost use Rattle.brk_model_examples.specs.Trading.{base_after_first_purchase, base_after_sale_of_all};
 ghost use Rattle.brk_model_examples.specs.Waiting.{base_with_pending_orders};
-ghost use Rattle.brk_model_examples.specs.Extremes.{base_at_greatest_stamp, broker_with_commissions};
+ghost use Rattle.brk_model_examples.specs.Extremes.{base_at_greatest_stamp, setting_with_commission_total};
 
 /// Shows that a result is refused if its trade is completed, pending or missing.
 pub fn result_needs_submitted_trade()
@@ -50,13 +50,13 @@ pub fn balance_limit_is_checked()
 /// Shows that a result may take the commission total of a broker to its limit, and is refused if it
 /// takes it above.
 pub fn broker_commission_limit_is_checked()
-    ensures room { BatchOutputsLines (broker_with_commissions 99999999999998990)
+    ensures at_limit { BatchOutputsLines (setting_with_commission_total 99999999999998990)
         (codes "order,100,TMB,ABC,100,,cash,fifo,Ann,Lee,T10"
         ∷ codes "result,2,10.10" ∷ [])
         (codes "1,ok,1709251200016,2,SBMT,10.00,0.00,0.00,0.00,10.00,5.00,10000.00"
         ∷ codes "2,ok,1709251200017,10.10,0.00,-1025.10,2024-03-03,0.00,0.00,8974.90"
         ∷ codes "end,2,0,0" ∷ []) }
-    ensures none { BatchOutputsLines (broker_with_commissions 99999999999998991)
+    ensures above_limit { BatchOutputsLines (setting_with_commission_total 99999999999998991)
         (codes "order,100,TMB,ABC,100,,cash,fifo,Ann,Lee,T10"
         ∷ codes "result,2,10.10" ∷ [])
         (codes "1,ok,1709251200016,2,SBMT,10.00,0.00,0.00,0.00,10.00,5.00,10000.00"
@@ -66,7 +66,7 @@ pub fn broker_commission_limit_is_checked()
 
 /// Shows that the stamp follows the last stamp if the clock reading is before it.
 pub fn stamps_continue_if_clock_goes_back()
-    ensures { (batch_of_input base_after_sale_of_all (0 ∷ []) (bytes_of_batch (codes "Y") (codes "broker,7,Cy" ∷ []))).text ≡ lines_of_texts (codes "1,ok,1709251200028"
+    ensures { (batch_of_input base_after_sale_of_all (0 ∷ []) (bytes_of_batch (codes "Y") (codes "broker,7,Cy" ∷ []))).text ≡ text_with_line_ends (codes "1,ok,1709251200028"
         ∷ codes "end,1,0,0" ∷ []) }
 {}
 
@@ -85,7 +85,7 @@ pub fn due_day_beyond_calendar_is_refused()
     ensures { (batch_of_input setting_base (253402300799000 ∷ 0 ∷ []) (bytes_of_batch (codes "Y")
         (codes "order,100,TMB,ABC,100,,cash,fifo,Ann,Lee,T10"
         ∷ codes "result,1,10.00" ∷ []))).text
-        ≡ lines_of_texts (codes "1,ok,253402300799000,1,SBMT,10.00,0.00,0.00,0.00,10.00,5.00,10000.00"
+        ≡ text_with_line_ends (codes "1,ok,253402300799000,1,SBMT,10.00,0.00,0.00,0.00,10.00,5.00,10000.00"
         ∷ codes "2,no,21"
         ∷ codes "end,1,0,1" ∷ []) }
 {}
@@ -95,13 +95,13 @@ pub fn last_day_for_two_day_settlement()
     ensures accepted { (batch_of_input setting_base (253402127999998 ∷ 253402127999999 ∷ []) (bytes_of_batch (codes "Y")
         (codes "order,100,TMB,ABC,100,,cash,fifo,Ann,Lee,T10"
         ∷ codes "result,1,10.00" ∷ []))).text
-        ≡ lines_of_texts (codes "1,ok,253402127999998,1,SBMT,10.00,0.00,0.00,0.00,10.00,5.00,10000.00"
+        ≡ text_with_line_ends (codes "1,ok,253402127999998,1,SBMT,10.00,0.00,0.00,0.00,10.00,5.00,10000.00"
         ∷ codes "2,ok,253402127999999,10.00,0.00,-1015.00,9999-12-31,0.00,0.00,8985.00"
         ∷ codes "end,2,0,0" ∷ []) }
     ensures refused { (batch_of_input setting_base (253402127999999 ∷ 253402128000000 ∷ []) (bytes_of_batch (codes "Y")
         (codes "order,100,TMB,ABC,100,,cash,fifo,Ann,Lee,T10"
         ∷ codes "result,1,10.00" ∷ []))).text
-        ≡ lines_of_texts (codes "1,ok,253402127999999,1,SBMT,10.00,0.00,0.00,0.00,10.00,5.00,10000.00"
+        ≡ text_with_line_ends (codes "1,ok,253402127999999,1,SBMT,10.00,0.00,0.00,0.00,10.00,5.00,10000.00"
         ∷ codes "2,no,21"
         ∷ codes "end,1,0,1" ∷ []) }
 {}

@@ -10,25 +10,25 @@ ghost use Rattle.brk_model.specs.Upgraded.{tables_after_upgrade};
 ghost use Rattle.brk_model.specs.Ways.{satisfies_status_condition};
 ghost use Rattle.brk_model.specs.Audit.{expected_tables};
 ghost use Rattle.brk_model_examples.specs.Trading.{base_after_first_purchase};
-ghost use Rattle.brk_model_examples.specs.Bought.{bought_tables, first_schema_tables};
+ghost use Rattle.brk_model_examples.specs.Bought.{tables_after_first_purchase, first_schema_tables_after_purchase};
 
 /// Shows the tables after the first purchase: they satisfy the conditions `Form` and `Status`, and
 /// equal the tables of the base that they describe.
 pub fn tables_equal_those_of_their_base()
-    ensures tables { sheets base_after_first_purchase ≡ bought_tables }
-    ensures form { satisfies_form_condition third_schema bought_tables ≡ true }
-    ensures status { satisfies_status_condition bought_tables ≡ true }
-    ensures trades { (base_of_tables bought_tables).trades ≡ base_after_first_purchase.trades }
-    ensures expected { expected_tables third_schema bought_tables ≡ bought_tables }
+    ensures tables { sheets base_after_first_purchase ≡ tables_after_first_purchase }
+    ensures form { satisfies_form_condition third_schema tables_after_first_purchase ≡ true }
+    ensures status { satisfies_status_condition tables_after_first_purchase ≡ true }
+    ensures trades { (base_of_tables tables_after_first_purchase).trades ≡ base_after_first_purchase.trades }
+    ensures expected { expected_tables third_schema tables_after_first_purchase ≡ tables_after_first_purchase }
 {}
 
 /// Shows the tables after the first purchase in the two older schemas, and that their upgrade
 /// results in the tables of the third.
 pub fn older_schema_tables_are_upgraded()
-    ensures first { sheets_in_schema first_schema base_after_first_purchase ≡ first_schema_tables }
-    ensures first_form { satisfies_form_condition first_schema first_schema_tables ≡ true }
-    ensures first_base { base_of_tables first_schema_tables ≡ base_of_tables bought_tables }
-    ensures second { sheets_in_schema second_schema base_after_first_purchase ≡ bought_tables }
-    ensures from_the_first { tables_after_upgrade first_schema_tables ≡ bought_tables }
-    ensures from_the_second { tables_after_upgrade bought_tables ≡ bought_tables }
+    ensures first { sheets_in_schema first_schema base_after_first_purchase ≡ first_schema_tables_after_purchase }
+    ensures first_form { satisfies_form_condition first_schema first_schema_tables_after_purchase ≡ true }
+    ensures first_base { base_of_tables first_schema_tables_after_purchase ≡ base_of_tables tables_after_first_purchase }
+    ensures second { sheets_in_schema second_schema base_after_first_purchase ≡ tables_after_first_purchase }
+    ensures from_the_first { tables_after_upgrade first_schema_tables_after_purchase ≡ tables_after_first_purchase }
+    ensures from_the_second { tables_after_upgrade tables_after_first_purchase ≡ tables_after_first_purchase }
 {}

@@ -7,7 +7,7 @@ ghost use Rattle.brk_model_examples.specs.Setting.{setting_base};
 
 /// Shows that the tax on a gain is recorded at the tax statuses 1 and 2, and withheld at 1 only.
 pub fn tax_status_decides_recorded_tax()
-    ensures none { BatchOutputsLines setting_base
+    ensures untaxed { BatchOutputsLines setting_base
         (codes "account,102,10,1,Tax,0,10000.00"
         ∷ codes "order,102,TMB,ABC,100,,cash,fifo,Ann,Lee,T10"
         ∷ codes "result,1,10.10"
@@ -59,7 +59,7 @@ pub fn tax_status_decides_recorded_tax()
 
 /// Shows that a loss is taxed at none of the three tax statuses.
 pub fn loss_is_not_taxed()
-    ensures none { BatchOutputsLines setting_base
+    ensures untaxed { BatchOutputsLines setting_base
         (codes "account,102,10,1,Tax,0,10000.00"
         ∷ codes "order,102,TMB,ABC,100,,cash,fifo,Ann,Lee,T10"
         ∷ codes "result,1,10.10"

@@ -21,7 +21,7 @@ pub fn market_purchase_and_result()
     ensures base { base_without_stored_replies (base_after_batch setting_base
         (codes "order,100,TMB,ABC,100,,cash,fifo,Ann,Lee,T10"
         ∷ codes "result,1,10.10" ∷ [])) ≡ base_after_first_purchase }
-    ensures standing { positions_and_totals_of_base base_after_first_purchase 1 ≡ record {
+    ensures positions { positions_and_totals_of_base base_after_first_purchase 1 ≡ record {
       lots = (1, pos 100) ∷ [];
       changes = (1, pos 0, pos 100) ∷ [];
       summaries = pos 100 ∷ [];
@@ -41,7 +41,7 @@ pub fn second_purchase_opens_second_lot()
     ensures base { base_without_stored_replies (base_after_batch base_after_first_purchase
         (codes "order,100,TMB,ABC,200,,cash,fifo,Ann,Lee,T10"
         ∷ codes "result,2,12.00" ∷ [])) ≡ base_after_two_purchases }
-    ensures standing { positions_and_totals_of_base base_after_two_purchases 2 ≡ record {
+    ensures positions { positions_and_totals_of_base base_after_two_purchases 2 ≡ record {
       lots = (1, pos 100) ∷ (2, pos 200) ∷ [];
       changes = (2, pos 0, pos 200) ∷ [];
       summaries = pos 300 ∷ [];
@@ -62,7 +62,7 @@ pub fn sale_closes_first_lot_first()
     ensures base { base_without_stored_replies (base_after_batch base_after_two_purchases
         (codes "order,100,TMS,ABC,150,,cash,fifo,Ann,Lee,T10"
         ∷ codes "result,3,13.00" ∷ [])) ≡ base_after_fifo_sale }
-    ensures standing { positions_and_totals_of_base base_after_fifo_sale 3 ≡ record {
+    ensures positions { positions_and_totals_of_base base_after_fifo_sale 3 ≡ record {
       lots = (2, pos 150) ∷ [];
       changes = (1, pos 100, pos 0) ∷ (2, pos 200, pos 150) ∷ [];
       summaries = pos 150 ∷ [];
@@ -82,7 +82,7 @@ pub fn sale_closes_last_lot_first()
     ensures base { base_without_stored_replies (base_after_batch base_after_two_purchases
         (codes "order,100,TMS,ABC,150,,cash,lifo,Ann,Lee,T10"
         ∷ codes "result,3,13.00" ∷ [])) ≡ base_after_lifo_sale }
-    ensures standing { positions_and_totals_of_base base_after_lifo_sale 3 ≡ record {
+    ensures positions { positions_and_totals_of_base base_after_lifo_sale 3 ≡ record {
       lots = (1, pos 100) ∷ (2, pos 50) ∷ [];
       changes = (2, pos 200, pos 50) ∷ [];
       summaries = pos 150 ∷ [];
@@ -102,7 +102,7 @@ pub fn excess_sale_opens_short_lot()
     ensures base { base_without_stored_replies (base_after_batch base_after_fifo_sale
         (codes "order,100,TMS,ABC,400,,cash,fifo,Ann,Lee,T10"
         ∷ codes "result,4,13.00" ∷ [])) ≡ base_after_short_sale }
-    ensures standing { positions_and_totals_of_base base_after_short_sale 4 ≡ record {
+    ensures positions { positions_and_totals_of_base base_after_short_sale 4 ≡ record {
       lots = (4, negsuc 249) ∷ [];
       changes = (2, pos 150, pos 0) ∷ (4, pos 0, negsuc 249) ∷ [];
       summaries = negsuc 249 ∷ [];
@@ -123,7 +123,7 @@ pub fn purchase_covers_short_lot()
     ensures base { base_without_stored_replies (base_after_batch base_after_short_sale
         (codes "order,100,TMB,ABC,300,,cash,fifo,Ann,Lee,T10"
         ∷ codes "result,5,11.00" ∷ [])) ≡ base_after_covering_purchase }
-    ensures standing { positions_and_totals_of_base base_after_covering_purchase 5 ≡ record {
+    ensures positions { positions_and_totals_of_base base_after_covering_purchase 5 ≡ record {
       lots = (5, pos 50) ∷ [];
       changes = (4, negsuc 249, pos 0) ∷ (5, pos 0, pos 50) ∷ [];
       summaries = pos 50 ∷ [];
@@ -143,7 +143,7 @@ pub fn sale_of_all_leaves_no_lot()
     ensures base { base_without_stored_replies (base_after_batch base_after_covering_purchase
         (codes "order,100,TMS,ABC,50,,cash,fifo,Ann,Lee,T10"
         ∷ codes "result,6,11.00" ∷ [])) ≡ base_after_sale_of_all }
-    ensures standing { positions_and_totals_of_base base_after_sale_of_all 6 ≡ record {
+    ensures positions { positions_and_totals_of_base base_after_sale_of_all 6 ≡ record {
       lots = [];
       changes = (5, pos 50, pos 0) ∷ [];
       summaries = [];
@@ -160,7 +160,7 @@ pub fn margin_trade_has_no_cash_row()
         (codes "1,ok,1709251200016,1,SBMT,10.00,0.00,0.00,0.00,10.00,5.00,10000.00"
         ∷ codes "2,ok,1709251200017,10.10,0.00,-1025.10,2024-03-03,0.00,0.00,10000.00"
         ∷ codes "end,2,0,0" ∷ []) }
-    ensures settled { map (λ row. row.cash_type) (tables_of_base (base_after_batch setting_base
+    ensures settlement { map (λ row. row.cash_type) (tables_of_base (base_after_batch setting_base
         (codes "order,100,TMB,ABC,100,,margin,fifo,Ann,Lee,T10"
         ∷ codes "result,1,10.10" ∷ []))).settlements ≡ codes "Margin" ∷ [] }
     ensures no_cash { (tables_of_base (base_after_batch setting_base

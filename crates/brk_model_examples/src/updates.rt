@@ -5,7 +5,7 @@ ghost use Rattle.std.specs.Prelude.{◌≡◌, ◌∷◌, [], Ok, map, codes};
 ghost use Rattle.brk_model.specs.Tables.{tables_of_base};
 ghost use Rattle.brk_model.specs.Updates.{updated_executor_name};
 ghost use Rattle.brk_model_examples.specs.Batches.{base_after_batch, BatchOutputsLines, view_by_name_and_arguments};
-ghost use Rattle.brk_model_examples.specs.Crowds.{misleading_security_name};
+ghost use Rattle.brk_model_examples.specs.Crowds.{setting_with_misleading_security_name};
 ghost use Rattle.brk_model_examples.specs.Setting.{setting_base};
 ghost use Rattle.brk_model_examples.specs.Trading.{base_after_fifo_sale};
 
@@ -25,7 +25,7 @@ pub fn text_updates_after_sale()
         ∷ codes "5,ok,1709251200024,3"
         ∷ codes "6,ok,1709251200025,0"
         ∷ codes "end,4,0,2" ∷ []) }
-    ensures words { view_by_name_and_arguments (base_after_batch base_after_fifo_sale
+    ensures trade_lookup { view_by_name_and_arguments (base_after_batch base_after_fifo_sale
         (codes "upname,1"
         ∷ codes "upname,1,1"
         ∷ codes "upname,1,9"
@@ -38,7 +38,7 @@ pub fn text_updates_after_sale()
         ∷ (codes "history" ∷ codes "1709251200016" ∷ codes "SBMT" ∷ [])
         ∷ (codes "history" ∷ codes "1709251200017" ∷ codes "CMPT" ∷ [])
         ∷ []) }
-    ensures all { map (λ row. row.cash_type) (tables_of_base (base_after_batch base_after_fifo_sale
+    ensures cash_types { map (λ row. row.cash_type) (tables_of_base (base_after_batch base_after_fifo_sale
         (codes "upname,1"
         ∷ codes "upname,1,1"
         ∷ codes "upname,1,9"
@@ -50,22 +50,22 @@ pub fn text_updates_after_sale()
 /// Shows that `upname` replaces spaces by ` X ` in an executor's name, and the other way round if
 /// it contains ` X `.
 pub fn update_toggles_executor_name()
-    ensures in_it { map (λ t. t.executor) (base_after_batch base_after_fifo_sale
+    ensures inserted { map (λ t. t.executor) (base_after_batch base_after_fifo_sale
         (codes "upname,1" ∷ [])).trades ≡ codes "Ann X Lee" ∷ codes "Ann Lee" ∷ codes "Ann Lee" ∷ [] }
-    ensures out { map (λ t. t.executor) (base_after_batch base_after_fifo_sale
+    ensures removed { map (λ t. t.executor) (base_after_batch base_after_fifo_sale
         (codes "upname,1"
         ∷ codes "upname,1" ∷ [])).trades ≡ codes "Ann Lee" ∷ codes "Ann Lee" ∷ codes "Ann Lee" ∷ [] }
-    ensures twice { updated_executor_name (codes "Ann X X Lee") ≡ codes "Ann X Lee" }
-    ensures both_spaces { updated_executor_name (codes "Ann  Lee") ≡ codes "Ann X  X Lee" }
-    ensures out_of_both { updated_executor_name (codes "Ann X  X Lee") ≡ codes "Ann  Lee" }
-    ensures at_the_head { updated_executor_name (codes "X Lee") ≡ codes "X X Lee" }
-    ensures out_of_the_head { updated_executor_name (codes "X X Lee") ≡ codes "X Lee" }
+    ensures two_occurrences { updated_executor_name (codes "Ann X X Lee") ≡ codes "Ann X Lee" }
+    ensures two_spaces { updated_executor_name (codes "Ann  Lee") ≡ codes "Ann X  X Lee" }
+    ensures two_removed { updated_executor_name (codes "Ann X  X Lee") ≡ codes "Ann  Lee" }
+    ensures at_start { updated_executor_name (codes "X Lee") ≡ codes "X X Lee" }
+    ensures removed_at_start { updated_executor_name (codes "X X Lee") ≡ codes "X Lee" }
 {}
 
 /// Shows a security whose own name contains ` shares of `: `uptext` searches the whole text, so
 /// that every update writes ` Shares of `.
 pub fn cash_name_update_searches_whole_text()
-    ensures lines { BatchOutputsLines misleading_security_name
+    ensures lines { BatchOutputsLines setting_with_misleading_security_name
         (codes "order,100,TMB,ABC,100,,cash,fifo,Ann,Lee,T10"
         ∷ codes "result,1,10.10"
         ∷ codes "uptext,ABC,0,253402300799999"
@@ -75,14 +75,14 @@ pub fn cash_name_update_searches_whole_text()
         ∷ codes "3,ok,1709251200018,1"
         ∷ codes "4,ok,1709251200019,1"
         ∷ codes "end,4,0,0" ∷ []) }
-    ensures at_first { map (λ t. t.cash_name) (base_after_batch misleading_security_name
+    ensures at_first { map (λ t. t.cash_name) (base_after_batch setting_with_misleading_security_name
         (codes "order,100,TMB,ABC,100,,cash,fifo,Ann,Lee,T10"
         ∷ codes "result,1,10.10" ∷ [])).trades ≡ codes "Market-Buy 100 shares of Big shares of Small" ∷ [] }
-    ensures once { map (λ t. t.cash_name) (base_after_batch misleading_security_name
+    ensures once { map (λ t. t.cash_name) (base_after_batch setting_with_misleading_security_name
         (codes "order,100,TMB,ABC,100,,cash,fifo,Ann,Lee,T10"
         ∷ codes "result,1,10.10"
         ∷ codes "uptext,ABC,0,253402300799999" ∷ [])).trades ≡ codes "Market-Buy 100 Shares of Big shares of Small" ∷ [] }
-    ensures twice { map (λ t. t.cash_name) (base_after_batch misleading_security_name
+    ensures twice { map (λ t. t.cash_name) (base_after_batch setting_with_misleading_security_name
         (codes "order,100,TMB,ABC,100,,cash,fifo,Ann,Lee,T10"
         ∷ codes "result,1,10.10"
         ∷ codes "uptext,ABC,0,253402300799999"

@@ -11,10 +11,10 @@ use Rattle.brk_model.specs.Base.{Base}
 use Rattle.brk_model.specs.Forms.{ReadResult, is_batch_name}
 use Rattle.brk_model.specs.Parse.{parse_row}
 use Rattle.brk_model.specs.Commands.{Answer, Refused}
-use Rattle.brk_model.specs.Answers.{Fields, RowStep, RowCall, answer_to_row_call, CallsHaveAnswers, well_formed_rows_from, with_well_formed_row, calls_of_rows, answers_interleaved_with_refusals, answers_from_row_on}
-use Rattle.brk_model.specs.Input.{input_text, BeginsWithRecords, HasExactlyRecords, IsBatchName, IsEndRecord, batch_header, end_record_after}
-use Rattle.brk_model.specs.Batch.{Batch, BadEnd, AreDecided, IsAnswered, IsUnanswered, IsResultOfBatch, step_of_row}
-use Rattle.brk_model.specs.Computed.{AnswersAndBase, answers_and_base_of_calls, answers_and_base_of_rows, is_end_record, RowsAndEndRecord, with_row_in_front, split_at_end_record, batch_name_of_header, has_correct_row_count, batch_without_end_line, complete_batch, batch_with_end_record, batch_without_end_record, batch_of_rows, batch_of_named_rows, batch_of_records, batch_of_input}
+use Rattle.brk_model.specs.Answers.{Fields, RowStep, RowCall, answer_to_row_call, CallsHaveAnswers, well_formed_rows_from, with_well_formed_row, calls_of_rows, answers_interleaved_with_refusals, answers_to_row_and_rest}
+use Rattle.brk_model.specs.Input.{input_text, BeginsWithRecords, HasExactlyRecords, IsBatchName, IsEndRecord, batch_header, correct_end_record}
+use Rattle.brk_model.specs.Batch.{BatchResult, BadEnd, BatchRowsAreDecided, IsResultOfTextWithHeader, IsResultOfTextWithoutHeader, IsResultOfBatch, step_of_row}
+use Rattle.brk_model.specs.Computed.{AnswersAndBase, answers_and_base_of_calls, answers_and_base_of_rows, is_end_record, RowsAndEndRecord, with_row_in_front, split_at_end_record, batch_name_of_header, has_correct_row_count, batch_without_end_line, complete_batch, batch_with_end_record, batch_without_end_record, batch_of_rows, batch_with_optional_name, batch_of_records, batch_of_input}
 
 -- ---- a run and its answers
 
@@ -60,7 +60,7 @@ length-woven form n [] answers h = refl
 length-woven form n (row ∷ rows) answers h = one (form row) n (well_formed_rows_from form (n + 1) rows) (answers_interleaved_with_refusals form rows) (length rows) answers (length-woven form (n + 1) rows) h
   where
     one : {C : Type 0} (r : ReadResult C) (n : ℕ) (rest : List (ℕ × C)) (more : List Answer → List Answer) (k : ℕ) (answers : List Answer)
-        → ((others : List Answer) → length others ≡ length rest → length (more others) ≡ k) → length answers ≡ length (with_well_formed_row r n rest) → length (answers_from_row_on r more answers) ≡ suc k
+        → ((others : List Answer) → length others ≡ length rest → length (more others) ≡ k) → length answers ≡ length (with_well_formed_row r n rest) → length (answers_to_row_and_rest r more answers) ≡ suc k
     one (Ok command) n rest more k [] each h = absurd (omega (h, arith))
     one (Ok command) n rest more k (answer ∷ answers) each h = ap suc (each answers (omega (h, arith)))
     one (Err refusal) n rest more k answers each h = ap suc (each answers h)
@@ -124,36 +124,36 @@ first_of (word ∷ more) = word
 
 -- The record is the header of the batch with this well-formed name; without a name, it is the
 -- header of no well-formed name.
-abbrev pub NameSays : Fields → Option Text → Type 0
-NameSays header (Some name) = (header ≡ batch_header name) × IsBatchName name
-NameSays header None = (name : Text) → IsBatchName name → header ≡ batch_header name → ⊥
+abbrev pub HeaderHasOptionalName : Fields → Option Text → Type 0
+HeaderHasOptionalName header (Some name) = (header ≡ batch_header name) × IsBatchName name
+HeaderHasOptionalName header None = (name : Text) → IsBatchName name → header ≡ batch_header name → ⊥
 
-pub header_says : (header : Fields) → NameSays header (batch_name_of_header header)
+pub header_says : (header : Fields) → HeaderHasOptionalName header (batch_name_of_header header)
 unfolding second_of first_of
 header_says [] = λ name named e. absurd (cc)
 header_says (word ∷ []) = λ name named e. absurd (cc)
 header_says (word ∷ count ∷ more ∷ fields) = λ name named e. absurd (cc)
 header_says (word ∷ name ∷ []) = at (bytes_eq word (codes "batch")) refl (is_batch_name name) refl
   where
-    at : (b : Bool) → bytes_eq word (codes "batch") ≡ b → (n : Bool) → is_batch_name name ≡ n → NameSays (word ∷ name ∷ []) (cond b (cond n (Some name) None) None)
+    at : (b : Bool) → bytes_eq word (codes "batch") ≡ b → (n : Bool) → is_batch_name name ≡ n → HeaderHasOptionalName (word ∷ name ∷ []) (cond b (cond n (Some name) None) None)
     at true h true k = (ap (λ w. w ∷ name ∷ []) (sound word (codes "batch") h), k)
     at true h false k = λ other named e. let q : name ≡ other = ap second_of e in absurd (cc)
     at false h n k = λ other named e. let q = same word (codes "batch") (ap first_of e) in absurd (cc)
 
 -- The record is the correct end record of `n` rows if the Boolean is true, and is not if it is
 -- false.
-abbrev pub RightSays : ℕ → Fields → Bool → Type 0
-RightSays n last true = last ≡ end_record_after n
-RightSays n last false = last ≡ end_record_after n → ⊥
+abbrev pub IsCorrectEndRecordExactlyIf : ℕ → Fields → Bool → Type 0
+IsCorrectEndRecordExactlyIf n last true = last ≡ correct_end_record n
+IsCorrectEndRecordExactlyIf n last false = last ≡ correct_end_record n → ⊥
 
-pub right_says : (n : ℕ) (last : Fields) → IsEndRecord last → RightSays n last (has_correct_row_count n last)
+pub right_says : (n : ℕ) (last : Fields) → IsEndRecord last → IsCorrectEndRecordExactlyIf n last (has_correct_row_count n last)
 unfolding field_at second_of
 right_says n [] h = λ e. absurd (cc)
 right_says n (word ∷ []) h = λ e. absurd (cc)
 right_says n (word ∷ count ∷ more ∷ fields) h = λ e. absurd (cc)
 right_says n (word ∷ count ∷ []) h = at (bytes_eq count (decimal n)) refl
   where
-    at : (b : Bool) → bytes_eq count (decimal n) ≡ b → RightSays n (word ∷ count ∷ []) b
+    at : (b : Bool) → bytes_eq count (decimal n) ≡ b → IsCorrectEndRecordExactlyIf n (word ∷ count ∷ []) b
     at true k = ap (λ w. w ∷ count ∷ []) (some-inj h) ∙ ap (λ c. codes "end" ∷ c ∷ []) (sound count (decimal n) k)
     at false k = λ e. let q = same count (decimal n) (ap second_of e) in absurd (cc)
 
@@ -162,7 +162,7 @@ right_says n (word ∷ count ∷ []) h = at (bytes_eq count (decimal n)) refl
 -- rows that are none of them an end record, settled
 pub settles : {B C : Type 0} (form : Fields → ReadResult C) (step : RowStep B C) (name : Text) (base : B) (moments : List ℕ) (rows : List Fields)
     → IsBatchName name → AllByRecursion (λ row. ¬ (IsEndRecord row)) rows → length rows ≤ length moments
-    → AreDecided form step name base (take (length (well_formed_rows_from form 1 rows)) moments) rows (answers_and_base_of_rows form step name base moments rows).0 (answers_and_base_of_rows form step name base moments rows).1
+    → BatchRowsAreDecided form step name base (take (length (well_formed_rows_from form 1 rows)) moments) rows (answers_and_base_of_rows form step name base moments rows).0 (answers_and_base_of_rows form step name base moments rows).1
 settles {B = B} {C = C} form step name base moments rows named only h = record {
   named = named;
   rows_only = only;
@@ -185,9 +185,9 @@ settles {B = B} {C = C} form step name base moments rows named only h = record {
     enough = let k = formed-few form 1 rows in omega (k, h, arith)
 
 -- The batch is the result of the text with the first `n` clock readings, for some `n`.
-abbrev pub Comes : {B C : Type 0} → (Fields → ReadResult C) → RowStep B C → B → List ℕ → Text → Batch B → Type 0
+abbrev pub Comes : {B C : Type 0} → (Fields → ReadResult C) → RowStep B C → B → List ℕ → Text → BatchResult B → Type 0
 Comes form step base moments text batch =
-    (n : ℕ) × (IsAnswered form step base (take n moments) (Some text) batch ⊎ IsUnanswered base (take n moments) (Some text) batch)
+    (n : ℕ) × (IsResultOfTextWithHeader form step base (take n moments) (Some text) batch ⊎ IsResultOfTextWithoutHeader base (take n moments) (Some text) batch)
 
 append-assoc : {X : Type 0} (xs ys zs : List X) → xs ++ (ys ++ zs) ≡ (xs ++ ys) ++ zs
 append-assoc [] ys zs = refl
@@ -206,7 +206,7 @@ ends_with {B = B} form step name base moments text rows last more named only end
     run : AnswersAndBase B
     run = answers_and_base_of_rows form step name base moments rows
 
-    at : (b : Bool) → RightSays (length rows) last b → Comes form step base moments text (cond b (complete_batch run) (batch_without_end_line run BadEnd))
+    at : (b : Bool) → IsCorrectEndRecordExactlyIf (length rows) last b → Comes form step base moments text (cond b (complete_batch run) (batch_without_end_line run BadEnd))
     at true k = (
       length (well_formed_rows_from form 1 rows),
       inl (record {
@@ -215,7 +215,7 @@ ends_with {B = B} form step name base moments text rows last more named only end
         answers = run.0;
         told = run.0;
         settled = settles form step name base moments rows named only h;
-        ends = ((more, all ∙ ap (λ l. batch_header name ∷ (rows ++ l ∷ more)) k ∙ ap (λ rs. batch_header name ∷ rs) (append-assoc rows (end_record_after (length rows) ∷ []) more)), refl, refl);
+        ends = ((more, all ∙ ap (λ l. batch_header name ∷ (rows ++ l ∷ more)) k ∙ ap (λ rs. batch_header name ∷ rs) (append-assoc rows (correct_end_record (length rows) ∷ []) more)), refl, refl);
         counted = refl;
       }),
     )
@@ -305,14 +305,14 @@ comes_named form step name base moments text rest (rows, None) named all h s =
 -- a batch without a header
 pub comes_headless : {B C : Type 0} (form : Fields → ReadResult C) (step : RowStep B C) (base : B) (moments : List ℕ) (text : Text)
     → (HasExactlyRecords (Some text) [] ⊎ ((first : Fields) × BeginsWithRecords (Some text) (first ∷ []) × ((name : Text) → IsBatchName name → first ≡ batch_header name → ⊥)))
-    → Comes form step base moments text (batch_of_named_rows form step None base moments [])
+    → Comes form step base moments text (batch_with_optional_name form step None base moments [])
 comes_headless form step base moments text h =
     (0, inr (record { headless = h; ending = refl; asked = refl; unchanged = refl; told = refl; counted = refl }))
 
 -- by the name in the header
 pub comes_headed : {B C : Type 0} (form : Fields → ReadResult C) (step : RowStep B C) (base : B) (moments : List ℕ) (text : Text) (header : Fields) (rest : List Fields) (name : Option Text)
-    → records default_config text ≡ header ∷ rest → length rest ≤ length moments → NameSays header name
-    → Comes form step base moments text (batch_of_named_rows form step name base moments rest)
+    → records default_config text ≡ header ∷ rest → length rest ≤ length moments → HeaderHasOptionalName header name
+    → Comes form step base moments text (batch_with_optional_name form step name base moments rest)
 comes_headed form step base moments text header rest (Some name) all h says =
     comes_named form step name base moments text rest (split_at_end_record rest) says.1 (all ∙ ap (λ r. r ∷ rest) says.0) h (splits rest)
 comes_headed form step base moments text header rest None all h says =

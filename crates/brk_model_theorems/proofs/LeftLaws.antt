@@ -9,7 +9,7 @@ use Rattle.brk_model.specs.Keyed.{stored_row_with_key, answer_by_stored_row, key
 use Rattle.brk_model.specs.Answers.{RowCall, CallsHaveAnswers, answer_to_row_call}
 use Rattle.brk_model.specs.Batch.{step_of_row}
 use Rattle.brk_model.specs.Run.{Did}
-use Rattle.brk_model_theorems.specs.Laws.{MatchStoredReplies, AcceptedCallsAreStored, MatchesStoredReply, IsStoredIfAccepted, answers_for_new_keys, call_of_batch_row, calls_with_new_keys, accepted_answers, accepted_calls}
+use Rattle.brk_model_theorems.specs.Laws.{AnswersMatchStoredReplies, AcceptedCallsAreStored, AnswerMatchesStoredReply, IsStoredIfAccepted, answers_for_new_keys, call_of_batch_row, calls_with_new_keys, accepted_answers, accepted_calls}
 use Rattle.brk_model_theorems.proofs.KeyLaws.{found_again, keeps, row_kept}
 use Rattle.brk_model_theorems.proofs.KeptLaws.{Grows, grows-on, keyed_step-grows, run-grows, stays}
 use Rattle.brk_model_theorems.proofs.PartLaws.{in-turn-joined}
@@ -21,7 +21,7 @@ unfolding keyed_step
 kept-call base call k h = ap (answer_by_stored_row base call.now call.command (Some call.key)) h
 
 left : (first base after : Base) (calls : List (RowCall Command)) (answers : List Answer) → Grows first base → CallsHaveAnswers step_of_row base calls answers after
-    → CallsHaveAnswers step_of_row base (calls_with_new_keys first calls) (answers_for_new_keys first calls answers) after × MatchStoredReplies first calls answers
+    → CallsHaveAnswers step_of_row base (calls_with_new_keys first calls) (answers_for_new_keys first calls answers) after × AnswersMatchStoredReplies first calls answers
 left first base after [] [] g r = (r, tt)
 left first base after [] (answer ∷ answers) g r = absurd r
 left first base after (call ∷ calls) [] g r = absurd r
@@ -34,9 +34,9 @@ left first base after (call ∷ calls) (answer ∷ answers) g r =
     A : List Answer
     A = answers_for_new_keys first calls answers
 
-    by_found : ((mid : Base) → Grows first mid → CallsHaveAnswers step_of_row mid calls answers after → CallsHaveAnswers step_of_row mid L A after × MatchStoredReplies first calls answers)
+    by_found : ((mid : Base) → Grows first mid → CallsHaveAnswers step_of_row mid calls answers after → CallsHaveAnswers step_of_row mid L A after × AnswersMatchStoredReplies first calls answers)
         → (o : Option Kept) → stored_row_with_key first call.key ≡ o
-        → CallsHaveAnswers step_of_row base (cond (is_none o) (call ∷ L) L) (cond (is_none o) (answer ∷ A) A) after × (MatchesStoredReply base o call answer × MatchStoredReplies first calls answers)
+        → CallsHaveAnswers step_of_row base (cond (is_none o) (call ∷ L) L) (cond (is_none o) (answer ∷ A) A) after × (AnswerMatchesStoredReply base o call answer × AnswersMatchStoredReplies first calls answers)
     by_found onward None e =
         let mid : Base = (answer_to_row_call step_of_row base call).1 in
         let rest = onward mid (grows-on first base mid g (keyed_step-grows base call.now call.command (Some call.key))) r.1 in
@@ -47,7 +47,7 @@ left first base after (call ∷ calls) (answer ∷ answers) g r =
         (rest.0, (r.0 ∙ ap (λ (p : Answer × Base). p.0) same, rest.1))
 
 pub left-over : (base after : Base) (calls : List (RowCall Command)) (answers : List Answer) → CallsHaveAnswers step_of_row base calls answers after
-    → CallsHaveAnswers step_of_row base (calls_with_new_keys base calls) (answers_for_new_keys base calls answers) after × MatchStoredReplies base calls answers
+    → CallsHaveAnswers step_of_row base (calls_with_new_keys base calls) (answers_for_new_keys base calls answers) after × AnswersMatchStoredReplies base calls answers
 left-over base after calls answers r = left base base after calls answers ([], sym (append-nil base.kept)) r
 
 -- ---- two sendings

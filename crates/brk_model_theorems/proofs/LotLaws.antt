@@ -15,7 +15,7 @@ use Rattle.brk_model.specs.Derived.{deal_of_trade, trades_of_account, trades_of_
 use Rattle.brk_model.specs.Tables.{HoldingRow, holding_row, tables_of_base_in_schema, tables_of_base}
 use Rattle.brk_model_theorems.specs.Names.{BaseReferencesResolve}
 use Rattle.brk_model_theorems.specs.Positions.{is_row_of_position}
-use Rattle.brk_model.specs.Names.{AreNumberedFrom}
+use Rattle.brk_model.specs.Names.{TradesAreNumberedFrom}
 use Rattle.brk_model.specs.Run.{Call, Outcome, Run}
 use Rattle.brk_model_theorems.proofs.NameLaws.{still-named}
 use Rattle.brk_model_theorems.proofs.Sums.{total_by-sum, total_by-zero, total_by-map, total_by-same, total_by-filter, total_by-left_out, total_by-sort, zero-is}
@@ -42,11 +42,11 @@ abbrev pub Apart : List Trade → Type 0
 Apart [] = ⊤
 Apart (t ∷ ts) = AllByRecursion (λ u. (t.id == u.id) ≡ false) ts × Apart ts
 
-numbered-above : (m n : ℕ) (ts : List Trade) → m < n → AreNumberedFrom n ts → AllByRecursion (λ u. (m == u.id) ≡ false) ts
+numbered-above : (m n : ℕ) (ts : List Trade) → m < n → TradesAreNumberedFrom n ts → AllByRecursion (λ u. (m == u.id) ≡ false) ts
 numbered-above m n [] h k = tt
 numbered-above m n (t ∷ ts) h k = (ap (λ i. m == i) k.0 ∙ differ m n h, numbered-above m (n + 1) ts (omega (h, arith)) k.1)
 
-pub numbered-Apart : (n : ℕ) (ts : List Trade) → AreNumberedFrom n ts → Apart ts
+pub numbered-Apart : (n : ℕ) (ts : List Trade) → TradesAreNumberedFrom n ts → Apart ts
 numbered-Apart n [] h = tt
 numbered-Apart n (t ∷ ts) h = (subst (λ i. AllByRecursion (λ u. (i == u.id) ≡ false) ts) (sym h.0) (numbered-above n (n + 1) ts (omega arith) h.1), numbered-Apart (n + 1) ts h.1)
 
@@ -202,7 +202,7 @@ holdings-total done account symbol h =
     shares : List Share
     shares = shares_of_position done account symbol
 
-pub lots-total : (base : Base) (account : ℕ) (symbol : Text) → AreNumberedFrom 1 base.trades
+pub lots-total : (base : Base) (account : ℕ) (symbol : Text) → TradesAreNumberedFrom 1 base.trades
     → total_by (λ row. row.qty) (filter (is_row_of_position account symbol) (tables_of_base base).holdings) ≡ holding_summary_quantity (completed_trades base) account symbol
 unfolding tables_of_base_in_schema
 lots-total base account symbol n =

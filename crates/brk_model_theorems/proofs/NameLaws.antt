@@ -6,7 +6,7 @@ use Rattle.std.specs.List.{AllByRecursion}
 use Rattle.brk_money.specs.Spelling.{Text}
 use Rattle.brk_model.specs.Lists.{update_where}
 use Rattle.brk_model.specs.Records.{Account, Permission, CustomerTax, Trade, Movement, Key}
-use Rattle.brk_model.specs.Base.{Base, empty_base, broker_with_id, customer_with_id, account_with_id, security_with_symbol, tax_rate_of_id, trade_with_id}
+use Rattle.brk_model.specs.Base.{Base, empty_base, broker_with_id, customer_with_id, account_with_id, security_with_symbol, tax_rate_record_with_id, trade_with_id}
 use Rattle.brk_model.specs.Keyed.{base_with_stored_reply}
 use Rattle.brk_model.specs.Commands.{Command, Reply, Tick, AddBroker, AddCustomer, AddAccount, AddPermission, AddSecurity, AddCharge, AddBand, AddTaxRate, AddCustomerTax, PlaceOrder, FeedTicks, CancelTrade, CompleteTrade, ChangeExecutors, ChangeCashTypes, ChangeCashNames, DepositCash, WithdrawCash, SetOneDay}
 use Rattle.brk_model.specs.Feed.{security_after_tick, base_after_tick, base_after_ticks}
@@ -16,8 +16,8 @@ use Rattle.brk_model.specs.Tests.{stamp_of_next_command, checks_of_command, refu
 use Rattle.brk_model.specs.Step.{base_after_command_unstamped, base_after_accepted_command}
 use Rattle.brk_model.specs.Run.{Call, Outcome, Run}
 use Rattle.brk_model_theorems.specs.Laws.{IsReachableFromEmptyBase}
-use Rattle.brk_model.specs.Names.{AccountOfMovementExists, AreNumberedFrom}
-use Rattle.brk_model_theorems.specs.Names.{AccountReferencesResolve, PermissionAccountExists, CustomerTaxReferencesResolve, TradeReferencesResolve, ReferencesResolve, BaseReferencesResolve}
+use Rattle.brk_model.specs.Names.{AccountOfMovementExists, TradesAreNumberedFrom}
+use Rattle.brk_model_theorems.specs.Names.{AccountReferencesResolve, AccountOfPermissionExists, CustomerTaxReferencesResolve, TradeReferencesResolve, ReferencesResolve, BaseReferencesResolve}
 use Rattle.brk_model_theorems.proofs.Reached.{IsKept, passed, reached, run-kept}
 
 -- ---- lists
@@ -72,7 +72,7 @@ pub record Grows (base after : Base) : Type 0 where
   pub brokers : (id : ℕ) → is_some (broker_with_id base id) ≡ true → is_some (broker_with_id after id) ≡ true
   pub customers : (id : ℕ) → is_some (customer_with_id base id) ≡ true → is_some (customer_with_id after id) ≡ true
   pub accounts : (id : ℕ) → is_some (account_with_id base id) ≡ true → is_some (account_with_id after id) ≡ true
-  pub rates : (id : ℕ) → is_some (tax_rate_of_id base id) ≡ true → is_some (tax_rate_of_id after id) ≡ true
+  pub rates : (id : ℕ) → is_some (tax_rate_record_with_id base id) ≡ true → is_some (tax_rate_record_with_id after id) ≡ true
   pub securities : (symbol : Text) → is_some (security_with_symbol base symbol) ≡ true → is_some (security_with_symbol after symbol) ≡ true
 
 pub grown : (base after : Base) (accounts : List Account) (permissions : List Permission) (taxes : List CustomerTax) (trades : List Trade) (movements : List Movement) → Grows base after
@@ -88,7 +88,7 @@ grown base after accounts permissions taxes trades movements g n = record {
 
 -- ---- trades
 
-pub numbered-last : (n : ℕ) (ts : List Trade) (t : Trade) → AreNumberedFrom n ts → t.id ≡ n + length ts → AreNumberedFrom n (ts ++ t ∷ [])
+pub numbered-last : (n : ℕ) (ts : List Trade) (t : Trade) → TradesAreNumberedFrom n ts → t.id ≡ n + length ts → TradesAreNumberedFrom n (ts ++ t ∷ [])
 numbered-last n [] t h e = (omega (e, arith), tt)
 numbered-last n (u ∷ us) t h e = (h.0, numbered-last (n + 1) us t h.1 (omega (e, arith)))
 
@@ -98,7 +98,7 @@ pub record Leaves (change : Trade → Trade) : Type 0 where
   pub account : (t : Trade) → (change t).account ≡ t.account
   pub symbol : (t : Trade) → (change t).symbol ≡ t.symbol
 
-numbered-update : (test : Trade → Bool) (change : Trade → Trade) → Leaves change → (n : ℕ) (ts : List Trade) → AreNumberedFrom n ts → AreNumberedFrom n (update_where test change ts)
+numbered-update : (test : Trade → Bool) (change : Trade → Trade) → Leaves change → (n : ℕ) (ts : List Trade) → TradesAreNumberedFrom n ts → TradesAreNumberedFrom n (update_where test change ts)
 numbered-update test change l n [] h = tt
 numbered-update test change l n (t ∷ ts) h = (at (test t), numbered-update test change l (n + 1) ts h.1)
   where
@@ -204,7 +204,7 @@ names-kept base stamp (AddAccount a) k n =
     }
 names-kept base stamp (AddPermission p) k n =
     let m = grown base (base_after_command_unstamped base stamp (AddPermission p)) base.accounts base.permissions base.customer_taxes base.trades base.movements (record { brokers = λ id h. h; customers = λ id h. h; accounts = λ id h. h; rates = λ id h. h; securities = λ symbol h. h }) n in
-    record { permitted = All-last (PermissionAccountExists (base_after_command_unstamped base stamp (AddPermission p))) base.permissions p m.permitted (there (account_with_id base p.account) k.0); parties = m.parties; taxed = m.taxed; traded = m.traded; numbered = m.numbered; held = m.held }
+    record { permitted = All-last (AccountOfPermissionExists (base_after_command_unstamped base stamp (AddPermission p))) base.permissions p m.permitted (there (account_with_id base p.account) k.0); parties = m.parties; taxed = m.taxed; traded = m.traded; numbered = m.numbered; held = m.held }
 names-kept base stamp (AddSecurity l) k n =
     grown base (base_after_command_unstamped base stamp (AddSecurity l)) base.accounts base.permissions base.customer_taxes base.trades base.movements
     (record { brokers = λ id h. h; customers = λ id h. h; accounts = λ id h. h; rates = λ id h. h; securities = λ symbol h. some-last (λ s. bytes_eq s.symbol symbol) base.securities _ h }) n
@@ -217,7 +217,7 @@ names-kept base stamp (AddCustomerTax x) k n =
     let m = grown base (base_after_command_unstamped base stamp (AddCustomerTax x)) base.accounts base.permissions base.customer_taxes base.trades base.movements (record { brokers = λ id h. h; customers = λ id h. h; accounts = λ id h. h; rates = λ id h. h; securities = λ symbol h. h }) n in
     record {
       taxed = All-last (CustomerTaxReferencesResolve (base_after_command_unstamped base stamp (AddCustomerTax x))) base.customer_taxes x m.taxed
-          (there (customer_with_id base x.customer) k.0, there (tax_rate_of_id base x.tax) k.1.0);
+          (there (customer_with_id base x.customer) k.0, there (tax_rate_record_with_id base x.tax) k.1.0);
       parties = m.parties;
       permitted = m.permitted;
       traded = m.traded;

@@ -6,9 +6,9 @@ use Rattle.brk_money.specs.Spelling.{Text}
 use Rattle.brk_model.specs.Base.{Base}
 use Rattle.brk_model.specs.Forms.{ReadResult}
 use Rattle.brk_model.specs.Commands.{Command, Answer, Refused}
-use Rattle.brk_model.specs.Answers.{Fields, RowCall, CallsHaveAnswers, answer_to_row_call, with_well_formed_row, well_formed_rows_from, calls_of_rows, answers_interleaved_with_refusals, answers_from_row_on}
-use Rattle.brk_model.specs.Batch.{AreDecided, Batch, IsAnswered, step_of_row}
-use Rattle.brk_model.specs.Input.{BeginsWithRecords, IsEndRecord, end_record_after, batch_header, input_text}
+use Rattle.brk_model.specs.Answers.{Fields, RowCall, CallsHaveAnswers, answer_to_row_call, with_well_formed_row, well_formed_rows_from, calls_of_rows, answers_interleaved_with_refusals, answers_to_row_and_rest}
+use Rattle.brk_model.specs.Batch.{BatchRowsAreDecided, BatchResult, IsResultOfTextWithHeader, step_of_row}
+use Rattle.brk_model.specs.Input.{BeginsWithRecords, IsEndRecord, correct_end_record, batch_header, input_text}
 use Rattle.brk_model.specs.Lines.{refused_answer_count, is_refused_answer}
 use Rattle.brk_model_theorems.specs.Laws.{SomeRunLeadsTo, IsBatchWithoutRefusals, answer_to_retry}
 use Rattle.brk_model_theorems.proofs.AgainLaws.{HasRecords, by_first, first-same, length-turned, name-same, none-first, others-same, right_end, settled-again}
@@ -90,7 +90,7 @@ woven-joined form n (row ∷ front) more first rest e =
   where
     one : {C : Type 0} (r : ReadResult C) (n : ℕ) (formed : List (ℕ × C)) (whole part : List Answer → List Answer) (back first rest : List Answer)
         → ((answers : List Answer) → length answers ≡ length formed → whole (answers ++ rest) ≡ part answers ++ back)
-        → length first ≡ length (with_well_formed_row r n formed) → answers_from_row_on r whole (first ++ rest) ≡ answers_from_row_on r part first ++ back
+        → length first ≡ length (with_well_formed_row r n formed) → answers_to_row_and_rest r whole (first ++ rest) ≡ answers_to_row_and_rest r part first ++ back
     one (Ok command) n formed whole part back [] rest each e = absurd (omega (e, arith))
     one (Ok command) n formed whole part back (answer ∷ first) rest each e = ap (λ l. answer ∷ l) (each first (omega (e, arith)))
     one (Err refusal) n formed whole part back first rest each e = ap (λ l. Refused refusal ∷ l) (each first e)
@@ -108,7 +108,7 @@ record Parted (form : Fields → ReadResult Command) (name : Text) (base : Base)
   pub replies : List Answer
   pub moments_are : moments ≡ early ++ late
   pub answers_are : answers ≡ first ++ rest
-  pub settled : AreDecided form step_of_row name base early front first mid
+  pub settled : BatchRowsAreDecided form step_of_row name base early front first mid
   pub one_each : length late ≡ length (well_formed_rows_from form (1 + length front) more)
   pub run : CallsHaveAnswers step_of_row mid (calls_of_rows name late (well_formed_rows_from form (1 + length front) more)) replies after
   pub all : rest ≡ answers_interleaved_with_refusals form more replies
@@ -118,7 +118,7 @@ length-joined [] ys = omega arith
 length-joined (x ∷ xs) ys = let h = length-joined xs ys in omega (h, arith)
 
 parted : (form : Fields → ReadResult Command) (name : Text) (base : Base) (moments : List ℕ) (front more : List Fields) (answers : List Answer) (after : Base)
-    → AreDecided form step_of_row name base moments (front ++ more) answers after → Parted form name base moments front more answers after
+    → BatchRowsAreDecided form step_of_row name base moments (front ++ more) answers after → Parted form name base moments front more answers after
 parted form name base moments front more answers after s = record {
   mid = t.mid;
   early = p.front;
@@ -165,10 +165,10 @@ parted form name base moments front more answers after s = record {
 
 -- the second part after another settling of the first one
 pub joined : (form : Fields → ReadResult Command) (name : Text) (base mid after : Base) (early late : List ℕ) (front more : List Fields) (first replies : List Answer)
-    → AreDecided form step_of_row name base early front first mid → AllByRecursion (λ row. ¬ (IsEndRecord row)) (front ++ more)
+    → BatchRowsAreDecided form step_of_row name base early front first mid → AllByRecursion (λ row. ¬ (IsEndRecord row)) (front ++ more)
     → length late ≡ length (well_formed_rows_from form (1 + length front) more)
     → CallsHaveAnswers step_of_row mid (calls_of_rows name late (well_formed_rows_from form (1 + length front) more)) replies after
-    → AreDecided form step_of_row name base (early ++ late) (front ++ more) (first ++ answers_interleaved_with_refusals form more replies) after
+    → BatchRowsAreDecided form step_of_row name base (early ++ late) (front ++ more) (first ++ answers_interleaved_with_refusals form more replies) after
 joined form name base mid after early late front more first replies s only lates r = record {
   named = s.named;
   rows_only = only;
@@ -220,7 +220,7 @@ none-front (x ∷ xs) ys h = let k = none-first x (xs ++ ys) h in none-with x xs
 
 -- the first rows of those that were settled before
 pub part-again : (form : Fields → ReadResult Command) (name : Text) (base after later last : Base) (moments others : List ℕ) (front more : List Fields) (answers told : List Answer)
-    → refused_answer_count answers ≡ 0 → AreDecided form step_of_row name base moments (front ++ more) answers after → Grows after later → AreDecided form step_of_row name later others front told last
+    → refused_answer_count answers ≡ 0 → BatchRowsAreDecided form step_of_row name base moments (front ++ more) answers after → Grows after later → BatchRowsAreDecided form step_of_row name later others front told last
     → (told ≡ map answer_to_retry (take (length front) answers)) × (last ≡ later)
 part-again form name base after later last moments others front more answers told none one g two =
     let p = parted form name base moments front more answers after one in
@@ -232,9 +232,9 @@ part-again form name base after later last moments others front more answers tol
 
 -- rows of which the first ones were settled before
 pub completed-by : (form : Fields → ReadResult Command) (name : Text) (base mid last : Base) (moments others : List ℕ) (front more : List Fields) (answers told : List Answer)
-    → refused_answer_count answers ≡ 0 → AreDecided form step_of_row name base moments front answers mid → AreDecided form step_of_row name mid others (front ++ more) told last
+    → refused_answer_count answers ≡ 0 → BatchRowsAreDecided form step_of_row name base moments front answers mid → BatchRowsAreDecided form step_of_row name mid others (front ++ more) told last
     → (take (length front) told ≡ map answer_to_retry answers)
-    × AreDecided form step_of_row name base (moments ++ drop (length moments) others) (front ++ more) (answers ++ drop (length front) told) last
+    × BatchRowsAreDecided form step_of_row name base (moments ++ drop (length moments) others) (front ++ more) (answers ++ drop (length front) told) last
 completed-by form name base mid last moments others front more answers told none one two =
     (ap (λ (n : ℕ). take n told) (sym p.settled.each) ∙ ap (take (length p.first)) p.answers_are ∙ take-front p.first p.rest ∙ again.0, whole)
   where
@@ -251,15 +251,15 @@ completed-by form name base mid last moments others front more answers told none
     rests : drop (length front) told ≡ answers_interleaved_with_refusals form more p.replies
     rests = ap (λ (n : ℕ). drop n told) (sym p.settled.each) ∙ ap (drop (length p.first)) p.answers_are ∙ drop-front p.first p.rest ∙ p.all
 
-    both : AreDecided form step_of_row name base (moments ++ p.late) (front ++ more) (answers ++ answers_interleaved_with_refusals form more p.replies) last
+    both : BatchRowsAreDecided form step_of_row name base (moments ++ p.late) (front ++ more) (answers ++ answers_interleaved_with_refusals form more p.replies) last
     both =
         joined form name base mid last moments p.late front more answers p.replies one two.rows_only p.one_each
         (subst (λ b. CallsHaveAnswers step_of_row b (calls_of_rows name p.late (well_formed_rows_from form (1 + length front) more)) p.replies last) again.1 p.run)
 
-    whole : AreDecided form step_of_row name base (moments ++ drop (length moments) others) (front ++ more) (answers ++ drop (length front) told) last
+    whole : BatchRowsAreDecided form step_of_row name base (moments ++ drop (length moments) others) (front ++ more) (answers ++ drop (length front) told) last
     whole =
-        subst (λ ms. AreDecided form step_of_row name base (moments ++ ms) (front ++ more) (answers ++ drop (length front) told) last) (sym lates)
-        (subst (λ l. AreDecided form step_of_row name base (moments ++ p.late) (front ++ more) (answers ++ l) last) (sym rests) both)
+        subst (λ ms. BatchRowsAreDecided form step_of_row name base (moments ++ ms) (front ++ more) (answers ++ drop (length front) told) last) (sym lates)
+        (subst (λ l. BatchRowsAreDecided form step_of_row name base (moments ++ p.late) (front ++ more) (answers ++ l) last) (sym rests) both)
 
 -- ---- the rows of a text
 
@@ -273,33 +273,33 @@ prefix (row ∷ rows) (other ∷ others) rest end more only h e =
     (p.0, (λ i. sym (first-same row other (rows ++ rest) (others ++ end ∷ more) e) i ∷ p.1 i))
 
 -- whatever rows of a batch that went through are settled again change nothing
-pub rows-again : (form : Fields → ReadResult Command) (base later last : Base) (moments others : List ℕ) (input : Text) (answers told : List Answer) (first : Batch Base) (name : Text) (rows : List Fields)
+pub rows-again : (form : Fields → ReadResult Command) (base later last : Base) (moments others : List ℕ) (input : Text) (answers told : List Answer) (first : BatchResult Base) (name : Text) (rows : List Fields)
     → IsBatchWithoutRefusals form base moments input answers first → SomeRunLeadsTo first.base later → BeginsWithRecords (Some (input_text input)) (batch_header name ∷ rows)
-    → AreDecided form step_of_row name later others rows told last → (told ≡ map answer_to_retry (take (length rows) answers)) × (last ≡ later)
+    → BatchRowsAreDecided form step_of_row name later others rows told last → (told ≡ map answer_to_retry (take (length rows) answers)) × (last ≡ later)
 rows-again form base later last moments others input answers told first name rows went leads begins two =
     (again.0 ∙ ap (λ l. map answer_to_retry (take (length rows) l)) went.these, again.1)
   where
-    one : IsAnswered form step_of_row base moments (Some (input_text input)) first
+    one : IsResultOfTextWithHeader form step_of_row base moments (Some (input_text input)) first
     one = went.answered
 
     has : HasRecords input one.name one.rows
     has = by_first input one.name one.rows one.answers one.told first.ending first.text went.ended one.ends
 
-    same : batch_header name ∷ (rows ++ begins.0) ≡ batch_header one.name ∷ (one.rows ++ end_record_after (length one.rows) ∷ has.0)
+    same : batch_header name ∷ (rows ++ begins.0) ≡ batch_header one.name ∷ (one.rows ++ correct_end_record (length one.rows) ∷ has.0)
     same = sym begins.1 ∙ has.1
 
     names : one.name ≡ name
-    names = sym (name-same name one.name (rows ++ begins.0) (one.rows ++ end_record_after (length one.rows) ∷ has.0) same)
+    names = sym (name-same name one.name (rows ++ begins.0) (one.rows ++ correct_end_record (length one.rows) ∷ has.0) same)
 
     back : (back : List Fields) × (one.rows ≡ rows ++ back)
-    back = prefix rows one.rows begins.0 (end_record_after (length one.rows)) has.0 two.rows_only (right_end (length one.rows))
-        (others-same (batch_header name) (batch_header one.name) (rows ++ begins.0) (one.rows ++ end_record_after (length one.rows) ∷ has.0) same)
+    back = prefix rows one.rows begins.0 (correct_end_record (length one.rows)) has.0 two.rows_only (right_end (length one.rows))
+        (others-same (batch_header name) (batch_header one.name) (rows ++ begins.0) (one.rows ++ correct_end_record (length one.rows) ∷ has.0) same)
 
-    named : AreDecided form step_of_row name base moments one.rows one.answers first.base
-    named = subst (λ n. AreDecided form step_of_row n base moments one.rows one.answers first.base) names one.settled
+    named : BatchRowsAreDecided form step_of_row name base moments one.rows one.answers first.base
+    named = subst (λ n. BatchRowsAreDecided form step_of_row n base moments one.rows one.answers first.base) names one.settled
 
-    settled : AreDecided form step_of_row name base moments (rows ++ back.0) one.answers first.base
-    settled = subst (λ rs. AreDecided form step_of_row name base moments rs one.answers first.base) back.1 named
+    settled : BatchRowsAreDecided form step_of_row name base moments (rows ++ back.0) one.answers first.base
+    settled = subst (λ rs. BatchRowsAreDecided form step_of_row name base moments rs one.answers first.base) back.1 named
 
     again : (told ≡ map answer_to_retry (take (length rows) one.answers)) × (last ≡ later)
     again =

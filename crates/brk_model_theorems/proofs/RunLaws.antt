@@ -13,7 +13,7 @@ use Rattle.brk_model.specs.Tests.{stamp_of_next_command}
 use Rattle.brk_model.specs.Run.{Call, Do, Ask, Outcome, Did, Saw, NoView, Failed, IsOutcomeOfCall, Run}
 use Rattle.brk_model.specs.Answers.{RowCall, CallsHaveAnswers, answer_to_row_call}
 use Rattle.brk_model.specs.Batch.{step_of_row}
-use Rattle.brk_model_theorems.specs.Laws.{stamp_of_reply, stamps_of_outcome, accepted_stamps, AscendsFrom, base_after_outcome, base_after_answer, base_after_accepted_commands, call_of_batch_row}
+use Rattle.brk_model_theorems.specs.Laws.{stamp_of_reply, stamps_of_outcome, accepted_stamps, StampsAscendFrom, base_after_outcome, base_after_answer, base_after_accepted_commands, call_of_batch_row}
 use Rattle.brk_model_theorems.proofs.Steps.{Accepted, accepted, reply-stamp, next-above}
 
 -- ---- what an answer says of the base after it
@@ -78,25 +78,25 @@ run-accepted (call ∷ calls) (outcome ∷ outcomes) base after r =
 -- ---- stamps
 
 -- after an outcome the rest rises from the last stamp
-rise-answer : (base : Base) (now : ℕ) (call : Call) (answer : Answer) (mid : Base) (stamps : List ℕ) → IsOutcomeOfCall base now call (Did answer) mid → AscendsFrom mid.last stamps
-    → AscendsFrom base.last (stamps_of_outcome (Did answer) ++ stamps)
+rise-answer : (base : Base) (now : ℕ) (call : Call) (answer : Answer) (mid : Base) (stamps : List ℕ) → IsOutcomeOfCall base now call (Did answer) mid → StampsAscendFrom mid.last stamps
+    → StampsAscendFrom base.last (stamps_of_outcome (Did answer) ++ stamps)
 rise-answer base now (Do command key) (Done reply) mid stamps a h =
-    let k = keyed_step-says base now command key (Done reply) mid a in (k.1, subst (λ l. AscendsFrom l stamps) k.0 h)
-rise-answer base now (Do command key) (Again line) mid stamps a h = subst (λ b. AscendsFrom b.last stamps) (keyed_step-says base now command key (Again line) mid a) h
-rise-answer base now (Do command key) (Refused refusal) mid stamps a h = subst (λ b. AscendsFrom b.last stamps) (keyed_step-says base now command key (Refused refusal) mid a) h
+    let k = keyed_step-says base now command key (Done reply) mid a in (k.1, subst (λ l. StampsAscendFrom l stamps) k.0 h)
+rise-answer base now (Do command key) (Again line) mid stamps a h = subst (λ b. StampsAscendFrom b.last stamps) (keyed_step-says base now command key (Again line) mid a) h
+rise-answer base now (Do command key) (Refused refusal) mid stamps a h = subst (λ b. StampsAscendFrom b.last stamps) (keyed_step-says base now command key (Refused refusal) mid a) h
 rise-answer base now (Ask query) answer mid stamps a h = absurd a
 
-rise-one : (base : Base) (now : ℕ) (call : Call) (outcome : Outcome) (mid : Base) (stamps : List ℕ) → IsOutcomeOfCall base now call outcome mid → AscendsFrom mid.last stamps
-    → AscendsFrom base.last (stamps_of_outcome outcome ++ stamps)
+rise-one : (base : Base) (now : ℕ) (call : Call) (outcome : Outcome) (mid : Base) (stamps : List ℕ) → IsOutcomeOfCall base now call outcome mid → StampsAscendFrom mid.last stamps
+    → StampsAscendFrom base.last (stamps_of_outcome outcome ++ stamps)
 rise-one base now call (Did answer) mid stamps a h = rise-answer base now call answer mid stamps a h
 rise-one base now (Do command key) (Saw view) mid stamps a h = absurd a
-rise-one base now (Ask query) (Saw view) mid stamps a h = subst (λ b. AscendsFrom b.last stamps) a.1 h
+rise-one base now (Ask query) (Saw view) mid stamps a h = subst (λ b. StampsAscendFrom b.last stamps) a.1 h
 rise-one base now (Do command key) (NoView refusal) mid stamps a h = absurd a
-rise-one base now (Ask query) (NoView refusal) mid stamps a h = subst (λ b. AscendsFrom b.last stamps) a.1 h
-rise-one base now call (Failed fault) mid stamps a h = subst (λ b. AscendsFrom b.last stamps) a.1 h
+rise-one base now (Ask query) (NoView refusal) mid stamps a h = subst (λ b. StampsAscendFrom b.last stamps) a.1 h
+rise-one base now call (Failed fault) mid stamps a h = subst (λ b. StampsAscendFrom b.last stamps) a.1 h
 
 -- the stamps of a run's accepted commands rise from the last stamp
-pub stamps-rise : (calls : List (ℕ × Call)) (outcomes : List Outcome) (base after : Base) → Run base calls outcomes after → AscendsFrom base.last (accepted_stamps outcomes)
+pub stamps-rise : (calls : List (ℕ × Call)) (outcomes : List Outcome) (base after : Base) → Run base calls outcomes after → StampsAscendFrom base.last (accepted_stamps outcomes)
 stamps-rise [] [] base after r = tt
 stamps-rise [] (outcome ∷ outcomes) base after r = absurd r
 stamps-rise (call ∷ calls) [] base after r = absurd r

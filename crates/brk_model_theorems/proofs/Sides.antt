@@ -10,7 +10,7 @@ use Rattle.std.proofs.lemmas.Int.{ints}
 use Rattle.std.proofs.lemmas.Bool.{cases_lt}
 use Rattle.brk_model.specs.Lists.{total_by}
 use Rattle.brk_model.specs.Shares.{Share, Deal, closed_share_count_of_deal, remaining_shares, opened_shares, shares_after_deal, replay, signed_by_side, net_share_count}
-use Rattle.brk_model_theorems.specs.Positions.{AllSharesHaveSide, IsOneSided}
+use Rattle.brk_model_theorems.specs.Positions.{AllSharesHaveSide, AllSharesHaveSameSide}
 use Rattle.brk_model_theorems.proofs.Sums.{total_by-append}
 
 -- ---- elements of a list that is cut, joined or repeated
@@ -126,11 +126,11 @@ kept-none P d shares e = at d.is_lifo
     at true = take-none P (length shares - closed_share_count_of_deal d shares) shares (omega (e, arith))
     at false = drop-all P (closed_share_count_of_deal d shares) shares (omega (e, arith))
 
-by_count : (side : Side) (d : Deal) (shares : List Share) → AllSharesHaveSide side shares → closed_share_count_of_deal d shares ≡ min d.qty (length shares) → IsOneSided (shares_after_deal shares d)
+by_count : (side : Side) (d : Deal) (shares : List Share) → AllSharesHaveSide side shares → closed_share_count_of_deal d shares ≡ min d.qty (length shares) → AllSharesHaveSameSide (shares_after_deal shares d)
 unfolding shares_after_deal
 by_count side d shares h e = at (cases_lt d.qty (length shares))
   where
-    at : (d.qty < length shares) ⊎ (length shares ≤ d.qty) → IsOneSided (shares_after_deal shares d)
+    at : (d.qty < length shares) ⊎ (length shares ≤ d.qty) → AllSharesHaveSameSide (shares_after_deal shares d)
     at (inl l) = (
       side,
       All-append (λ share. share.side ≡ side) (remaining_shares d shares) (opened_shares d shares)
@@ -148,23 +148,23 @@ side-is Sell Sell h = refl
 side-is Buy Sell h = absurd (cc)
 side-is Sell Buy h = absurd (cc)
 
-one_sided-after : (side : Side) (d : Deal) (shares : List Share) → AllSharesHaveSide side shares → IsOneSided (shares_after_deal shares d)
+one_sided-after : (side : Side) (d : Deal) (shares : List Share) → AllSharesHaveSide side shares → AllSharesHaveSameSide (shares_after_deal shares d)
 one_sided-after side d [] h = (d.side, after-All (λ share. share.side ≡ d.side) d [] tt refl)
 one_sided-after side d (share ∷ shares) h = at (is_same_side share.side d.side) refl
   where
-    at : (b : Bool) → is_same_side share.side d.side ≡ b → IsOneSided (shares_after_deal (share ∷ shares) d)
+    at : (b : Bool) → is_same_side share.side d.side ≡ b → AllSharesHaveSameSide (shares_after_deal (share ∷ shares) d)
     at true e = (side, after-All (λ s. s.side ≡ side) d (share ∷ shares) h (sym (side-is share.side d.side e) ∙ h.0))
     at false e = by_count side d (share ∷ shares) h (ap (λ b. cond (not b) (min d.qty (length (share ∷ shares))) 0) e)
 
-one_sided-fold : (deals : List Deal) (shares : List Share) → IsOneSided shares → IsOneSided (fold shares_after_deal shares deals)
+one_sided-fold : (deals : List Deal) (shares : List Share) → AllSharesHaveSameSide shares → AllSharesHaveSameSide (fold shares_after_deal shares deals)
 one_sided-fold [] shares h = h
 one_sided-fold (d ∷ deals) shares h = one_sided-fold deals (shares_after_deal shares d) (one_sided-after h.0 d shares h.1)
 
 -- all shares of a position are of one side, whatever its deals are
-pub one_sided : (deals : List Deal) → IsOneSided (replay deals)
+pub one_sided : (deals : List Deal) → AllSharesHaveSameSide (replay deals)
 one_sided deals = one_sided-fold deals [] (Buy, tt)
 
-net-fold : (deals : List Deal) (shares : List Share) → IsOneSided shares → net_share_count (fold shares_after_deal shares deals) ≡ net_share_count shares +ℤ total_by (λ d. signed_by_side d.side d.qty) deals
+net-fold : (deals : List Deal) (shares : List Share) → AllSharesHaveSameSide shares → net_share_count (fold shares_after_deal shares deals) ≡ net_share_count shares +ℤ total_by (λ d. signed_by_side d.side d.qty) deals
 unfolding total_by
 net-fold [] shares h = omega (arith, ints)
 net-fold (d ∷ deals) shares h =

@@ -11,7 +11,7 @@ use Rattle.brk_model.specs.Answers.{Fields, RowCall}
 use Rattle.brk_model.specs.Forms.{ReadResult}
 use Rattle.brk_model.specs.Input.{input_text}
 use Rattle.brk_model.specs.Lines.{refused_answer_count}
-use Rattle.brk_model.specs.Batch.{AreDecided, Batch, EndedWell, IsAnswered, step_of_row}
+use Rattle.brk_model.specs.Batch.{BatchRowsAreDecided, BatchResult, CorrectEnd, IsResultOfTextWithHeader, step_of_row}
 use Rattle.brk_model.specs.Run.{Call, Do, Ask, Outcome, Did, Saw, NoView, Failed, Run}
 
 -- The stamp of a reply.
@@ -41,9 +41,9 @@ accepted_stamps (outcome ∷ outcomes) = stamps_of_outcome outcome ++ accepted_s
 
 -- The stamps are strictly ascending, and the first is greater than `last`. Without a stamp `last`
 -- there is no lower bound.
-abbrev pub AscendsFrom : Option ℕ → List ℕ → Type 0
-AscendsFrom last [] = ⊤
-AscendsFrom last (stamp ∷ stamps) = IfSome last (λ l. l < stamp) × AscendsFrom (Some stamp) stamps
+abbrev pub StampsAscendFrom : Option ℕ → List ℕ → Type 0
+StampsAscendFrom last [] = ⊤
+StampsAscendFrom last (stamp ∷ stamps) = IfSome last (λ l. l < stamp) × StampsAscendFrom (Some stamp) stamps
 
 -- The base after the call at the clock reading `now`: that of the keyed step if the answer is
 -- `Done`, otherwise `base`.
@@ -93,9 +93,9 @@ IsReachableFromEmptyBase base = SomeRunLeadsTo empty_base base
 
 -- The batch over the input is complete, its rows have the answers `answers`, and none of them is a
 -- refusal. The format check of the rows is `form`.
-pub record IsBatchWithoutRefusals (form : Fields → ReadResult Command) (base : Base) (moments : List ℕ) (input : Text) (answers : List Answer) (batch : Batch Base) : Type 0 where
-  pub answered : IsAnswered form step_of_row base moments (Some (input_text input)) batch
-  pub ended : batch.ending ≡ EndedWell
+pub record IsBatchWithoutRefusals (form : Fields → ReadResult Command) (base : Base) (moments : List ℕ) (input : Text) (answers : List Answer) (batch : BatchResult Base) : Type 0 where
+  pub answered : IsResultOfTextWithHeader form step_of_row base moments (Some (input_text input)) batch
+  pub ended : batch.ending ≡ CorrectEnd
   pub these : answered.answers ≡ answers
   pub none_refused : refused_answer_count answers ≡ 0
 
@@ -121,15 +121,15 @@ answers_for_new_keys base calls answers = []
 
 -- If `k` is stored under the key of the call, the answer is the answer to a repeated key: the
 -- stored line if the row texts are equal, otherwise a refusal. Vacuous if nothing is stored.
-abbrev pub MatchesStoredReply : Base → Option Kept → RowCall Command → Answer → Type 0
-MatchesStoredReply base None call answer = ⊤
-MatchesStoredReply base (Some k) call answer = answer ≡ (answer_to_repeated_row base call.command k).0
+abbrev pub AnswerMatchesStoredReply : Base → Option Kept → RowCall Command → Answer → Type 0
+AnswerMatchesStoredReply base None call answer = ⊤
+AnswerMatchesStoredReply base (Some k) call answer = answer ≡ (answer_to_repeated_row base call.command k).0
 
 -- Each call whose key is stored in the base is answered with the stored line if the row texts are
 -- equal, and refused otherwise. Vacuous for other calls, and for calls without an answer.
-abbrev pub MatchStoredReplies : Base → List (RowCall Command) → List Answer → Type 0
-MatchStoredReplies base (call ∷ calls) (answer ∷ answers) = MatchesStoredReply base (stored_row_with_key base call.key) call answer × MatchStoredReplies base calls answers
-MatchStoredReplies base calls answers = ⊤
+abbrev pub AnswersMatchStoredReplies : Base → List (RowCall Command) → List Answer → Type 0
+AnswersMatchStoredReplies base (call ∷ calls) (answer ∷ answers) = AnswerMatchesStoredReply base (stored_row_with_key base call.key) call answer × AnswersMatchStoredReplies base calls answers
+AnswersMatchStoredReplies base calls answers = ⊤
 
 -- ---- rows that were accepted
 
@@ -183,4 +183,4 @@ IsBaseAfterInterruption form name mid front more stood = (stood ≡ mid) ⊎ ((m
 -- `later`.
 pub record IsCompletedByRetry (form : Fields → ReadResult Command) (name : Text) (base : Base) (earlier later : List ℕ) (rows : List Fields) (answers told : List Answer) (last : Base) : Type 0 where
   pub again : take (length answers) told ≡ map answer_to_retry answers
-  pub settled : AreDecided form step_of_row name base (earlier ++ drop (length earlier) later) rows (answers ++ drop (length answers) told) last
+  pub settled : BatchRowsAreDecided form step_of_row name base (earlier ++ drop (length earlier) later) rows (answers ++ drop (length answers) told) last

@@ -3,20 +3,20 @@
 use Rattle.std.specs.Prelude.{◌≡◌, true, List, is_some}
 use Rattle.std.specs.List.{AllByRecursion}
 use Rattle.brk_model.specs.Records.{Account, Permission, CustomerTax, Trade, Movement}
-use Rattle.brk_model.specs.Base.{Base, customer_with_id, account_with_id, tax_rate_of_id}
-use Rattle.brk_model.specs.Names.{BrokerOfAccountExists, CustomerOfAccountExists, AccountOfTradeExists, SecurityOfTradeExists, AccountOfMovementExists, AreNumberedFrom}
+use Rattle.brk_model.specs.Base.{Base, customer_with_id, account_with_id, tax_rate_record_with_id}
+use Rattle.brk_model.specs.Names.{BrokerOfAccountExists, CustomerOfAccountExists, AccountOfTradeExists, SecurityOfTradeExists, AccountOfMovementExists, TradesAreNumberedFrom}
 
 -- The customer and the broker of the account exist in the base.
 abbrev pub AccountReferencesResolve : Base → Account → Type 0
 AccountReferencesResolve base a = CustomerOfAccountExists base a × BrokerOfAccountExists base a
 
 -- The account of the permission exists in the base.
-abbrev pub PermissionAccountExists : Base → Permission → Type 0
-PermissionAccountExists base p = is_some (account_with_id base p.account) ≡ true
+abbrev pub AccountOfPermissionExists : Base → Permission → Type 0
+AccountOfPermissionExists base p = is_some (account_with_id base p.account) ≡ true
 
 -- The customer and the tax rate of the customer's tax `x` exist in the base.
 abbrev pub CustomerTaxReferencesResolve : Base → CustomerTax → Type 0
-CustomerTaxReferencesResolve base x = (is_some (customer_with_id base x.customer) ≡ true) × (is_some (tax_rate_of_id base x.tax) ≡ true)
+CustomerTaxReferencesResolve base x = (is_some (customer_with_id base x.customer) ≡ true) × (is_some (tax_rate_record_with_id base x.tax) ≡ true)
 
 -- The account and the security of the trade exist in the base.
 abbrev pub TradeReferencesResolve : Base → Trade → Type 0
@@ -26,10 +26,10 @@ TradeReferencesResolve base t = AccountOfTradeExists base t × SecurityOfTradeEx
 -- numbered 1, 2, 3 and so on.
 pub record ReferencesResolve (base : Base) (accounts : List Account) (permissions : List Permission) (taxes : List CustomerTax) (trades : List Trade) (movements : List Movement) : Type 0 where
   pub parties : AllByRecursion (AccountReferencesResolve base) accounts
-  pub permitted : AllByRecursion (PermissionAccountExists base) permissions
+  pub permitted : AllByRecursion (AccountOfPermissionExists base) permissions
   pub taxed : AllByRecursion (CustomerTaxReferencesResolve base) taxes
   pub traded : AllByRecursion (TradeReferencesResolve base) trades
-  pub numbered : AreNumberedFrom 1 trades
+  pub numbered : TradesAreNumberedFrom 1 trades
   pub held : AllByRecursion (AccountOfMovementExists base) movements
 
 -- Every record that the records of the base refer to exists in it, and its trades are numbered 1,

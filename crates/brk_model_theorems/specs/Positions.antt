@@ -11,8 +11,8 @@ abbrev pub AllSharesHaveSide : Side → List Share → Type 0
 AllSharesHaveSide side shares = AllByRecursion (λ share. share.side ≡ side) shares
 
 -- All shares of the list have the same side.
-abbrev pub IsOneSided : List Share → Type 0
-IsOneSided shares = (side : Side) × AllSharesHaveSide side shares
+abbrev pub AllSharesHaveSameSide : List Share → Type 0
+AllSharesHaveSameSide shares = (side : Side) × AllSharesHaveSide side shares
 
 -- True if the row of HOLDING belongs to the account and the symbol.
 abbrev pub is_row_of_position : ℕ → Text → HoldingRow → Bool

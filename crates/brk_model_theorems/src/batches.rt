@@ -8,11 +8,11 @@ ghost use Rattle.brk_model.specs.Answers.{Fields, CallsHaveAnswers, RowCall};
 ghost use Rattle.brk_model.specs.Forms.{ReadResult};
 ghost use Rattle.brk_model.specs.Parse.{parse_row};
 ghost use Rattle.brk_model.specs.Input.{BeginsWithRecords, batch_header, input_text};
-ghost use Rattle.brk_model.specs.Batch.{AreDecided, Batch, IsResultOfBatch, step_of_row};
+ghost use Rattle.brk_model.specs.Batch.{BatchRowsAreDecided, BatchResult, IsResultOfBatch, step_of_row};
 ghost use Rattle.brk_model.specs.Lines.{refused_answer_count};
 ghost use Rattle.brk_model.specs.Computed.{batch_of_input, complete_batch};
 ghost use Rattle.brk_model.specs.Run.{Did, Run};
-ghost use Rattle.brk_model_theorems.specs.Laws.{MatchStoredReplies, AcceptedCallsAreStored, NextRowLeadsTo, IsCompletedByRetry, SomeRunLeadsTo, IsBaseAfterInterruption, IsBatchWithoutRefusals, answer_to_retry, answers_for_new_keys, call_of_batch_row, calls_with_new_keys, accepted_answers, accepted_calls};
+ghost use Rattle.brk_model_theorems.specs.Laws.{AnswersMatchStoredReplies, AcceptedCallsAreStored, NextRowLeadsTo, IsCompletedByRetry, SomeRunLeadsTo, IsBaseAfterInterruption, IsBatchWithoutRefusals, answer_to_retry, answers_for_new_keys, call_of_batch_row, calls_with_new_keys, accepted_answers, accepted_calls};
 
 /// Proves that the function `batch_of_input` computes the specified result of the input. It uses
 /// the first `n` clock readings, for some `n`. There must be at least as many clock readings as the
@@ -33,7 +33,7 @@ pub fn batch_rows_form_a_run()
 /// answered with the stored lines. The retry may start from the base after the batch, or from any
 /// base that a run reaches from it, at any clock readings. It holds for any format check of rows.
 pub fn a_retried_batch_changes_nothing()
-    ensures { (form : Fields → ReadResult Command) (base later : Base) (moments others : List ℕ) (input : List ℕ) (answers : List Answer) (first second : Batch Base) → IsBatchWithoutRefusals form base moments input answers first
+    ensures { (form : Fields → ReadResult Command) (base later : Base) (moments others : List ℕ) (input : List ℕ) (answers : List Answer) (first second : BatchResult Base) → IsBatchWithoutRefusals form base moments input answers first
         → SomeRunLeadsTo first.base later → IsResultOfBatch form step_of_row later others input second → second ≡ complete_batch (map answer_to_retry answers, later) }
 {}
 
@@ -43,9 +43,9 @@ pub fn a_retried_batch_changes_nothing()
 /// reaches from it.
 pub fn retried_rows_change_nothing()
     ensures { (form : Fields → ReadResult Command) (base later last : Base) (moments others : List ℕ) (input : List ℕ) (answers told : List Answer)
-        (first : Batch Base) (name : List ℕ) (rows : List Fields) → IsBatchWithoutRefusals form base moments input answers first
+        (first : BatchResult Base) (name : List ℕ) (rows : List Fields) → IsBatchWithoutRefusals form base moments input answers first
         → SomeRunLeadsTo first.base later → BeginsWithRecords (Some (input_text input)) (batch_header name ∷ rows)
-        → AreDecided form step_of_row name later others rows told last
+        → BatchRowsAreDecided form step_of_row name later others rows told last
         → (told ≡ map answer_to_retry (take (length rows) answers)) × (last ≡ later) }
 {}
 
@@ -54,7 +54,7 @@ pub fn retried_rows_change_nothing()
 /// row under its key is refused.
 pub fn rows_with_stored_keys_change_nothing()
     ensures { (base after : Base) (calls : List (RowCall Command)) (answers : List Answer) → CallsHaveAnswers step_of_row base calls answers after
-        → CallsHaveAnswers step_of_row base (calls_with_new_keys base calls) (answers_for_new_keys base calls answers) after × MatchStoredReplies base calls answers }
+        → CallsHaveAnswers step_of_row base (calls_with_new_keys base calls) (answers_for_new_keys base calls answers) after × AnswersMatchStoredReplies base calls answers }
 {}
 
 /// Proves that two attempts at rows equal one run, whichever rows either attempt refuses. The run
@@ -65,7 +65,7 @@ pub fn two_attempts_equal_one_run()
     ensures run { (base mid last : Base) (first again : List (RowCall Command)) (answers told : List Answer) → CallsHaveAnswers step_of_row base first answers mid
         → CallsHaveAnswers step_of_row mid again told last
         → CallsHaveAnswers step_of_row base (accepted_calls first answers ++ calls_with_new_keys mid again) (accepted_answers answers ++ answers_for_new_keys mid again told) last }
-    ensures kept { (base mid : Base) (first : List (RowCall Command)) (answers : List Answer) → CallsHaveAnswers step_of_row base first answers mid
+    ensures stored { (base mid : Base) (first : List (RowCall Command)) (answers : List Answer) → CallsHaveAnswers step_of_row base first answers mid
         → AcceptedCallsAreStored mid first answers }
 {}
 
@@ -75,10 +75,10 @@ pub fn two_attempts_equal_one_run()
 /// lines.
 pub fn partial_batch_is_completed_by_retry()
     ensures { (form : Fields → ReadResult Command) (name : List ℕ) (base mid last : Base) (moments others : List ℕ) (front more : List Fields)
-        (answers told : List Answer) → refused_answer_count answers ≡ 0 → AreDecided form step_of_row name base moments front answers mid
-        → AreDecided form step_of_row name mid others (front ++ more) told last
+        (answers told : List Answer) → refused_answer_count answers ≡ 0 → BatchRowsAreDecided form step_of_row name base moments front answers mid
+        → BatchRowsAreDecided form step_of_row name mid others (front ++ more) told last
         → (take (length front) told ≡ map answer_to_retry answers)
-        × AreDecided form step_of_row name base (moments ++ drop (length moments) others) (front ++ more)
+        × BatchRowsAreDecided form step_of_row name base (moments ++ drop (length moments) others) (front ++ more)
         (answers ++ drop (length front) told) last }
 {}
 
@@ -88,8 +88,8 @@ pub fn partial_batch_is_completed_by_retry()
 /// the clock reading of the retry.
 pub fn interrupted_batch_is_completed_by_retry()
     ensures { (form : Fields → ReadResult Command) (name : List ℕ) (base mid stood last : Base) (moments others : List ℕ) (front more : List Fields)
-        (answers told : List Answer) → refused_answer_count answers ≡ 0 → AreDecided form step_of_row name base moments front answers mid
-        → IsBaseAfterInterruption form name mid front more stood → AreDecided form step_of_row name stood others (front ++ more) told last
+        (answers told : List Answer) → refused_answer_count answers ≡ 0 → BatchRowsAreDecided form step_of_row name base moments front answers mid
+        → IsBaseAfterInterruption form name mid front more stood → BatchRowsAreDecided form step_of_row name stood others (front ++ more) told last
         → IsCompletedByRetry form name base moments others (front ++ more) answers told last
         ⊎ ((moment : ℕ) × (answer : Answer) × NextRowLeadsTo form name mid front more moment answer stood
         × IsCompletedByRetry form name base (moments ++ moment ∷ []) others (front ++ more) (answers ++ answer ∷ []) told last) }

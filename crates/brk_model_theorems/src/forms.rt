@@ -8,14 +8,14 @@ ghost use Rattle.brk_model_theorems.specs.FormParts.{SatisfiesFormParts, HasSort
 
 /// Proves that tables satisfy the condition `Form`, by the limits of a schema, if and only if they
 /// satisfy every part of it.
-pub fn form_holds_iff_all_parts_hold()
+pub fn form_condition_holds_iff_all_parts_hold()
     ensures parts { (schema : Schema) (t : Tables) → satisfies_form_condition schema t ≡ true → SatisfiesFormParts schema t }
     ensures whole { (schema : Schema) (t : Tables) → SatisfiesFormParts schema t → satisfies_form_condition schema t ≡ true }
 {}
 
 /// Proves that tables satisfy `tables_are_sorted_by_unique_key` if and only if every table is
 /// sorted by its key, strictly ascending.
-pub fn keys_hold_iff_all_tables_are_sorted()
+pub fn tables_are_sorted_iff_each_table_is_sorted()
     ensures parts { (t : Tables) → tables_are_sorted_by_unique_key t ≡ true → HasSortedTables t }
     ensures whole { (t : Tables) → HasSortedTables t → tables_are_sorted_by_unique_key t ≡ true }
 {}

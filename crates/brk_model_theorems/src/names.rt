@@ -11,5 +11,5 @@ ghost use Rattle.brk_model_theorems.specs.Names.{BaseReferencesResolve};
 /// the empty base satisfies it.
 pub fn runs_preserve_references()
     ensures run { (base after : Base) (calls : List (ℕ × Call)) (outcomes : List Outcome) → BaseReferencesResolve base → Run base calls outcomes after → BaseReferencesResolve after }
-    ensures first { (base : Base) → IsReachableFromEmptyBase base → BaseReferencesResolve base }
+    ensures from_empty_base { (base : Base) → IsReachableFromEmptyBase base → BaseReferencesResolve base }
 {}

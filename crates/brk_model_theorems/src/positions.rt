@@ -3,25 +3,25 @@
 ghost use Rattle.std.specs.Prelude.{◌≡◌, ℕ, List, filter};
 ghost use Rattle.brk_model.specs.Base.{Base, completed_trades};
 ghost use Rattle.brk_model.specs.Lists.{total_by};
-ghost use Rattle.brk_model.specs.Names.{AreNumberedFrom};
+ghost use Rattle.brk_model.specs.Names.{TradesAreNumberedFrom};
 ghost use Rattle.brk_model.specs.Run.{Call, Outcome, Run};
 ghost use Rattle.brk_model.specs.Shares.{Deal, replay};
 ghost use Rattle.brk_model.specs.Derived.{holding_summary_quantity};
 ghost use Rattle.brk_model.specs.Tables.{tables_of_base};
 ghost use Rattle.brk_model_theorems.specs.Names.{BaseReferencesResolve};
-ghost use Rattle.brk_model_theorems.specs.Positions.{IsOneSided, is_row_of_position};
+ghost use Rattle.brk_model_theorems.specs.Positions.{AllSharesHaveSameSide, is_row_of_position};
 
 /// Proves that the shares of a position after any list of deals, from the empty position on, all
 /// have the same side.
-pub fn shares_are_of_one_side()
-    ensures { (deals : List Deal) → IsOneSided (replay deals) }
+pub fn all_shares_have_one_side()
+    ensures { (deals : List Deal) → AllSharesHaveSameSide (replay deals) }
 {}
 
 /// Proves that the quantities of the lots (rows of HOLDING) of an account in a symbol total its
 /// holding summary, if trades are numbered 1, 2, 3 and so on. They do so too after any run of calls
 /// from a base that satisfies `BaseReferencesResolve`.
 pub fn lots_sum_to_the_summary()
-    ensures numbered { (base : Base) (account : ℕ) (symbol : List ℕ) → AreNumberedFrom 1 base.trades
+    ensures numbered { (base : Base) (account : ℕ) (symbol : List ℕ) → TradesAreNumberedFrom 1 base.trades
         → total_by (λ row. row.qty) (filter (is_row_of_position account symbol) (tables_of_base base).holdings) ≡ holding_summary_quantity (completed_trades base) account symbol }
     ensures run { (base after : Base) (calls : List (ℕ × Call)) (outcomes : List Outcome) (account : ℕ) (symbol : List ℕ)
         → BaseReferencesResolve base → Run base calls outcomes after

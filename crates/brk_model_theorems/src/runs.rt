@@ -7,7 +7,7 @@ ghost use Rattle.brk_model.specs.Records.{Key};
 ghost use Rattle.brk_model.specs.Commands.{Again, Command, Refused};
 ghost use Rattle.brk_model.specs.Keyed.{keyed_step};
 ghost use Rattle.brk_model.specs.Run.{Call, Outcome, Run};
-ghost use Rattle.brk_model_theorems.specs.Laws.{AscendsFrom, base_after_accepted_commands, accepted_stamps};
+ghost use Rattle.brk_model_theorems.specs.Laws.{StampsAscendFrom, base_after_accepted_commands, accepted_stamps};
 
 /// Proves that a command that is refused, or answered with a stored line, does not change the base.
 pub fn refusals_and_retries_change_nothing()
@@ -23,5 +23,5 @@ pub fn accepted_commands_determine_the_base()
 /// Proves that the stamps of a run's accepted commands are strictly ascending, and greater than the
 /// last stamp before the run if there is one.
 pub fn accepted_stamps_ascend_strictly()
-    ensures { (base after : Base) (calls : List (ℕ × Call)) (outcomes : List Outcome) → Run base calls outcomes after → AscendsFrom base.last (accepted_stamps outcomes) }
+    ensures { (base after : Base) (calls : List (ℕ × Call)) (outcomes : List Outcome) → Run base calls outcomes after → StampsAscendFrom base.last (accepted_stamps outcomes) }
 {}

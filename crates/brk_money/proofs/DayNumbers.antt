@@ -6,7 +6,7 @@ use Rattle.jiff.proofs.SpanFacts.{signed_arith}
 use Rattle.jiff_core.specs.Calendar.{day_count}
 use Rattle.jiff_core.proofs.CalendarLemmas.{day_count-day, day_count-epoch, day_count-next_month, day_count-next_year}
 use Rattle.brk_money.specs.Moments.{Civil, civil_date_of_day, day_of_civil_date, days_in_months, days_in_years, greatest_day}
-use Rattle.brk_money.specs.Spelling.{Text, civil_date_of_digits, digits_of_date, day_of_text, day_text, number_of_digits}
+use Rattle.brk_money.specs.Spelling.{Text, civil_date_from_ascii_digits, date_text_by_digits, day_of_text, day_text, number_from_ascii_digits}
 use Rattle.brk_money.proofs.Calendar.{civil_at, is_short}
 use Rattle.brk_money.proofs.DayTexts.{day_text-digits}
 use Rattle.brk_money.proofs.Spellings.{digit_kept, spells}
@@ -57,7 +57,7 @@ number_back n =
 
 -- ---- the digits of a date
 
-two_value : (m : ℕ) → m < 100 → number_of_digits ((48 + m / 10) ∷ (48 + m % 10) ∷ []) ≡ m
+two_value : (m : ℕ) → m < 100 → number_from_ascii_digits ((48 + m / 10) ∷ (48 + m % 10) ∷ []) ≡ m
 two_value m h =
     ap (fold (λ n c. 10 * n + (c - 48)) 0)
     (digit_kept (m / 10) ((48 + m % 10) ∷ []) (omega (arith, h)) ∙ ap (λ (l : List ℕ). (48 + m / 10) ∷ l) (digit_kept (m % 10) [] (omega arith)))
@@ -67,7 +67,7 @@ two_value m h =
     value m = omega arith
 
 four_value : (y : ℕ) → y < 10000
-    → number_of_digits ((48 + y / 100 / 10) ∷ (48 + y / 100 % 10) ∷ (48 + y % 100 / 10) ∷ (48 + y % 100 % 10) ∷ []) ≡ y
+    → number_from_ascii_digits ((48 + y / 100 / 10) ∷ (48 + y / 100 % 10) ∷ (48 + y % 100 / 10) ∷ (48 + y % 100 % 10) ∷ []) ≡ y
 four_value y h =
     let a : ℕ = 48 + y / 100 / 10 in
     let b : ℕ = 48 + y / 100 % 10 in
@@ -83,13 +83,13 @@ four_value y h =
     value : (y : ℕ) → 10 * (10 * (10 * (10 * 0 + (48 + y / 100 / 10 - 48)) + (48 + y / 100 % 10 - 48)) + (48 + y % 100 / 10 - 48)) + (48 + y % 100 % 10 - 48) ≡ y
     value y = omega arith
 
-value_is : (y m d : ℕ) → y < 10000 → m < 100 → d < 100 → civil_date_of_digits (digits_of_date y m d) ≡ record { year = y; month = m; day = d }
+value_is : (y m d : ℕ) → y < 10000 → m < 100 → d < 100 → civil_date_from_ascii_digits (date_text_by_digits y m d) ≡ record { year = y; month = m; day = d }
 value_is y m d h k l = λ i. record { year = four_value y h i; month = two_value m k i; day = two_value d l i }
 
 -- the text of a day spells it
 pub day_of_text-text : (text : Text) (n : ℕ) → n ≤ greatest_day → text ≡ day_text n → day_of_text text ≡ Some n
 day_of_text-text text n h e =
     let s = is_short n h in
-    spells day_text (day_of_civil_date (civil_date_of_digits text)) n text
-    (ap (λ t. day_of_civil_date (civil_date_of_digits t)) (e ∙ day_text-digits n h)
+    spells day_text (day_of_civil_date (civil_date_from_ascii_digits text)) n text
+    (ap (λ t. day_of_civil_date (civil_date_from_ascii_digits t)) (e ∙ day_text-digits n h)
     ∙ ap day_of_civil_date (value_is (civil_date_of_day n).year (civil_date_of_day n).month (civil_date_of_day n).day s.0 s.1 s.2) ∙ number_back n) e

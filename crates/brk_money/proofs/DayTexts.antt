@@ -6,15 +6,15 @@ use Rattle.jiff.proofs.SpanFacts.{signed_arith}
 use Rattle.jiff.proofs.Family.{epoch_day_range, epoch_day_same}
 use Rattle.jiff_core.specs.declared.civil.date.Date.{Date}
 use Rattle.brk_money.specs.Moments.{civil_date_of_day}
-use Rattle.brk_money.specs.Spelling.{digits_of_date, day_text}
+use Rattle.brk_money.specs.Spelling.{date_text_by_digits, day_text}
 use Rattle.brk_money.proofs.Calendar.{date_at, epoch_day-date_at, is_short, parts_of, same_day}
 use Rattle.brk_money.proofs.Padded.{date_text-digits}
 
-pub day_text-digits : (n : ℕ) → n ≤ 2_932_896 → day_text n ≡ digits_of_date (civil_date_of_day n).year (civil_date_of_day n).month (civil_date_of_day n).day
+pub day_text-digits : (n : ℕ) → n ≤ 2_932_896 → day_text n ≡ date_text_by_digits (civil_date_of_day n).year (civil_date_of_day n).month (civil_date_of_day n).day
 day_text-digits n h = let s = is_short n h in date_text-digits (civil_date_of_day n) s.0 s.1 s.2
 
 -- the digits of a date are the text of its day
-pub text_of : (d : Date) (n : ℕ) → epoch_day d ≡ pos n → digits_of_date (unsigned_abs d.year) d.month d.day ≡ day_text n
+pub text_of : (d : Date) (n : ℕ) → epoch_day d ≡ pos n → date_text_by_digits (unsigned_abs d.year) d.month d.day ≡ day_text n
 text_of d n e =
     let h : n ≤ 2_932_896 = omega (arith, signed_arith, epoch_day_range d, e) in
     let p = parts_of d n e in
@@ -31,10 +31,10 @@ at : (k : ℕ) (xs ys : List ℕ) → xs ≡ ys → get_or xs k 0 ≡ get_or ys 
 at k xs ys e = ap (λ (l : List ℕ). get_or l k 0) e
 
 -- dates of the same digits are the same
-pub digits_same : (y m d v n e : ℕ) → digits_of_date y m d ≡ digits_of_date v n e → (y ≡ v) × (m ≡ n) × (d ≡ e)
+pub digits_same : (y m d v n e : ℕ) → date_text_by_digits y m d ≡ date_text_by_digits v n e → (y ≡ v) × (m ≡ n) × (d ≡ e)
 digits_same y m d v n e same =
-    let xs = digits_of_date y m d in
-    let zs = digits_of_date v n e in (
+    let xs = date_text_by_digits y m d in
+    let zs = date_text_by_digits v n e in (
       four_same y v (two_same (y / 100) (v / 100) (at 0 xs zs same) (at 1 xs zs same)) (two_same (y % 100) (v % 100) (at 2 xs zs same) (at 3 xs zs same)),
       two_same m n (at 5 xs zs same) (at 6 xs zs same),
       two_same d e (at 8 xs zs same) (at 9 xs zs same),
@@ -51,7 +51,7 @@ not_below (pos n) k h e = ap pos e
 not_below (negsuc n) k h e = absurd (omega (arith, signed_arith, h))
 
 -- a date with the digits of a day's text has the day's number
-pub number_of_text : (d : Date) (n : ℕ) → n ≤ 2_932_896 → pos 0 ≤ℤ d.year → digits_of_date (unsigned_abs d.year) d.month d.day ≡ day_text n → epoch_day d ≡ pos n
+pub number_of_text : (d : Date) (n : ℕ) → n ≤ 2_932_896 → pos 0 ≤ℤ d.year → date_text_by_digits (unsigned_abs d.year) d.month d.day ≡ day_text n → epoch_day d ≡ pos n
 unfolding date_at
 number_of_text d n h low e =
     let same = digits_same _ _ _ _ _ _ (e ∙ day_text-digits n h) in
@@ -96,21 +96,21 @@ pub record ArePairs (bs : List ℕ) (century year month day : ℕ) : Type 0 wher
 
 -- ten bytes with two hyphens are the digits of their parts
 pub spelled : (bs : List ℕ) (century year month day : ℕ) → length bs ≡ 10 → get_or bs 4 0 ≡ 45 → get_or bs 7 0 ≡ 45 → year < 100
-    → ArePairs bs century year month day → bs ≡ digits_of_date (century * 100 + year) month day
+    → ArePairs bs century year month day → bs ≡ date_text_by_digits (century * 100 + year) month day
 spelled bs century year month day l e f h p =
     let front : (century * 100 + year) / 100 ≡ century = omega (arith, h) in
     let back : (century * 100 + year) % 100 ≡ year = omega (arith, h) in
     ten_of bs l ∙ rw (p.c1, p.c2, p.y1, p.y2, e, p.m1, p.m2, f, p.d1, p.d2, front, back) refl
 
 -- and no other parts have those digits
-pub parts_spelled : (bs : List ℕ) (y m d : ℕ) → bs ≡ digits_of_date y m d
+pub parts_spelled : (bs : List ℕ) (y m d : ℕ) → bs ≡ date_text_by_digits y m d
     → (length bs ≡ 10) × (get_or bs 4 0 ≡ 45) × (get_or bs 7 0 ≡ 45) × ArePairs bs (y / 100) (y % 100) m d
 parts_spelled bs y m d e =
     rw e (refl, refl, refl, record { c1 = refl; c2 = refl; y1 = refl; y2 = refl; m1 = refl; m2 = refl; d1 = refl; d2 = refl })
 
 -- so parts of the same digits are the same
 pub same_parts : (bs : List ℕ) (century year month day full y m d : ℕ) → ArePairs bs century year month day → full ≡ century * 100 + year
-    → bs ≡ digits_of_date y m d → (full ≡ y) × (month ≡ m) × (day ≡ d)
+    → bs ≡ date_text_by_digits y m d → (full ≡ y) × (month ≡ m) × (day ≡ d)
 same_parts bs century year month day full y m d p e b =
     let q = (parts_spelled bs y m d b).3 in
     let front = two_same century (y / 100) (sym p.c1 ∙ q.c1) (sym p.c2 ∙ q.c2) in

@@ -9,7 +9,7 @@ use Rattle.std.proofs.lemmas.Bool.{leb-true, le-leb, ne_eqb}
 use Rattle.std.proofs.lemmas.List.Elements.{filter-append}
 use Rattle.std.proofs.lemmas.List.Sums.{fold-append}
 use Rattle.std.specs.List.{AllByRecursion}
-use Rattle.brk_money.specs.Spelling.{Text, value_if_canonical, number_of_digits, decimal_number_of_text, number_within_limit, number_with_more_digits, cents_of_text, cents_text, cents_of_digits, unsigned_cents_text, IsWithinAmountLimit, amount_within_limit}
+use Rattle.brk_money.specs.Spelling.{Text, value_if_canonical, number_from_ascii_digits, decimal_number_of_text, number_within_limit, number_with_more_digits, cents_of_text, cents_text, cents_from_ascii_digits, unsigned_cents_text, IsWithinAmountLimit, amount_within_limit}
 use Rattle.brk_money.proofs.Digits.{whole_only}
 use Rattle.brk_money.proofs.Plain.{plain_first}
 
@@ -37,7 +37,7 @@ digits_fold n (c ∷ ds) =
     step n c = omega arith
 
 -- the value of a number's digits
-digits_value-decimal : (n : ℕ) → n ≤ 10 ^ 17 → number_of_digits (decimal n) ≡ n
+digits_value-decimal : (n : ℕ) → n ≤ 10 ^ 17 → number_from_ascii_digits (decimal n) ≡ n
 digits_value-decimal n h =
     let w = whole_only (decimal n) n h refl in
     ap (fold (λ n c. 10 * n + (c - 48)) 0) (filter_passing is_ascii_digit (decimal n) (each_digit (decimal n) w.digits)) ∙ digits_fold 0 (decimal n) ∙ w.reads
@@ -57,7 +57,7 @@ spells spell value x text v e =
     rw same (ap Some v)
 
 pub number_of-decimal : (text : Text) (n : ℕ) → n ≤ 10 ^ 17 → text ≡ decimal n → decimal_number_of_text text ≡ Some n
-number_of-decimal text n h e = spells decimal (number_of_digits text) n text (ap number_of_digits e ∙ digits_value-decimal n h) e
+number_of-decimal text n h e = spells decimal (number_from_ascii_digits text) n text (ap number_from_ascii_digits e ∙ digits_value-decimal n h) e
 
 -- what is found of a number up to a limit
 pub at_most_found : (text : Text) (n limit : ℕ) → limit ≤ 10 ^ 17 → n ≤ limit → text ≡ decimal n → Some n ≡ number_within_limit limit (decimal_number_of_text text)
@@ -74,7 +74,7 @@ at_most_by limit (Some n) h = with_test (nat_le n limit) refl
     with_test false e = refl
 
 pub at_most_none : (text : Text) (limit : ℕ) → ((n : ℕ) → n ≤ limit → text ≢ decimal n) → None ≡ number_within_limit limit (decimal_number_of_text text)
-at_most_none text limit h = at_most_by limit (decimal_number_of_text text) (λ n low e. h n low (spelled decimal (number_of_digits text) n text e))
+at_most_none text limit h = at_most_by limit (decimal_number_of_text text) (λ n low e. h n low (spelled decimal (number_from_ascii_digits text) n text e))
 
 -- one digit more
 pub digit_kept : (k : ℕ) (ds : List ℕ) → k ≤ 9 → filter is_ascii_digit ((48 + k) ∷ ds) ≡ (48 + k) ∷ filter is_ascii_digit ds
@@ -84,7 +84,7 @@ digit_kept k ds h = first is_ascii_digit (48 + k) ds (search rules)
     first test c ds e = rw e refl
 
 -- the value of an amount's digits
-digits_value-magnitude : (n : ℕ) → n ≤ 10 ^ 17 → number_of_digits (unsigned_cents_text n) ≡ n
+digits_value-magnitude : (n : ℕ) → n ≤ 10 ^ 17 → number_from_ascii_digits (unsigned_cents_text n) ≡ n
 digits_value-magnitude n h =
     let whole = decimal (n / 100) in
     let kept = filter-append is_ascii_digit whole (46 ∷ (48 + n % 100 / 10) ∷ (48 + n % 10) ∷ []) in
@@ -93,7 +93,7 @@ digits_value-magnitude n h =
     let front = digits_value-decimal (n / 100) (omega arith) in
     ap (fold (λ n c. 10 * n + (c - 48)) 0) kept
     ∙ fold-append (λ n c. 10 * n + (c - 48)) 0 (filter is_ascii_digit whole) (filter is_ascii_digit (46 ∷ (48 + n % 100 / 10) ∷ (48 + n % 10) ∷ []))
-    ∙ ap (fold (λ n c. 10 * n + (c - 48)) (number_of_digits whole)) tail
+    ∙ ap (fold (λ n c. 10 * n + (c - 48)) (number_from_ascii_digits whole)) tail
     ∙ ap (λ (v : ℕ). 10 * (10 * v + (48 + n % 100 / 10 - 48)) + (48 + n % 10 - 48)) front
     ∙ last n
   where
@@ -101,7 +101,7 @@ digits_value-magnitude n h =
     last n = omega arith
 
 -- the sign is told by the first byte
-cents_value-text : (z : ℤ) → IsWithinAmountLimit z → cents_of_digits (cents_text z) ≡ z
+cents_value-text : (z : ℤ) → IsWithinAmountLimit z → cents_from_ascii_digits (cents_text z) ≡ z
 cents_value-text (pos n) h =
     let first = plain_first n h in
     let unsigned : (slice_index (unsigned_cents_text n) 0 == 45) ≡ false = ne_eqb _ _ (λ e. omega arith) in
@@ -109,7 +109,7 @@ cents_value-text (pos n) h =
 cents_value-text (negsuc n) h = ap (λ (v : ℕ). neg_ℤ (pos v)) (digits_value-magnitude (suc n) h)
 
 pub cents_of-text : (text : Text) (z : ℤ) → IsWithinAmountLimit z → text ≡ cents_text z → cents_of_text text ≡ Some z
-cents_of-text text z h e = spells cents_text (cents_of_digits text) z text (ap cents_of_digits e ∙ cents_value-text z h) e
+cents_of-text text z h e = spells cents_text (cents_from_ascii_digits text) z text (ap cents_from_ascii_digits e ∙ cents_value-text z h) e
 
 within_size : (z : ℤ) → IsWithinAmountLimit z → nat_le (nat_abs z) (10 ^ 17) ≡ true
 within_size (pos n) h = le-leb n (10 ^ 17) h
@@ -131,7 +131,7 @@ within_by (Some z) h = with_test (nat_le (nat_abs z) (10 ^ 17)) refl
     with_test false e = refl
 
 pub within_none : (text : Text) → ((z : ℤ) → IsWithinAmountLimit z → text ≢ cents_text z) → None ≡ amount_within_limit (cents_of_text text)
-within_none text h = within_by (cents_of_text text) (λ z w e. h z w (spelled cents_text (cents_of_digits text) z text e))
+within_none text h = within_by (cents_of_text text) (λ z w e. h z w (spelled cents_text (cents_from_ascii_digits text) z text e))
 
 -- what a reader of numbers up to a limit answers
 pub number_read : (text : Text) (limit : ℕ) (o : Option ℕ) → limit ≤ 10 ^ 17 → IfSome o (λ n. (n ≤ limit) × (text ≡ decimal n))

@@ -14,13 +14,13 @@ abbrev pub value_if_canonical : {A : Type 0} → (A → Text) → A → Text →
 value_if_canonical spell value text = if bytes_eq (spell value) text then Some value else None
 
 -- The number whose decimal digits are the ASCII digits of the text; all other bytes are left out.
-abbrev pub number_of_digits : Text → ℕ
-number_of_digits text = fold (λ n c. 10 * n + (c - 48)) 0 (filter is_ascii_digit text)
+abbrev pub number_from_ascii_digits : Text → ℕ
+number_from_ascii_digits text = fold (λ n c. 10 * n + (c - 48)) 0 (filter is_ascii_digit text)
 
 -- The number that the text parses as: decimal digits without a leading zero; none for any other
 -- text.
 abbrev pub decimal_number_of_text : Text → Option ℕ
-decimal_number_of_text text = value_if_canonical decimal (number_of_digits text) text
+decimal_number_of_text text = value_if_canonical decimal (number_from_ascii_digits text) text
 
 -- The number if there is one and it is at most `limit`, otherwise none.
 abbrev pub number_within_limit : ℕ → Option ℕ → Option ℕ
@@ -48,12 +48,12 @@ cents_text (pos n) = unsigned_cents_text n
 cents_text (negsuc n) = 45 ∷ unsigned_cents_text (suc n)
 
 -- The cents whose digits are the ASCII digits of the text, negated if the text begins with a minus.
-abbrev pub cents_of_digits : Text → ℤ
-cents_of_digits text = if slice_index text 0 == 45 then neg_ℤ (pos (number_of_digits text)) else pos (number_of_digits text)
+abbrev pub cents_from_ascii_digits : Text → ℤ
+cents_from_ascii_digits text = if slice_index text 0 == 45 then neg_ℤ (pos (number_from_ascii_digits text)) else pos (number_from_ascii_digits text)
 
 -- The amount in cents that a text parses as; none if the text is not canonical.
 abbrev pub cents_of_text : Text → Option ℤ
-cents_of_text text = value_if_canonical cents_text (cents_of_digits text) text
+cents_of_text text = value_if_canonical cents_text (cents_from_ascii_digits text) text
 
 -- The decimal digits of `n`, with zeros in front up to `places` digits.
 abbrev pub padded_decimal : ℕ → ℕ → Text
@@ -65,8 +65,8 @@ date_text d = padded_decimal 4 d.year ++ 45 ∷ padded_decimal 2 d.month ++ 45 �
 
 -- The ten bytes of the text of the year `y`, the month `m` and the day `d`, such as 2024-03-01,
 -- digit by digit. It serves the contracts of private functions.
-abbrev pub digits_of_date : ℕ → ℕ → ℕ → Text
-digits_of_date y m d =
+abbrev pub date_text_by_digits : ℕ → ℕ → ℕ → Text
+date_text_by_digits y m d =
     (48 + y / 100 / 10) ∷ (48 + y / 100 % 10) ∷ (48 + y % 100 / 10) ∷ (48 + y % 100 % 10) ∷ 45 ∷ (48 + m / 10) ∷ (48 + m % 10) ∷ 45 ∷ (48 + d / 10)
     ∷ (48 + d % 10) ∷ []
 
@@ -76,12 +76,12 @@ day_text day = date_text (civil_date_of_day day)
 
 -- The civil date whose year, month and day are the digits of the text at the places of a canonical
 -- date; whether the calendar has it is not checked.
-abbrev pub civil_date_of_digits : Text → Civil
-civil_date_of_digits text = record { year = number_of_digits (take 4 text); month = number_of_digits (take 2 (drop 5 text)); day = number_of_digits (take 2 (drop 8 text)) }
+abbrev pub civil_date_from_ascii_digits : Text → Civil
+civil_date_from_ascii_digits text = record { year = number_from_ascii_digits (take 4 text); month = number_from_ascii_digits (take 2 (drop 5 text)); day = number_from_ascii_digits (take 2 (drop 8 text)) }
 
 -- The day that a text parses as; none if the text is not canonical.
 abbrev pub day_of_text : Text → Option ℕ
-day_of_text text = value_if_canonical day_text (day_of_civil_date (civil_date_of_digits text)) text
+day_of_text text = value_if_canonical day_text (day_of_civil_date (civil_date_from_ascii_digits text)) text
 
 -- The amount if there is one and its absolute value is at most `Cents.GREATEST`, otherwise none.
 abbrev pub amount_within_limit : Option ℤ → Option ℤ

@@ -12,7 +12,7 @@ use crate::tax_rate::TaxRate;
 /// above 0 and that `2 * n + d` is below 2^128.
 pub fn half_up(n: u128, d: u128) -> u128
     requires divisor { 0 < d }
-    requires fits { 2 * n + d < 2 ^ 128 }
+    requires no_overflow { 2 * n + d < 2 ^ 128 }
     ensures { result ≡ spec.half_up n d }
 {
     // Divides by two first, so that twice the divisor need not fit.

@@ -1,7 +1,7 @@
 ghost use Rattle.std.specs.Prelude.{◌≡◌, ◌≢◌, ◌++◌, ◌+◌, ◌/◌, ◌%◌, ◌<◌, ◌≤◌, ◌≤ℤ◌, ℕ, pos, unsigned_abs, IfSome, IfNone, OnOk, OnErr, Err};
 ghost use Rattle.jiff.specs.Words.{IsDate, epoch_day};
 ghost use Rattle.brk_money.specs.Moments.{greatest_day};
-ghost use Rattle.brk_money.specs.Spelling.{digits_of_date, day_text};
+ghost use Rattle.brk_money.specs.Spelling.{date_text_by_digits, day_text};
 ghost use Rattle.brk_money.specs.declared.fault.Fault.TheVariants.{Memory};
 
 use crate::day::Day;
@@ -48,8 +48,8 @@ fn date_if_in_calendar(year: u16, month: u8, day: u8) -> Option<Date>
 // between. Returns `None` for any other bytes, and for a date that the calendar does not have.
 #[tactic(auto, using(crate::proofs::DayTexts::spelled, crate::proofs::DayTexts::parts_spelled))]
 fn parse_date(bytes: &[u8]) -> Option<Date>
-    ensures found { IfSome result (λ date. (pos 0 ≤ℤ date.year) × (bytes.now ≡ digits_of_date (unsigned_abs date.year) date.month date.day)) }
-    ensures none { IfNone result ((y m d : ℕ) → IsDate (pos y) (pos m) (pos d) → bytes.now ≢ digits_of_date y m d) }
+    ensures found { IfSome result (λ date. (pos 0 ≤ℤ date.year) × (bytes.now ≡ date_text_by_digits (unsigned_abs date.year) date.month date.day)) }
+    ensures none { IfNone result ((y m d : ℕ) → IsDate (pos y) (pos m) (pos d) → bytes.now ≢ date_text_by_digits y m d) }
 {
     if bytes.len() != 10 || bytes[4] != b'-' || bytes[7] != b'-' {
         return None;
@@ -83,9 +83,9 @@ pub fn parse_day(bytes: &[u8]) -> Option<Day>
 }
 
 // Returns the ten bytes of the text of a date whose year is not negative.
-fn date_bytes(date: Date) -> [u8; 10]
+fn date_text_bytes(date: Date) -> [u8; 10]
     requires { pos 0 ≤ℤ date.year }
-    ensures { result ≡ digits_of_date (unsigned_abs date.year) date.month date.day }
+    ensures { result ≡ date_text_by_digits (unsigned_abs date.year) date.month date.day }
 {
     let year = date.year() as u16;
     let month = date.month() as u8;
@@ -115,7 +115,7 @@ pub fn write_day(out: &mut Vec<u8>, day: Day) -> Result<(), Fault>
     ensures err { OnErr result (out.new.items ≡ out.old.items) }
     ensures fault { OnErr result (result ≡ Err Memory) }
 {
-    let text = date_bytes(date_of_day(day));
+    let text = date_text_bytes(date_of_day(day));
     match out.extend_from_slice(&text) {
         Ok(()) => Ok(()),
         Err(_) => Err(Fault::Memory),

@@ -7,7 +7,7 @@ ghost use Rattle.brk_money.specs.Spelling.{number_with_more_digits};
 // Parses decimal digits as a number; no bytes parse as 0. Returns `None` if a byte is no digit or
 // the number is above `limit`.
 #[tactic(auto, using(crate::proofs::Digits::read_on_le))]
-fn read_digits(bytes: &[u8], limit: u64) -> Option<u64>
+fn parse_decimal_digits(bytes: &[u8], limit: u64) -> Option<u64>
     requires { limit ≤ Cents.GREATEST }
     ensures found { IfSome result (λ n. (all_ascii_digits bytes.now ≡ true) × (number_with_more_digits 0 bytes.now ≡ n) × (n ≤ limit)) }
     ensures none { IfNone result (all_ascii_digits bytes.now ≡ true → limit < number_with_more_digits 0 bytes.now) }
@@ -39,7 +39,7 @@ pub fn parse_whole_number(bytes: &[u8], limit: u64) -> Option<u64>
     if bytes[0] == b'0' && bytes.len() > 1 {
         return None;
     }
-    let Some(n) = read_digits(bytes, limit) else {
+    let Some(n) = parse_decimal_digits(bytes, limit) else {
         return None;
     };
     Some(n)

@@ -11,7 +11,7 @@ use Rattle.brk_model.specs.Commands.{Tick}
 use Rattle.brk_model.specs.Forms.{ReadResult, ◌⊛◌, format_refusal_rank, read_symbol, read_price, read_quantity}
 use Rattle.brk_model.specs.Parse.{read_ticks}
 use Rattle.brk_orders.specs.Reading.{appended_parse_results, abstract_parse_result}
-use Rattle.brk_orders.specs.Records.{list_of_one_tick}
+use Rattle.brk_orders.specs.Records.{abstract_tick_as_list}
 use Rattle.brk_orders.specs.declared.tick.Tick as tick
 use Rattle.brk_ref.specs.Fields.{ParsesAs, texts_of_fields}
 use Rattle.brk_ref.proofs.Applied.{text_right}
@@ -77,23 +77,23 @@ first_tick (Err u) (Err v) (Err w) (Err t) = refl
 -- one tick more was read
 next_tick : (ticks new : ReadResult (List Tick)) (tick : Result tick.Tick Refusal) (s p q : Text) (after : List Text) (all : ReadResult (List Tick))
     → all ≡ appended_parse_results ticks (read_ticks (s ∷ p ∷ q ∷ after))
-    → ParsesAs list_of_one_tick tick (read_ticks (s ∷ p ∷ q ∷ []))
-    → new ≡ appended_parse_results ticks (abstract_parse_result list_of_one_tick tick)
+    → ParsesAs abstract_tick_as_list tick (read_ticks (s ∷ p ∷ q ∷ []))
+    → new ≡ appended_parse_results ticks (abstract_parse_result abstract_tick_as_list tick)
     → all ≡ appended_parse_results new (read_ticks after)
 next_tick ticks new tick s p q after all e h step =
-    let tick_is = seen_reads list_of_one_tick tick (read_ticks (s ∷ p ∷ q ∷ [])) h in
+    let tick_is = seen_reads abstract_tick_as_list tick (read_ticks (s ∷ p ∷ q ∷ [])) h in
     e
     ∙ ap (λ (r : ReadResult (List Tick)). appended_parse_results ticks r)
     (first_tick (read_symbol s) (read_price p) (read_quantity q) (read_ticks after) ∙ ap (λ (r : ReadResult (List Tick)). appended_parse_results r (read_ticks after)) tick_is)
-    ∙ joined_assoc ticks (abstract_parse_result list_of_one_tick tick) (read_ticks after)
+    ∙ joined_assoc ticks (abstract_parse_result abstract_tick_as_list tick) (read_ticks after)
     ∙ ap (λ (r : ReadResult (List Tick)). appended_parse_results r (read_ticks after)) (sym step)
 
 -- and of the fields, the first three are taken
 pub next_fields : (ticks new : ReadResult (List Tick)) (tick : Result tick.Tick Refusal) (rest : List (Bor (List ℕ))) (d : Bor (List ℕ)) (all : ReadResult (List Tick))
     → 3 ≤ length rest
     → all ≡ appended_parse_results ticks (read_ticks (texts_of_fields rest))
-    → ParsesAs list_of_one_tick tick (read_ticks ((get_or rest 0 d).now ∷ (get_or rest 1 d).now ∷ (get_or rest 2 d).now ∷ []))
-    → new ≡ appended_parse_results ticks (abstract_parse_result list_of_one_tick tick)
+    → ParsesAs abstract_tick_as_list tick (read_ticks ((get_or rest 0 d).now ∷ (get_or rest 1 d).now ∷ (get_or rest 2 d).now ∷ []))
+    → new ≡ appended_parse_results ticks (abstract_parse_result abstract_tick_as_list tick)
     → all ≡ appended_parse_results new (read_ticks (texts_of_fields (take (length rest - 3) (drop 3 rest))))
 next_fields ticks new tick [] d all l e h step = absurd (omega (arith, l))
 next_fields ticks new tick (s ∷ []) d all l e h step = absurd (omega (arith, l))

@@ -10,14 +10,14 @@ use Rattle.brk_model.specs.Records.{Executor}
 use Rattle.brk_model.specs.Forms.{ReadResult, read_id, read_symbol, read_quantity, read_order_type, read_cash_or_margin, read_lifo_or_fifo}
 use Rattle.brk_model.specs.Parse.{read_executor, read_order}
 use Rattle.brk_orders.specs.Records.{texts_of_order_fields}
-use Rattle.brk_orders.specs.declared.order.Told.{Told}
+use Rattle.brk_orders.specs.declared.order.UnparsedOrder.{UnparsedOrder}
 use Rattle.brk_orders.proofs.Refused.{no_account, no_symbol, no_cash, no_end, no_executor, no_qty, late_order_type}
 
 -- The order with these values.
 abbrev made : ℕ → Text → ℕ → OrderType → Bool → Bool → Executor → Order
 made a s q t c l e = record { account = a; order_type = t; symbol = s; qty = q; is_cash = c; is_lifo = l; executor = e }
 
-module _ (t : Told) where
+module _ (t : UnparsedOrder) where
   -- what is read of each field
   abbrev account_read : ReadResult ℕ
   account_read = read_id t.account.now

@@ -9,7 +9,7 @@ use Rattle.brk_orders.specs.declared.movement.Direction.{Direction}
 use Rattle.brk_orders.specs.declared.movement.Direction.TheVariants.{Deposit, Withdrawal}
 use Rattle.brk_orders.specs.declared.movement.Movement.{Movement}
 use Rattle.brk_orders.specs.declared.order.Order as order
-use Rattle.brk_orders.specs.declared.order.Told as told
+use Rattle.brk_orders.specs.declared.order.UnparsedOrder as told
 use Rattle.brk_orders.specs.declared.tick.Tick as tick
 use Rattle.brk_orders.specs.declared.update.Update as told_update
 use Rattle.brk_orders.specs.declared.update.Update.TheVariants as update
@@ -19,7 +19,7 @@ abbrev pub abstract_order : order.Order → Order
 abstract_order o = record { account = o.account; order_type = o.order_type; symbol = o.symbol; qty = o.qty; is_cash = o.is_cash; is_lifo = o.is_lifo; executor = abstract_executor o.executor }
 
 -- The bytes of the ten fields `t` of an order, in the sequence of the row.
-abbrev pub texts_of_order_fields : told.Told → List Text
+abbrev pub texts_of_order_fields : told.UnparsedOrder → List Text
 texts_of_order_fields t =
     t.account.now ∷ t.kind.now ∷ t.symbol.now ∷ t.qty.now ∷ t.price.now ∷ t.cash.now ∷ t.end.now ∷ t.first_name.now ∷ t.last_name.now ∷ t.tax_id.now ∷ []
 
@@ -28,8 +28,8 @@ abbrev pub abstract_tick : tick.Tick → Tick
 abstract_tick t = record { symbol = t.symbol; price = t.price; qty = t.qty }
 
 -- The list of one element, the model's tick with the values of the typed tick `t`.
-abbrev pub list_of_one_tick : tick.Tick → List Tick
-list_of_one_tick t = abstract_tick t ∷ []
+abbrev pub abstract_tick_as_list : tick.Tick → List Tick
+abstract_tick_as_list t = abstract_tick t ∷ []
 
 -- The model's ticks with the values of the typed `ticks`.
 abbrev pub abstract_ticks : List tick.Tick → List Tick

@@ -8,7 +8,7 @@ use brk_ref::parse_id;
 ///
 /// Refuses with `BadText` if there is not exactly one field, or if it is not an id. Never
 /// allocates.
-pub fn check_cancel(fields: &[&[u8]]) -> Result<Id, Refusal>
+pub fn parse_canceled_trade_id(fields: &[&[u8]]) -> Result<Id, Refusal>
     ensures { ParsesAs (λ trade. trade) result (read_canceled_trade_id (texts_of_fields fields.now)) }
 {
     let [trade] = fields else {

@@ -18,7 +18,7 @@ pub struct Completion {
 ///
 /// Refuses with `BadText` (18) if there are not exactly two fields or TRADE is not an id, otherwise
 /// with `BadPrice` (9) if PRICE is not a price. Never allocates.
-pub fn check_result(fields: &[&[u8]]) -> Result<Completion, Refusal>
+pub fn parse_completion(fields: &[&[u8]]) -> Result<Completion, Refusal>
     ensures { ParsesAs completion_command result (read_result_command (texts_of_fields fields.now)) }
 {
     let [trade, price] = fields else {

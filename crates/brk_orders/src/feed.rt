@@ -4,7 +4,7 @@ ghost use Rattle.brk_model.specs.Forms.{one_to_twenty_elements};
 ghost use Rattle.brk_model.specs.Parse.{read_feed, read_ticks};
 ghost use Rattle.brk_money.specs.declared.fault.Fault.TheVariants.{Memory};
 ghost use Rattle.brk_orders.specs.Reading.{appended_parse_results, abstract_parse_result};
-ghost use Rattle.brk_orders.specs.Records.{list_of_one_tick, abstract_ticks_of_vector, abstract_ticks};
+ghost use Rattle.brk_orders.specs.Records.{abstract_tick_as_list, abstract_ticks_of_vector, abstract_ticks};
 ghost use Rattle.brk_ref.specs.Fields.{ParsesAs, texts_of_fields};
 
 use crate::tick::{Tick, parse_tick_fields};
@@ -71,7 +71,7 @@ fn rank_of_format_refusal(refusal: Refusal) -> u8
 
 // Returns the one of two refusals whose format check is earlier, and `one` if both have equal
 // ranks.
-fn refusal_of_first_check(one: Refusal, other: Refusal) -> Refusal
+fn refusal_of_earlier_check(one: Refusal, other: Refusal) -> Refusal
     ensures { result ≡ (if nat_le (forms.format_refusal_rank one) (forms.format_refusal_rank other) then one else other) }
 {
     if rank_of_format_refusal(one) <= rank_of_format_refusal(other) {
@@ -87,7 +87,7 @@ fn append_parsed_tick(
     ticks: Result<Vec<Tick>, Refusal>,
     tick: Result<Tick, Refusal>,
 ) -> Planned<Vec<Tick>>
-    ensures read { IfOk result (λ read. abstract_parse_result abstract_ticks_of_vector read ≡ appended_parse_results (abstract_parse_result abstract_ticks_of_vector ticks) (abstract_parse_result list_of_one_tick tick)) }
+    ensures read { IfOk result (λ read. abstract_parse_result abstract_ticks_of_vector read ≡ appended_parse_results (abstract_parse_result abstract_ticks_of_vector ticks) (abstract_parse_result abstract_tick_as_list tick)) }
     ensures fault { OnErr result (result ≡ Err Memory) }
 {
     match (ticks, tick) {
@@ -97,7 +97,7 @@ fn append_parsed_tick(
         }
         (Ok(_), Err(refusal)) => Ok(Err(refusal)),
         (Err(refusal), Ok(_)) => Ok(Err(refusal)),
-        (Err(one), Err(other)) => Ok(Err(refusal_of_first_check(one, other))),
+        (Err(one), Err(other)) => Ok(Err(refusal_of_earlier_check(one, other))),
     }
 }
 
@@ -126,7 +126,7 @@ fn parse_ticks(alloc: Global, fields: &[&[u8]]) -> Planned<Vec<Tick>>
 /// Refuses with `BadText` (18) for a malformed text, otherwise with `BadQty` (8) for a quantity,
 /// with `BadPrice` (9) for a price, and with `TooMany` (20) for more than 20 ticks. All fields are
 /// checked before the number of ticks; no tick at all is `BadText`.
-pub fn check_feed(alloc: Global, fields: &[&[u8]]) -> Planned<Feed>
+pub fn parse_market_feed(alloc: Global, fields: &[&[u8]]) -> Planned<Feed>
     ensures read { IfOk result (λ read. ParsesAs abstract_ticks read (read_feed (texts_of_fields fields.now))) }
     ensures fault { OnErr result (result ≡ Err Memory) }
 {

@@ -26,7 +26,7 @@ pub struct Movement {
 ///
 /// Refuses with `BadText` if there are not exactly two fields, or if a field is malformed or out of
 /// range. Never allocates.
-pub fn check_move(direction: Direction, fields: &[&[u8]]) -> Result<Movement, Refusal>
+pub fn parse_cash_movement(direction: Direction, fields: &[&[u8]]) -> Result<Movement, Refusal>
     ensures { ParsesAs movement_command result (read_movement_command (cash_movement_command direction) (texts_of_fields fields.now)) }
 {
     let [account, amount] = fields else {

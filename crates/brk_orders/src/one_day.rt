@@ -24,7 +24,7 @@ fn parse_calendar_day(bytes: &[u8]) -> Option<Day>
 ///
 /// Refuses with `BadText` if there is not exactly one field, or if it is not a day of the calendar.
 /// Never allocates.
-pub fn check_oneday(fields: &[&[u8]]) -> Result<Day, Refusal>
+pub fn parse_requested_settlement_day(fields: &[&[u8]]) -> Result<Day, Refusal>
     ensures { ParsesAs (λ day. day) result (read_settlement_day (texts_of_fields fields.now)) }
 {
     let [day] = fields else {

@@ -33,7 +33,7 @@ pub struct Order {
 
 // The ten fields of an order, as they were received.
 #[derive(Clone, Copy)]
-struct Told<'a> {
+struct UnparsedOrder<'a> {
     account: &'a [u8],
     kind: &'a [u8],
     symbol: &'a [u8],
@@ -48,7 +48,7 @@ struct Told<'a> {
 
 // Returns true if the bytes are the word `yes`, false if they are the word `no`, and otherwise
 // `None`.
-fn parse_either_word(yes: &str, no: &str, bytes: &[u8]) -> Option<bool>
+fn parse_word_as_boolean(yes: &str, no: &str, bytes: &[u8]) -> Option<bool>
     ensures { ok_or result BadText ≡ read_word_as_boolean yes.now no.now bytes.now }
 {
     if bytes == yes.as_bytes() {
@@ -122,7 +122,7 @@ fn refusal_of_unknown_type(price: &[u8]) -> Refusal
 
 // Returns the order type of `kind` with its price. Refuses with `BadPrice` if the text of the price
 // does not fit the type, and otherwise with `BadType` if the type is unknown.
-fn order_type_for(kind: Option<TradeType>, price: &[u8]) -> Result<OrderType, Refusal>
+fn order_type_with_price(kind: Option<TradeType>, price: &[u8]) -> Result<OrderType, Refusal>
     ensures { result ≡ forms.order_type_with_price kind price.now }
 {
     match kind {
@@ -137,7 +137,7 @@ fn order_type_for(kind: Option<TradeType>, price: &[u8]) -> Result<OrderType, Re
 
 // Parses the ten fields of an order, or returns the refusal of malformed fields. Fails with
 // `Memory` only.
-fn parse_order_fields(alloc: Global, told: Told<'_>) -> Planned<Order>
+fn parse_order_fields(alloc: Global, told: UnparsedOrder<'_>) -> Planned<Order>
     ensures read { IfOk result (λ read. ParsesAs abstract_order read (read_order (texts_of_order_fields told.entry))) }
     ensures fault { OnErr result (result ≡ Err Memory) }
 {
@@ -147,10 +147,10 @@ fn parse_order_fields(alloc: Global, told: Told<'_>) -> Planned<Order>
     let Some(symbol) = Symbol::parse(alloc, told.symbol)? else {
         return Ok(Err(Refusal::BadText));
     };
-    let Some(is_cash) = parse_either_word("cash", "margin", told.cash) else {
+    let Some(is_cash) = parse_word_as_boolean("cash", "margin", told.cash) else {
         return Ok(Err(Refusal::BadText));
     };
-    let Some(is_lifo) = parse_either_word("lifo", "fifo", told.end) else {
+    let Some(is_lifo) = parse_word_as_boolean("lifo", "fifo", told.end) else {
         return Ok(Err(Refusal::BadText));
     };
     let Some(executor) = parse_executor(alloc, told.first_name, told.last_name, told.tax_id)? else {
@@ -159,7 +159,7 @@ fn parse_order_fields(alloc: Global, told: Told<'_>) -> Planned<Order>
     let Some(qty) = parse_qty(told.qty) else {
         return Ok(Err(Refusal::BadQty));
     };
-    let order_type = match order_type_for(parse_trade_type(told.kind), told.price) {
+    let order_type = match order_type_with_price(parse_trade_type(told.kind), told.price) {
         Ok(order_type) => order_type,
         Err(refusal) => return Ok(Err(refusal)),
     };
@@ -181,7 +181,7 @@ fn parse_order_fields(alloc: Global, told: Told<'_>) -> Planned<Order>
 /// Refuses with `BadText` (18) for a malformed text or another number of fields, otherwise with
 /// `BadQty` (8) for the quantity, with `BadPrice` (9) for the price, and with `BadType` (7) for the
 /// type.
-pub fn check_order(alloc: Global, fields: &[&[u8]]) -> Planned<Order>
+pub fn parse_trade_order(alloc: Global, fields: &[&[u8]]) -> Planned<Order>
     ensures read { IfOk result (λ read. ParsesAs abstract_order read (read_order (texts_of_fields fields.now))) }
     ensures fault { OnErr result (result ≡ Err Memory) }
 {
@@ -200,7 +200,7 @@ pub fn check_order(alloc: Global, fields: &[&[u8]]) -> Planned<Order>
     else {
         return Ok(Err(Refusal::BadText));
     };
-    let told = Told {
+    let told = UnparsedOrder {
         account,
         kind,
         symbol,

@@ -1,7 +1,7 @@
 ghost use Rattle.std.specs.Prelude.{◌≡◌, ◌∷◌, [], IfOk, OnErr, Err};
 ghost use Rattle.brk_model.specs.Parse.{read_ticks};
 ghost use Rattle.brk_money.specs.declared.fault.Fault.TheVariants.{Memory};
-ghost use Rattle.brk_orders.specs.Records.{list_of_one_tick};
+ghost use Rattle.brk_orders.specs.Records.{abstract_tick_as_list};
 ghost use Rattle.brk_ref.specs.Fields.{ParsesAs};
 
 use brk_money::{Planned, Price, Qty, Refusal};
@@ -26,7 +26,7 @@ pub(crate) fn parse_tick_fields(
     price: &[u8],
     qty: &[u8],
 ) -> Planned<Tick>
-    ensures read { IfOk result (λ read. ParsesAs list_of_one_tick read (read_ticks (symbol.now ∷ price.now ∷ qty.now ∷ []))) }
+    ensures read { IfOk result (λ read. ParsesAs abstract_tick_as_list read (read_ticks (symbol.now ∷ price.now ∷ qty.now ∷ []))) }
     ensures fault { OnErr result (result ≡ Err Memory) }
 {
     let Some(symbol) = Symbol::parse(alloc, symbol)? else {

@@ -94,7 +94,7 @@ fn parse_ids(alloc: Global, fields: &[&[u8]]) -> Planned<Vec<Id>>
 ///
 /// Refuses with `BadText` (18) if a field is malformed, if an id occurs twice, or if there are
 /// none. Otherwise refuses with `TooMany` (20) if there are more than 20.
-pub fn check_ids(alloc: Global, fields: &[&[u8]]) -> Planned<TradeIds>
+pub fn parse_trade_ids(alloc: Global, fields: &[&[u8]]) -> Planned<TradeIds>
     ensures read { IfOk result (λ read. ParsesAs (λ trades. trades) read (read_distinct_ids (texts_of_fields fields.now))) }
     ensures fault { OnErr result (result ≡ Err Memory) }
 {

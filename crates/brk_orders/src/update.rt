@@ -7,7 +7,7 @@ ghost use Rattle.brk_orders.specs.Records.{text_update_command};
 ghost use Rattle.brk_ref.specs.Fields.{ParsesAs, texts_of_fields};
 
 use crate::span::{Span, parse_stamp};
-use crate::trade_ids::{TradeIds, check_ids};
+use crate::trade_ids::{TradeIds, parse_trade_ids};
 use brk_money::{Id, Planned, Refusal};
 use brk_ref::{Symbol, parse_id};
 use std::alloc::Global;
@@ -26,11 +26,11 @@ pub enum Update {
 
 /// Parses an update of executors' names from the fields, 1 to 20 different ids of trades, or
 /// returns the refusal of malformed fields. Fails with `Memory` only.
-pub fn check_upname(alloc: Global, fields: &[&[u8]]) -> Planned<Update>
+pub fn parse_update_of_executor_names(alloc: Global, fields: &[&[u8]]) -> Planned<Update>
     ensures read { IfOk result (λ read. ParsesAs text_update_command read (read_and_wrap ChangeExecutors read_distinct_ids (texts_of_fields fields.now))) }
     ensures fault { OnErr result (result ≡ Err Memory) }
 {
-    match check_ids(alloc, fields)? {
+    match parse_trade_ids(alloc, fields)? {
         Ok(trades) => Ok(Ok(Update::Executors(trades))),
         Err(refusal) => Ok(Err(refusal)),
     }
@@ -38,7 +38,7 @@ pub fn check_upname(alloc: Global, fields: &[&[u8]]) -> Planned<Update>
 
 /// Parses an update of cash types from the fields ACCOUNT, FROM and TO. Refuses malformed fields,
 /// or another number of them, with `BadText`. Never allocates.
-pub fn check_upcash(fields: &[&[u8]]) -> Result<Update, Refusal>
+pub fn parse_update_of_cash_types(fields: &[&[u8]]) -> Result<Update, Refusal>
     ensures { ParsesAs text_update_command result (read_cash_type_update (texts_of_fields fields.now)) }
 {
     let [account, first, last] = fields else {
@@ -59,7 +59,7 @@ pub fn check_upcash(fields: &[&[u8]]) -> Result<Update, Refusal>
 
 /// Parses an update of cash texts from the fields SYMBOL, FROM and TO. Refuses malformed fields, or
 /// another number of them, with `BadText`. Fails with `Memory` only.
-pub fn check_uptext(alloc: Global, fields: &[&[u8]]) -> Planned<Update>
+pub fn parse_update_of_cash_texts(alloc: Global, fields: &[&[u8]]) -> Planned<Update>
     ensures read { IfOk result (λ read. ParsesAs text_update_command read (read_cash_name_update (texts_of_fields fields.now))) }
     ensures fault { OnErr result (result ≡ Err Memory) }
 {

@@ -7,9 +7,9 @@ use Rattle.brk_money.specs.declared.status.Status.{Status}
 use Rattle.brk_money.specs.declared.status.Status.TheVariants.{Pending, Canceled}
 use Rattle.brk_model.specs.Tests.{RefusalCheck, first_refusal}
 use Rattle.brk_plans.specs.Reference.{later_stamp_check}
-use Rattle.brk_plans.specs.Waiting.{row_changes_ending_pending}
+use Rattle.brk_plans.specs.Waiting.{row_changes_from_pending}
 use Rattle.brk_changes.specs.declared.change.Change.{Change}
-use Rattle.brk_changes.specs.declared.change.Change.TheVariants.{SetLast}
+use Rattle.brk_changes.specs.declared.change.Change.TheVariants.{SetLastStamp}
 use Rattle.brk_plans.specs.declared.plan.Plan.{Plan}
 use Rattle.brk_plans.specs.declared.reply.Reply.TheVariants as reply
 
@@ -22,7 +22,7 @@ cancel_checks (Some status) = (not (is_same_trade_status status Pending), WrongS
 -- The row changes of a cancel at `stamp`: those by which `trade` changes from pending to canceled,
 -- and the last stamp.
 abbrev pub row_changes_of_cancel : ℕ → ℕ → List Change
-row_changes_of_cancel trade stamp = row_changes_ending_pending trade Canceled stamp ++ SetLast stamp ∷ []
+row_changes_of_cancel trade stamp = row_changes_from_pending trade Canceled stamp ++ SetLastStamp stamp ∷ []
 
 -- `plan` cancels `trade`, whose status is `found`, at the stamp of the command. The trade passes
 -- its checks, and a later stamp is left. Its row changes are `row_changes_of_cancel`, and its reply
@@ -31,5 +31,5 @@ pub record IsCancelPlan (trade : ℕ) (found : Option Status) (last : Option ℕ
   pub stamp : ℕ
   pub accepted : first_refusal (cancel_checks found ++ later_stamp_check last now ∷ []) ≡ None
   pub stamped : stamp_after last now ≡ Some stamp
-  pub told : plan.reply ≡ reply.Canceled stamp
+  pub replied : plan.reply ≡ reply.Canceled stamp
   pub changes : plan.changes.items ≡ row_changes_of_cancel trade stamp

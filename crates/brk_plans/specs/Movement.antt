@@ -15,7 +15,7 @@ use Rattle.brk_changes.specs.declared.change.Change.{Change}
 use Rattle.brk_changes.specs.declared.change.Change.TheVariants as change
 use Rattle.brk_changes.specs.declared.move_row.MoveRow.{MoveRow}
 use Rattle.brk_plans.specs.Reference.{later_stamp_check}
-use Rattle.brk_plans.specs.declared.movement.MoveFound.{MoveFound}
+use Rattle.brk_plans.specs.declared.movement.MovementPlanFacts.{MovementPlanFacts}
 use Rattle.brk_plans.specs.declared.plan.Plan.{Plan}
 use Rattle.brk_plans.specs.declared.reply.Reply.TheVariants as reply
 
@@ -35,12 +35,12 @@ cash_text_of_direction Withdrawal = codes "Withdrawal"
 
 -- The balance of the account after the movement `m`, in cents, where a missing account counts as
 -- balance 0.
-abbrev pub balance_after_movement : Movement → MoveFound → ℤ
+abbrev pub balance_after_movement : Movement → MovementPlanFacts → ℤ
 balance_after_movement m found = unwrap_or found.balance (pos 0) +ℤ signed_amount_of_movement m
 
 -- The checks of the movement `m` against the facts `found`: the account exists, the balance after
 -- it does not exceed the limit, and not all numbers of movements are used.
-abbrev pub movement_checks : Movement → MoveFound → List RefusalCheck
+abbrev pub movement_checks : Movement → MovementPlanFacts → List RefusalCheck
 movement_checks m found =
     (is_none found.balance, NoAccount) ∷ (nat_lt greatest_amount (nat_abs (balance_after_movement m found)), Range limit.Balance)
     ∷ (found.has_all_movements, Range limit.Moves) ∷ []
@@ -53,7 +53,7 @@ cash_row_of_movement m number stamp = record { id = number; account = m.account;
 -- The row changes of a movement: the cash row `row` is added, the balance of `account` is set to
 -- `balance`, and the last stamp to `stamp`.
 abbrev pub row_changes_of_movement : ℕ → MoveRow → ℤ → ℕ → List Change
-row_changes_of_movement account row balance stamp = change.AddMove row ∷ change.SetBalance account balance ∷ change.SetLast stamp ∷ []
+row_changes_of_movement account row balance stamp = change.AddMove row ∷ change.SetBalance account balance ∷ change.SetLastStamp stamp ∷ []
 
 -- `plan` adds the cash row of the movement `m` with the id `number`, and sets the balance of its
 -- account to `balance` and the last stamp to `stamp`. Its reply has the stamp, the id and the
@@ -61,13 +61,13 @@ row_changes_of_movement account row balance stamp = change.AddMove row ∷ chang
 pub record AppliesMovement (m : Movement) (number : ℕ) (balance : ℤ) (stamp : ℕ) (plan : Plan) : Type 0 where
   pub row : MoveRow
   pub posted : abstract_move_row row ≡ cash_row_of_movement m number stamp
-  pub told : plan.reply ≡ reply.Moved stamp number balance
+  pub replied : plan.reply ≡ reply.Moved stamp number balance
   pub changes : plan.changes.items ≡ row_changes_of_movement m.account row balance stamp
 
 -- `plan` applies the movement `m` at the stamp of the command, with the next id of a cash row and
 -- the balance after it. The movement passes its checks against the facts `found`, and a later stamp
 -- is left. `last` is the last stamp, and `now` the clock reading.
-pub record IsMovementPlan (m : Movement) (found : MoveFound) (last : Option ℕ) (now : ℕ) (plan : Plan) : Type 0 where
+pub record IsMovementPlan (m : Movement) (found : MovementPlanFacts) (last : Option ℕ) (now : ℕ) (plan : Plan) : Type 0 where
   pub stamp : ℕ
   pub accepted : first_refusal (movement_checks m found ++ later_stamp_check last now ∷ []) ≡ None
   pub stamped : stamp_after last now ≡ Some stamp

@@ -11,14 +11,14 @@ use Rattle.brk_plans.specs.declared.reply.Reply.TheVariants as reply
 
 -- The check that `day` is later than the day (UTC) of the command's stamp. It passes if no later
 -- stamp is left.
-abbrev pub settlement_day_is_later_check : ℕ → Option ℕ → ℕ → RefusalCheck
-settlement_day_is_later_check day last now = (option_map_or (λ stamp. nat_le day (day_of stamp)) (stamp_after last now) false, TooEarly)
+abbrev pub later_settlement_day_check : ℕ → Option ℕ → ℕ → RefusalCheck
+later_settlement_day_check day last now = (option_map_or (λ stamp. nat_le day (day_of stamp)) (stamp_after last now) false, TooEarly)
 
 -- The checks of `day` as the settlement day: none is set yet (`rule`), a later stamp is left, and
 -- the day is later than that of the command's stamp. `last` is the last stamp, and `now` the clock
 -- reading.
 abbrev pub settlement_day_checks : ℕ → Option ℕ → Option ℕ → ℕ → List RefusalCheck
-settlement_day_checks day rule last now = duplicate_check (is_some rule) ∷ later_stamp_check last now ∷ settlement_day_is_later_check day last now ∷ []
+settlement_day_checks day rule last now = duplicate_check (is_some rule) ∷ later_stamp_check last now ∷ later_settlement_day_check day last now ∷ []
 
 -- `plan` sets the settlement day to `day` and the last stamp to that of the command. The day passes
 -- its checks, and the reply has the stamp. `rule` is the settlement day before it, if any. `last`
@@ -27,5 +27,5 @@ pub record IsSettlementDayPlan (day : ℕ) (rule : Option ℕ) (last : Option �
   pub stamp : ℕ
   pub accepted : first_refusal (settlement_day_checks day rule last now) ≡ None
   pub stamped : stamp_after last now ≡ Some stamp
-  pub told : plan.reply ≡ reply.Booked stamp
-  pub changes : plan.changes.items ≡ change.SetRule day ∷ change.SetLast stamp ∷ []
+  pub replied : plan.reply ≡ reply.Booked stamp
+  pub changes : plan.changes.items ≡ change.SetSettlementDay day ∷ change.SetLastStamp stamp ∷ []

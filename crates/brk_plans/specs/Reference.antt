@@ -91,5 +91,5 @@ pub record IsReferencePlan (reference : Reference) (found : ReferenceFacts) (las
   pub stamp : ℕ
   pub accepted : first_refusal (reference_checks reference found ++ later_stamp_check last now ∷ []) ≡ None
   pub stamped : stamp_after last now ≡ Some stamp
-  pub told : plan.reply ≡ Booked stamp
-  pub changes : plan.changes.items ≡ row_changes_adding_record stamp reference ++ change.SetLast stamp ∷ []
+  pub replied : plan.reply ≡ Booked stamp
+  pub changes : plan.changes.items ≡ row_changes_adding_record stamp reference ++ change.SetLastStamp stamp ∷ []

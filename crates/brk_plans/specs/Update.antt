@@ -9,7 +9,7 @@ use Rattle.brk_model.specs.Lists.{contains_text}
 use Rattle.brk_model.specs.Results.{cash_row_name_from_parts}
 use Rattle.brk_model.specs.Tables.{Tables}
 use Rattle.brk_model.specs.Tests.{RefusalCheck}
-use Rattle.brk_model.specs.Updates.{updated_executor_name, alternate_word}
+use Rattle.brk_model.specs.Updates.{updated_executor_name, toggled_word}
 use Rattle.brk_changes.specs.Changes.{tables_after_change, tables_with_cash_text, tables_with_cash_type, tables_with_executor_name, tables_with_last_stamp}
 use Rattle.brk_changes.specs.Rows.{cash_type_text}
 use Rattle.brk_changes.specs.declared.trade_row.TradeRow.{TradeRow}
@@ -25,9 +25,9 @@ use Rattle.brk_plans.specs.declared.reply.Reply.TheVariants.{Changed}
 -- The new settlement text of a trade whose present one is `word`: of a cash trade (`is_cash`)
 -- `Cash` if it is `Cash Account`, otherwise `Cash Account`; of a margin trade `Margin` if it is
 -- `Margin Account`, otherwise `Margin Account`.
-abbrev pub other_cash_type_text : Bool → Text → Text
-other_cash_type_text is_cash word =
-    if is_cash then alternate_word (codes "Cash Account") (codes "Cash") word else alternate_word (codes "Margin Account") (codes "Margin") word
+abbrev pub toggled_cash_type_text : Bool → Text → Text
+toggled_cash_type_text is_cash word =
+    if is_cash then toggled_word (codes "Cash Account") (codes "Cash") word else toggled_word (codes "Margin Account") (codes "Margin") word
 
 -- The new cash text of a trade whose present one is `name`. Its words are " Shares of " if `name`
 -- contains " shares of ", and otherwise " shares of ".
@@ -42,15 +42,15 @@ toggled_cash_text_of_trade security p = toggled_cash_text p.kind p.qty security 
 
 -- The refusal of a text update whose target does not exist: `NoTrade`, `NoAccount` or `NoSecurity`,
 -- by the kind of the update.
-abbrev pub missing_record_refusal : told.Update → Refusal
-missing_record_refusal (update.Executors trades) = NoTrade
-missing_record_refusal (update.CashTypes account span) = NoAccount
-missing_record_refusal (update.CashNames symbol span) = NoSecurity
+abbrev pub missing_target_refusal : told.Update → Refusal
+missing_target_refusal (update.Executors trades) = NoTrade
+missing_target_refusal (update.CashTypes account span) = NoAccount
+missing_target_refusal (update.CashNames symbol span) = NoSecurity
 
 -- The check of the text update `u`: the trades, the account or the security that it names exist.
 -- `found` is none if one of them is missing.
 abbrev pub update_checks : told.Update → Option TextUpdate → List RefusalCheck
-update_checks u found = (is_none found, missing_record_refusal u) ∷ []
+update_checks u found = (is_none found, missing_target_refusal u) ∷ []
 
 -- The update of the tables that replaces the executor's name of `trade` by its new one.
 abbrev pub executor_name_update : TradeRow → Tables → Tables
@@ -58,7 +58,7 @@ executor_name_update trade = tables_with_executor_name trade.id (updated_executo
 
 -- The update of the tables that replaces the settlement text of the trade of `s` by its new one.
 abbrev pub cash_type_update : SettlementText → Tables → Tables
-cash_type_update s = tables_with_cash_type s.trade (other_cash_type_text s.is_cash (cash_type_text s.cash_type))
+cash_type_update s = tables_with_cash_type s.trade (toggled_cash_type_text s.is_cash (cash_type_text s.cash_type))
 
 -- The update of the tables that replaces the cash text of the trade of `p` by its new one, where
 -- `security` is the name of its security.
@@ -66,10 +66,10 @@ abbrev pub cash_text_update : Text → CashText → Tables → Tables
 cash_text_update security p = tables_with_cash_text p.trade (toggled_cash_text_of_trade security p)
 
 -- The updates of the tables, one for each selected trade, in the sequence of the trades.
-abbrev pub table_updates_of_texts : TextUpdate → List (Tables → Tables)
-table_updates_of_texts (corrected.Executors trades) = map executor_name_update trades.items
-table_updates_of_texts (corrected.CashTypes settled) = map cash_type_update settled.items
-table_updates_of_texts (corrected.CashNames security paid) = map (cash_text_update security) paid.items
+abbrev pub table_updates_of_text_update : TextUpdate → List (Tables → Tables)
+table_updates_of_text_update (corrected.Executors trades) = map executor_name_update trades.items
+table_updates_of_text_update (corrected.CashTypes settled) = map cash_type_update settled.items
+table_updates_of_text_update (corrected.CashNames security paid) = map (cash_text_update security) paid.items
 
 -- The number of trades that a text update selects.
 abbrev pub count_of_updated_trades : TextUpdate → ℕ
@@ -83,5 +83,5 @@ count_of_updated_trades (corrected.CashNames security paid) = length paid.items
 pub record IsUpdatePlan (found : TextUpdate) (last : Option ℕ) (now : ℕ) (plan : Plan) : Type 0 where
   pub stamp : ℕ
   pub stamped : stamp_after last now ≡ Some stamp
-  pub told : plan.reply ≡ Changed stamp (count_of_updated_trades found)
-  pub changes : map tables_after_change plan.changes.items ≡ table_updates_of_texts found ++ tables_with_last_stamp stamp ∷ []
+  pub replied : plan.reply ≡ Changed stamp (count_of_updated_trades found)
+  pub changes : map tables_after_change plan.changes.items ≡ table_updates_of_text_update found ++ tables_with_last_stamp stamp ∷ []

@@ -13,7 +13,7 @@ ghost use Rattle.brk_changes.specs.declared.change.Change.TheVariants.{SetLastTr
 use crate::plan::Plan;
 use crate::quote::Quote;
 use crate::reply::Reply;
-use crate::waiting::append_changes_ending_pending;
+use crate::waiting::append_changes_from_pending;
 use brk_changes::{Change, RequestRow};
 use brk_money::{Fault, Id, Limit, Planned, Price, Refusal, Stamp, Status, TradeType, stamp_after};
 use brk_orders::{Feed, Tick};
@@ -35,30 +35,30 @@ pub fn price_triggers_trade(kind: TradeType, bid: Price, price: Price) -> bool
 }
 
 // Returns true if the last trade of the quote is of the symbol.
-fn is_quote_of(quote: &Quote, symbol: &Symbol) -> bool
+fn is_quote_of_symbol(quote: &Quote, symbol: &Symbol) -> bool
     ensures { result ≡ is_state_of_symbol symbol.now (state_of_quote quote.now) }
 {
     quote.last.symbol.as_str() == symbol.as_str()
 }
 
 /// Returns true if none of the quotes is of the tick's symbol.
-pub fn has_no_quote(quotes: &[Quote], tick: &Tick) -> bool
+pub fn has_no_quote_of_symbol(quotes: &[Quote], tick: &Tick) -> bool
     ensures { result ≡ lacks_state_of_symbol (states_of_quotes quotes.now) tick.now }
 {
-    !quotes.iter().any(|quote| is_quote_of(quote, &tick.symbol))
+    !quotes.iter().any(|quote| is_quote_of_symbol(quote, &tick.symbol))
 }
 
 // Returns true if the symbol of at least one tick has no quote.
-fn has_unknown_symbol(quotes: &[Quote], ticks: &[Tick]) -> bool
+fn has_tick_without_quote(quotes: &[Quote], ticks: &[Tick]) -> bool
     ensures { result ≡ list_any (lacks_state_of_symbol (states_of_quotes quotes.now)) ticks.now }
 {
-    ticks.iter().any(|tick| has_no_quote(quotes, tick))
+    ticks.iter().any(|tick| has_no_quote_of_symbol(quotes, tick))
 }
 
 // Returns the last trade of the symbol after the tick: its price is that of the tick, its stamp is
 // `stamp`, and its volume is greater by the quantity of the tick. Refuses with `Range(Volume)` if
 // the volume would exceed its limit.
-fn last_trade_with_tick(stamp: Stamp, tick: &Tick, last: LastTrade) -> Result<LastTrade, Refusal>
+fn checked_last_trade_after_tick(stamp: Stamp, tick: &Tick, last: LastTrade) -> Result<LastTrade, Refusal>
     ensures after { IfOk result (λ after. after ≡ spec.last_trade_after_tick stamp tick.now last) }
     ensures refusal { IfErr result (λ refusal. (refusal ≡ Range limit.Volume) × (exceeds_volume_limit (record { last = spec.last_trade_after_tick stamp tick.now last; requests = [] }) ≡ true)) }
 {
@@ -75,7 +75,7 @@ fn last_trade_with_tick(stamp: Stamp, tick: &Tick, last: LastTrade) -> Result<La
 }
 
 // Returns the row change that sets the last trade of a symbol. Fails with `Memory` only.
-fn change_setting_last_trade(last: &LastTrade) -> Result<Change, Fault>
+fn create_last_trade_change(last: &LastTrade) -> Result<Change, Fault>
     ensures change { IfOk result (λ change. change ≡ SetLastTrade last.now) }
     ensures fault { OnErr result (result ≡ Err Memory) }
 {
@@ -102,7 +102,7 @@ fn append_submission_changes(
 {
     for request in requests {
         if price_triggers_trade(request.kind, request.bid, price) {
-            append_changes_ending_pending(request.trade, Status::Submitted, stamp, changes)?;
+            append_changes_from_pending(request.trade, Status::Submitted, stamp, changes)?;
             ids.push(request.trade)?;
         }
     }
@@ -145,15 +145,15 @@ fn apply_tick_to_quote(
     ensures refusal { IfOk result (λ taken. IfErr taken (λ refusal. (refusal ≡ Range limit.Volume) × (list_any exceeds_volume_limit (states_after_tick stamp (state_of_quote quote ∷ []) tick.now) ≡ true))) }
     ensures fault { OnErr result (result ≡ Err Memory) }
 {
-    if !is_quote_of(&quote, &tick.symbol) {
+    if !is_quote_of_symbol(&quote, &tick.symbol) {
         return Ok(Ok(quote));
     }
     let Quote { last, requests } = quote;
-    let last = match last_trade_with_tick(stamp, tick, last) {
+    let last = match checked_last_trade_after_tick(stamp, tick, last) {
         Ok(last) => last,
         Err(refusal) => return Ok(Err(refusal)),
     };
-    changes.push(change_setting_last_trade(&last)?)?;
+    changes.push(create_last_trade_change(&last)?)?;
     append_submission_changes(stamp, tick.price, &requests, changes, ids)?;
     let requests = requests_not_triggered(alloc, tick.price, requests)?;
     Ok(Ok(Quote { last, requests }))
@@ -189,7 +189,7 @@ fn apply_tick_to_quotes(
 
 // Proof-only: proves that the volume of no quote exceeds its limit. Reads the volumes and changes
 // nothing.
-fn state_volume_limits(quotes: &[Quote])
+fn prove_volumes_are_within_limit(quotes: &[Quote])
     ensures { list_any exceeds_volume_limit (states_of_quotes quotes.now) ≡ false }
 {
     for quote in quotes {
@@ -214,7 +214,7 @@ fn apply_ticks_to_quotes(
     ensures refusal { IfOk result (λ taken. IfErr taken (λ refusal. (refusal ≡ Range limit.Volume) × (list_any exceeds_volume_limit (states_after_ticks stamp ticks.now (states_of_quotes quotes.items)) ≡ true))) }
     ensures fault { OnErr result (result ≡ Err Memory) }
 {
-    state_volume_limits(&quotes);
+    prove_volumes_are_within_limit(&quotes);
     let mut current = quotes;
     for tick in ticks {
         current = match apply_tick_to_quotes(alloc, stamp, tick, current, changes, ids)? {
@@ -248,7 +248,7 @@ pub fn plan_feed(
     ensures fault { OnErr result (result ≡ Err Memory) }
 {
     let ticks = feed.ticks();
-    if has_unknown_symbol(&quotes, ticks) {
+    if has_tick_without_quote(&quotes, ticks) {
         return Ok(Err(Refusal::NoSecurity));
     }
     // The volumes are checked before the clock. The stamp does not affect their check.
@@ -266,7 +266,7 @@ pub fn plan_feed(
     let Some(stamp) = moved else {
         return Ok(Err(Refusal::ClockEnd));
     };
-    changes.push(Change::SetLast(stamp))?;
+    changes.push(Change::SetLastStamp(stamp))?;
     Ok(Ok(Plan {
         changes,
         reply: Reply::Ticked(stamp, ids),

@@ -16,7 +16,7 @@ use std::alloc::{AllocError, Global};
 
 /// The facts in the tables that decide a deposit or a withdrawal.
 #[derive(Clone, Copy, PartialEq, Eq)]
-pub struct MoveFound {
+pub struct MovementPlanFacts {
     /// The balance of the account in cents, or `None` if the account does not exist (CA_BAL).
     pub balance: Option<Cents>,
     /// True if there are at least `Id::GREATEST` deposits and withdrawals.
@@ -38,7 +38,7 @@ fn signed_movement_amount(movement: &Movement) -> Cents
 }
 
 // Returns the text of the cash row of a deposit or of a withdrawal (CM_NAME).
-fn direction_text(direction: Direction) -> &'static str
+fn movement_cash_text(direction: Direction) -> &'static str
     ensures { result.now ≡ spec.cash_text_of_direction direction }
 {
     match direction {
@@ -58,7 +58,7 @@ pub fn add_within_balance_limit(balance: Cents, amount: Cents) -> Option<Cents>
 
 // Returns the balance of the account after the movement, or the first refusal that applies of
 // `NoAccount`, `Range(Balance)` and `Range(Moves)`.
-fn checked_balance_after_movement(movement: &Movement, found: &MoveFound) -> Result<Cents, Refusal>
+fn checked_balance_after_movement(movement: &Movement, found: &MovementPlanFacts) -> Result<Cents, Refusal>
     ensures { MatchResult result
         (λ balance. (first_refusal (movement_checks movement.now found.now) ≡ None) × (balance ≡ spec.balance_after_movement movement.now found.now))
         (λ refusal. first_refusal (movement_checks movement.now found.now) ≡ Some refusal) }
@@ -91,7 +91,7 @@ fn create_movement_cash_row(
         trade: None,
         stamp,
         amount: signed_movement_amount(movement),
-        name: String::from_str(alloc, direction_text(movement.direction))?,
+        name: String::from_str(alloc, movement_cash_text(movement.direction))?,
     })
 }
 
@@ -110,7 +110,7 @@ fn create_movement_changes(
     let mut changes = Vec::new(alloc);
     changes.push(Change::AddMove(row))?;
     changes.push(Change::SetBalance { account, balance })?;
-    changes.push(Change::SetLast(stamp))?;
+    changes.push(Change::SetLastStamp(stamp))?;
     Ok(changes)
 }
 
@@ -150,7 +150,7 @@ fn create_movement_plan(
 pub fn plan_move(
     alloc: Global,
     movement: &Movement,
-    found: &MoveFound,
+    found: &MovementPlanFacts,
     last: Option<Stamp>,
     now: Stamp,
 ) -> Planned<Plan>

@@ -16,12 +16,12 @@ fn create_settlement_day_changes(
     day: Day,
     stamp: Stamp,
 ) -> Result<Vec<Change>, Fault>
-    ensures changes { IfOk result (λ changes. changes.items ≡ change.SetRule day ∷ change.SetLast stamp ∷ []) }
+    ensures changes { IfOk result (λ changes. changes.items ≡ change.SetSettlementDay day ∷ change.SetLastStamp stamp ∷ []) }
     ensures fault { OnErr result (result ≡ Err Memory) }
 {
     let mut changes = Vec::new(alloc);
-    changes.push(Change::SetRule(day))?;
-    changes.push(Change::SetLast(stamp))?;
+    changes.push(Change::SetSettlementDay(day))?;
+    changes.push(Change::SetLastStamp(stamp))?;
     Ok(changes)
 }
 

@@ -60,7 +60,7 @@ pub struct ReferenceFacts {
 pub const MOST_ACCOUNTS: usize = 10;
 
 // Returns the refusal `Exists` if `found` is true, otherwise `None`.
-fn exists_refusal_if(found: bool) -> Option<Refusal>
+fn refusal_if_exists(found: bool) -> Option<Refusal>
     ensures { result ≡ (if found then Some Exists else None) }
 {
     if found { Some(Refusal::Exists) } else { None }
@@ -71,12 +71,12 @@ fn reference_refusal(reference: &Reference, found: ReferenceFacts) -> Option<Ref
     ensures { result ≡ first_refusal (reference_checks reference.now found) }
 {
     match reference {
-        Reference::Broker(_) => exists_refusal_if(found.same_id),
-        Reference::Customer(_) => exists_refusal_if(found.same_id || found.same_tax_id),
+        Reference::Broker(_) => refusal_if_exists(found.same_id),
+        Reference::Customer(_) => refusal_if_exists(found.same_id || found.same_tax_id),
         Reference::Account(_) => account_refusal(found),
         Reference::Permission(_) => permission_refusal(found),
         Reference::Security(_) | Reference::Charge(_) | Reference::TaxRate(_) => {
-            exists_refusal_if(found.same_id)
+            refusal_if_exists(found.same_id)
         }
         Reference::Band(band) => band_refusal(band, found),
         Reference::CustomerTax(_) => customer_tax_refusal(found),
@@ -109,7 +109,7 @@ fn permission_refusal(found: ReferenceFacts) -> Option<Refusal>
     if !found.account {
         return Some(Refusal::NoAccount);
     }
-    exists_refusal_if(found.same_id)
+    refusal_if_exists(found.same_id)
 }
 
 // Returns the first refusal that applies to a new commission band, or `None`.
@@ -156,7 +156,7 @@ fn customer_tax_refusal(found: ReferenceFacts) -> Option<Refusal>
 }
 
 // Returns the row change that adds the record, of a listing its security. Fails if memory runs out.
-fn create_change_adding_record(reference: &Reference) -> Result<Change, AllocError>
+fn create_record_change(reference: &Reference) -> Result<Change, AllocError>
     ensures { IfOk result (λ change. change ≡ row_change_adding_record reference.now) }
 {
     match reference {
@@ -174,14 +174,14 @@ fn create_change_adding_record(reference: &Reference) -> Result<Change, AllocErr
 
 // Returns the first LAST_TRADE row of a newly listed security: its first price, volume 0 and the
 // stamp. Fails if memory runs out.
-fn create_first_last_trade(listing: &Listing, stamp: Stamp) -> Result<LastTrade, AllocError>
+fn create_first_last_trade_row(listing: &Listing, stamp: Stamp) -> Result<LastTrade, AllocError>
     ensures { IfOk result (λ row. row ≡ spec.first_last_trade_of_listing stamp listing.now) }
 {
     Ok(LastTrade {
         symbol: listing.security.symbol.clone()?,
         stamp,
         price: listing.price,
-        volume: Volume::none(),
+        volume: Volume::before_first_trade(),
     })
 }
 
@@ -192,15 +192,15 @@ fn create_reference_changes(
     reference: &Reference,
     stamp: Stamp,
 ) -> Result<Vec<Change>, Fault>
-    ensures changes { IfOk result (λ changes. changes.items ≡ row_changes_adding_record stamp reference.now ++ change.SetLast stamp ∷ []) }
+    ensures changes { IfOk result (λ changes. changes.items ≡ row_changes_adding_record stamp reference.now ++ change.SetLastStamp stamp ∷ []) }
     ensures fault { OnErr result (result ≡ Err Memory) }
 {
     let mut changes = Vec::new(alloc);
-    changes.push(create_change_adding_record(reference)?)?;
+    changes.push(create_record_change(reference)?)?;
     if let Reference::Security(listing) = reference {
-        changes.push(Change::AddLastTrade(create_first_last_trade(listing, stamp)?))?;
+        changes.push(Change::AddLastTrade(create_first_last_trade_row(listing, stamp)?))?;
     }
-    changes.push(Change::SetLast(stamp))?;
+    changes.push(Change::SetLastStamp(stamp))?;
     Ok(changes)
 }
 

@@ -30,7 +30,7 @@ fn widen_price_span(span: Span, price: Price) -> Span
 
 /// Returns the lowest and the highest price of the ticks of the first tick's symbol. Ticks of other
 /// symbols do not count.
-pub fn price_span_of_ticks(first: &Tick, others: &[Tick]) -> Span
+pub fn first_symbol_price_span(first: &Tick, others: &[Tick]) -> Span
     ensures { result ≡ spec.price_span_of_first_symbol first.now others.now }
 {
     let mut span = Span {

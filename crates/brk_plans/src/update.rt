@@ -4,7 +4,7 @@ ghost use Rattle.brk_money.specs.declared.fault.Fault.TheVariants.{Memory};
 ghost use Rattle.brk_changes.specs.Changes.{tables_after_change};
 ghost use Rattle.brk_plans.specs.Reference.{later_stamp_check};
 ghost use Rattle.brk_plans.specs.Update as spec;
-ghost use Rattle.brk_plans.specs.Update.{IsUpdatePlan, cash_text_update, cash_type_update, count_of_updated_trades, executor_name_update, update_checks, table_updates_of_texts};
+ghost use Rattle.brk_plans.specs.Update.{IsUpdatePlan, cash_text_update, cash_type_update, count_of_updated_trades, executor_name_update, update_checks, table_updates_of_text_update};
 
 use crate::corrected::{CashText, SettlementText, TextUpdate};
 use crate::plan::Plan;
@@ -18,8 +18,8 @@ use std::alloc::Global;
 
 // Returns the refusal of a text update whose target does not exist: `NoTrade`, `NoAccount` or
 // `NoSecurity`, by the kind of the update.
-fn refusal_of_missing_record(update: &Update) -> Refusal
-    ensures { result ≡ spec.missing_record_refusal update.now }
+fn refusal_if_target_is_missing(update: &Update) -> Refusal
+    ensures { result ≡ spec.missing_target_refusal update.now }
 {
     match update {
         Update::Executors(_) => Refusal::NoTrade,
@@ -108,7 +108,7 @@ fn create_cash_text_changes(
 // Returns the row changes of a text update, one for each of its trades, in sequence. Fails with
 // `Memory` only.
 fn create_text_changes(alloc: Global, found: &TextUpdate) -> Result<Vec<Change>, Fault>
-    ensures changes { IfOk result (λ changes. map tables_after_change changes.items ≡ table_updates_of_texts found.now) }
+    ensures changes { IfOk result (λ changes. map tables_after_change changes.items ≡ table_updates_of_text_update found.now) }
     ensures fault { OnErr result (result ≡ Err Memory) }
 {
     match found {
@@ -150,13 +150,13 @@ pub fn plan_update(
     ensures fault { OnErr result (result ≡ Err Memory) }
 {
     let Some(found) = found else {
-        return Ok(Err(refusal_of_missing_record(update)));
+        return Ok(Err(refusal_if_target_is_missing(update)));
     };
     let Some(stamp) = stamp_after(last, now) else {
         return Ok(Err(Refusal::ClockEnd));
     };
     let mut changes = create_text_changes(alloc, &found)?;
-    changes.push(Change::SetLast(stamp))?;
+    changes.push(Change::SetLastStamp(stamp))?;
     Ok(Ok(Plan {
         changes,
         reply: Reply::Changed(stamp, count_updated_trades(&found)),

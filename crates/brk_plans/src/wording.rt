@@ -58,7 +58,7 @@ pub fn toggle_executor_name(alloc: Global, name: &str) -> Result<String, AllocEr
 /// `CashAccount`, otherwise `CashAccount`; of a margin trade `Margin` if it is `MarginAccount`,
 /// otherwise `MarginAccount`.
 pub fn toggle_cash_type(is_cash: bool, cash_type: CashType) -> CashType
-    ensures { cash_type_text result ≡ spec.other_cash_type_text is_cash (cash_type_text cash_type) }
+    ensures { cash_type_text result ≡ spec.toggled_cash_type_text is_cash (cash_type_text cash_type) }
 {
     match (is_cash, cash_type) {
         (true, CashType::CashAccount) => CashType::Cash,

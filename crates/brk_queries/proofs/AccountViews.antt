@@ -22,23 +22,23 @@ use Rattle.brk_view.specs.Worths.{worth_of_account}
 use Rattle.brk_view.specs.declared.view.View.{View}
 use Rattle.brk_view.specs.declared.view.View.TheVariants as views
 use Rattle.brk_view.specs.declared.worths.AccountWorth.{AccountWorth}
-use Rattle.brk_queries.specs.Shows.{ShowsQueryResult}
+use Rattle.brk_queries.specs.QueryResults.{AnswersQueryAsModel}
 use Rattle.brk_queries.proofs.Tested.{answered, carried_as, is_missing, is_there, refused}
 use Rattle.brk_view_theorems.proofs.Owners.{apart_sorted, missing_sorted, owned_by_id, owned_by_tax_id}
 use Rattle.brk_view_theorems.proofs.Sorting.{same_rows}
 use Rattle.brk_view_theorems.proofs.Worths.{same_position}
 
 -- `worths` are the balances and market values of the customer's accounts.
-abbrev pub WorthsOf : ℕ → List AccountWorth → Tables → Type 0
-WorthsOf customer worths t = worths ≡ map (worth_of_account t) (filter (λ a. a.customer == customer) t.accounts)
+abbrev pub AreAccountWorthsOfCustomer : ℕ → List AccountWorth → Tables → Type 0
+AreAccountWorthsOfCustomer customer worths t = worths ≡ map (worth_of_account t) (filter (λ a. a.customer == customer) t.accounts)
 
 -- The records of the view are those of `customer_position_view`, if `worths` are the balances and
 -- market values of the accounts of the selected customers.
-abbrev pub IsViewOf : List AccountWorth → View → Type 0
-IsViewOf worths view = (t : Tables) (test : Customer → Bool)
+abbrev pub IsViewOfAccountWorths : List AccountWorth → View → Type 0
+IsViewOfAccountWorths worths view = (t : Tables) (test : Customer → Bool)
     → worths ≡ map (worth_of_account t) (filter (λ a. list_any (λ c. test c && (c.id == a.customer)) t.customers) t.accounts) → records_of_view view ≡ customer_position_view t test
 
-pub no_customer : (id : ℕ) (t : Tables) → None ≡ find (λ c. c.id == id) t.customers → ShowsQueryResult (PositionOf id) (Err NoCustomer) t
+pub no_customer : (id : ℕ) (t : Tables) → None ≡ find (λ c. c.id == id) t.customers → AnswersQueryAsModel (PositionOf id) (Err NoCustomer) t
 unfolding ask checks_of_query
 no_customer id t e = (
   λ base books sound s.
@@ -47,8 +47,8 @@ no_customer id t e = (
   tt,
 )
 
-pub position_seen : (id : ℕ) (x : Customer) (worths : List AccountWorth) (sorted : Vec AccountWorth) (view : View) → IsViewOf worths view → view ≡ views.Position sorted
-    → (t : Tables) → Some x ≡ find (λ c. c.id == id) t.customers → WorthsOf x.id worths t → ShowsQueryResult (PositionOf id) (Ok view) t
+pub position_seen : (id : ℕ) (x : Customer) (worths : List AccountWorth) (sorted : Vec AccountWorth) (view : View) → IsViewOfAccountWorths worths view → view ≡ views.Position sorted
+    → (t : Tables) → Some x ≡ find (λ c. c.id == id) t.customers → AreAccountWorthsOfCustomer x.id worths t → AnswersQueryAsModel (PositionOf id) (Ok view) t
 unfolding ask checks_of_query view_of_base view_of_tables
 position_seen id x worths sorted view is shown t e w =
     let test : Customer → Bool = λ c. c.id == id in (
@@ -60,7 +60,7 @@ position_seen id x worths sorted view is shown t e w =
       λ base books sound s. carried_as (PositionOf id) view (views.Position sorted) t shown tt,
     )
 
-pub no_tax_id : (tax_id : Text) (t : Tables) → None ≡ find (λ c. bytes_eq c.tax_id tax_id) t.customers → ShowsQueryResult (PositionOfTaxId tax_id) (Err NoCustomer) t
+pub no_tax_id : (tax_id : Text) (t : Tables) → None ≡ find (λ c. bytes_eq c.tax_id tax_id) t.customers → AnswersQueryAsModel (PositionOfTaxId tax_id) (Err NoCustomer) t
 unfolding ask checks_of_query tables_sorted_by_key tables_of_base_in_schema
 no_tax_id tax_id t e =
     let test : Customer → Bool = λ c. bytes_eq c.tax_id tax_id in (
@@ -70,8 +70,8 @@ no_tax_id tax_id t e =
       tt,
     )
 
-pub position_seen_by_tax_id : (tax_id : Text) (x : Customer) (worths : List AccountWorth) (sorted : Vec AccountWorth) (view : View) → IsViewOf worths view → view ≡ views.Position sorted
-    → (t : Tables) → Some x ≡ find (λ c. bytes_eq c.tax_id tax_id) t.customers → WorthsOf x.id worths t → ShowsQueryResult (PositionOfTaxId tax_id) (Ok view) t
+pub position_seen_by_tax_id : (tax_id : Text) (x : Customer) (worths : List AccountWorth) (sorted : Vec AccountWorth) (view : View) → IsViewOfAccountWorths worths view → view ≡ views.Position sorted
+    → (t : Tables) → Some x ≡ find (λ c. bytes_eq c.tax_id tax_id) t.customers → AreAccountWorthsOfCustomer x.id worths t → AnswersQueryAsModel (PositionOfTaxId tax_id) (Ok view) t
 unfolding ask checks_of_query view_of_base view_of_tables tables_sorted_by_key tables_of_base_in_schema
 position_seen_by_tax_id tax_id x worths sorted view is shown t e w =
     let test : Customer → Bool = λ c. bytes_eq c.tax_id tax_id in (

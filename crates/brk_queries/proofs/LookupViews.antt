@@ -34,8 +34,8 @@ use Rattle.brk_view.specs.declared.view.View.TheVariants as views
 use Rattle.brk_view.proofs.Shown.{rows_shown}
 use Rattle.brk_view_theorems.proofs.FoundRows.{cash_alone, settlement_alone, trades_by_id}
 use Rattle.brk_view_theorems.proofs.LookupRows.{same_lookup}
-use Rattle.brk_queries.specs.LookedUp.{AreLookupsOfTrades}
-use Rattle.brk_queries.specs.Shows.{ShowsQueryResult}
+use Rattle.brk_queries.specs.LookedUp.{HaveAllRowsOfTrades}
+use Rattle.brk_queries.specs.QueryResults.{AnswersQueryAsModel}
 use Rattle.brk_queries.proofs.Tested.{answered, carried_as, is_missing, is_there, refused}
 use Rattle.brk_decisions.proofs.TradesFound.{twice}
 use Rattle.brk_queries.proofs.RecentViews.{account_missing, account_there}
@@ -44,58 +44,58 @@ use Rattle.brk_queries.proofs.RecentViews.{account_missing, account_there}
 
 -- `settled`, `moved` and `came` are the settlement, the cash row and the history of the trade with
 -- the id `trade`.
-abbrev pub AreFollowing : ℕ → Option settlement.SettlementRow → Option cash.MoveRow → List history.HistoryRow → Tables → Type 0
-AreFollowing trade settled moved came t =
+abbrev pub AreRelatedRowsOfTrade : ℕ → Option settlement.SettlementRow → Option cash.MoveRow → List history.HistoryRow → Tables → Type 0
+AreRelatedRowsOfTrade trade settled moved came t =
     (option_map abstract_settlement_row settled ≡ find (λ (s : SettlementRow). s.trade == trade) t.settlements) × (option_map abstract_move_row moved ≡ find (is_cash_row_of_trade trade) t.moves)
     × (map abstract_history_row came ≡ filter (λ (h : HistoryRow). h.trade == trade) t.history)
 
 -- is what became of it
 pub follows : (trade : trade.TradeRow) (settled : Option settlement.SettlementRow) (moved : Option cash.MoveRow) (came : List history.HistoryRow) (t : Tables)
-    → AreFollowing trade.id settled moved came t → (base : Base) → BooksInvariant base → AuditInvariant base → t ≡ sheets base → AreRowsOfTrade t trade settled moved came
+    → AreRelatedRowsOfTrade trade.id settled moved came t → (base : Base) → BooksInvariant base → AuditInvariant base → t ≡ sheets base → AreRowsOfTrade t trade settled moved came
 follows trade settled moved came t f base books sound s = record {
-  settles = ap option_to_list (f.0 ∙ ap (λ (x : Tables). find (λ r. r.trade == trade.id) x.settlements) s) ∙ settlement_alone base trade.id books sound
+  settlement_rows = ap option_to_list (f.0 ∙ ap (λ (x : Tables). find (λ r. r.trade == trade.id) x.settlements) s) ∙ settlement_alone base trade.id books sound
       ∙ ap (λ (x : Tables). filter (λ r. r.trade == trade.id) x.settlements) (sym s);
-  moves = ap option_to_list (f.1 ∙ ap (λ (x : Tables). find (is_cash_row_of_trade trade.id) x.moves) s) ∙ cash_alone base trade.id books sound
+  cash_rows = ap option_to_list (f.1 ∙ ap (λ (x : Tables). find (is_cash_row_of_trade trade.id) x.moves) s) ∙ cash_alone base trade.id books sound
       ∙ ap (λ (x : Tables). filter (is_cash_row_of_trade trade.id) x.moves) (sym s);
-  comes = f.2;
+  history_rows = f.2;
 }
 
 -- ---- the views
 
 -- The records of the view are those of `trade_lookup_view` for `test`, if `found` are the first 20
 -- trades that satisfy `test`, with their related rows.
-abbrev pub IsLookupOf : (Tables → TradeRow → Bool) → List LookedUp → View → Type 0
-IsLookupOf test found view =
+abbrev pub IsViewOfSelectedTrades : (Tables → TradeRow → Bool) → List LookedUp → View → Type 0
+IsViewOfSelectedTrades test found view =
     (t : Tables) → map records_of_looked_up_trade found ≡ map (trade_lookup_records t) (take 20 (trade_rows_oldest_first (filter (test t) t.trades))) → records_of_view view ≡ trade_lookup_view t (test t)
 
 -- what was looked up shows the first twenty of the trades that pass a test
 seen_by : (test : TradeRow → Bool) (rows : List TradeRow) (found : List LookedUp) (view : View)
     → ((t : Tables) → map records_of_looked_up_trade found ≡ map (trade_lookup_records t) (take 20 (trade_rows_oldest_first (filter test t.trades))) → records_of_view view ≡ trade_lookup_view t test)
-    → (t : Tables) → rows ≡ take 20 (trade_rows_oldest_first (filter test t.trades)) → AreLookupsOfTrades rows found t → (base : Base) → BooksInvariant base → AuditInvariant base → t ≡ sheets base
+    → (t : Tables) → rows ≡ take 20 (trade_rows_oldest_first (filter test t.trades)) → HaveAllRowsOfTrades rows found t → (base : Base) → BooksInvariant base → AuditInvariant base → t ≡ sheets base
     → trade_lookup_view (tables_of_base base) test ≡ records_of_view view
 seen_by test rows found view is t e looked base books sound s =
     sym (is t (rows_shown t found rows (looked base books sound s) ∙ ap (map (trade_lookup_records t)) e) ∙ ap (λ (x : Tables). trade_lookup_view x test) s ∙ same_lookup base test books sound)
 
 -- ---- of an account
 
-pub no_account_trades : (id first last : ℕ) (t : Tables) → None ≡ find (λ r. r.id == id) t.accounts → ShowsQueryResult (TradesOfAccount id first last) (Err NoAccount) t
+pub no_account_trades : (id first last : ℕ) (t : Tables) → None ≡ find (λ r. r.id == id) t.accounts → AnswersQueryAsModel (TradesOfAccount id first last) (Err NoAccount) t
 unfolding ask checks_of_query
 no_account_trades id first last t e =
     (λ base books sound s. refused (is_none (account_with_id base id)) NoAccount (view_of_base base (TradesOfAccount id first last)) (account_missing base id t s e), tt)
 
 -- True if the trade is one of the account, with a stamp from `first` to `last`.
-abbrev pub OfAccount : ℕ → ℕ → ℕ → TradeRow → Bool
-OfAccount account first last r = (r.account == account) && row_stamp_is_between first last r
+abbrev pub is_trade_of_account_in_span : ℕ → ℕ → ℕ → TradeRow → Bool
+is_trade_of_account_in_span account first last r = (r.account == account) && row_stamp_is_between first last r
 
 pub account_trades_seen : (id first last : ℕ) (a : AccountRow) (rows : List TradeRow) (found : Vec LookedUp) (view : View) → view ≡ views.Lookup found
-    → ((t : Tables) (account first last : ℕ) → map records_of_looked_up_trade found.items ≡ map (trade_lookup_records t) (take 20 (trade_rows_oldest_first (filter (OfAccount account first last) t.trades))) → records_of_view view ≡ trade_lookup_view t (OfAccount account first last))
-    → (t : Tables) → Some a ≡ find (λ r. r.id == id) t.accounts → rows ≡ take 20 (trade_rows_oldest_first (filter (OfAccount id first last) t.trades)) → AreLookupsOfTrades rows found.items t
-    → ShowsQueryResult (TradesOfAccount id first last) (Ok view) t
+    → ((t : Tables) (account first last : ℕ) → map records_of_looked_up_trade found.items ≡ map (trade_lookup_records t) (take 20 (trade_rows_oldest_first (filter (is_trade_of_account_in_span account first last) t.trades))) → records_of_view view ≡ trade_lookup_view t (is_trade_of_account_in_span account first last))
+    → (t : Tables) → Some a ≡ find (λ r. r.id == id) t.accounts → rows ≡ take 20 (trade_rows_oldest_first (filter (is_trade_of_account_in_span id first last) t.trades)) → HaveAllRowsOfTrades rows found.items t
+    → AnswersQueryAsModel (TradesOfAccount id first last) (Ok view) t
 unfolding ask checks_of_query view_of_base view_of_tables
 account_trades_seen id first last a rows found view shown is t e w looked = (
   λ base books sound s.
-      answered (is_none (account_with_id base id)) NoAccount (trade_lookup_view (tables_of_base base) (OfAccount id first last)) (account_there base id a t s e)
-      ∙ ap Ok (seen_by (OfAccount id first last) rows found.items view (λ t. is t id first last) t w looked base books sound s),
+      answered (is_none (account_with_id base id)) NoAccount (trade_lookup_view (tables_of_base base) (is_trade_of_account_in_span id first last)) (account_there base id a t s e)
+      ∙ ap Ok (seen_by (is_trade_of_account_in_span id first last) rows found.items view (λ t. is t id first last) t w looked base books sound s),
   λ base books sound s. carried_as (TradesOfAccount id first last) view (views.Lookup found) t shown (looked base books sound s ∙ ap (map (table_rows_of_trade t)) w),
 )
 
@@ -111,24 +111,24 @@ security_there base symbol r t s e =
     sym (is_none-map security_row (security_with_symbol base symbol))
     ∙ is_there r (option_map security_row (security_with_symbol base symbol)) (e ∙ ap (λ (x : Tables). find (λ r. bytes_eq r.symbol symbol) x.securities) s ∙ reads_security base symbol)
 
-pub no_symbol_trades : (symbol : Text) (first last : ℕ) (t : Tables) → None ≡ find (λ r. bytes_eq r.symbol symbol) t.securities → ShowsQueryResult (TradesOfSymbol symbol first last) (Err NoSecurity) t
+pub no_symbol_trades : (symbol : Text) (first last : ℕ) (t : Tables) → None ≡ find (λ r. bytes_eq r.symbol symbol) t.securities → AnswersQueryAsModel (TradesOfSymbol symbol first last) (Err NoSecurity) t
 unfolding ask checks_of_query
 no_symbol_trades symbol first last t e =
     (λ base books sound s. refused (is_none (security_with_symbol base symbol)) NoSecurity (view_of_base base (TradesOfSymbol symbol first last)) (security_missing base symbol t s e), tt)
 
 -- True if the trade is one of the symbol, with a stamp from `first` to `last`.
-abbrev pub OfSymbol : Text → ℕ → ℕ → TradeRow → Bool
-OfSymbol symbol first last r = bytes_eq r.symbol symbol && row_stamp_is_between first last r
+abbrev pub is_trade_of_symbol_in_span : Text → ℕ → ℕ → TradeRow → Bool
+is_trade_of_symbol_in_span symbol first last r = bytes_eq r.symbol symbol && row_stamp_is_between first last r
 
 pub symbol_trades_seen : (symbol : Text) (first last : ℕ) (row : SecurityRow) (rows : List TradeRow) (found : Vec LookedUp) (view : View) → view ≡ views.Lookup found
-    → ((t : Tables) (symbol : List ℕ) (first last : ℕ) → map records_of_looked_up_trade found.items ≡ map (trade_lookup_records t) (take 20 (trade_rows_oldest_first (filter (OfSymbol symbol first last) t.trades))) → records_of_view view ≡ trade_lookup_view t (OfSymbol symbol first last))
-    → (t : Tables) → Some row ≡ find (λ r. bytes_eq r.symbol symbol) t.securities → rows ≡ take 20 (trade_rows_oldest_first (filter (OfSymbol symbol first last) t.trades)) → AreLookupsOfTrades rows found.items t
-    → ShowsQueryResult (TradesOfSymbol symbol first last) (Ok view) t
+    → ((t : Tables) (symbol : List ℕ) (first last : ℕ) → map records_of_looked_up_trade found.items ≡ map (trade_lookup_records t) (take 20 (trade_rows_oldest_first (filter (is_trade_of_symbol_in_span symbol first last) t.trades))) → records_of_view view ≡ trade_lookup_view t (is_trade_of_symbol_in_span symbol first last))
+    → (t : Tables) → Some row ≡ find (λ r. bytes_eq r.symbol symbol) t.securities → rows ≡ take 20 (trade_rows_oldest_first (filter (is_trade_of_symbol_in_span symbol first last) t.trades)) → HaveAllRowsOfTrades rows found.items t
+    → AnswersQueryAsModel (TradesOfSymbol symbol first last) (Ok view) t
 unfolding ask checks_of_query view_of_base view_of_tables
 symbol_trades_seen symbol first last row rows found view shown is t e w looked = (
   λ base books sound s.
-      answered (is_none (security_with_symbol base symbol)) NoSecurity (trade_lookup_view (tables_of_base base) (OfSymbol symbol first last)) (security_there base symbol row t s e)
-      ∙ ap Ok (seen_by (OfSymbol symbol first last) rows found.items view (λ t. is t symbol first last) t w looked base books sound s),
+      answered (is_none (security_with_symbol base symbol)) NoSecurity (trade_lookup_view (tables_of_base base) (is_trade_of_symbol_in_span symbol first last)) (security_there base symbol row t s e)
+      ∙ ap Ok (seen_by (is_trade_of_symbol_in_span symbol first last) rows found.items view (λ t. is t symbol first last) t w looked base books sound s),
   λ base books sound s. carried_as (TradesOfSymbol symbol first last) view (views.Lookup found) t shown (looked base books sound s ∙ ap (map (table_rows_of_trade t)) w),
 )
 
@@ -138,7 +138,7 @@ same_missing : (base : Base) (ids : List ℕ) → list_any (λ id. is_none (trad
 same_missing base [] = refl
 same_missing base (id ∷ ids) = (λ i. (ap is_none (reads_trade base id) ∙ is_none-map trade_row (trade_with_id base id)) i || same_missing base ids i)
 
-pub no_trades : (ids : List ℕ) (t : Tables) → list_any (λ id. is_none (trade_row_with_id t id)) ids ≡ true → ShowsQueryResult (TradesWith ids) (Err NoTrade) t
+pub no_trades : (ids : List ℕ) (t : Tables) → list_any (λ id. is_none (trade_row_with_id t id)) ids ≡ true → AnswersQueryAsModel (TradesWith ids) (Err NoTrade) t
 unfolding ask checks_of_query
 no_trades ids t e = (
   λ base books sound s.
@@ -197,8 +197,8 @@ oldest_named base ids rows books sound distinct few e =
     ∙ ap (take 20) (trades_by_id base ids books sound distinct)
 
 -- True if the id of the trade is one of `ids`.
-abbrev pub OfIds : List ℕ → TradeRow → Bool
-OfIds ids r = contains_number r.id ids
+abbrev pub is_trade_with_one_of_ids : List ℕ → TradeRow → Bool
+is_trade_with_one_of_ids ids r = contains_number r.id ids
 
 -- the trades of these ids that were found
 are_named : (ids : List ℕ) (named : List trade.TradeRow) (t : Tables) → AreTradesWithIds t ids named → (base : Base) → t ≡ sheets base
@@ -208,21 +208,21 @@ are_named ids named t e base s = sym (twice abstract_trade_row Some named) ∙ e
 -- in order, they are the first twenty of these ids
 named_first : (ids : List ℕ) (named ordered : List trade.TradeRow) → all_distinct ids ≡ true → length ids ≤ 20 → map abstract_trade_row ordered ≡ trade_rows_oldest_first (map abstract_trade_row named)
     → (t : Tables) → AreTradesWithIds t ids named → (base : Base) → BooksInvariant base → AuditInvariant base → t ≡ sheets base
-    → map abstract_trade_row ordered ≡ take 20 (trade_rows_oldest_first (filter (OfIds ids) t.trades))
+    → map abstract_trade_row ordered ≡ take 20 (trade_rows_oldest_first (filter (is_trade_with_one_of_ids ids) t.trades))
 named_first ids named ordered distinct few order t e base books sound s =
     order ∙ oldest_named base ids (map abstract_trade_row named) books sound distinct few (are_named ids named t e base s)
-    ∙ ap (λ (x : Tables). take 20 (trade_rows_oldest_first (filter (OfIds ids) x.trades))) (sym s)
+    ∙ ap (λ (x : Tables). take 20 (trade_rows_oldest_first (filter (is_trade_with_one_of_ids ids) x.trades))) (sym s)
 
 pub trades_seen : (ids : List ℕ) (named ordered : List trade.TradeRow) (found : Vec LookedUp) (view : View) → all_distinct ids ≡ true → length ids ≤ 20
     → map abstract_trade_row ordered ≡ trade_rows_oldest_first (map abstract_trade_row named) → view ≡ views.Lookup found
-    → ((t : Tables) (ids : List ℕ) → map records_of_looked_up_trade found.items ≡ map (trade_lookup_records t) (take 20 (trade_rows_oldest_first (filter (OfIds ids) t.trades))) → records_of_view view ≡ trade_lookup_view t (OfIds ids))
-    → (t : Tables) → AreTradesWithIds t ids named → AreLookupsOfTrades (map abstract_trade_row ordered) found.items t → ShowsQueryResult (TradesWith ids) (Ok view) t
+    → ((t : Tables) (ids : List ℕ) → map records_of_looked_up_trade found.items ≡ map (trade_lookup_records t) (take 20 (trade_rows_oldest_first (filter (is_trade_with_one_of_ids ids) t.trades))) → records_of_view view ≡ trade_lookup_view t (is_trade_with_one_of_ids ids))
+    → (t : Tables) → AreTradesWithIds t ids named → HaveAllRowsOfTrades (map abstract_trade_row ordered) found.items t → AnswersQueryAsModel (TradesWith ids) (Ok view) t
 unfolding ask checks_of_query view_of_base view_of_tables
 trades_seen ids named ordered found view distinct few order shown is t e looked = (
   λ base books sound s.
-      answered (list_any (λ id. is_none (trade_with_id base id)) ids) NoTrade (trade_lookup_view (tables_of_base base) (OfIds ids))
+      answered (list_any (λ id. is_none (trade_with_id base id)) ids) NoTrade (trade_lookup_view (tables_of_base base) (is_trade_with_one_of_ids ids))
       (sym (same_missing base ids) ∙ none_missing (trade_row_with_id (sheets base)) ids (map abstract_trade_row named) (are_named ids named t e base s))
-      ∙ ap Ok (seen_by (OfIds ids) (map abstract_trade_row ordered) found.items view (λ t. is t ids) t (named_first ids named ordered distinct few order t e base books sound s) looked base books sound s),
+      ∙ ap Ok (seen_by (is_trade_with_one_of_ids ids) (map abstract_trade_row ordered) found.items view (λ t. is t ids) t (named_first ids named ordered distinct few order t e base books sound s) looked base books sound s),
   λ base books sound s.
       carried_as (TradesWith ids) view (views.Lookup found) t shown
       (looked base books sound s ∙ ap (map (table_rows_of_trade t)) (named_first ids named ordered distinct few order t e base books sound s)),

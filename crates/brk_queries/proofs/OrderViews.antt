@@ -23,13 +23,13 @@ use Rattle.brk_view.specs.declared.view.SubmittedTrade.{SubmittedTrade}
 use Rattle.brk_view.specs.declared.view.View.{View}
 use Rattle.brk_view.specs.declared.view.View.TheVariants as views
 use Rattle.brk_decisions.specs.Decisions.{IsEstimateOfModel}
-use Rattle.brk_queries.specs.Shows.{ShowsQueryResult}
+use Rattle.brk_queries.specs.QueryResults.{AnswersQueryAsModel}
 use Rattle.brk_queries.proofs.Tested.{carried_as}
 
 -- the submitted rows that were read show what is at the market
 pub submitted_shown : (rows given : List TradeRow) (trades : Vec SubmittedTrade) (view : View) → given ≡ rows → view ≡ views.Submitted trades
     → ((t : Tables) → map abstract_trade_row given ≡ filter has_submitted_status (tables_sorted_by_key t).trades → records_of_view view ≡ submitted_trades_view t)
-    → (t : Tables) → map abstract_trade_row rows ≡ filter (λ r. is_same_trade_status r.status Submitted) t.trades → ShowsQueryResult SubmittedTrades (Ok view) t
+    → (t : Tables) → map abstract_trade_row rows ≡ filter (λ r. is_same_trade_status r.status Submitted) t.trades → AnswersQueryAsModel SubmittedTrades (Ok view) t
 unfolding ask checks_of_query view_of_base view_of_tables
 submitted_shown rows given trades view e shown view_is t read = (
   λ base books sound s. ap Ok (sym (view_is (tables_of_base base) (ap (map abstract_trade_row) e ∙ read ∙ ap (λ x. filter has_submitted_status x.trades) s))),
@@ -41,7 +41,7 @@ shown_as_told : (e : Estimate) (m : model.Estimate) → e ≡ estimate_from_mode
 shown_as_told e m is = rw is refl
 
 -- an estimate that was told is the view of its order, and so is its refusal
-pub estimate_shown : (order : model.Order) (e : Estimate) (t : Tables) → IsEstimateOfModel order (Ok e) t → ShowsQueryResult (EstimateOf order) (Ok (views.Estimate e)) t
+pub estimate_shown : (order : model.Order) (e : Estimate) (t : Tables) → IsEstimateOfModel order (Ok e) t → AnswersQueryAsModel (EstimateOf order) (Ok (views.Estimate e)) t
 estimate_shown order e t tells = (
   λ base books sound s.
       let it = tells base books s in
@@ -49,5 +49,5 @@ estimate_shown order e t tells = (
   λ base books sound s. tt,
 )
 
-pub estimate_refused : (order : model.Order) (refusal : Refusal) (t : Tables) → IsEstimateOfModel order (Err refusal) t → ShowsQueryResult (EstimateOf order) (Err refusal) t
+pub estimate_refused : (order : model.Order) (refusal : Refusal) (t : Tables) → IsEstimateOfModel order (Err refusal) t → AnswersQueryAsModel (EstimateOf order) (Err refusal) t
 estimate_refused order refusal t tells = (λ base books sound s. tells base books s, tt)

@@ -11,7 +11,7 @@ use Rattle.brk_model.specs.Base.{account_with_id}
 use Rattle.brk_model.specs.Joins.{trade_rows_recent_first, trade_rows_of_account}
 use Rattle.brk_model.specs.Queries.{StatusOf}
 use Rattle.brk_model.specs.Records.{Customer}
-use Rattle.brk_model.specs.StatusView.{broker_name_with_id, account_names_record, record_of_trade_status, trade_status_view}
+use Rattle.brk_model.specs.StatusView.{broker_name_with_id, account_name_records, record_of_trade_status, trade_status_view}
 use Rattle.brk_model.specs.Tables.{AccountRow, SecurityRow, Tables, tables_of_base}
 use Rattle.brk_model.specs.Views.{view_of_tables}
 use Rattle.brk_ref.specs.Records.{abstract_security_row}
@@ -25,8 +25,8 @@ use Rattle.brk_view.specs.declared.view.View.TheVariants as views
 use Rattle.brk_view.proofs.Shown.{statuses_shown}
 use Rattle.brk_view_theorems.proofs.FoundRows.{account_alone, customer_alone}
 use Rattle.brk_view_theorems.proofs.StatusRows.{same_status_view}
-use Rattle.brk_queries.specs.Parties.{IsStatusWithParties}
-use Rattle.brk_queries.specs.Shows.{ShowsQueryResult}
+use Rattle.brk_queries.specs.Parties.{IsAccountStatusWithTrades}
+use Rattle.brk_queries.specs.QueryResults.{AnswersQueryAsModel}
 use Rattle.brk_queries.proofs.Tested.{answered, carried_as, refused}
 use Rattle.brk_queries.proofs.RecentViews.{account_missing, account_there}
 
@@ -36,22 +36,22 @@ pub carried_in : (trade : TradeRow) (security : Security) (t : Tables) → Some 
 carried_in trade security t e = λ i. (abstract_trade_row trade, e i)
 
 -- `statuses` are the last 50 trades of the account, the most recent first, each with its security.
-abbrev pub AreStatuses : ℕ → List TradeStatus → Tables → Type 0
-AreStatuses account statuses t = map rows_of_trade_status statuses ≡ map (trade_row_with_security t) (take 50 (trade_rows_recent_first (trade_rows_of_account t account)))
+abbrev pub AreRecentTradesWithSecurities : ℕ → List TradeStatus → Tables → Type 0
+AreRecentTradesWithSecurities account statuses t = map rows_of_trade_status statuses ≡ map (trade_row_with_security t) (take 50 (trade_rows_recent_first (trade_rows_of_account t account)))
 
-pub no_status : (id : ℕ) (t : Tables) → None ≡ find (λ r. r.id == id) t.accounts → ShowsQueryResult (StatusOf id) (Err NoAccount) t
+pub no_status : (id : ℕ) (t : Tables) → None ≡ find (λ r. r.id == id) t.accounts → AnswersQueryAsModel (StatusOf id) (Err NoAccount) t
 unfolding ask checks_of_query
 no_status id t e = (λ base books sound s. refused (is_none (account_with_id base id)) NoAccount (view_of_base base (StatusOf id)) (account_missing base id t s e), tt)
 
 -- one account of one customer has one head
 one_head : (t : Tables) (a : AccountRow) (c : Customer) (accounts : List AccountRow) (rest : List (List Text)) → accounts ≡ a ∷ []
-    → filter (λ c. c.id == a.customer) t.customers ≡ c ∷ [] → flat_map (account_names_record t) accounts ++ rest ≡ (c.last_name ∷ c.first_name ∷ broker_name_with_id t a.broker ∷ []) ∷ rest
+    → filter (λ c. c.id == a.customer) t.customers ≡ c ∷ [] → flat_map (account_name_records t) accounts ++ rest ≡ (c.last_name ∷ c.first_name ∷ broker_name_with_id t a.broker ∷ []) ∷ rest
 one_head t a c accounts rest e f =
-    ap (λ as'. flat_map (account_names_record t) as' ++ rest) e
+    ap (λ as'. flat_map (account_name_records t) as' ++ rest) e
     ∙ ap (λ (cs : List Customer). (map (λ c. c.last_name ∷ c.first_name ∷ broker_name_with_id t a.broker ∷ []) cs ++ []) ++ rest) f
 
 pub status_seen : (id : ℕ) (a : AccountRow) (statuses : Vec TradeStatus) (found : AccountStatus) (view : View) → view ≡ views.Status found
-    → (t : Tables) → Some a ≡ find (λ r. r.id == id) t.accounts → AreStatuses id statuses.items t → IsStatusWithParties a statuses found t → ShowsQueryResult (StatusOf id) (Ok view) t
+    → (t : Tables) → Some a ≡ find (λ r. r.id == id) t.accounts → AreRecentTradesWithSecurities id statuses.items t → IsAccountStatusWithTrades a statuses found t → AnswersQueryAsModel (StatusOf id) (Ok view) t
 unfolding ask checks_of_query view_of_base view_of_tables trade_status_view
 status_seen id a statuses found view is t e w p = (
   λ base books sound s.

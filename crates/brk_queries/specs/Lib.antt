@@ -1,4 +1,4 @@
-pub mod Shows
+pub mod QueryResults
 pub mod Heads
 pub mod Parties
 pub mod LookedUp

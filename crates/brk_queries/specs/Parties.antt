@@ -9,7 +9,7 @@ use Rattle.brk_view.specs.declared.statuses.TradeStatus.{TradeStatus}
 
 -- `status` has the trades `trades`, the names of the customer of the account `a`, who exists in the
 -- tables, and the name of the account's broker.
-abbrev pub IsStatusWithParties : AccountRow → Vec TradeStatus → AccountStatus → Tables → Type 0
-IsStatusWithParties a trades status t =
+abbrev pub IsAccountStatusWithTrades : AccountRow → Vec TradeStatus → AccountStatus → Tables → Type 0
+IsAccountStatusWithTrades a trades status t =
     (c : Customer) × (Some c ≡ find (λ c. c.id == a.customer) t.customers) × (status.last_name ≡ c.last_name) × (status.first_name ≡ c.first_name)
     × (status.broker ≡ broker_name_with_id t a.broker) × (status.trades ≡ trades)

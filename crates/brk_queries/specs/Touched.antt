@@ -13,11 +13,11 @@ abbrev pub last_status_stamp : Tables → ℕ → ℕ
 last_status_stamp t trade = option_map_or (λ r. r.stamp) (trade_row_with_id t trade) 0
 
 -- The changes of the lot with this id, each with the stamp of the trade that made it.
-abbrev pub lot_changes_with_stamps : Tables → ℕ → List LotTouch
-lot_changes_with_stamps t lot = map (stamped_lot_change t) (filter (λ r. r.lot == lot) t.holding_history)
+abbrev pub stamped_changes_of_lot : Tables → ℕ → List LotTouch
+stamped_changes_of_lot t lot = map (stamped_lot_change t) (filter (λ r. r.lot == lot) t.holding_history)
 
 -- `lots` has the id `trade` and the first 20 changes, sorted by `is_earlier_lot_change`, of all
 -- lots that this trade touched.
-abbrev pub AreTouchedLotsOf : ℕ → TouchedLots → Tables → Type 0
-AreTouchedLotsOf trade lots t =
-    (lots.trade ≡ trade) × (lots.changes.items ≡ take 20 (sort_by is_earlier_lot_change (flat_map (λ r. lot_changes_with_stamps t r.lot) (filter (λ r. r.trade == trade) t.holding_history))))
+abbrev pub AreTouchedLotsOfTrade : ℕ → TouchedLots → Tables → Type 0
+AreTouchedLotsOfTrade trade lots t =
+    (lots.trade ≡ trade) × (lots.changes.items ≡ take 20 (sort_by is_earlier_lot_change (flat_map (λ r. stamped_changes_of_lot t r.lot) (filter (λ r. r.trade == trade) t.holding_history))))

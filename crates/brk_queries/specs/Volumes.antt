@@ -15,18 +15,18 @@ is_symbol_in_sector t sector symbol = option_map_or (λ s. bytes_eq s.sector sec
 
 -- The list `found` with the request `row` appended if its security is in the sector, otherwise
 -- `found`.
-abbrev pub with_request_in_sector : Tables → Text → read.RequestRow → List read.RequestRow → List read.RequestRow
-with_request_in_sector t sector row found = if is_symbol_in_sector t sector row.symbol then found ++ row ∷ [] else found
+abbrev pub requests_with_row_if_in_sector : Tables → Text → read.RequestRow → List read.RequestRow → List read.RequestRow
+requests_with_row_if_in_sector t sector row found = if is_symbol_in_sector t sector row.symbol then found ++ row ∷ [] else found
 
 -- True if the broker has at least one pending request in the sector.
 abbrev pub has_requests_in_sector : Tables → Text → BrokerRow → Bool
 has_requests_in_sector t sector b = nat_lt 0 (length (sector_requests_of_broker t sector b.id))
 
 -- The brokers with this name that have at least one pending request in the sector.
-abbrev pub named_brokers_in_sector : Tables → Text → Text → List BrokerRow
-named_brokers_in_sector t sector name = filter (has_requests_in_sector t sector) (filter (λ b. bytes_eq b.name name) t.brokers)
+abbrev pub brokers_of_name_in_sector : Tables → Text → Text → List BrokerRow
+brokers_of_name_in_sector t sector name = filter (has_requests_in_sector t sector) (filter (λ b. bytes_eq b.name name) t.brokers)
 
 -- The volumes in the sector of the brokers in `brokers` that have at least one pending request in
 -- it.
-abbrev pub sector_volumes : Tables → Text → List BrokerRow → List BrokerVolume
-sector_volumes t sector brokers = map (volume.volume_of_broker_in_sector t sector) (filter (has_requests_in_sector t sector) brokers)
+abbrev pub volumes_of_brokers_in_sector : Tables → Text → List BrokerRow → List BrokerVolume
+volumes_of_brokers_in_sector t sector brokers = map (volume.volume_of_broker_in_sector t sector) (filter (has_requests_in_sector t sector) brokers)

@@ -1,7 +1,7 @@
 //! The views of the balances and market values of a customer's accounts.
 
 ghost use Rattle.std.specs.Prelude.{◌≡◌, ◌==◌, IfErr, filter, map};
-ghost use Rattle.brk_queries.specs.Shows.{ShowsQueryResult};
+ghost use Rattle.brk_queries.specs.QueryResults.{AnswersQueryAsModel};
 ghost use Rattle.brk_model.specs.Queries.{PositionOf, PositionOfTaxId};
 ghost use Rattle.brk_model.specs.Run.{IsCallFault};
 ghost use Rattle.brk_ref.specs.Records.{abstract_account_row};
@@ -18,7 +18,7 @@ use std::alloc::Global;
 
 // Returns the balance and the market value of an account. Changes nothing. Fails with `Memory` or
 // `Store` only.
-fn read_account_value<S: Alter>(
+fn read_balance_and_market_value<S: Alter>(
     alloc: Global,
     store: &mut Store<S>,
     row: &AccountRow,
@@ -36,7 +36,7 @@ fn read_account_value<S: Alter>(
 
 // Returns the balances and market values of a customer's accounts, sorted by id, ascending. Changes
 // nothing. Fails with `Memory` or `Store` only.
-fn read_account_values<S: Alter>(
+fn read_balances_and_market_values<S: Alter>(
     alloc: Global,
     store: &mut Store<S>,
     customer: Id,
@@ -45,9 +45,9 @@ fn read_account_values<S: Alter>(
     ensures fault { IfErr result IsCallFault }
 {
     let mut worths = Vec::new(alloc);
-    let rows = store.accounts_of(alloc, customer)?;
+    let rows = store.accounts_of_customer(alloc, customer)?;
     for row in &rows {
-        let worth = read_account_value(alloc, store, row)?;
+        let worth = read_balance_and_market_value(alloc, store, row)?;
         worths.push(worth)?;
     }
     Ok(worths)
@@ -55,36 +55,36 @@ fn read_account_values<S: Alter>(
 
 // Returns the view of the balances and market values of a customer's accounts, or refuses with
 // `NoCustomer`. Changes nothing. Fails with `Memory` or `Store` only.
-pub(crate) fn view_of_position<S: Alter>(
+pub(crate) fn view_of_account_values<S: Alter>(
     alloc: Global,
     store: &mut Store<S>,
     customer: Id,
 ) -> Planned<View>
-    ensures read { ReadPost S.Store store.old store.new result (ShowsQueryResult (PositionOf customer)) }
+    ensures read { ReadPost S.Store store.old store.new result (AnswersQueryAsModel (PositionOf customer)) }
     ensures fault { IfErr result IsCallFault }
 {
     let Some(found) = store.customer(customer)? else {
         return Ok(Err(Refusal::NoCustomer));
     };
-    let worths = read_account_values(alloc, store, found.id)?;
+    let worths = read_balances_and_market_values(alloc, store, found.id)?;
     let view = position(alloc, worths)?;
     Ok(Ok(view))
 }
 
 // Returns the view of the balances and market values of the accounts of the customer with a tax id,
 // or refuses with `NoCustomer`. Changes nothing. Fails with `Memory` or `Store` only.
-pub(crate) fn view_of_position_by_tax_id<S: Alter>(
+pub(crate) fn view_of_account_values_by_tax_id<S: Alter>(
     alloc: Global,
     store: &mut Store<S>,
     tax_id: &TaxId,
 ) -> Planned<View>
-    ensures read { ReadPost S.Store store.old store.new result (ShowsQueryResult (PositionOfTaxId tax_id.now)) }
+    ensures read { ReadPost S.Store store.old store.new result (AnswersQueryAsModel (PositionOfTaxId tax_id.now)) }
     ensures fault { IfErr result IsCallFault }
 {
     let Some(found) = store.customer_by_tax_id(tax_id)? else {
         return Ok(Err(Refusal::NoCustomer));
     };
-    let worths = read_account_values(alloc, store, found.id)?;
+    let worths = read_balances_and_market_values(alloc, store, found.id)?;
     let view = position(alloc, worths)?;
     Ok(Ok(view))
 }

@@ -1,5 +1,5 @@
 ghost use Rattle.std.specs.Prelude.{IfErr};
-ghost use Rattle.brk_queries.specs.Heads.{IsHeadOfAccount};
+ghost use Rattle.brk_queries.specs.Heads.{IsStatementHeadOfAccount};
 ghost use Rattle.brk_model.specs.Run.{IsCallFault};
 ghost use Rattle.brk_store.specs.Holds.{ReadPost};
 
@@ -12,7 +12,7 @@ use std::alloc::Global;
 
 /// The figures of an account's statement that are not rows.
 #[derive(Drop)]
-pub struct Head {
+pub struct StatementHead {
     pub name: Name,
     /// The opening balance, in cents.
     pub opening: Cents,
@@ -22,19 +22,19 @@ pub struct Head {
 
 /// Returns the figures of an account's statement that are not rows, or `None` if the account does
 /// not exist. Changes nothing. Fails with `Memory` or `Store` only.
-pub fn read_head_of_account<S: Alter>(
+pub fn read_statement_head<S: Alter>(
     alloc: Global,
     store: &mut Store<S>,
     account: Id,
-) -> Result<Option<Head>, Fault>
-    ensures read { ReadPost S.Store store.old store.new result (IsHeadOfAccount account) }
+) -> Result<Option<StatementHead>, Fault>
+    ensures read { ReadPost S.Store store.old store.new result (IsStatementHeadOfAccount account) }
     ensures fault { IfErr result IsCallFault }
 {
     let Some(row) = store.account(account)? else {
         return Ok(None);
     };
     let holdings = read_holdings_value(alloc, store, account)?;
-    Ok(Some(Head {
+    Ok(Some(StatementHead {
         name: row.account.name,
         opening: row.account.opening,
         holdings,

@@ -13,5 +13,5 @@ mod recents;
 mod statuses;
 mod volumes;
 
-pub use head::{Head, read_head_of_account};
+pub use head::{StatementHead, read_statement_head};
 pub use looking::view_of_query;

@@ -1,11 +1,11 @@
 ghost use Rattle.std.specs.Prelude.{IfErr};
-ghost use Rattle.brk_queries.specs.Shows.{ShowsQueryResult};
+ghost use Rattle.brk_queries.specs.QueryResults.{AnswersQueryAsModel};
 ghost use Rattle.brk_model.specs.Run.{IsCallFault};
 ghost use Rattle.brk_store.specs.Holds.{ReadPost};
 ghost use Rattle.brk_view.specs.Queries.{abstract_query};
 
-use crate::accounts::{view_of_position, view_of_position_by_tax_id};
-use crate::lookups::{view_of_account_trades, view_of_symbol_trades, view_of_trades};
+use crate::accounts::{view_of_account_values, view_of_account_values_by_tax_id};
+use crate::lookups::{view_of_account_trades, view_of_symbol_trades, view_of_trades_by_ids};
 use crate::lots::view_of_touched_lots;
 use crate::orders::{view_of_estimate, view_of_submitted_trades};
 use crate::recents::view_of_recent_trades;
@@ -21,17 +21,17 @@ use std::alloc::Global;
 ///
 /// Fails with `Memory` or `Store` only. The open database is unchanged, whatever the result.
 pub fn view_of_query<S: Alter>(alloc: Global, store: &mut Store<S>, query: &Query) -> Planned<View>
-    ensures read { ReadPost S.Store store.old store.new result (ShowsQueryResult (abstract_query query.now)) }
+    ensures read { ReadPost S.Store store.old store.new result (AnswersQueryAsModel (abstract_query query.now)) }
     ensures fault { IfErr result IsCallFault }
 {
     match query {
-        Query::Position(customer) => view_of_position(alloc, store, *customer),
-        Query::PositionOfTaxId(tax_id) => view_of_position_by_tax_id(alloc, store, tax_id),
+        Query::Position(customer) => view_of_account_values(alloc, store, *customer),
+        Query::PositionOfTaxId(tax_id) => view_of_account_values_by_tax_id(alloc, store, tax_id),
         Query::Recent(account) => view_of_recent_trades(alloc, store, *account),
         Query::Status(account) => view_of_account_status(alloc, store, *account),
         Query::Submitted => view_of_submitted_trades(alloc, store),
         Query::Estimate(order) => view_of_estimate(alloc, store, order),
-        Query::Trades(named) => view_of_trades(alloc, store, named),
+        Query::Trades(named) => view_of_trades_by_ids(alloc, store, named),
         Query::AccountTrades { account, span } => view_of_account_trades(
             alloc, store, *account, *span,
         ),

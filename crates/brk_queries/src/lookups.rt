@@ -2,8 +2,8 @@
 
 ghost use Rattle.std.specs.Prelude.{IfErr, map};
 ghost use Rattle.brk_changes.specs.Rows.{abstract_trade_row};
-ghost use Rattle.brk_queries.specs.LookedUp.{AreLookupsOfTrades, IsLookupOfTrade};
-ghost use Rattle.brk_queries.specs.Shows.{ShowsQueryResult};
+ghost use Rattle.brk_queries.specs.LookedUp.{HaveAllRowsOfTrades, HasAllRowsOfTrade};
+ghost use Rattle.brk_queries.specs.QueryResults.{AnswersQueryAsModel};
 ghost use Rattle.brk_model.specs.Queries.{TradesOfAccount, TradesOfSymbol, TradesWith};
 ghost use Rattle.brk_model.specs.Run.{IsCallFault};
 ghost use Rattle.brk_store.specs.Holds.{ReadPost};
@@ -23,12 +23,12 @@ use std::alloc::Global;
 
 // Returns a trade with the rows that other tables have of it: its settlement, its cash row and its
 // history. Changes nothing. Fails with `Memory` or `Store` only.
-fn look_up_trade<S: Alter>(
+fn read_all_rows_of_trade<S: Alter>(
     alloc: Global,
     store: &mut Store<S>,
     trade: TradeRow,
 ) -> Result<LookedUp, Fault>
-    ensures read { ReadPost S.Store store.old store.new result (IsLookupOfTrade (abstract_trade_row trade)) }
+    ensures read { ReadPost S.Store store.old store.new result (HasAllRowsOfTrade (abstract_trade_row trade)) }
     ensures fault { IfErr result IsCallFault }
 {
     let settlement = store.settlement(trade.id)?;
@@ -39,19 +39,19 @@ fn look_up_trade<S: Alter>(
 
 // Returns the trades in the given order, each with its settlement, cash row and history. Changes
 // nothing. Fails with `Memory` or `Store` only.
-fn look_up_trades<S: Alter>(
+fn read_all_rows_of_trades<S: Alter>(
     alloc: Global,
     store: &mut Store<S>,
     trades: Vec<TradeRow>,
 ) -> Result<Vec<LookedUp>, Fault>
-    ensures read { ReadPost S.Store store.old store.new result (λ found. AreLookupsOfTrades (map abstract_trade_row trades.items) found.items) }
+    ensures read { ReadPost S.Store store.old store.new result (λ found. HaveAllRowsOfTrades (map abstract_trade_row trades.items) found.items) }
     ensures fault { IfErr result IsCallFault }
 {
-    let _last = store.last()?;
+    let _last = store.last_stamp()?;
     let mut rest = trades;
     let mut found = Vec::new(alloc);
     while let Some(trade) = rest.pop() {
-        let one = look_up_trade(alloc, store, trade)?;
+        let one = read_all_rows_of_trade(alloc, store, trade)?;
         found.push(one)?;
     }
     found.reverse();
@@ -60,19 +60,19 @@ fn look_up_trades<S: Alter>(
 
 // Returns the view of trades by their ids, or refuses with `NoTrade`. Changes nothing. Fails with
 // `Memory` or `Store` only.
-pub(crate) fn view_of_trades<S: Alter>(
+pub(crate) fn view_of_trades_by_ids<S: Alter>(
     alloc: Global,
     store: &mut Store<S>,
     trades: &NamedTrades,
 ) -> Planned<View>
-    ensures read { ReadPost S.Store store.old store.new result (ShowsQueryResult (TradesWith trades.now.trades)) }
+    ensures read { ReadPost S.Store store.old store.new result (AnswersQueryAsModel (TradesWith trades.now.trades)) }
     ensures fault { IfErr result IsCallFault }
 {
     let Some(named) = read_trades_by_ids(alloc, store, trades.trades.ids())? else {
         return Ok(Err(Refusal::NoTrade));
     };
     let ordered = sort_trades_oldest_first(alloc, named)?;
-    let found = look_up_trades(alloc, store, ordered)?;
+    let found = read_all_rows_of_trades(alloc, store, ordered)?;
     Ok(Ok(lookup_ids(found)))
 }
 
@@ -84,14 +84,14 @@ pub(crate) fn view_of_account_trades<S: Alter>(
     account: Id,
     span: Span,
 ) -> Planned<View>
-    ensures read { ReadPost S.Store store.old store.new result (ShowsQueryResult (TradesOfAccount account span.first span.last)) }
+    ensures read { ReadPost S.Store store.old store.new result (AnswersQueryAsModel (TradesOfAccount account span.first span.last)) }
     ensures fault { IfErr result IsCallFault }
 {
     let Some(_row) = store.account(account)? else {
         return Ok(Err(Refusal::NoAccount));
     };
-    let trades = store.twenty_trades_of_account(alloc, account, span)?;
-    let found = look_up_trades(alloc, store, trades)?;
+    let trades = store.first_twenty_trades_of_account(alloc, account, span)?;
+    let found = read_all_rows_of_trades(alloc, store, trades)?;
     Ok(Ok(lookup_account(found)))
 }
 
@@ -103,13 +103,13 @@ pub(crate) fn view_of_symbol_trades<S: Alter>(
     symbol: &Symbol,
     span: Span,
 ) -> Planned<View>
-    ensures read { ReadPost S.Store store.old store.new result (ShowsQueryResult (TradesOfSymbol symbol.now span.first span.last)) }
+    ensures read { ReadPost S.Store store.old store.new result (AnswersQueryAsModel (TradesOfSymbol symbol.now span.first span.last)) }
     ensures fault { IfErr result IsCallFault }
 {
     let Some(_row) = store.security(symbol)? else {
         return Ok(Err(Refusal::NoSecurity));
     };
-    let trades = store.twenty_trades_of_symbol(alloc, symbol, span)?;
-    let found = look_up_trades(alloc, store, trades)?;
+    let trades = store.first_twenty_trades_of_symbol(alloc, symbol, span)?;
+    let found = read_all_rows_of_trades(alloc, store, trades)?;
     Ok(Ok(lookup_symbol(found)))
 }

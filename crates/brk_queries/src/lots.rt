@@ -1,8 +1,8 @@
 //! The view of the changes of the lots that a trade touched.
 
 ghost use Rattle.std.specs.Prelude.{◌≡◌, ◌==◌, IfErr, filter, map};
-ghost use Rattle.brk_queries.specs.Shows.{ShowsQueryResult};
-ghost use Rattle.brk_queries.specs.Touched.{AreTouchedLotsOf, last_status_stamp};
+ghost use Rattle.brk_queries.specs.QueryResults.{AnswersQueryAsModel};
+ghost use Rattle.brk_queries.specs.Touched.{AreTouchedLotsOfTrade, last_status_stamp};
 ghost use Rattle.brk_model.specs.Queries.{LotsTouched};
 ghost use Rattle.brk_model.specs.Run.{IsCallFault};
 ghost use Rattle.brk_store.specs.Holds.{ReadPost};
@@ -10,13 +10,13 @@ ghost use Rattle.brk_view.specs.Lots.{stamped_lot_change};
 
 use brk_money::{Fault, Id, Planned, Refusal, Stamp};
 use brk_store::Store;
-use brk_view::{LotTouch, TouchedLots, View, lookup_lots, merge_into_first_twenty};
+use brk_view::{LotTouch, TouchedLots, View, lookup_lots, merge_lot_changes_into_first_twenty};
 use sqlite::Alter;
 use std::alloc::Global;
 
 // Returns the stamp of a trade's last status. Changes nothing. Fails with `Memory` or `Store` only;
 // with `Store` also if the trade does not exist.
-fn require_trade_stamp<S: Alter>(store: &mut Store<S>, trade: Id) -> Result<Stamp, Fault>
+fn require_last_status_stamp<S: Alter>(store: &mut Store<S>, trade: Id) -> Result<Stamp, Fault>
     ensures read { ReadPost S.Store store.old store.new result (λ stamp t. stamp ≡ last_status_stamp t trade) }
     ensures fault { IfErr result IsCallFault }
 {
@@ -28,7 +28,7 @@ fn require_trade_stamp<S: Alter>(store: &mut Store<S>, trade: Id) -> Result<Stam
 
 // Returns the changes of a lot, each with the stamp of the trade that made it. Changes nothing.
 // Fails with `Memory` or `Store` only.
-fn read_changes_of_lot<S: Alter>(
+fn read_stamped_changes_of_lot<S: Alter>(
     alloc: Global,
     store: &mut Store<S>,
     lot: Id,
@@ -39,7 +39,7 @@ fn read_changes_of_lot<S: Alter>(
     let rows = store.lot_changes_of_lot(alloc, lot)?;
     let mut touches = Vec::new(alloc);
     for row in &rows {
-        let stamp = require_trade_stamp(store, row.trade)?;
+        let stamp = require_last_status_stamp(store, row.trade)?;
         touches.push(LotTouch {
             change: *row,
             stamp,
@@ -50,19 +50,19 @@ fn read_changes_of_lot<S: Alter>(
 
 // Returns the first 20 changes of all lots that a trade touched, sorted by `is_earlier_lot_change`.
 // Changes nothing. Fails with `Memory` or `Store` only.
-fn read_touched_lots<S: Alter>(
+fn read_changes_of_touched_lots<S: Alter>(
     alloc: Global,
     store: &mut Store<S>,
     trade: Id,
 ) -> Result<TouchedLots, Fault>
-    ensures read { ReadPost S.Store store.old store.new result (AreTouchedLotsOf trade) }
+    ensures read { ReadPost S.Store store.old store.new result (AreTouchedLotsOfTrade trade) }
     ensures fault { IfErr result IsCallFault }
 {
     let mut rest = store.lot_changes_by_trade(alloc, trade)?;
     let mut kept = Vec::new(alloc);
     while let Some(change) = rest.pop() {
-        let touches = read_changes_of_lot(alloc, store, change.lot)?;
-        merge_into_first_twenty(&mut kept, touches)?;
+        let touches = read_stamped_changes_of_lot(alloc, store, change.lot)?;
+        merge_lot_changes_into_first_twenty(&mut kept, touches)?;
     }
     Ok(TouchedLots {
         trade,
@@ -78,7 +78,7 @@ pub(crate) fn view_of_touched_lots<S: Alter>(
     account: Id,
     first: Stamp,
 ) -> Planned<View>
-    ensures read { ReadPost S.Store store.old store.new result (ShowsQueryResult (LotsTouched account first)) }
+    ensures read { ReadPost S.Store store.old store.new result (AnswersQueryAsModel (LotsTouched account first)) }
     ensures fault { IfErr result IsCallFault }
 {
     let Some(_row) = store.account(account)? else {
@@ -87,6 +87,6 @@ pub(crate) fn view_of_touched_lots<S: Alter>(
     let Some(trade) = store.first_trade_since(account, first)? else {
         return Ok(Ok(lookup_lots(None)));
     };
-    let lots = read_touched_lots(alloc, store, trade.id)?;
+    let lots = read_changes_of_touched_lots(alloc, store, trade.id)?;
     Ok(Ok(lookup_lots(Some(lots))))
 }

@@ -1,7 +1,7 @@
 //! The views of submitted trades and of an order's estimate.
 
 ghost use Rattle.std.specs.Prelude.{IfErr};
-ghost use Rattle.brk_queries.specs.Shows.{ShowsQueryResult};
+ghost use Rattle.brk_queries.specs.QueryResults.{AnswersQueryAsModel};
 ghost use Rattle.brk_model.specs.Queries.{EstimateOf, SubmittedTrades};
 ghost use Rattle.brk_model.specs.Run.{IsCallFault};
 ghost use Rattle.brk_orders.specs.Records.{abstract_order};
@@ -20,7 +20,7 @@ pub(crate) fn view_of_submitted_trades<S: Alter>(
     alloc: Global,
     store: &mut Store<S>,
 ) -> Planned<View>
-    ensures read { ReadPost S.Store store.old store.new result (ShowsQueryResult SubmittedTrades) }
+    ensures read { ReadPost S.Store store.old store.new result (AnswersQueryAsModel SubmittedTrades) }
     ensures fault { IfErr result IsCallFault }
 {
     let rows = store.submitted_trades(alloc)?;
@@ -35,7 +35,7 @@ pub(crate) fn view_of_estimate<S: Alter>(
     store: &mut Store<S>,
     order: &Order,
 ) -> Planned<View>
-    ensures read { ReadPost S.Store store.old store.new result (ShowsQueryResult (EstimateOf (abstract_order order.now))) }
+    ensures read { ReadPost S.Store store.old store.new result (AnswersQueryAsModel (EstimateOf (abstract_order order.now))) }
     ensures fault { IfErr result IsCallFault }
 {
     match decide_estimate(alloc, store, order)? {

@@ -2,7 +2,7 @@
 //! is `Store`.
 
 ghost use Rattle.std.specs.Prelude.{◌≡◌, ◌==◌, IfErr, Some, find};
-ghost use Rattle.brk_queries.specs.Parties.{IsStatusWithParties};
+ghost use Rattle.brk_queries.specs.Parties.{IsAccountStatusWithTrades};
 ghost use Rattle.brk_model.specs.Run.{IsCallFault};
 ghost use Rattle.brk_model.specs.StatusView.{broker_name_with_id};
 ghost use Rattle.brk_ref.specs.Records.{abstract_account_row, abstract_customer};
@@ -40,12 +40,12 @@ fn require_broker_name<S: Alter>(store: &mut Store<S>, id: Id) -> Result<Name, F
 
 // Returns the status of an account: its trades `trades`, and the names of its customer and its
 // broker. Changes nothing. Fails with `Memory` or `Store` only.
-pub(crate) fn read_status_with_parties<S: Alter>(
+pub(crate) fn read_account_status<S: Alter>(
     store: &mut Store<S>,
     row: &AccountRow,
     trades: Vec<TradeStatus>,
 ) -> Result<AccountStatus, Fault>
-    ensures read { ReadPost S.Store store.old store.new result (IsStatusWithParties (abstract_account_row row.now) trades) }
+    ensures read { ReadPost S.Store store.old store.new result (IsAccountStatusWithTrades (abstract_account_row row.now) trades) }
     ensures fault { IfErr result IsCallFault }
 {
     let customer = require_customer_party(store, row.account.customer)?;

@@ -2,7 +2,7 @@
 
 ghost use Rattle.std.specs.Prelude.{◌≡◌, ◌++◌, IfErr, OnOk, flat_map, map};
 ghost use Rattle.brk_changes.specs.Rows.{abstract_history_row, abstract_trade_row};
-ghost use Rattle.brk_queries.specs.Shows.{ShowsQueryResult};
+ghost use Rattle.brk_queries.specs.QueryResults.{AnswersQueryAsModel};
 ghost use Rattle.brk_model.specs.Joins.{history_rows_with_trade_id};
 ghost use Rattle.brk_model.specs.PositionView.{last_ten_trade_rows};
 ghost use Rattle.brk_model.specs.Queries.{RecentOf};
@@ -17,7 +17,7 @@ use sqlite::Alter;
 use std::alloc::Global;
 
 // Appends the rows `rows` to `history`. Fails with `Memory` or `Store` only.
-fn append_history(history: &mut Vec<HistoryRow>, rows: &[HistoryRow]) -> Result<(), Fault>
+fn append_history_rows(history: &mut Vec<HistoryRow>, rows: &[HistoryRow]) -> Result<(), Fault>
     ensures added { OnOk result (history.new.items ≡ history.old.items ++ rows.now) }
     ensures fault { IfErr result IsCallFault }
 {
@@ -29,7 +29,7 @@ fn append_history(history: &mut Vec<HistoryRow>, rows: &[HistoryRow]) -> Result<
 
 // Returns the last trades of an account, the most recent first, and all rows of their history.
 // Changes nothing. Fails with `Memory` or `Store` only.
-fn read_recent_trades<S: Alter>(
+fn read_recent_trades_with_history<S: Alter>(
     alloc: Global,
     store: &mut Store<S>,
     account: Id,
@@ -43,7 +43,7 @@ fn read_recent_trades<S: Alter>(
     let mut history = Vec::new(alloc);
     for trade in &trades {
         let rows = store.history_of_trade(alloc, trade.id)?;
-        append_history(&mut history, &rows)?;
+        append_history_rows(&mut history, &rows)?;
     }
     Ok((trades, history))
 }
@@ -55,13 +55,13 @@ pub(crate) fn view_of_recent_trades<S: Alter>(
     store: &mut Store<S>,
     account: Id,
 ) -> Planned<View>
-    ensures read { ReadPost S.Store store.old store.new result (ShowsQueryResult (RecentOf account)) }
+    ensures read { ReadPost S.Store store.old store.new result (AnswersQueryAsModel (RecentOf account)) }
     ensures fault { IfErr result IsCallFault }
 {
     let Some(found) = store.account(account)? else {
         return Ok(Err(Refusal::NoAccount));
     };
-    let (trades, history) = read_recent_trades(alloc, store, account)?;
+    let (trades, history) = read_recent_trades_with_history(alloc, store, account)?;
     let view = recent(alloc, trades, history)?;
     Ok(Ok(view))
 }

@@ -2,14 +2,14 @@
 
 ghost use Rattle.std.specs.Prelude.{◌≡◌, IfErr, map, take};
 ghost use Rattle.brk_changes.specs.Rows.{abstract_trade_row};
-ghost use Rattle.brk_queries.specs.Shows.{ShowsQueryResult};
+ghost use Rattle.brk_queries.specs.QueryResults.{AnswersQueryAsModel};
 ghost use Rattle.brk_model.specs.Joins.{trade_rows_recent_first, trade_rows_of_account};
 ghost use Rattle.brk_model.specs.Queries.{StatusOf};
 ghost use Rattle.brk_model.specs.Run.{IsCallFault};
 ghost use Rattle.brk_store.specs.Holds.{ReadPost};
 ghost use Rattle.brk_view.specs.Status.{rows_of_trade_status, trade_row_with_security};
 
-use crate::parties::read_status_with_parties;
+use crate::parties::read_account_status;
 use brk_money::{Fault, Id, Planned, Refusal};
 use brk_store::Store;
 use brk_trade::TradeRow;
@@ -34,7 +34,7 @@ fn read_trade_with_security<S: Alter>(
 
 // Returns the last trades of an account, each with its security, the most recent first. Changes
 // nothing. Fails with `Memory` or `Store` only.
-fn read_trade_statuses<S: Alter>(
+fn read_recent_trades_with_securities<S: Alter>(
     alloc: Global,
     store: &mut Store<S>,
     account: Id,
@@ -59,13 +59,13 @@ pub(crate) fn view_of_account_status<S: Alter>(
     store: &mut Store<S>,
     account: Id,
 ) -> Planned<View>
-    ensures read { ReadPost S.Store store.old store.new result (ShowsQueryResult (StatusOf account)) }
+    ensures read { ReadPost S.Store store.old store.new result (AnswersQueryAsModel (StatusOf account)) }
     ensures fault { IfErr result IsCallFault }
 {
     let Some(row) = store.account(account)? else {
         return Ok(Err(Refusal::NoAccount));
     };
-    let trades = read_trade_statuses(alloc, store, account)?;
-    let found = read_status_with_parties(store, &row, trades)?;
+    let trades = read_recent_trades_with_securities(alloc, store, account)?;
+    let found = read_account_status(store, &row, trades)?;
     Ok(Ok(status(found)))
 }

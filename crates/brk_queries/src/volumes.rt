@@ -2,8 +2,8 @@
 
 ghost use Rattle.std.specs.Prelude.{◌≡◌, ◌++◌, ◌∷◌, [], IfErr, bytes_eq, filter, flat_map, map};
 ghost use Rattle.brk_changes.specs.Rows.{abstract_request_row};
-ghost use Rattle.brk_queries.specs.Shows.{ShowsQueryResult};
-ghost use Rattle.brk_queries.specs.Volumes.{is_symbol_in_sector, named_brokers_in_sector, sector_volumes, with_request_in_sector};
+ghost use Rattle.brk_queries.specs.QueryResults.{AnswersQueryAsModel};
+ghost use Rattle.brk_queries.specs.Volumes.{is_symbol_in_sector, brokers_of_name_in_sector, volumes_of_brokers_in_sector, requests_with_row_if_in_sector};
 ghost use Rattle.brk_model.specs.Queries.{VolumeOf};
 ghost use Rattle.brk_model.specs.Run.{IsCallFault};
 ghost use Rattle.brk_model.specs.VolumeView.{sector_requests_of_broker};
@@ -15,13 +15,13 @@ use brk_changes::RequestRow;
 use brk_money::{Fault, Id, Planned};
 use brk_ref::{BrokerRow, Name, Symbol};
 use brk_store::Store;
-use brk_view::{BrokerNames, BrokerVolume, View, broker_volume, total_value_of_requests};
+use brk_view::{BrokerNames, BrokerVolume, View, broker_volume, total_bid_value_of_requests};
 use sqlite::Alter;
 use std::alloc::Global;
 
 // Returns true if the security of a symbol exists and is in a sector. Changes nothing. Fails with
 // `Memory` or `Store` only.
-fn is_in_sector<S: Alter>(
+fn is_security_in_sector<S: Alter>(
     store: &mut Store<S>,
     symbol: &Symbol,
     sector: &Name,
@@ -37,16 +37,16 @@ fn is_in_sector<S: Alter>(
 
 // Appends the request `row` to `found` if its security is in a sector. Changes no table. Fails with
 // `Memory` or `Store` only.
-fn append_if_in_sector<S: Alter>(
+fn append_request_if_in_sector<S: Alter>(
     store: &mut Store<S>,
     sector: &Name,
     row: RequestRow,
     found: &mut Vec<RequestRow>,
 ) -> Result<(), Fault>
-    ensures read { ReadPost S.Store store.old store.new result (λ _ t. found.new.items ≡ with_request_in_sector t sector.now row found.old.items) }
+    ensures read { ReadPost S.Store store.old store.new result (λ _ t. found.new.items ≡ requests_with_row_if_in_sector t sector.now row found.old.items) }
     ensures fault { IfErr result IsCallFault }
 {
-    if !is_in_sector(store, &row.symbol, sector)? {
+    if !is_security_in_sector(store, &row.symbol, sector)? {
         return Ok(());
     }
     found.push(row)?;
@@ -67,7 +67,7 @@ fn read_requests_in_sector<S: Alter>(
     let mut rest = store.requests_of_broker(alloc, broker)?;
     let mut found = Vec::new(alloc);
     while let Some(row) = rest.pop() {
-        append_if_in_sector(store, sector, row, &mut found)?;
+        append_request_if_in_sector(store, sector, row, &mut found)?;
     }
     found.reverse();
     Ok(found)
@@ -82,7 +82,7 @@ fn append_broker_volume<S: Alter>(
     row: &BrokerRow,
     found: &mut Vec<BrokerVolume>,
 ) -> Result<(), Fault>
-    ensures read { ReadPost S.Store store.old store.new result (λ _ t. found.new.items ≡ found.old.items ++ sector_volumes t sector.now (abstract_broker_row row.now ∷ [])) }
+    ensures read { ReadPost S.Store store.old store.new result (λ _ t. found.new.items ≡ found.old.items ++ volumes_of_brokers_in_sector t sector.now (abstract_broker_row row.now ∷ [])) }
     ensures fault { IfErr result IsCallFault }
 {
     let requests = read_requests_in_sector(alloc, store, sector, row.broker.id)?;
@@ -90,7 +90,7 @@ fn append_broker_volume<S: Alter>(
         return Ok(());
     }
     let name = row.broker.name.clone()?;
-    let volume = total_value_of_requests(&requests);
+    let volume = total_bid_value_of_requests(&requests);
     found.push(BrokerVolume {
         broker: row.broker.id,
         name,
@@ -101,14 +101,14 @@ fn append_broker_volume<S: Alter>(
 
 // Appends to `found` the volumes in a sector of the brokers with a name that have a request in it.
 // Changes no table. Fails with `Memory` or `Store` only.
-fn append_volumes_of_name<S: Alter>(
+fn append_volumes_of_brokers_named<S: Alter>(
     alloc: Global,
     store: &mut Store<S>,
     sector: &Name,
     name: &Name,
     found: &mut Vec<BrokerVolume>,
 ) -> Result<(), Fault>
-    ensures read { ReadPost S.Store store.old store.new result (λ _ t. found.new.items ≡ found.old.items ++ sector_volumes t sector.now (filter (λ b. bytes_eq b.name name.now) t.brokers)) }
+    ensures read { ReadPost S.Store store.old store.new result (λ _ t. found.new.items ≡ found.old.items ++ volumes_of_brokers_in_sector t sector.now (filter (λ b. bytes_eq b.name name.now) t.brokers)) }
     ensures fault { IfErr result IsCallFault }
 {
     let rows = store.brokers_named(alloc, name)?;
@@ -120,19 +120,19 @@ fn append_volumes_of_name<S: Alter>(
 
 // Returns the volumes in a sector of the brokers with these names, name by name. Changes nothing.
 // Fails with `Memory` or `Store` only.
-fn read_broker_volumes<S: Alter>(
+fn read_volumes_of_brokers_named<S: Alter>(
     alloc: Global,
     store: &mut Store<S>,
     sector: &Name,
     names: &[Name],
 ) -> Result<Vec<BrokerVolume>, Fault>
-    ensures read { ReadPost S.Store store.old store.new result (λ found t. found.items ≡ map (volume.volume_of_broker_in_sector t sector.now) (flat_map (named_brokers_in_sector t sector.now) names.now)) }
+    ensures read { ReadPost S.Store store.old store.new result (λ found t. found.items ≡ map (volume.volume_of_broker_in_sector t sector.now) (flat_map (brokers_of_name_in_sector t sector.now) names.now)) }
     ensures fault { IfErr result IsCallFault }
 {
-    let _last = store.last()?;
+    let _last = store.last_stamp()?;
     let mut found = Vec::new(alloc);
     for name in names {
-        append_volumes_of_name(alloc, store, sector, name, &mut found)?;
+        append_volumes_of_brokers_named(alloc, store, sector, name, &mut found)?;
     }
     Ok(found)
 }
@@ -145,11 +145,11 @@ pub(crate) fn view_of_broker_volumes<S: Alter>(
     sector: &Name,
     names: &BrokerNames,
 ) -> Planned<View>
-    ensures read { ReadPost S.Store store.old store.new result (ShowsQueryResult (VolumeOf sector.now names.now)) }
+    ensures read { ReadPost S.Store store.old store.new result (AnswersQueryAsModel (VolumeOf sector.now names.now)) }
     ensures fault { IfErr result IsCallFault }
 {
     let names = names.names();
-    let found = read_broker_volumes(alloc, store, sector, names)?;
+    let found = read_volumes_of_brokers_named(alloc, store, sector, names)?;
     let view = broker_volume(alloc, found)?;
     Ok(Ok(view))
 }

@@ -9,73 +9,73 @@ use Rattle.std.proofs.lemmas.Bool.{leb-true, eqb-true}
 use Rattle.brk_model.specs.Forms.{is_word_up_to_length, is_name, is_tax_id, is_symbol, is_exchange, is_acl, is_batch_name}
 
 -- The first of two Booleans is true if both are true.
-first_of : (a b : Bool) → a && b ≡ true → a ≡ true
-first_of true b h = refl
-first_of false b h = h
+first_conjunct_is_true : (a b : Bool) → a && b ≡ true → a ≡ true
+first_conjunct_is_true true b h = refl
+first_conjunct_is_true false b h = h
 
 -- The second of two Booleans is true if both are true.
-second_of : (a b : Bool) → a && b ≡ true → b ≡ true
-second_of true b h = h
-second_of false b h = absurd (cc)
+second_conjunct_is_true : (a b : Bool) → a && b ≡ true → b ≡ true
+second_conjunct_is_true true b h = h
+second_conjunct_is_true false b h = absurd (cc)
 
 -- `P` holds if each of two Booleans implies it and one of them is true.
-either : (a b : Bool) (P : Type 0) → (a ≡ true → P) → (b ≡ true → P) → a || b ≡ true → P
-either true b P p q h = p refl
-either false b P p q h = q h
+holds_by_either_disjunct : (a b : Bool) (P : Type 0) → (a ≡ true → P) → (b ≡ true → P) → a || b ≡ true → P
+holds_by_either_disjunct true b P p q h = p refl
+holds_by_either_disjunct false b P p q h = q h
 
 -- A byte from `low` to `high` is below 128 if `high` is.
-between_low : (low high c : ℕ) → high < 128 → nat_le low c && nat_le c high ≡ true → c < 128
-between_low low high c below h = let k = leb-true c high (second_of (nat_le low c) (nat_le c high) h) in omega (arith, k, below)
+byte_in_ascii_range_is_ascii : (low high c : ℕ) → high < 128 → nat_le low c && nat_le c high ≡ true → c < 128
+byte_in_ascii_range_is_ascii low high c below h = let k = leb-true c high (second_conjunct_is_true (nat_le low c) (nat_le c high) h) in omega (arith, k, below)
 
 -- A byte that equals `mark` is below 128 if `mark` is.
-mark_low : (mark c : ℕ) → mark < 128 → c == mark ≡ true → c < 128
-mark_low mark c below h = let k : c ≡ mark = eqb-true c mark h in omega (arith, k, below)
+byte_equal_to_ascii_is_ascii : (mark c : ℕ) → mark < 128 → c == mark ≡ true → c < 128
+byte_equal_to_ascii_is_ascii mark c below h = let k : c ≡ mark = eqb-true c mark h in omega (arith, k, below)
 
 -- An ASCII letter or digit is below 128.
-letter_low : (c : ℕ) → is_ascii_alphanumeric c ≡ true → c < 128
-letter_low c h =
-    either _ _ (c < 128) (either _ _ (c < 128) (between_low 48 57 c (omega arith)) (between_low 65 90 c (omega arith))) (between_low 97 122 c (omega arith)) h
+alphanumeric_byte_is_ascii : (c : ℕ) → is_ascii_alphanumeric c ≡ true → c < 128
+alphanumeric_byte_is_ascii c h =
+    holds_by_either_disjunct _ _ (c < 128) (holds_by_either_disjunct _ _ (c < 128) (byte_in_ascii_range_is_ascii 48 57 c (omega arith)) (byte_in_ascii_range_is_ascii 65 90 c (omega arith))) (byte_in_ascii_range_is_ascii 97 122 c (omega arith)) h
 
 -- A text is ASCII if each byte passes `test`, which only bytes below 128 pass.
-ascii_by : (test : ℕ → Bool) → ((c : ℕ) → test c ≡ true → c < 128) → (text : List ℕ) → list_all test text ≡ true → IsAscii text
-ascii_by test low [] h i = omega arith
-ascii_by test low (c ∷ cs) h zero = low c (first_of (test c) (list_all test cs) h)
-ascii_by test low (c ∷ cs) h (suc i) = ascii_by test low cs (second_of (test c) (list_all test cs) h) i
+text_is_ascii_if_each_byte_is : (test : ℕ → Bool) → ((c : ℕ) → test c ≡ true → c < 128) → (text : List ℕ) → list_all test text ≡ true → IsAscii text
+text_is_ascii_if_each_byte_is test low [] h i = omega arith
+text_is_ascii_if_each_byte_is test low (c ∷ cs) h zero = low c (first_conjunct_is_true (test c) (list_all test cs) h)
+text_is_ascii_if_each_byte_is test low (c ∷ cs) h (suc i) = text_is_ascii_if_each_byte_is test low cs (second_conjunct_is_true (test c) (list_all test cs) h) i
 
 -- A word of at most `most` bytes that each pass `test` is UTF-8 if only bytes below 128 pass
 -- `test`.
-word_utf8 : (most : ℕ) (test : ℕ → Bool) → ((c : ℕ) → test c ≡ true → c < 128) → (text : List ℕ) → is_word_up_to_length most test text ≡ true → IsUtf8 text
-word_utf8 most test low text h = IsUtf8-from_ascii text (ascii_by test low text (second_of _ (list_all test text) h))
+word_is_utf8 : (most : ℕ) (test : ℕ → Bool) → ((c : ℕ) → test c ≡ true → c < 128) → (text : List ℕ) → is_word_up_to_length most test text ≡ true → IsUtf8 text
+word_is_utf8 most test low text h = IsUtf8-from_ascii text (text_is_ascii_if_each_byte_is test low text (second_conjunct_is_true _ (list_all test text) h))
 
 -- A text that has the format of a name is UTF-8.
-pub name_utf8 : (text : List ℕ) → is_name text ≡ true → IsUtf8 text
-name_utf8 text h = IsUtf8-from_is_utf8 text (second_of _ (is_utf8 text) (first_of _ _ h))
+pub name_is_utf8 : (text : List ℕ) → is_name text ≡ true → IsUtf8 text
+name_is_utf8 text h = IsUtf8-from_is_utf8 text (second_conjunct_is_true _ (is_utf8 text) (first_conjunct_is_true _ _ h))
 
 -- A text that has the format of a tax id is UTF-8.
-pub tax_id_utf8 : (text : List ℕ) → is_tax_id text ≡ true → IsUtf8 text
-tax_id_utf8 = word_utf8 20 _ (λ c. either _ _ (c < 128) (letter_low c) (mark_low 45 c (omega arith)))
+pub tax_id_is_utf8 : (text : List ℕ) → is_tax_id text ≡ true → IsUtf8 text
+tax_id_is_utf8 = word_is_utf8 20 _ (λ c. holds_by_either_disjunct _ _ (c < 128) (alphanumeric_byte_is_ascii c) (byte_equal_to_ascii_is_ascii 45 c (omega arith)))
 
 -- A text that has the format of a symbol is UTF-8.
-pub symbol_utf8 : (text : List ℕ) → is_symbol text ≡ true → IsUtf8 text
-symbol_utf8 =
-    word_utf8 15 _
-    (λ c. either _ _ (c < 128)
-    (either _ _ (c < 128) (either _ _ (c < 128) (between_low 65 90 c (omega arith)) (between_low 48 57 c (omega arith))) (mark_low 46 c (omega arith)))
-    (mark_low 45 c (omega arith)))
+pub symbol_is_utf8 : (text : List ℕ) → is_symbol text ≡ true → IsUtf8 text
+symbol_is_utf8 =
+    word_is_utf8 15 _
+    (λ c. holds_by_either_disjunct _ _ (c < 128)
+    (holds_by_either_disjunct _ _ (c < 128) (holds_by_either_disjunct _ _ (c < 128) (byte_in_ascii_range_is_ascii 65 90 c (omega arith)) (byte_in_ascii_range_is_ascii 48 57 c (omega arith))) (byte_equal_to_ascii_is_ascii 46 c (omega arith)))
+    (byte_equal_to_ascii_is_ascii 45 c (omega arith)))
 
 -- A text that has the format of an exchange is UTF-8.
-pub exchange_utf8 : (text : List ℕ) → is_exchange text ≡ true → IsUtf8 text
-exchange_utf8 = word_utf8 6 _ (λ c. between_low 65 90 c (omega arith))
+pub exchange_is_utf8 : (text : List ℕ) → is_exchange text ≡ true → IsUtf8 text
+exchange_is_utf8 = word_is_utf8 6 _ (λ c. byte_in_ascii_range_is_ascii 65 90 c (omega arith))
 
 -- A text that has the format of the name of a batch is UTF-8.
-pub batch_name_utf8 : (text : List ℕ) → is_batch_name text ≡ true → IsUtf8 text
-batch_name_utf8 =
-    word_utf8 40 _
-    (λ c. either _ _ (c < 128)
-    (either _ _ (c < 128) (either _ _ (c < 128) (letter_low c) (mark_low 46 c (omega arith))) (mark_low 45 c (omega arith))) (mark_low 95 c (omega arith)))
+pub batch_name_is_utf8 : (text : List ℕ) → is_batch_name text ≡ true → IsUtf8 text
+batch_name_is_utf8 =
+    word_is_utf8 40 _
+    (λ c. holds_by_either_disjunct _ _ (c < 128)
+    (holds_by_either_disjunct _ _ (c < 128) (holds_by_either_disjunct _ _ (c < 128) (alphanumeric_byte_is_ascii c) (byte_equal_to_ascii_is_ascii 46 c (omega arith))) (byte_equal_to_ascii_is_ascii 45 c (omega arith))) (byte_equal_to_ascii_is_ascii 95 c (omega arith)))
 
 -- A text that has the format of the rights of a permission is UTF-8.
-pub acl_utf8 : (text : List ℕ) → is_acl text ≡ true → IsUtf8 text
-acl_utf8 text h =
+pub acl_is_utf8 : (text : List ℕ) → is_acl text ≡ true → IsUtf8 text
+acl_is_utf8 text h =
     IsUtf8-from_ascii text
-    (ascii_by (λ c. (c == 48) || (c == 49)) (λ c. either _ _ (c < 128) (mark_low 48 c (omega arith)) (mark_low 49 c (omega arith))) text (second_of _ _ h))
+    (text_is_ascii_if_each_byte_is (λ c. (c == 48) || (c == 49)) (λ c. holds_by_either_disjunct _ _ (c < 128) (byte_equal_to_ascii_is_ascii 48 c (omega arith)) (byte_equal_to_ascii_is_ascii 49 c (omega arith))) text (second_conjunct_is_true _ _ h))

@@ -72,7 +72,7 @@ fn parse_account_fields(
 
 // Parses the fields of an account, of which `terms` are those after the first three. Refuses
 // malformed fields, and another number of them with `BadText`. Fails with `Memory` only.
-fn parse_account_with_terms(
+fn parse_account_with_last_fields(
     alloc: Global,
     id: &[u8],
     customer: &[u8],
@@ -97,5 +97,5 @@ pub fn check_account(alloc: Global, fields: &[&[u8]]) -> Planned<Account>
     let [id, customer, broker, terms @ ..] = fields else {
         return Ok(Err(Refusal::BadText));
     };
-    parse_account_with_terms(alloc, id, customer, broker, terms)
+    parse_account_with_last_fields(alloc, id, customer, broker, terms)
 }

@@ -1,7 +1,7 @@
 ghost use Rattle.std.specs.Prelude.{◌≡◌, ◌==◌, ◌||◌};
 ghost use Rattle.std.specs.List.{list_all};
 ghost use Rattle.brk_model.specs.Forms.{is_acl};
-ghost use Rattle.brk_ref.specs.Utf8.{acl_utf8};
+ghost use Rattle.brk_ref.specs.Utf8.{acl_is_utf8};
 
 use crate::text::{Form, Text};
 
@@ -31,5 +31,5 @@ impl Form for AclForm {
         has_zeros_and_ones_only(text)
     }
 
-    ghost is_utf8 = { acl_utf8 };
+    ghost is_utf8 = { acl_is_utf8 };
 }

@@ -28,7 +28,7 @@ pub struct Band {
 }
 
 // Parses two bounds. Returns `None` if one is malformed, or if the first exceeds the second.
-fn parse_bounds(low: &[u8], high: &[u8]) -> Option<(Qty, Qty)>
+fn parse_quantity_bounds(low: &[u8], high: &[u8]) -> Option<(Qty, Qty)>
     ensures { ok_or result BadQty ≡ read_quantity_bounds low.now high.now }
 {
     let Some(low) = parse_qty(low) else {
@@ -67,7 +67,7 @@ fn parse_band_fields(
     let Some(rate) = parse_commission_rate(rate) else {
         return Ok(Err(Refusal::BadText));
     };
-    let Some((from_qty, to_qty)) = parse_bounds(low, high) else {
+    let Some((from_qty, to_qty)) = parse_quantity_bounds(low, high) else {
         return Ok(Err(Refusal::BadQty));
     };
     let Some(kind) = parse_trade_type(kind) else {
@@ -85,7 +85,7 @@ fn parse_band_fields(
 
 // Parses the fields of a band, of which `terms` are those after the first three. Refuses malformed
 // fields, and another number of them with `BadText`. Fails with `Memory` only.
-fn parse_band_with_terms(
+fn parse_band_with_last_fields(
     alloc: Global,
     tier: &[u8],
     kind: &[u8],
@@ -110,7 +110,7 @@ pub fn check_band(alloc: Global, fields: &[&[u8]]) -> Planned<Band>
     let [tier, kind, exchange, terms @ ..] = fields else {
         return Ok(Err(Refusal::BadText));
     };
-    parse_band_with_terms(alloc, tier, kind, exchange, terms)
+    parse_band_with_last_fields(alloc, tier, kind, exchange, terms)
 }
 
 // Returns true if the bounds of the band contain the quantity.

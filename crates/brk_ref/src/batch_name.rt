@@ -2,7 +2,7 @@ ghost use Rattle.std.specs.Prelude.{◌≡◌, ◌==◌, ◌||◌};
 ghost use Rattle.std.specs.List.{list_all};
 ghost use Rattle.std.specs.Char.{is_ascii_alphanumeric};
 ghost use Rattle.brk_model.specs.Forms.{is_batch_name};
-ghost use Rattle.brk_ref.specs.Utf8.{batch_name_utf8};
+ghost use Rattle.brk_ref.specs.Utf8.{batch_name_is_utf8};
 
 use crate::text::{Form, Text};
 
@@ -37,5 +37,5 @@ impl Form for BatchNameForm {
         has_batch_name_bytes_only(text)
     }
 
-    ghost is_utf8 = { batch_name_utf8 };
+    ghost is_utf8 = { batch_name_is_utf8 };
 }

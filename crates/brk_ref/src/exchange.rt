@@ -2,7 +2,7 @@ ghost use Rattle.std.specs.Prelude.{◌≡◌};
 ghost use Rattle.std.specs.List.{list_all};
 ghost use Rattle.std.specs.Char.{is_ascii_uppercase};
 ghost use Rattle.brk_model.specs.Forms.{is_exchange};
-ghost use Rattle.brk_ref.specs.Utf8.{exchange_utf8};
+ghost use Rattle.brk_ref.specs.Utf8.{exchange_is_utf8};
 
 use crate::text::{Form, Text};
 
@@ -36,5 +36,5 @@ impl Form for ExchangeForm {
         has_capital_letters_only(text)
     }
 
-    ghost is_utf8 = { exchange_utf8 };
+    ghost is_utf8 = { exchange_is_utf8 };
 }

@@ -2,7 +2,7 @@ ghost use Rattle.std.specs.Prelude.{◌≡◌, not, chars};
 ghost use Rattle.std.specs.List.{list_all};
 ghost use Rattle.std.specs.Char.{is_control};
 ghost use Rattle.brk_model.specs.Forms.{is_name};
-ghost use Rattle.brk_ref.specs.Utf8.{name_utf8};
+ghost use Rattle.brk_ref.specs.Utf8.{name_is_utf8};
 
 use crate::text::{Form, Text};
 
@@ -34,5 +34,5 @@ impl Form for NameForm {
         has_no_control_character(text)
     }
 
-    ghost is_utf8 = { name_utf8 };
+    ghost is_utf8 = { name_is_utf8 };
 }

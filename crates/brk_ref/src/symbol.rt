@@ -2,7 +2,7 @@ ghost use Rattle.std.specs.Prelude.{◌≡◌, ◌==◌, ◌||◌};
 ghost use Rattle.std.specs.List.{list_all};
 ghost use Rattle.std.specs.Char.{is_ascii_digit, is_ascii_uppercase};
 ghost use Rattle.brk_model.specs.Forms.{is_symbol};
-ghost use Rattle.brk_ref.specs.Utf8.{symbol_utf8};
+ghost use Rattle.brk_ref.specs.Utf8.{symbol_is_utf8};
 
 use crate::text::{Form, Text};
 
@@ -37,5 +37,5 @@ impl Form for SymbolForm {
         has_symbol_bytes_only(text)
     }
 
-    ghost is_utf8 = { symbol_utf8 };
+    ghost is_utf8 = { symbol_is_utf8 };
 }

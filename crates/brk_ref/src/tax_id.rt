@@ -2,7 +2,7 @@ ghost use Rattle.std.specs.Prelude.{◌≡◌, ◌==◌, ◌||◌};
 ghost use Rattle.std.specs.List.{list_all};
 ghost use Rattle.std.specs.Char.{is_ascii_alphanumeric};
 ghost use Rattle.brk_model.specs.Forms.{is_tax_id};
-ghost use Rattle.brk_ref.specs.Utf8.{tax_id_utf8};
+ghost use Rattle.brk_ref.specs.Utf8.{tax_id_is_utf8};
 
 use crate::text::{Form, Text};
 
@@ -36,5 +36,5 @@ impl Form for TaxIdForm {
         has_tax_id_bytes_only(text)
     }
 
-    ghost is_utf8 = { tax_id_utf8 };
+    ghost is_utf8 = { tax_id_is_utf8 };
 }

@@ -79,7 +79,7 @@ impl<F: Form> Text<F> {
     }
 
     /// Proof-only: its contract states that the text has its format. Does nothing at run time.
-    pub fn state_text_format(&self)
+    pub fn prove_text_has_its_format(&self)
         ensures { F.form self.now ≡ true }
     {
         let _ = &self.text;

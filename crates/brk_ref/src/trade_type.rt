@@ -7,7 +7,7 @@ ghost use Rattle.brk_money.specs.declared.refusal.Refusal.TheVariants.{BadType};
 use brk_money::TradeType;
 
 // Returns true if the bytes are the code of the type.
-fn is_code_of(kind: TradeType, bytes: &[u8]) -> bool
+fn is_code_of_trade_type(kind: TradeType, bytes: &[u8]) -> bool
     ensures { result ≡ bytes_eq (trade_type_code kind) bytes.now }
 {
     kind.code().as_bytes() == bytes
@@ -17,19 +17,19 @@ fn is_code_of(kind: TradeType, bytes: &[u8]) -> bool
 pub fn parse_trade_type(bytes: &[u8]) -> Option<TradeType>
     ensures { ok_or result BadType ≡ read_trade_type bytes.now }
 {
-    if is_code_of(TradeType::MarketBuy, bytes) {
+    if is_code_of_trade_type(TradeType::MarketBuy, bytes) {
         return Some(TradeType::MarketBuy);
     }
-    if is_code_of(TradeType::MarketSell, bytes) {
+    if is_code_of_trade_type(TradeType::MarketSell, bytes) {
         return Some(TradeType::MarketSell);
     }
-    if is_code_of(TradeType::StopLoss, bytes) {
+    if is_code_of_trade_type(TradeType::StopLoss, bytes) {
         return Some(TradeType::StopLoss);
     }
-    if is_code_of(TradeType::LimitSell, bytes) {
+    if is_code_of_trade_type(TradeType::LimitSell, bytes) {
         return Some(TradeType::LimitSell);
     }
-    if is_code_of(TradeType::LimitBuy, bytes) {
+    if is_code_of_trade_type(TradeType::LimitBuy, bytes) {
         return Some(TradeType::LimitBuy);
     }
     None

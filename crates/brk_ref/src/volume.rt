@@ -34,7 +34,7 @@ impl Volume {
     }
 
     /// Returns the volume before the first trade, 0.
-    pub fn none() -> Volume
+    pub fn before_first_trade() -> Volume
         ensures { result ≡ 0 }
     {
         Volume(0)

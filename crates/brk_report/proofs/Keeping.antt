@@ -16,21 +16,21 @@ clean_before a b s clean = omega (arith, s.clean)
 module _ {S : Type 0} (g : Ghosts S) where
   pub keeps_still : (store : Held S) → PreservesDesk g store store
   keeps_still store = record {
-    kept = λ t holds. holds;
+    same_rows = λ t holds. holds;
     same = λ clean o. record { was_open = o; now = refl; committed = refl };
     survives = record { clean = omega arith; shield = λ x. x; counts = omega arith; limit = refl; closes = λ _ o. inl o; crash = λ _ db may. inl may };
   }
 
   pub keeps_read : {V E : Type 0} (old new : Held S) (result : Result V E) (P : V → Tables → Type 0) → ReadPost g old new result P → PreservesDesk g old new
-  keeps_read old new result P read = record { kept = read.kept; same = read.same; survives = read.survives }
+  keeps_read old new result P read = record { same_rows = read.same_rows; same = read.same; survives = read.survives }
 
   pub keeps_walked : {X M V E : Type 0} (old new : Held S) (of : X → M) (list : Tables → _) (takes : V → X → V → Type 0) (stops : V → X → E → V → Type 0) (before after : V) (result : Result (Unit {0}) (WalkError E))
       → WalkPost g old new of list takes stops before after result → PreservesDesk g old new
-  keeps_walked old new of list takes stops before after result walked = record { kept = walked.kept; same = walked.same; survives = walked.survives }
+  keeps_walked old new of list takes stops before after result walked = record { same_rows = walked.same_rows; same = walked.same; survives = walked.survives }
 
   pub keeps_then : (old mid new : Held S) → PreservesDesk g old mid → PreservesDesk g mid new → PreservesDesk g old new
   keeps_then old mid new a b = record {
-    kept = λ t holds. b.kept t (a.kept t holds);
+    same_rows = λ t holds. b.same_rows t (a.same_rows t holds);
     same = λ clean o.
         let s = b.same clean o in
         let r = a.same (clean_before (state g mid) (state g new) b.survives clean) s.was_open in

@@ -16,12 +16,12 @@ use Rattle.brk_store.specs.Walked.{WalkPost}
 use Rattle.brk_tables_walks.specs.declared.walking.WalkError.{WalkError}
 use Rattle.brk_tables_walks.specs.declared.walking.WalkError.TheVariants.{Failed, Cause}
 use Rattle.brk_report_lines.specs.Written.{FailsWithinLines, FailsWithinFirstLines, WritesLines, line_with_line_feed}
-use Rattle.brk_report.specs.Stated.{IsLinesFault}
+use Rattle.brk_report.specs.Stated.{IsMemoryStoreOrWriteFault}
 use Rattle.brk_report_lines.specs.declared.fault.LinesFault.{LinesFault}
 use Rattle.brk_report_lines.specs.declared.fault.LinesFault.TheVariants.{Desk, Write}
 use Rattle.brk_report_lines.proofs.Composed.{appends_none, breaks_before, breaks_behind}
 use lib.IntN.{+ℤ_assoc, +ℤ_idr}
-use Rattle.brk_report.specs.Stops.{fault_of_walk_error}
+use Rattle.brk_report.specs.WalkFaults.{fault_of_walk_error}
 
 map_parts : {X Y : Type 0} (f : X → Y) (xs ys : List X) → map f (xs ++ ys) ≡ map f xs ++ map f ys
 map_parts f [] ys = refl
@@ -34,24 +34,24 @@ weaker lines a b Write h = h
 
 -- ---- why it ended
 
-pub in_broken : (lines : List Text) (a b : Option Text) (e : LinesFault) → FailsWithinLines lines a b e → IsLinesFault e
+pub in_broken : (lines : List Text) (a b : Option Text) (e : LinesFault) → FailsWithinLines lines a b e → IsMemoryStoreOrWriteFault e
 in_broken lines a b (Desk f) h = h.0
 in_broken lines a b Write h = tt
 
-pub in_written : {Y : Type 0} (lines : List Text) (a b : Option Text) (r : Result Y LinesFault) → WritesLines lines a b r → IfErr r IsLinesFault
+pub in_written : {Y : Type 0} (lines : List Text) (a b : Option Text) (r : Result Y LinesFault) → WritesLines lines a b r → IfErr r IsMemoryStoreOrWriteFault
 in_written lines a b (Ok y) h = tt
 in_written lines a b (Err e) h = in_broken lines a b e h
 
 -- an amount that is too large is the fault `Store`
-pub of_store : (e : LinesFault) → e ≡ Desk faults.Store → IsLinesFault e
-of_store e same = subst IsLinesFault (sym same) (inr refl)
+pub of_store : (e : LinesFault) → e ≡ Desk faults.Store → IsMemoryStoreOrWriteFault e
+of_store e same = subst IsMemoryStoreOrWriteFault (sym same) (inr refl)
 
 -- the fault of a walk, whatever the disk
 module _ {S X M V : Type 0} (g : Ghosts S) (old new : Held S) (of : X → M) (list : Tables → List M) (takes : V → X → V → Type 0) (stops : V → X → LinesFault → V → Type 0) (before after : V)
     (result : Result (Unit {0}) (WalkError LinesFault)) (walked : WalkPost g old new of list takes stops before after result) where
-  pub known_end : ((p : V) (x : X) (e : LinesFault) (q : V) → stops p x e q → IsLinesFault e) → (stop : WalkError LinesFault) → result ≡ Err stop → (e : LinesFault) → e ≡ fault_of_walk_error stop → IsLinesFault e
-  known_end may (Failed cause) is e same = let h = rw is at (walked.fault) in subst IsLinesFault (sym same) h
-  known_end may (Cause cause) is e same = let h = rw is at (walked.fault) in subst IsLinesFault (sym same) (may h.0 h.1 cause after h.2)
+  pub known_end : ((p : V) (x : X) (e : LinesFault) (q : V) → stops p x e q → IsMemoryStoreOrWriteFault e) → (stop : WalkError LinesFault) → result ≡ Err stop → (e : LinesFault) → e ≡ fault_of_walk_error stop → IsMemoryStoreOrWriteFault e
+  known_end may (Failed cause) is e same = let h = rw is at (walked.fault) in subst IsMemoryStoreOrWriteFault (sym same) h
+  known_end may (Cause cause) is e same = let h = rw is at (walked.fault) in subst IsMemoryStoreOrWriteFault (sym same) (may h.0 h.1 cause after h.2)
 
 module _ {S X M V : Type 0} (g : Ghosts S) (old new : Held S) (of : X → M) (list : Tables → List M) (takes : V → X → V → Type 0) (stops : V → X → LinesFault → V → Type 0) (before after : V)
     (t : Tables) (clean : HasCleanDisk (state g new)) (holds : HoldsRows g old t) (result : Result (Unit {0}) (WalkError LinesFault)) (walked : WalkPost g old new of list takes stops before after result) where

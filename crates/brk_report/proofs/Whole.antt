@@ -8,18 +8,18 @@ use Rattle.brk_money.specs.Spelling.{Text, day_text}
 use Rattle.brk_money.specs.declared.fault.Fault.{Fault}
 use Rattle.brk_money.specs.declared.refusal.Refusal.TheVariants.{BadText, NoAccount}
 use Rattle.brk_model.specs.Joins.{account_row_with_id}
-use Rattle.brk_model.specs.PositionView.{asset_total}
+use Rattle.brk_model.specs.PositionView.{market_value_of_account_row}
 use Rattle.brk_model.specs.Run.{IsCallFault}
-use Rattle.brk_model.specs.Statement.{amount_line, cash_move_rows_before_day, cash_move_rows_of_account, text_line_of_cash_row, cash_row_total, cash_move_rows_within_days, text_of_lines, lot_line, lot_rows_of_account, statement, statement_lines}
+use Rattle.brk_model.specs.Statement.{amount_line, cash_move_rows_before_day, cash_move_rows_of_account, cash_row_line, cash_row_total, cash_move_rows_within_days, text_of_lines, lot_line, holding_rows_of_account, statement, statement_lines}
 use Rattle.brk_model.specs.Tables.{AccountRow, Tables}
-use Rattle.brk_queries.specs.declared.head.Head.{Head}
+use Rattle.brk_queries.specs.declared.head.StatementHead.{StatementHead}
 use Rattle.brk_report.specs.Parts.{all_statement_lines, cash_and_closing_lines, lot_and_total_lines, statement_header_lines}
 use Rattle.brk_report.specs.Stated.{AreStatementLines, WritesStatement}
 use Rattle.brk_report_lines.specs.Written.{FailsWithinLines, WritesLines}
 use Rattle.brk_report_lines.specs.declared.fault.LinesFault.{LinesFault}
 use Rattle.brk_report_lines.specs.declared.fault.LinesFault.TheVariants.{Desk, Write}
 use Rattle.brk_report_lines.specs.declared.fault.ReportFault.TheVariants as stated
-use Rattle.brk_queries.specs.Heads.{IsHeadOfAccount}
+use Rattle.brk_queries.specs.Heads.{IsStatementHeadOfAccount}
 use Rattle.brk_report.proofs.Handing.{none_written}
 
 passes_found : {X : Type 0} (p : X → Bool) (xs : List X) (x : X) → find p xs ≡ Some x → p x ≡ true
@@ -30,7 +30,7 @@ passes_found p (y ∷ ys) x e = go (passes_found p ys x) (p y) refl
     go more true k = let f : Some y ≡ Some x = rw k at e in let same : y ≡ x = cc in ap p (sym same) ∙ k
     go more false k = more (rw k at e)
 
-pub lines_whole : (t : Tables) (account : ℕ) (head : Head) (from to : ℕ) (a : AccountRow) → account_row_with_id t account ≡ Some a → head.name ≡ a.name → head.opening ≡ a.opening → head.holdings ≡ asset_total t a
+pub lines_whole : (t : Tables) (account : ℕ) (head : StatementHead) (from to : ℕ) (a : AccountRow) → account_row_with_id t account ≡ Some a → head.name ≡ a.name → head.opening ≡ a.opening → head.holdings ≡ market_value_of_account_row t a
     → all_statement_lines t account head from to ≡ statement_lines t a from to (cash_move_rows_of_account t account)
 lines_whole t account head from to a found name opening holdings =
     let id : a.id ≡ account = eqb-true a.id account (passes_found (λ (r : AccountRow). r.id == account) t.accounts a found) in
@@ -38,12 +38,12 @@ lines_whole t account head from to a found name opening holdings =
     let before = cash_row_total (cash_move_rows_before_day from (cash_move_rows_of_account t account)) in
     let parts : ℕ → Text → ℤ → ℤ → List Text =
     λ n name opening holdings.
-    statement_header_lines n name from to (opening +ℤ before) ++ ((map text_line_of_cash_row rows ++ (amount_line (codes "Closing") (opening +ℤ before +ℤ cash_row_total rows) ∷ map lot_line (lot_rows_of_account t n)))
-    ++ (amount_line (codes "Holdings") holdings ∷ (codes "Cash rows " ++ decimal (length rows) ++ codes ", lots " ++ decimal (length (lot_rows_of_account t n))) ∷ [])) in
+    statement_header_lines n name from to (opening +ℤ before) ++ ((map cash_row_line rows ++ (amount_line (codes "Closing") (opening +ℤ before +ℤ cash_row_total rows) ∷ map lot_line (holding_rows_of_account t n)))
+    ++ (amount_line (codes "Holdings") holdings ∷ (codes "Cash rows " ++ decimal (length rows) ++ codes ", lots " ++ decimal (length (holding_rows_of_account t n))) ∷ [])) in
     let closing = amount_line (codes "Closing") (head.opening +ℤ before +ℤ cash_row_total rows) in
-    let lots = map lot_line (lot_rows_of_account t account) in
-    let end = amount_line (codes "Holdings") head.holdings ∷ (codes "Cash rows " ++ decimal (length rows) ++ codes ", lots " ++ decimal (length (lot_rows_of_account t account))) ∷ [] in
-    ap (λ (l : List Text). statement_header_lines account head.name from to (head.opening +ℤ before) ++ l) (append_assoc (map text_line_of_cash_row rows) (closing ∷ []) (lots ++ end) ∙ sym (append_assoc (map text_line_of_cash_row rows) (closing ∷ lots) end))
+    let lots = map lot_line (holding_rows_of_account t account) in
+    let end = amount_line (codes "Holdings") head.holdings ∷ (codes "Cash rows " ++ decimal (length rows) ++ codes ", lots " ++ decimal (length (holding_rows_of_account t account))) ∷ [] in
+    ap (λ (l : List Text). statement_header_lines account head.name from to (head.opening +ℤ before) ++ l) (append_assoc (map cash_row_line rows) (closing ∷ []) (lots ++ end) ∙ sym (append_assoc (map cash_row_line rows) (closing ∷ lots) end))
     ∙ (λ i. parts (sym id i) (name i) (opening i) (holdings i))
 
 pub statement_is : (t : Tables) (account from to : ℕ) (lines : List Text) → AreStatementLines t account from to lines → statement t account from to ≡ Ok (text_of_lines lines)
@@ -61,11 +61,11 @@ unfolding statement
 refused_account t account from to h none = rw (h, none) refl
 
 -- All lines of a statement with this opening amount.
-abbrev pub lines_at : Tables → ℕ → Head → ℕ → ℕ → ℤ → List Text
-lines_at t account head from to opening = statement_header_lines account head.name from to opening ++ cash_and_closing_lines t account from to opening ++ lot_and_total_lines t account head.holdings (length (cash_move_rows_within_days from to (cash_move_rows_of_account t account)))
+abbrev pub statement_lines_with_opening : Tables → ℕ → StatementHead → ℕ → ℕ → ℤ → List Text
+statement_lines_with_opening t account head from to opening = statement_header_lines account head.name from to opening ++ cash_and_closing_lines t account from to opening ++ lot_and_total_lines t account head.holdings (length (cash_move_rows_within_days from to (cash_move_rows_of_account t account)))
 
 -- nothing is written of them
-pub none_of : {Y : Type 0} (t : Tables) (account : ℕ) (head : Head) (from to : ℕ) (a : Option Text) (outer : Result Y LinesFault) (e : LinesFault) (f : Fault) → IsErrAnd outer (λ out. out ≡ e) → e ≡ Desk f → IsCallFault f
+pub none_of : {Y : Type 0} (t : Tables) (account : ℕ) (head : StatementHead) (from to : ℕ) (a : Option Text) (outer : Result Y LinesFault) (e : LinesFault) (f : Fault) → IsErrAnd outer (λ out. out ≡ e) → e ≡ Desk f → IsCallFault f
     → WritesLines (all_statement_lines t account head from to) a a outer
 none_of t account head from to a outer e f is same may =
     let opening = head.opening +ℤ cash_row_total (cash_move_rows_before_day from (cash_move_rows_of_account t account)) in
@@ -75,7 +75,7 @@ none_of t account head from to a outer e f is same may =
 
 -- ---- with the head that was read
 
-module _ (t : Tables) (account : ℕ) (head : Head) (from to : ℕ) (days : nat_lt to from ≡ false) (is_head : IsHeadOfAccount account (Some head) t) (a b : Option Text) where
+module _ (t : Tables) (account : ℕ) (head : StatementHead) (from to : ℕ) (days : nat_lt to from ≡ false) (is_head : IsStatementHeadOfAccount account (Some head) t) (a b : Option Text) where
   are_lines : AreStatementLines t account from to (all_statement_lines t account head from to)
   are_lines = (days, (is_head.0, is_head.1, lines_whole t account head from to is_head.0 is_head.1 is_head.2 is_head.3 is_head.4))
 

@@ -1,3 +1,3 @@
 pub mod Stated
-pub mod Stops
+pub mod WalkFaults
 pub mod Parts

@@ -2,9 +2,9 @@
 use Rattle.std.specs.Prelude.{◌≡◌, ℕ, ℤ, ◌+ℤ◌, List, [], ◌∷◌, ◌++◌, Option, Result, Ok, Err, codes, decimal, length, map}
 use Rattle.std.specs.Io.KnownBytes.{Appends}
 use Rattle.brk_money.specs.Spelling.{Text, day_text}
-use Rattle.brk_model.specs.Statement.{amount_line, cash_move_rows_before_day, cash_move_rows_of_account, text_line_of_cash_row, cash_row_total, cash_move_rows_within_days, text_of_lines, lot_line, lot_rows_of_account}
+use Rattle.brk_model.specs.Statement.{amount_line, cash_move_rows_before_day, cash_move_rows_of_account, cash_row_line, cash_row_total, cash_move_rows_within_days, text_of_lines, lot_line, holding_rows_of_account}
 use Rattle.brk_model.specs.Tables.{Tables}
-use Rattle.brk_queries.specs.declared.head.Head.{Head}
+use Rattle.brk_queries.specs.declared.head.StatementHead.{StatementHead}
 use Rattle.brk_report_lines.specs.Written.{FailsWithinLines}
 use Rattle.brk_report_lines.specs.declared.fault.LinesFault.{LinesFault}
 
@@ -18,7 +18,7 @@ statement_header_lines account name from to opening =
 -- closing amount, which is `opening` plus these rows.
 abbrev pub cash_and_closing_lines : Tables → ℕ → ℕ → ℕ → ℤ → List Text
 cash_and_closing_lines t account from to opening =
-    map text_line_of_cash_row (cash_move_rows_within_days from to (cash_move_rows_of_account t account)) ++ amount_line (codes "Closing") (opening +ℤ cash_row_total (cash_move_rows_within_days from to (cash_move_rows_of_account t account))) ∷ []
+    map cash_row_line (cash_move_rows_within_days from to (cash_move_rows_of_account t account)) ++ amount_line (codes "Closing") (opening +ℤ cash_row_total (cash_move_rows_within_days from to (cash_move_rows_of_account t account))) ∷ []
 
 -- `Ok`: exactly the lines of the cash rows of the days and of the closing amount
 -- (`cash_and_closing_lines`) were written, and the count is the number of these cash rows. `Err`:
@@ -31,11 +31,11 @@ WritesCashAndClosingLines t account from to opening old new (Err e) = FailsWithi
 -- numbers of cash rows (`cash`) and lots.
 abbrev pub lot_and_total_lines : Tables → ℕ → ℤ → ℕ → List Text
 lot_and_total_lines t account holdings cash =
-    map lot_line (lot_rows_of_account t account) ++ amount_line (codes "Holdings") holdings ∷ (codes "Cash rows " ++ decimal cash ++ codes ", lots " ++ decimal (length (lot_rows_of_account t account))) ∷ []
+    map lot_line (holding_rows_of_account t account) ++ amount_line (codes "Holdings") holdings ∷ (codes "Cash rows " ++ decimal cash ++ codes ", lots " ++ decimal (length (holding_rows_of_account t account))) ∷ []
 
 -- All lines of the statement of `account` from the day `from` to the day `to`, with the name, the
 -- opening balance and the market value of `head`.
-abbrev pub all_statement_lines : Tables → ℕ → Head → ℕ → ℕ → List Text
+abbrev pub all_statement_lines : Tables → ℕ → StatementHead → ℕ → ℕ → List Text
 all_statement_lines t account head from to =
     statement_header_lines account head.name from to (head.opening +ℤ cash_row_total (cash_move_rows_before_day from (cash_move_rows_of_account t account)))
     ++ cash_and_closing_lines t account from to (head.opening +ℤ cash_row_total (cash_move_rows_before_day from (cash_move_rows_of_account t account)))

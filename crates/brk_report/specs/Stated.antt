@@ -8,22 +8,22 @@ use Rattle.brk_money.specs.Spelling.{Text}
 use Rattle.brk_money.specs.declared.fault.Fault.{Fault}
 use Rattle.brk_model.specs.Joins.{account_row_with_id}
 use Rattle.brk_model.specs.Run.{IsCallFault}
-use Rattle.brk_model.specs.Statement.{cash_move_rows_of_account, text_line_of_cash_row, cash_row_total, cash_move_rows_within_days, text_of_lines, lot_line, lot_rows_of_account, statement, statement_lines}
+use Rattle.brk_model.specs.Statement.{cash_move_rows_of_account, cash_row_line, cash_row_total, cash_move_rows_within_days, text_of_lines, lot_line, holding_rows_of_account, statement, statement_lines}
 use Rattle.brk_model.specs.Tables.{AccountRow, Tables}
 use Rattle.brk_store.specs.Holds.{HoldsRows, WasOpenAndIsUnchanged}
-use Rattle.brk_report_lines.specs.Written.{FailsWithinFirstLines, WroteWholeLinesNotLast, WroteWholeLinesAndPart}
+use Rattle.brk_report_lines.specs.Written.{FailsWithinFirstLines, WritesLinesButNotLast, WritesLinesAndPartOfNext}
 use Rattle.brk_report_lines.specs.declared.fault.LinesFault.{LinesFault}
 use Rattle.brk_report_lines.specs.declared.fault.LinesFault.TheVariants as lines
 use Rattle.brk_report_lines.specs.declared.fault.ReportFault.{ReportFault}
 use Rattle.brk_report_lines.specs.declared.fault.ReportFault.TheVariants.{Refused, Desk, Write}
-use Rattle.brk_report.specs.declared.visitors.Moved.{Moved}
+use Rattle.brk_report.specs.declared.visitors.CashCountAndTotal.{CashCountAndTotal}
 
 -- The call between the states `old` and `new` of the desk's store changes nothing: the rows and the
 -- open database are unchanged, and a crash exposes only states that a crash before the call could
 -- expose.
 pub record PreservesDesk {S : Type 0} (g : Ghosts S) (old new : Held S) : Type 0 where
   -- The store holds after the call the rows that it held before.
-  pub kept : (t : Tables) → HoldsRows g old t → HoldsRows g new t
+  pub same_rows : (t : Tables) → HoldsRows g old t → HoldsRows g new t
   -- If the database is open after the call, it was open before and is unchanged. Vacuous if the
   -- disk assumption fails.
   pub same : HasCleanDisk (state g new) → IsTrue (state g new).is_open → WasOpenAndIsUnchanged (state g old) (state g new)
@@ -37,9 +37,9 @@ abbrev pub HoldsForStoredTables : {S : Type 0} → Ghosts S → Held S → Held 
 HoldsForStoredTables g old new So = HasCleanDisk (state g new) → (t : Tables) → HoldsRows g old t → So t
 
 -- If the fault is one of the desk, it is `Memory` or `Store`. Vacuous for a fault of the writer.
-abbrev pub IsLinesFault : LinesFault → Type 0
-IsLinesFault (lines.Desk fault) = IsCallFault fault
-IsLinesFault lines.Write = Unit {0}
+abbrev pub IsMemoryStoreOrWriteFault : LinesFault → Type 0
+IsMemoryStoreOrWriteFault (lines.Desk fault) = IsCallFault fault
+IsMemoryStoreOrWriteFault lines.Write = Unit {0}
 
 -- ---- the parts of a statement
 
@@ -51,17 +51,17 @@ IsTotalOrFault total (Err e) = (f : Fault) × (e ≡ lines.Desk f) × IsCallFaul
 -- `Ok`: exactly the lines of the cash rows of `account` from the day `from` to the day `to` were
 -- written, and the result has the number of these rows, and `amount` plus their amounts. `Err`:
 -- writing them failed as `FailsWithinFirstLines` specifies.
-abbrev pub WritesCashLines : Tables → ℕ → ℕ → ℕ → ℤ → Option Text → Option Text → Result Moved LinesFault → Type 0
+abbrev pub WritesCashLines : Tables → ℕ → ℕ → ℕ → ℤ → Option Text → Option Text → Result CashCountAndTotal LinesFault → Type 0
 WritesCashLines t account from to amount old new (Ok moved) =
-    Appends old new (text_of_lines (map text_line_of_cash_row (cash_move_rows_within_days from to (cash_move_rows_of_account t account)))) × (moved.count ≡ length (cash_move_rows_within_days from to (cash_move_rows_of_account t account)))
+    Appends old new (text_of_lines (map cash_row_line (cash_move_rows_within_days from to (cash_move_rows_of_account t account)))) × (moved.count ≡ length (cash_move_rows_within_days from to (cash_move_rows_of_account t account)))
     × (moved.total ≡ amount +ℤ cash_row_total (cash_move_rows_within_days from to (cash_move_rows_of_account t account)))
-WritesCashLines t account from to amount old new (Err e) = FailsWithinFirstLines (map text_line_of_cash_row (cash_move_rows_within_days from to (cash_move_rows_of_account t account))) old new e
+WritesCashLines t account from to amount old new (Err e) = FailsWithinFirstLines (map cash_row_line (cash_move_rows_within_days from to (cash_move_rows_of_account t account))) old new e
 
 -- `Ok`: exactly the lines of the lots of `account` were written, and the count is their number.
 -- `Err`: writing them failed as `FailsWithinFirstLines` specifies.
 abbrev pub WritesLotLines : Tables → ℕ → Option Text → Option Text → Result ℕ LinesFault → Type 0
-WritesLotLines t account old new (Ok count) = Appends old new (text_of_lines (map lot_line (lot_rows_of_account t account))) × (count ≡ length (lot_rows_of_account t account))
-WritesLotLines t account old new (Err e) = FailsWithinFirstLines (map lot_line (lot_rows_of_account t account)) old new e
+WritesLotLines t account old new (Ok count) = Appends old new (text_of_lines (map lot_line (holding_rows_of_account t account))) × (count ≡ length (holding_rows_of_account t account))
+WritesLotLines t account old new (Err e) = FailsWithinFirstLines (map lot_line (holding_rows_of_account t account)) old new e
 
 -- ---- the whole
 
@@ -77,24 +77,24 @@ AreStatementLines t account from to lines = (nat_lt to from ≡ false) × ((a : 
 abbrev pub WritesStatement : Tables → ℕ → ℕ → ℕ → Option Text → Option Text → Result (Unit {0}) ReportFault → Type 0
 WritesStatement t account from to old new (Ok u) = (text : Text) × (statement t account from to ≡ Ok text) × Appends old new text
 WritesStatement t account from to old new (Err (Refused refusal)) = statement t account from to ≡ Err refusal
-WritesStatement t account from to old new (Err (Desk fault)) = IsCallFault fault × (Appends old new [] ⊎ ((lines : List Text) × AreStatementLines t account from to lines × WroteWholeLinesNotLast lines old new))
-WritesStatement t account from to old new (Err Write) = (lines : List Text) × AreStatementLines t account from to lines × WroteWholeLinesAndPart lines old new
+WritesStatement t account from to old new (Err (Desk fault)) = IsCallFault fault × (Appends old new [] ⊎ ((lines : List Text) × AreStatementLines t account from to lines × WritesLinesButNotLast lines old new))
+WritesStatement t account from to old new (Err Write) = (lines : List Text) × AreStatementLines t account from to lines × WritesLinesAndPartOfNext lines old new
 
 -- If the fault is one of the desk, it is `Memory` or `Store`. Vacuous for a refusal and for a fault
 -- of the writer.
-abbrev pub IsReportFault : ReportFault → Type 0
-IsReportFault (Refused refusal) = Unit {0}
-IsReportFault (Desk fault) = IsCallFault fault
-IsReportFault Write = Unit {0}
+abbrev pub IsRefusalOrMemoryStoreOrWriteFault : ReportFault → Type 0
+IsRefusalOrMemoryStoreOrWriteFault (Refused refusal) = Unit {0}
+IsRefusalOrMemoryStoreOrWriteFault (Desk fault) = IsCallFault fault
+IsRefusalOrMemoryStoreOrWriteFault Write = Unit {0}
 
 -- The postcondition of writing the statement of `account` from the day `from` to the day `to`. The
 -- desk is unchanged.
 pub record StatementPost {S : Type 0} (g : Ghosts S) (old new : Held S) (account from to : ℕ) (before after : Option Text) (result : Result (Unit {0}) ReportFault) : Type 0 where
   -- The output is that of `WritesStatement` for all rows that the store held before the call.
   -- Vacuous if the disk assumption fails after the call.
-  pub told : HoldsForStoredTables g old new (λ t. WritesStatement t account from to before after result)
+  pub written : HoldsForStoredTables g old new (λ t. WritesStatement t account from to before after result)
   -- A fault of the desk is `Memory` or `Store`. This does not depend on the disk assumption.
-  pub fault : IfErr result IsReportFault
-  pub keeps : PreservesDesk g old new
+  pub fault : IfErr result IsRefusalOrMemoryStoreOrWriteFault
+  pub desk_unchanged : PreservesDesk g old new
   -- Nothing is written if the statement is refused.
   pub unwritten : (refusal : _) → result ≡ Err (Refused refusal) → after ≡ before

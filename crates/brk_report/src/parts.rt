@@ -2,12 +2,12 @@
 //! the totals.
 
 ghost use Rattle.std.specs.Prelude.{IfErr};
-ghost use Rattle.brk_report.specs.Stated.{PreservesDesk, IsLinesFault, HoldsForStoredTables};
+ghost use Rattle.brk_report.specs.Stated.{PreservesDesk, IsMemoryStoreOrWriteFault, HoldsForStoredTables};
 ghost use Rattle.brk_report.specs.Parts.{WritesCashAndClosingLines, lot_and_total_lines, statement_header_lines};
 ghost use Rattle.brk_report_lines.specs.Written.{WritesLines};
 
 use crate::sections::{write_cash_lines, write_lot_lines};
-use brk_desk::{Desk, Head};
+use brk_desk::{Desk, StatementHead};
 use brk_money::{Day, Id, Wide};
 use brk_report_lines::{
     LinesFault, account_name_line, amount_line, first_and_last_day_line, row_counts_line,
@@ -21,7 +21,7 @@ use std::io::Write;
 pub(crate) fn write_header_lines<W: Write>(
     alloc: Global,
     account: Id,
-    head: &Head,
+    head: &StatementHead,
     from: Day,
     to: Day,
     opening: Wide,
@@ -48,7 +48,7 @@ pub(crate) fn write_cash_and_closing_lines<W: Write, S: Alter>(
     writer: &mut W,
 ) -> Result<u64, LinesFault>
     ensures keeps { PreservesDesk S.Store desk.old desk.new }
-    ensures fault { IfErr result IsLinesFault }
+    ensures fault { IfErr result IsMemoryStoreOrWriteFault }
     ensures written { HoldsForStoredTables S.Store desk.old desk.new (λ t. WritesCashAndClosingLines t account from to opening (W.contents writer.old) (W.contents writer.new) result) }
 {
     let moved = write_cash_lines(alloc, desk, account, from, to, opening, writer)?;
@@ -67,7 +67,7 @@ pub(crate) fn write_lot_and_total_lines<W: Write, S: Alter>(
     writer: &mut W,
 ) -> Result<(), LinesFault>
     ensures keeps { PreservesDesk S.Store desk.old desk.new }
-    ensures fault { IfErr result IsLinesFault }
+    ensures fault { IfErr result IsMemoryStoreOrWriteFault }
     ensures written { HoldsForStoredTables S.Store desk.old desk.new (λ t. WritesLines (lot_and_total_lines t account holdings cash) (W.contents writer.old) (W.contents writer.new) result) }
 {
     let lots = write_lot_lines(alloc, desk, account, writer)?;

@@ -3,10 +3,10 @@
 
 ghost use Rattle.std.specs.Prelude.{◌≡◌, ◌+ℤ◌, IfErr};
 ghost use Rattle.brk_model.specs.Statement.{cash_move_rows_before_day, cash_move_rows_of_account, cash_row_total};
-ghost use Rattle.brk_report.specs.Stated.{IsTotalOrFault, PreservesDesk, IsLinesFault, HoldsForStoredTables, WritesCashLines, WritesLotLines};
-ghost use Rattle.brk_report.specs.Stops.{fault_of_walk_error};
+ghost use Rattle.brk_report.specs.Stated.{IsTotalOrFault, PreservesDesk, IsMemoryStoreOrWriteFault, HoldsForStoredTables, WritesCashLines, WritesLotLines};
+ghost use Rattle.brk_report.specs.WalkFaults.{fault_of_walk_error};
 
-use crate::visitors::{CashLines, Lines, Moved, Sum};
+use crate::visitors::{CashLines, Lines, CashCountAndTotal, Sum};
 use brk_desk::{Desk, WalkError};
 use brk_money::{Cents, Day, Id, Stamp, Wide};
 use brk_report_lines::{LinesFault, first_stamp_of_day, last_stamp_before_day, last_stamp_of_day};
@@ -27,14 +27,14 @@ fn fault_from_walk_error(stop: WalkError<LinesFault>) -> LinesFault
 
 /// Returns `opening` plus the amounts of the cash rows of an account on days before `from`, in
 /// cents. Fails with `Desk` only.
-pub(crate) fn balance_before_day<S: Alter>(
+pub(crate) fn read_balance_before_day<S: Alter>(
     desk: &mut Desk<S>,
     account: Id,
     from: Day,
     opening: Cents,
 ) -> Result<Wide, LinesFault>
     ensures keeps { PreservesDesk S.Store desk.old desk.new }
-    ensures fault { IfErr result IsLinesFault }
+    ensures fault { IfErr result IsMemoryStoreOrWriteFault }
     ensures sum { HoldsForStoredTables S.Store desk.old desk.new (λ t. IsTotalOrFault (opening +ℤ cash_row_total (cash_move_rows_before_day from (cash_move_rows_of_account t account))) result) }
 {
     let Some(last) = last_stamp_before_day(from) else {
@@ -43,7 +43,7 @@ pub(crate) fn balance_before_day<S: Alter>(
     let mut sum = Sum {
         total: Wide::from(opening),
     };
-    match desk.visit_cash(account, Stamp::nearest(0), last, &mut sum) {
+    match desk.visit_cash_rows(account, Stamp::nearest(0), last, &mut sum) {
         Ok(()) => Ok(sum.total),
         Err(stop) => Err(fault_from_walk_error(stop)),
     }
@@ -59,26 +59,26 @@ pub(crate) fn write_cash_lines<W: Write, S: Alter>(
     to: Day,
     opening: Wide,
     writer: &mut W,
-) -> Result<Moved, LinesFault>
+) -> Result<CashCountAndTotal, LinesFault>
     ensures keeps { PreservesDesk S.Store desk.old desk.new }
-    ensures fault { IfErr result IsLinesFault }
+    ensures fault { IfErr result IsMemoryStoreOrWriteFault }
     ensures written { HoldsForStoredTables S.Store desk.old desk.new (λ t. WritesCashLines t account from to opening (W.contents writer.old) (W.contents writer.new) result) }
 {
     let mut visitor = CashLines {
         alloc,
         writer,
-        moved: Moved {
+        moved: CashCountAndTotal {
             count: 0,
             total: opening,
         },
     };
-    match desk.visit_cash(
+    match desk.visit_cash_rows(
         account,
         first_stamp_of_day(from),
         last_stamp_of_day(to),
         &mut visitor,
     ) {
-        Ok(()) => Ok(visitor.moved()),
+        Ok(()) => Ok(visitor.count_and_total()),
         Err(stop) => Err(fault_from_walk_error(stop)),
     }
 }
@@ -92,7 +92,7 @@ pub(crate) fn write_lot_lines<W: Write, S: Alter>(
     writer: &mut W,
 ) -> Result<u64, LinesFault>
     ensures keeps { PreservesDesk S.Store desk.old desk.new }
-    ensures fault { IfErr result IsLinesFault }
+    ensures fault { IfErr result IsMemoryStoreOrWriteFault }
     ensures written { HoldsForStoredTables S.Store desk.old desk.new (λ t. WritesLotLines t account (W.contents writer.old) (W.contents writer.new) result) }
 {
     let mut lines = Lines {

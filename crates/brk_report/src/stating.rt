@@ -1,11 +1,11 @@
 ghost use Rattle.std.specs.Prelude.{IfErr};
 ghost use Rattle.brk_report.specs.Parts.{all_statement_lines};
-ghost use Rattle.brk_report.specs.Stated.{StatementPost, PreservesDesk, IsLinesFault, HoldsForStoredTables};
+ghost use Rattle.brk_report.specs.Stated.{StatementPost, PreservesDesk, IsMemoryStoreOrWriteFault, HoldsForStoredTables};
 ghost use Rattle.brk_report_lines.specs.Written.{WritesLines};
 
 use crate::parts::{write_cash_and_closing_lines, write_header_lines, write_lot_and_total_lines};
-use crate::sections::balance_before_day;
-use brk_desk::{Desk, Head};
+use crate::sections::read_balance_before_day;
+use brk_desk::{Desk, StatementHead};
 use brk_money::{Day, Id, Refusal};
 use brk_report_lines::{LinesFault, ReportFault};
 use sqlite::Alter;
@@ -18,16 +18,16 @@ fn write_statement_lines<W: Write, S: Alter>(
     alloc: Global,
     desk: &mut Desk<S>,
     account: Id,
-    head: &Head,
+    head: &StatementHead,
     from: Day,
     to: Day,
     writer: &mut W,
 ) -> Result<(), LinesFault>
     ensures keeps { PreservesDesk S.Store desk.old desk.new }
-    ensures fault { IfErr result IsLinesFault }
+    ensures fault { IfErr result IsMemoryStoreOrWriteFault }
     ensures written { HoldsForStoredTables S.Store desk.old desk.new (λ t. WritesLines (all_statement_lines t account head.now from to) (W.contents writer.old) (W.contents writer.new) result) }
 {
-    let opening = balance_before_day(desk, account, from, head.opening)?;
+    let opening = read_balance_before_day(desk, account, from, head.opening)?;
     write_header_lines(alloc, account, head, from, to, opening, writer)?;
     let cash = write_cash_and_closing_lines(alloc, desk, account, from, to, opening, writer)?;
     write_lot_and_total_lines(alloc, desk, account, head.holdings, cash, writer)
@@ -42,7 +42,7 @@ fn write_statement_lines<W: Write, S: Alter>(
 /// not exist; nothing is then written. Fails with `Desk(Memory)` or `Desk(Store)`: only whole lines
 /// are then written, from the first on and never the last one. After `Write` whole lines are
 /// written, from the first on, and a part of the next one.
-pub fn statement<W: Write, S: Alter>(
+pub fn write_statement<W: Write, S: Alter>(
     alloc: Global,
     desk: &mut Desk<S>,
     account: Id,
@@ -55,7 +55,7 @@ pub fn statement<W: Write, S: Alter>(
     if to.get() < from.get() {
         return Err(ReportFault::Refused(Refusal::BadText));
     }
-    let head = match desk.head(alloc, account) {
+    let head = match desk.statement_head(alloc, account) {
         Ok(Some(head)) => head,
         Ok(None) => return Err(ReportFault::Refused(Refusal::NoAccount)),
         Err(fault) => return Err(ReportFault::Desk(fault)),

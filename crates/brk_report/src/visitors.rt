@@ -10,7 +10,7 @@ ghost use Rattle.brk_report_lines.specs.declared.fault.LinesFault.TheVariants.{D
 use brk_changes::{HoldingRow, MoveRow};
 use brk_desk::Visitor;
 use brk_money::{Cents, Fault, Wide};
-use brk_report_lines::{LinesFault, cash_line, lot_line, write_line};
+use brk_report_lines::{LinesFault, cash_row_line, lot_line, write_line};
 use std::alloc::Global;
 use std::io::Write;
 
@@ -38,14 +38,14 @@ impl Line for HoldingRow {
 }
 
 impl Line for MoveRow {
-    ghost use Rattle.brk_model.specs.Statement.{text_line_of_cash_row};
+    ghost use Rattle.brk_model.specs.Statement.{cash_row_line};
     ghost use Rattle.brk_changes.specs.Rows.{abstract_move_row};
 
-    ghost line = { λ r. text_line_of_cash_row (abstract_move_row r) };
+    ghost line = { λ r. cash_row_line (abstract_move_row r) };
 
     /// Returns the line of the cash row with its line feed. Fails with `Memory` or `Store`.
     fn line(&self, alloc: Global) -> Result<Vec<u8>, Fault> {
-        cash_line(alloc, self)
+        cash_row_line(alloc, self)
     }
 }
 
@@ -131,7 +131,7 @@ impl<R: Line, W: Write> Visitor<R, LinesFault> for Lines<'_, W> {
 
 /// The number of cash rows that were written, and an opening amount plus the amounts of these rows.
 #[derive(Clone, Copy)]
-pub struct Moved {
+pub struct CashCountAndTotal {
     pub count: u64,
     pub total: Wide,
 }
@@ -141,12 +141,12 @@ pub struct Moved {
 pub struct CashLines<'a, W> {
     pub alloc: Global,
     pub writer: &'a mut W,
-    pub moved: Moved,
+    pub moved: CashCountAndTotal,
 }
 
 impl<W> CashLines<'_, W> {
     /// Returns the number of cash rows so far, and the total so far.
-    pub fn moved(&self) -> Moved
+    pub fn count_and_total(&self) -> CashCountAndTotal
         ensures { result ≡ self.now.moved }
     {
         self.moved
@@ -158,16 +158,16 @@ impl<W: Write> Visitor<MoveRow, LinesFault> for CashLines<'_, W> {
     ghost use Rattle.std.proofs.Common.{◌∙◌};
     ghost use Rattle.std.specs.Io.KnownBytes.{Appends};
     ghost use Rattle.brk_changes.specs.Rows.{abstract_move_row};
-    ghost use Rattle.brk_model.specs.Statement.{text_line_of_cash_row};
+    ghost use Rattle.brk_model.specs.Statement.{cash_row_line};
     ghost use Rattle.brk_report_lines.specs.Written.{FailsWithinLines, line_with_line_feed};
 
     ghost ready = { λ _. Unit {0} };
 
     ghost leads = { λ p q. q.writer.ghost_name ≡ p.writer.ghost_name };
 
-    ghost takes = { λ p r q. (q.moved.total ≡ p.moved.total +ℤ r.amount) × (q.moved.count ≡ p.moved.count + 1) × Appends (W.contents p.writer.now) (W.contents q.writer.now) (line_with_line_feed (text_line_of_cash_row (abstract_move_row r))) };
+    ghost takes = { λ p r q. (q.moved.total ≡ p.moved.total +ℤ r.amount) × (q.moved.count ≡ p.moved.count + 1) × Appends (W.contents p.writer.now) (W.contents q.writer.now) (line_with_line_feed (cash_row_line (abstract_move_row r))) };
 
-    ghost stops = { λ p r e q. FailsWithinLines (text_line_of_cash_row (abstract_move_row r) ∷ []) (W.contents p.writer.now) (W.contents q.writer.now) e };
+    ghost stops = { λ p r e q. FailsWithinLines (cash_row_line (abstract_move_row r) ∷ []) (W.contents p.writer.now) (W.contents q.writer.now) e };
 
     /// Writes the line of the cash row, counts it and adds its amount. Fails with `Desk` or
     /// `Write`; the count and the total are then unchanged.
@@ -177,7 +177,7 @@ impl<W: Write> Visitor<MoveRow, LinesFault> for CashLines<'_, W> {
             return Err(LinesFault::Desk(Fault::Store));
         };
         write_line(self.writer, item.line(self.alloc))?;
-        self.moved = Moved { count, total };
+        self.moved = CashCountAndTotal { count, total };
         Ok(())
     }
 

@@ -8,8 +8,8 @@ use Rattle.brk_model.specs.Statement.{text_of_lines}
 use Rattle.brk_report_lines.specs.Written.{line_with_line_feed}
 
 -- The first `k` bytes of the lines are some of the lines whole and a prefix of the next one.
-abbrev pub IsCut : List Text → ℕ → Type 0
-IsCut lines k = (first : List Text) × (next : Text) × (rest : List Text) × (j : ℕ) × (first ++ next ∷ rest ≡ lines) × (take k (text_of_lines lines) ≡ text_of_lines first ++ take j (line_with_line_feed next))
+abbrev pub IsLinesAndPart : List Text → ℕ → Type 0
+IsLinesAndPart lines k = (first : List Text) × (next : Text) × (rest : List Text) × (j : ℕ) × (first ++ next ∷ rest ≡ lines) × (take k (text_of_lines lines) ≡ text_of_lines first ++ take j (line_with_line_feed next))
 
 within : (n k : ℕ) → nat_le k n ≡ true → k ≤ n
 within n k h = grind (arith, nat_tests)
@@ -17,11 +17,11 @@ within n k h = grind (arith, nat_tests)
 beyond : (n k : ℕ) → nat_le k n ≡ false → k ≡ n + (k - n)
 beyond n k h = grind (arith, nat_tests)
 
-pub cut : (line : Text) (lines : List Text) (k : ℕ) → IsCut (line ∷ lines) k
+pub cut : (line : Text) (lines : List Text) (k : ℕ) → IsLinesAndPart (line ∷ lines) k
 cut line [] k = ([], line, [], k, refl, ap (take k) (append-nil (line_with_line_feed line)))
 cut line (l ∷ ls) k = go (cut l ls (k - length (line_with_line_feed line))) (nat_le k (length (line_with_line_feed line))) refl
   where
-    go : IsCut (l ∷ ls) (k - length (line_with_line_feed line)) → (b : Bool) → nat_le k (length (line_with_line_feed line)) ≡ b → IsCut (line ∷ l ∷ ls) k
+    go : IsLinesAndPart (l ∷ ls) (k - length (line_with_line_feed line)) → (b : Bool) → nat_le k (length (line_with_line_feed line)) ≡ b → IsLinesAndPart (line ∷ l ∷ ls) k
     go more true h = ([], line, l ∷ ls, k, refl, take-append-le k (line_with_line_feed line) (text_of_lines (l ∷ ls)) (within (length (line_with_line_feed line)) k h))
     go more false h = (
       line ∷ more.0,

@@ -7,7 +7,7 @@ ghost use Rattle.brk_model.specs.Statement.{left_aligned_text, right_aligned_tex
 use brk_money::Fault;
 
 // Appends `count` spaces, at most 22. Fails with `Memory` only.
-fn put_spaces(out: &mut Vec<u8>, count: usize) -> Result<(), Fault>
+fn append_spaces(out: &mut Vec<u8>, count: usize) -> Result<(), Fault>
     requires { count ≤ 22 }
     ensures ok { OnOk result (out.new.items ≡ out.old.items ++ replicate count 32) }
     ensures fault { OnErr result (result ≡ Err Memory) }
@@ -18,22 +18,22 @@ fn put_spaces(out: &mut Vec<u8>, count: usize) -> Result<(), Fault>
 }
 
 /// Appends `text`, then spaces up to a width of `places` bytes. Fails with `Memory` only.
-pub fn put_left_aligned(out: &mut Vec<u8>, places: usize, text: &[u8]) -> Result<(), Fault>
+pub fn append_left_aligned(out: &mut Vec<u8>, places: usize, text: &[u8]) -> Result<(), Fault>
     requires { places ≤ 22 }
     ensures ok { OnOk result (out.new.items ≡ out.old.items ++ left_aligned_text places text.now) }
     ensures fault { OnErr result (result ≡ Err Memory) }
 {
     out.extend_from_slice(text)?;
-    put_spaces(out, places.saturating_sub(text.len()))
+    append_spaces(out, places.saturating_sub(text.len()))
 }
 
 /// Appends spaces, then `text`, to a width of `places` bytes. Fails with `Memory` only.
-pub fn put_right_aligned(out: &mut Vec<u8>, places: usize, text: &[u8]) -> Result<(), Fault>
+pub fn append_right_aligned(out: &mut Vec<u8>, places: usize, text: &[u8]) -> Result<(), Fault>
     requires { places ≤ 22 }
     ensures ok { OnOk result (out.new.items ≡ out.old.items ++ right_aligned_text places text.now) }
     ensures fault { OnErr result (result ≡ Err Memory) }
 {
-    put_spaces(out, places.saturating_sub(text.len()))?;
+    append_spaces(out, places.saturating_sub(text.len()))?;
     out.extend_from_slice(text)?;
     Ok(())
 }

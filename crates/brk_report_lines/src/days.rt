@@ -5,20 +5,20 @@ ghost use Rattle.std.specs.Prelude.{◌≡◌, ◌+◌, ◌-◌, ◌*◌, ◌<�
 use brk_money::{Day, Stamp};
 
 // The number of milliseconds of a day.
-const DAY: i64 = 86_400_000;
+const MILLISECONDS_PER_DAY: i64 = 86_400_000;
 
 /// Returns the first stamp of a day.
 pub fn first_stamp_of_day(day: Day) -> Stamp
     ensures { result ≡ day * 86400000 }
 {
-    Stamp::nearest(i64::from(day.get()) * DAY)
+    Stamp::nearest(i64::from(day.get()) * MILLISECONDS_PER_DAY)
 }
 
 /// Returns the last stamp of a day.
 pub fn last_stamp_of_day(day: Day) -> Stamp
     ensures { result ≡ day * 86400000 + 86399999 }
 {
-    Stamp::nearest(i64::from(day.get()) * DAY + (DAY - 1))
+    Stamp::nearest(i64::from(day.get()) * MILLISECONDS_PER_DAY + (MILLISECONDS_PER_DAY - 1))
 }
 
 /// Returns the last stamp before a day, or `None` for day 0.
@@ -28,5 +28,5 @@ pub fn last_stamp_before_day(day: Day) -> Option<Stamp>
     if day.get() == 0 {
         return None;
     }
-    Some(Stamp::nearest(i64::from(day.get()) * DAY - 1))
+    Some(Stamp::nearest(i64::from(day.get()) * MILLISECONDS_PER_DAY - 1))
 }

@@ -7,7 +7,7 @@ ghost use Rattle.brk_money.specs.declared.fault.Fault.TheVariants.{Memory};
 ghost use Rattle.brk_model.specs.Statement as statement;
 ghost use Rattle.brk_report_lines.specs.Written.{line_with_line_feed};
 
-use crate::columns::{put_left_aligned, put_right_aligned};
+use crate::columns::{append_left_aligned, append_right_aligned};
 use brk_money::{Day, Fault, Id, Wide, write_cents, write_day};
 use brk_ref::Name;
 use itoa::Buffer;
@@ -56,9 +56,9 @@ pub fn amount_line(alloc: Global, word: &str, amount: Wide) -> Result<Vec<u8>, F
     let mut cents = Vec::new(alloc);
     write_cents(&mut cents, amount)?;
     let mut line = Vec::new(alloc);
-    put_left_aligned(&mut line, 10, word.as_bytes())?;
+    append_left_aligned(&mut line, 10, word.as_bytes())?;
     line.push(b' ')?;
-    put_right_aligned(&mut line, 22, cents.as_slice())?;
+    append_right_aligned(&mut line, 22, cents.as_slice())?;
     line.push(b'\n')?;
     Ok(line)
 }

@@ -6,15 +6,15 @@ ghost use Rattle.brk_changes.specs.Rows.{abstract_holding_row, abstract_move_row
 ghost use Rattle.brk_model.specs.Statement as statement;
 ghost use Rattle.brk_report_lines.specs.Written.{line_with_line_feed};
 
-use crate::columns::{put_left_aligned, put_right_aligned};
+use crate::columns::{append_left_aligned, append_right_aligned};
 use brk_changes::{HoldingRow, MoveRow};
 use brk_money::{Fault, Wide, day_of, write_cents, write_day};
 use itoa::Buffer;
 use std::alloc::Global;
 
 /// Returns the line of a cash row: its day, its amount, and its text.
-pub fn cash_line(alloc: Global, row: &MoveRow) -> Result<Vec<u8>, Fault>
-    ensures line { IfOk result (λ line. line.items ≡ line_with_line_feed (statement.text_line_of_cash_row (abstract_move_row row.now))) }
+pub fn cash_row_line(alloc: Global, row: &MoveRow) -> Result<Vec<u8>, Fault>
+    ensures line { IfOk result (λ line. line.items ≡ line_with_line_feed (statement.cash_row_line (abstract_move_row row.now))) }
     ensures fault { OnErr result (result ≡ Err Memory) }
 {
     let mut cents = Vec::new(alloc);
@@ -22,7 +22,7 @@ pub fn cash_line(alloc: Global, row: &MoveRow) -> Result<Vec<u8>, Fault>
     let mut line = Vec::new(alloc);
     write_day(&mut line, day_of(row.stamp))?;
     line.push(b' ')?;
-    put_right_aligned(&mut line, 22, cents.as_slice())?;
+    append_right_aligned(&mut line, 22, cents.as_slice())?;
     line.push(b' ')?;
     line.extend_from_slice(row.name.as_bytes())?;
     line.push(b'\n')?;
@@ -40,13 +40,13 @@ pub fn lot_line(alloc: Global, row: &HoldingRow) -> Result<Vec<u8>, Fault>
     let mut trade = Buffer::new();
     let mut qty = Buffer::new();
     let mut line = Vec::new(alloc);
-    put_left_aligned(&mut line, 15, row.symbol.as_str().as_bytes())?;
+    append_left_aligned(&mut line, 15, row.symbol.as_str().as_bytes())?;
     line.push(b' ')?;
-    put_right_aligned(&mut line, 13, trade.format(row.trade.get()).as_bytes())?;
+    append_right_aligned(&mut line, 13, trade.format(row.trade.get()).as_bytes())?;
     line.push(b' ')?;
-    put_right_aligned(&mut line, 11, qty.format(row.qty).as_bytes())?;
+    append_right_aligned(&mut line, 11, qty.format(row.qty).as_bytes())?;
     line.push(b' ')?;
-    put_right_aligned(&mut line, 10, price.as_slice())?;
+    append_right_aligned(&mut line, 10, price.as_slice())?;
     line.push(b'\n')?;
     Ok(line)
 }

@@ -16,7 +16,7 @@ use Rattle.sqlite_sql.specs.Term.{Term, eval_all}
 use Rattle.sqlite_sql.specs.Query.{Query, page}
 use Rattle.sqlite_rules.proofs.ListLemmas.{all_has}
 use Rattle.sqlite.specs.Table.{Table}
-use Rattle.brk_sql.specs.Rows.{cells_in_column_order, same_rowid, IsStrictlyAscending, TreeHoldsRecords, is_ascending_from}
+use Rattle.brk_sql.specs.Rows.{cells_in_column_order, has_same_rowid, IsStrictlyAscending, TreeHoldsRecords, is_strictly_ascending_above}
 use Rattle.brk_sql.proofs.Decode.{filter_true}
 use Rattle.brk_sql.proofs.Order.{map_on}
 use Rattle.brk_sql.proofs.Pick.{Picks, Keyed, Apart, keyed_permuted, apart_permuted, int_is, sorted_by}
@@ -24,7 +24,7 @@ use Rattle.sqlite_rules.specs.Edit.{id_in}
 use Rattle.sqlite_rules.specs.Lists.{Has}
 use Rattle.sqlite_schema.specs.Rules.{differ}
 use Rattle.sqlite.specs.Effect.{Database, IsDatabase}
-use Rattle.brk_sql.specs.Desk.{Desk, IsTableAt}
+use Rattle.brk_sql.specs.Desk.{ProgramTables, IsTableAt}
 use Rattle.brk_sql.proofs.Order.{ordered, has_permuted, rises_from_sorted}
 use Rattle.brk_sql.proofs.Unique.{unique_rows}
 use Rattle.brk_sql.proofs.Values.{differ_ints}
@@ -41,7 +41,7 @@ below_all : (a b : ℤ) (xs : List ℤ) → int_cmp a b ≡ Less → AllByRecurs
 below_all a b [] low all = tt
 below_all a b (x ∷ xs) low all = (int_cmp_total.trans a b x low all.0, below_all a b xs low all.1)
 
-climbs_above : (last : ℤ) (xs : List ℤ) → is_ascending_from (Some last) xs ≡ true → AllByRecursion (λ y. int_cmp last y ≡ Less) xs × IsStrictlyAscending int_cmp xs
+climbs_above : (last : ℤ) (xs : List ℤ) → is_strictly_ascending_above (Some last) xs ≡ true → AllByRecursion (λ y. int_cmp last y ≡ Less) xs × IsStrictlyAscending int_cmp xs
 climbs_above last [] h = (tt, tt)
 climbs_above last (x ∷ xs) h =
     let both = and_parts _ _ h in
@@ -49,7 +49,7 @@ climbs_above last (x ∷ xs) h =
     let first = less _ both.0 in
     ((first, below_all last x xs first more.0), more)
 
-pub climbs_rise : (xs : List ℤ) → is_ascending_from None xs ≡ true → IsStrictlyAscending int_cmp xs
+pub climbs_rise : (xs : List ℤ) → is_strictly_ascending_above None xs ≡ true → IsStrictlyAscending int_cmp xs
 climbs_rise [] h = tt
 climbs_rise (x ∷ xs) h = climbs_above x xs h
 
@@ -83,7 +83,7 @@ rowids_climb (r ∷ rows) (n ∷ ids) h up =
     let later = rowids_climb rows ids more up.1 in
     ((subst (λ v. IsTrue (is_int v)) (sym here) refl, later.0), (each r n here rows ids more up.0, later.1))
   where
-    each : (r : Row) (n : ℤ) → rowid r ≡ Int n → (rows : List Row) (ids : List ℤ) → map rowid rows ≡ map Int ids → AllByRecursion (λ y. int_cmp n y ≡ Less) ids → AllByRecursion (λ s. same_rowid r s ≡ false) rows
+    each : (r : Row) (n : ℤ) → rowid r ≡ Int n → (rows : List Row) (ids : List ℤ) → map rowid rows ≡ map Int ids → AllByRecursion (λ y. int_cmp n y ≡ Less) ids → AllByRecursion (λ s. has_same_rowid r s ≡ false) rows
     each r n is [] ids h low = tt
     each r n is (s ∷ rows) [] h low = absurd (let e = h in cc)
     each r n is (s ∷ rows) (m ∷ ids) h low =
@@ -97,7 +97,7 @@ unfolding IsDistinct
 table_apart [] up = tt
 table_apart (r ∷ rows) up = (each rows up.0, table_apart rows up.1)
   where
-    each : (ys : List Row) → AllByRecursion (λ y. value_cmp (rowid r) (rowid y) ≡ Less) ys → AllByRecursion (λ y. same_rowid r y ≡ false) ys
+    each : (ys : List Row) → AllByRecursion (λ y. value_cmp (rowid r) (rowid y) ≡ Less) ys → AllByRecursion (λ y. has_same_rowid r y ≡ false) ys
     each [] all = tt
     each (y ∷ ys) all = (ap is_eq all.0, each ys all.1)
 
@@ -146,7 +146,7 @@ module _ {X : Type 0} (table : Table) (encode : X → Row) (cmp : X → X → Or
 
 -- ---- a table of a sound database, read by its key
 
-module _ {W T : Type 0} (desk : Desk W T) (w : W) (total : IsTotalOrder (desk.order w)) (once : IsRowidKey (desk.shape w) (desk.encode w) (desk.order w) ⊎ IsUniqueKey (desk.shape w) (desk.encode w) (desk.order w))
+module _ {W T : Type 0} (desk : ProgramTables W T) (w : W) (total : IsTotalOrder (desk.order w)) (once : IsRowidKey (desk.shape w) (desk.encode w) (desk.order w) ⊎ IsUniqueKey (desk.shape w) (desk.encode w) (desk.order w))
     (db : Database) (sound : IsDatabase db) (at tree : ℕ) (h : IsTableAt db.schema (desk.shape w tree) at) (keyed : Keyed (db.trees tree)) (apart : Apart (db.trees tree)) where
   abbrev rows : List Row
   rows = db.trees tree
@@ -154,7 +154,7 @@ module _ {W T : Type 0} (desk : Desk W T) (w : W) (total : IsTotalOrder (desk.or
   same_tree : db.trees (desk.shape w tree).tree ≡ rows
   same_tree = ap db.trees (desk.placed w tree)
 
-  one_key : (r s : Row) → Has rows r → Has rows s → same_rowid r s ≡ false → (x y : desk.Item w) → cells_in_column_order (desk.shape w tree) r ≡ desk.encode w x → cells_in_column_order (desk.shape w tree) s ≡ desk.encode w y → is_eq (desk.order w x y) ≡ false
+  one_key : (r s : Row) → Has rows r → Has rows s → has_same_rowid r s ≡ false → (x y : desk.Item w) → cells_in_column_order (desk.shape w tree) r ≡ desk.encode w x → cells_in_column_order (desk.shape w tree) s ≡ desk.encode w y → is_eq (desk.order w x y) ≡ false
   one_key r s hr hs other_id x y e f = elim once [
     | inl by_rowid ↦ by_rowid tree r s x y e f ∙ other_id
     | inr by_key ↦
@@ -176,7 +176,7 @@ module _ {W T : Type 0} (desk : Desk W T) (w : W) (total : IsTotalOrder (desk.or
       let more : map (cells_in_column_order (desk.shape w tree)) rs ≡ map (desk.encode w) ys = cc in
       (each r y (mine r (inl refl)) here rs ys (λ s k. mine s (inr k)) others.0 more, untied rs ys (λ s k. mine s (inr k)) others.1 more)
     where
-      each : (r : Row) (x : desk.Item w) → Has rows r → cells_in_column_order (desk.shape w tree) r ≡ desk.encode w x → (rs : List Row) (ys : List (desk.Item w)) → ((s : Row) → Has rs s → Has rows s) → AllByRecursion (λ s. same_rowid r s ≡ false) rs
+      each : (r : Row) (x : desk.Item w) → Has rows r → cells_in_column_order (desk.shape w tree) r ≡ desk.encode w x → (rs : List Row) (ys : List (desk.Item w)) → ((s : Row) → Has rs s → Has rows s) → AllByRecursion (λ s. has_same_rowid r s ≡ false) rs
           → map (cells_in_column_order (desk.shape w tree)) rs ≡ map (desk.encode w) ys → AllByRecursion (λ y. is_eq (desk.order w x y) ≡ false) ys
       each r x hr here [] [] mine low e = tt
       each r x hr here [] (y ∷ ys) mine low e = absurd (let k = e in cc)

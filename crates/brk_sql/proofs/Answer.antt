@@ -3,12 +3,12 @@ use Rattle.std.proofs.Common.{◌≡◌, ℕ, zero, suc, List, [], ◌∷◌, ma
 use Rattle.sqlite_value.specs.Order.{Row}
 use Rattle.sqlite_sql.specs.Query.{limited}
 use Rattle.sqlite.specs.State.{State, Shown}
-use Rattle.brk_sql.specs.Desk.{Desk, TablesSatisfy}
+use Rattle.brk_sql.specs.Desk.{ProgramTables, TablesSatisfy}
 use Rattle.brk_sql.specs.Model.{IsTransactionStep, IsUnchangedAndSatisfies, SelectsRows}
 use Rattle.brk_sql.proofs.Inside.{step_read}
 use Rattle.brk_sql.proofs.Decode.{all_are, first_is}
 
-module _ {W T X Y V E : Type 0} (desk : Desk W T) (encode : X → Row) (decode : Row → X) (back : (x : X) → decode (encode x) ≡ x) (model : Y → X)
+module _ {W T X Y V E : Type 0} (desk : ProgramTables W T) (encode : X → Row) (decode : Row → X) (back : (x : X) → decode (encode x) ≡ x) (model : Y → X)
     (sql : List ℕ) (params : Row) (old new : State) (v : V) (rows_of : V → List Row) (given : List Row) (same : given ≡ rows_of v) (step : IsTransactionStep {V = V} {E = E} old new (Ok v) (λ v. SelectsRows sql params (rows_of v))) where
   -- all that is shown
   pub look_all : {G F : Type 0} (items : G → List Y) (out : Result G F) → IfOk out (λ all. map (λ y. encode (model y)) (items all) ≡ given)

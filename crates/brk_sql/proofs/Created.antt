@@ -6,7 +6,7 @@ use Rattle.sqlite_schema.specs.declared.schema.Schema.{Schema}
 use Rattle.sqlite_schema.specs.declared.schema.Table.{Table}
 use Rattle.sqlite_schema.specs.Names.{same_name, table_named, index_named, view_named}
 use Rattle.sqlite_catalog.specs.Change.{created, next_tree, is_used, KeepsRows}
-use Rattle.brk_sql.specs.Desk.{IsTableAt, CreatesTableOfShape, has_no_actions}
+use Rattle.brk_sql.specs.Desk.{IsTableAt, CreatesTableOfShape, has_no_writing_foreign_keys}
 use Rattle.std.specs.List.{list_all}
 use Rattle.std.proofs.Common.{append_assoc}
 use Rattle.sqlite_tied.specs.Compute.{everything}
@@ -119,7 +119,7 @@ record Comes (old new : Database) (shape : ℕ → Table) : Type 0 where
   apart : AllByRecursion (λ t. t.tree ≢ tree) old.schema.tables
   more : List Table
   tables : new.schema.tables ≡ old.schema.tables ++ more
-  inert : list_all has_no_actions more ≡ true
+  inert : list_all has_no_writing_foreign_keys more ≡ true
 
 obeyed : (old new : Database) (shape : ℕ → Table) → Comes old new shape → IsDatabase new → CreatesTableOfShape old new shape
 obeyed old new shape h sound = record {
@@ -127,7 +127,7 @@ obeyed old new shape h sound = record {
   at = h.at;
   stands = h.stands;
   empty = h.empty;
-  kept = h.kept;
+  keeps_positions = h.kept;
   rows = h.rows;
   apart = h.apart;
   more = h.more;
@@ -137,7 +137,7 @@ obeyed old new shape h sound = record {
 }
 
 -- the text defines this table, at tree 0, and makes it at the next one
-module _ (text : List ℕ) (shape : ℕ → Table) (defined : table_defined_by text ≡ Ok (shape 0)) (moved : (tree : ℕ) → record (shape 0) { tree = tree } ≡ shape tree) (own : same_name (shape 0).name (shape 0).name ≡ true) (still : has_no_actions (shape 0) ≡ true) where
+module _ (text : List ℕ) (shape : ℕ → Table) (defined : table_defined_by text ≡ Ok (shape 0)) (moved : (tree : ℕ) → record (shape 0) { tree = tree } ≡ shape tree) (own : same_name (shape 0).name (shape 0).name ≡ true) (still : has_no_writing_foreign_keys (shape 0) ≡ true) where
   makes_one : (schema after : Schema) (db trees : Trees) → CreatesTable schema text db after trees → Comes (record { schema = schema; trees = db }) (record { schema = after; trees = trees }) shape
   makes_one schema after db trees made =
       let same : made.table ≡ shape 0 = same_value (sym made.defined ∙ defined) in
@@ -174,13 +174,13 @@ joined : {X : Type 0} (p : X → Bool) (xs : List X) (x : X) → list_all p xs �
 joined p [] x all one = rw one
 joined p (y ∷ xs) x all one = let both = Rattle.brk_sql.proofs.Effects.split (p y) (list_all p xs) all in rw (both.0, joined p xs x both.1 one)
 
-sequence_idle : (t : Table) → table_defined_by sequence_text ≡ Ok t → has_no_actions t ≡ true
+sequence_idle : (t : Table) → table_defined_by sequence_text ≡ Ok t → has_no_writing_foreign_keys t ≡ true
 unfolding everything
-sequence_idle t h = let e : _ ≡ t = same_value h in subst (λ k. has_no_actions k ≡ true) e refl
+sequence_idle t h = let e : _ ≡ t = same_value h in subst (λ k. has_no_writing_foreign_keys k ≡ true) e refl
 
 -- a second table leaves the first
 makes_more : (text : List ℕ) (shape : ℕ → Table) (placed : (tree : ℕ) → (shape tree).tree ≡ tree) (old mid new : Database) → Comes old mid shape → (table : Table) → mid.schema.tables ≡ old.schema.tables ++ table ∷ []
-    → ((t : Table) → table_defined_by text ≡ Ok t → has_no_actions t ≡ true) → CreatesTable mid.schema text mid.trees new.schema new.trees → Comes old new shape
+    → ((t : Table) → table_defined_by text ≡ Ok t → has_no_writing_foreign_keys t ≡ true) → CreatesTable mid.schema text mid.trees new.schema new.trees → Comes old new shape
 makes_more text shape placed old mid new one table tables idle made =
     let more : new.schema.tables ≡ mid.schema.tables ++ (record made.table { tree = next_tree mid.schema }) ∷ [] = ap (λ (s : Schema). s.tables) made.is in
     record {
@@ -194,12 +194,12 @@ makes_more text shape placed old mid new one table tables idle made =
       apart = one.apart;
       more = one.more ++ (record made.table { tree = next_tree mid.schema }) ∷ [];
       tables = more ∙ ap (λ (l : List Table). l ++ (record made.table { tree = next_tree mid.schema }) ∷ []) one.tables ∙ append_assoc old.schema.tables one.more _;
-      inert = joined has_no_actions one.more _ one.inert (idle made.table made.defined);
+      inert = joined has_no_writing_foreign_keys one.more _ one.inert (idle made.table made.defined);
     }
 
 module _ (text : List ℕ) (shape : ℕ → Table) (defined : table_defined_by text ≡ Ok (shape 0)) (moved : (tree : ℕ) → record (shape 0) { tree = tree } ≡ shape tree) (placed : (tree : ℕ) → (shape tree).tree ≡ tree)
     (own : same_name (shape 0).name (shape 0).name ≡ true) (p : Parsed) (def : CreateTable) (is : first text ≡ Ok p) (statement : p.statement ≡ written.CreateTable def) (untimed : p.formats ≡ []) (whole : slice_range text p.start p.end ≡ text)
-    (table : define.table [] def ≡ Ok (shape 0)) (still : has_no_actions (shape 0) ≡ true) (fits : (length (shape 0).computed == length (shape 0).stamps.places && not def.resolves) ≡ true) (fresh : def.if_missing ≡ false) where
+    (table : define.table [] def ≡ Ok (shape 0)) (still : has_no_writing_foreign_keys (shape 0) ≡ true) (fits : (length (shape 0).computed == length (shape 0).stamps.places && not def.resolves) ≡ true) (fresh : def.if_missing ≡ false) where
   pub makes : (old new : State) (count : ℕ) → Executes text [] old new (Ok count) → CreatesTableOfShape old.now new.now shape
   unfolding ExecutesIn
   makes old new count h =

@@ -5,7 +5,7 @@ use Rattle.sqlite_trees.specs.Tree.{Trees}
 use Rattle.sqlite_catalog.specs.Change.{KeepsRows}
 use Rattle.sqlite_schema.specs.declared.schema.Table.{Table}
 use Rattle.sqlite.specs.Effect.{Database, IsDatabase}
-use Rattle.brk_sql.specs.Desk.{Desk, IsTableAt, CreatesTableOfShape, CreatesEachTable, has_no_actions, has_no_actions_at, HasNoActionsAt, CreatesTablesWith}
+use Rattle.brk_sql.specs.Desk.{ProgramTables, IsTableAt, CreatesTableOfShape, CreatesEachTable, has_no_writing_foreign_keys, has_no_writing_foreign_keys_if_at, HasNoWritingForeignKeysAt, CreatesTablesWithRecords}
 use Rattle.brk_sql.proofs.Created.{all_at}
 use Rattle.brk_sql.proofs.Effects.{split}
 use Rattle.brk_sql.proofs.Kept.{none_held}
@@ -18,19 +18,19 @@ all_join : {X : Type 0} (p : X → Bool) (xs ys : List X) → list_all p xs ≡ 
 all_join p [] ys a b = b
 all_join p (x ∷ xs) ys a b = let both = split (p x) (list_all p xs) a in rw (both.0, all_join p xs ys both.1 b)
 
-calm_of_inert : (tree : ℕ) (tables : List Table) → list_all has_no_actions tables ≡ true → list_all (has_no_actions_at tree) tables ≡ true
+calm_of_inert : (tree : ℕ) (tables : List Table) → list_all has_no_writing_foreign_keys tables ≡ true → list_all (has_no_writing_foreign_keys_if_at tree) tables ≡ true
 calm_of_inert tree [] h = refl
-calm_of_inert tree (t ∷ tables) h = let both = split (has_no_actions t) (list_all has_no_actions tables) h in rw (both.0, or_true (not (t.tree == tree)), calm_of_inert tree tables both.1)
+calm_of_inert tree (t ∷ tables) h = let both = split (has_no_writing_foreign_keys t) (list_all has_no_writing_foreign_keys tables) h in rw (both.0, or_true (not (t.tree == tree)), calm_of_inert tree tables both.1)
 
-calm_of_apart : (tables : List Table) (tree : ℕ) → AllByRecursion (λ t. t.tree ≢ tree) tables → list_all (has_no_actions_at tree) tables ≡ true
+calm_of_apart : (tables : List Table) (tree : ℕ) → AllByRecursion (λ t. t.tree ≢ tree) tables → list_all (has_no_writing_foreign_keys_if_at tree) tables ≡ true
 calm_of_apart [] tree apart = refl
 calm_of_apart (t ∷ tables) tree apart = rw (ne_eqb t.tree tree apart.0, calm_of_apart tables tree apart.1)
 
-pub still_calm : {shape : ℕ → Table} (old new : Database) → CreatesTableOfShape old new shape → (tree : ℕ) → HasNoActionsAt old.schema tree → HasNoActionsAt new.schema tree
-still_calm old new m tree calm = rw (m.tables) (all_join (has_no_actions_at tree) old.schema.tables m.more calm (calm_of_inert tree m.more m.inert))
+pub still_calm : {shape : ℕ → Table} (old new : Database) → CreatesTableOfShape old new shape → (tree : ℕ) → HasNoWritingForeignKeysAt old.schema tree → HasNoWritingForeignKeysAt new.schema tree
+still_calm old new m tree calm = rw (m.tables) (all_join (has_no_writing_foreign_keys_if_at tree) old.schema.tables m.more calm (calm_of_inert tree m.more m.inert))
 
-pub new_calm : {shape : ℕ → Table} (old new : Database) (m : CreatesTableOfShape old new shape) → HasNoActionsAt new.schema m.tree
-new_calm old new m = rw (m.tables) (all_join (has_no_actions_at m.tree) old.schema.tables m.more (calm_of_apart old.schema.tables m.tree m.apart) (calm_of_inert m.tree m.more m.inert))
+pub new_calm : {shape : ℕ → Table} (old new : Database) (m : CreatesTableOfShape old new shape) → HasNoWritingForeignKeysAt new.schema m.tree
+new_calm old new m = rw (m.tables) (all_join (has_no_writing_foreign_keys_if_at m.tree) old.schema.tables m.more (calm_of_apart old.schema.tables m.tree m.apart) (calm_of_inert m.tree m.more m.inert))
 
 pub all_left : {X : Type 0} (P : X → Type 0) (xs ys : List X) → AllByRecursion P (xs ++ ys) → AllByRecursion P xs
 all_left P [] ys all = tt
@@ -49,19 +49,19 @@ chosen (inl a) x y = x
 chosen (inr b) x y = y
 
 -- those of In are made
-pub record Part {W T : Type 0} (desk : Desk W T) (In : W → Type 0) (old new : Database) : Type 0 where
+pub record Part {W T : Type 0} (desk : ProgramTables W T) (In : W → Type 0) (old new : Database) : Type 0 where
   pub tree : W → ℕ
   pub place : W → ℕ
   pub stands : (w : W) → In w → IsTableAt new.schema (desk.shape w (tree w)) (place w)
   pub apart : (v w : W) → In v → In w → tree v ≡ tree w → v ≡ w
-  pub calm : (w : W) → In w → HasNoActionsAt new.schema (tree w)
+  pub calm : (w : W) → In w → HasNoWritingForeignKeysAt new.schema (tree w)
   pub empty : (w : W) → In w → new.trees (tree w) ≡ []
   pub more : List Table
   pub tables : new.schema.tables ≡ old.schema.tables ++ more
   pub rows : KeepsRows old.schema.tables old.trees new.trees
   pub fresh : (w : W) → In w → AllByRecursion (λ t. t.tree ≢ tree w) old.schema.tables
 
-module _ {W T : Type 0} (desk : Desk W T) where
+module _ {W T : Type 0} (desk : ProgramTables W T) where
   pub part_none : (db : Database) → Part desk (λ _. ⊥) db db
   part_none db = record {
     tree = λ _. 0;
@@ -100,7 +100,7 @@ module _ {W T : Type 0} (desk : Desk W T) where
         stood : (v : W) (s : (v ≡ w) ⊎ (v ≢ w)) → (v ≡ w) ⊎ In v → IsTableAt new.schema (desk.shape v (chosen s m.tree (p.tree v))) (chosen s m.at (p.place v))
         stood v (inl e) h = subst (λ u. IsTableAt new.schema (desk.shape u m.tree) m.at) (sym e) m.stands
         stood v (inr ne) (inl e) = absurd (ne e)
-        stood v (inr ne) (inr h) = m.kept _ _ (p.stands v h)
+        stood v (inr ne) (inr h) = m.keeps_positions _ _ (p.stands v h)
 
         parted : (v u : W) (s : (v ≡ w) ⊎ (v ≢ w)) (r : (u ≡ w) ⊎ (u ≢ w)) → (v ≡ w) ⊎ In v → (u ≡ w) ⊎ In u → chosen s m.tree (p.tree v) ≡ chosen r m.tree (p.tree u) → v ≡ u
         parted v u (inl e) (inl f) h k same = e ∙ sym f
@@ -112,7 +112,7 @@ module _ {W T : Type 0} (desk : Desk W T) where
         parted v u (inr e) (inr f) (inr h) (inl k) same = absurd (f k)
         parted v u (inr e) (inr f) (inr h) (inr k) same = p.apart v u h k same
 
-        calmed : (v : W) (s : (v ≡ w) ⊎ (v ≢ w)) → (v ≡ w) ⊎ In v → HasNoActionsAt new.schema (chosen s m.tree (p.tree v))
+        calmed : (v : W) (s : (v ≡ w) ⊎ (v ≢ w)) → (v ≡ w) ⊎ In v → HasNoWritingForeignKeysAt new.schema (chosen s m.tree (p.tree v))
         calmed v (inl e) h = new_calm mid new m
         calmed v (inr ne) (inl e) = absurd (ne e)
         calmed v (inr ne) (inr h) = still_calm mid new m (p.tree v) (p.calm v h)
@@ -141,7 +141,7 @@ module _ {W T : Type 0} (desk : Desk W T) where
   part_each split (w ∷ ws) In old mid new p made = part_each split ws (OrIn w In) old made.0 new (part_more In old mid made.0 p w (split w) made.1) made.2
 
   -- all of them are made
-  pub founded : (In : W → Type 0) (old new : Database) → Part desk In old new → IsDatabase new → ((w : W) → In w) → (t : T) → ((w : W) → desk.list w t ≡ []) → CreatesTablesWith desk t old new
+  pub founded : (In : W → Type 0) (old new : Database) → Part desk In old new → IsDatabase new → ((w : W) → In w) → (t : T) → ((w : W) → desk.list w t ≡ []) → CreatesTablesWithRecords desk t old new
   founded In old new p sound all t none = record {
     tree = p.tree;
     tables = record {

@@ -6,7 +6,7 @@ use Rattle.sqlite.specs.Effect.{Database}
 use Rattle.sqlite_rules.specs.Lists.{Has}
 use Rattle.sqlite_rules.proofs.ListLemmas.{all_has, all_from}
 use Rattle.brk_sql.specs.Rows.{TreeHoldsRecords}
-use Rattle.brk_sql.specs.Desk.{Desk, IsTableAt, CreatesTableOfShape, CreatesEachTable, HasNoActionsAt, HasTables, HasSelectedTables, PreservesAllTables}
+use Rattle.brk_sql.specs.Desk.{ProgramTables, IsTableAt, CreatesTableOfShape, CreatesEachTable, HasNoWritingForeignKeysAt, HasTables, HasSelectedTables, PreservesAllTables}
 use Rattle.brk_sql.proofs.Created.{all_at}
 use Rattle.brk_sql.proofs.Founded.{all_left, still_calm, new_calm, OrIn, Among}
 use Rattle.brk_sql.proofs.Kept.{none_held}
@@ -20,7 +20,7 @@ pub record Grows (old new : Database) : Type 0 where
   pub more : List Table
   pub tables : new.schema.tables ≡ old.schema.tables ++ more
   pub rows : AllByRecursion (λ t. new.trees t.tree ≡ old.trees t.tree) old.schema.tables
-  pub calm : (tree : ℕ) → HasNoActionsAt old.schema tree → HasNoActionsAt new.schema tree
+  pub calm : (tree : ℕ) → HasNoWritingForeignKeysAt old.schema tree → HasNoWritingForeignKeysAt new.schema tree
 
 pub grows_none : (db : Database) → Grows db db
 grows_none db = record { more = []; tables = sym (append-nil db.schema.tables); rows = all_from _ db.schema.tables (λ t there. refl); calm = λ tree calm. calm }
@@ -38,7 +38,7 @@ grows_then a b c p q = record {
 pub grows_made : {shape : ℕ → Table} (old new : Database) → CreatesTableOfShape old new shape → Grows old new
 grows_made old new m = record { more = m.more; tables = m.tables; rows = m.rows; calm = still_calm old new m }
 
-module _ {W T : Type 0} (desk : Desk W T) (t : T) where
+module _ {W T : Type 0} (desk : ProgramTables W T) (t : T) where
   -- those of Out are there, at the trees where they were, or at trees that no table had
   pub record Grown (In Out : W → Type 0) (tree : W → ℕ) (old new : Database) : Type 0 where
     pub to : W → ℕ
@@ -84,7 +84,7 @@ module _ {W T : Type 0} (desk : Desk W T) (t : T) where
         stood : (v : W) (s : (v ≡ w) ⊎ (v ≢ w)) → (v ≡ w) ⊎ In v → IsTableAt new.schema (desk.shape v (chosen s m.tree (tree v))) (chosen s m.at (h.place v))
         stood v (inl e) k = subst (λ u. IsTableAt new.schema (desk.shape u m.tree) m.at) (sym e) m.stands
         stood v (inr ne) (inl e) = absurd (ne e)
-        stood v (inr ne) (inr k) = m.kept _ _ (h.stands v k)
+        stood v (inr ne) (inr k) = m.keeps_positions _ _ (h.stands v k)
 
         parted : (v u : W) (s : (v ≡ w) ⊎ (v ≢ w)) (r : (u ≡ w) ⊎ (u ≢ w)) → (v ≡ w) ⊎ In v → (u ≡ w) ⊎ In u → chosen s m.tree (tree v) ≡ chosen r m.tree (tree u) → v ≡ u
         parted v u (inl e) (inl f) j k same = e ∙ sym f
@@ -96,7 +96,7 @@ module _ {W T : Type 0} (desk : Desk W T) (t : T) where
         parted v u (inr e) (inr f) (inr j) (inl k) same = absurd (f k)
         parted v u (inr e) (inr f) (inr j) (inr k) same = h.apart v u j k same
 
-        calmed : (v : W) (s : (v ≡ w) ⊎ (v ≢ w)) → (v ≡ w) ⊎ In v → HasNoActionsAt new.schema (chosen s m.tree (tree v))
+        calmed : (v : W) (s : (v ≡ w) ⊎ (v ≢ w)) → (v ≡ w) ⊎ In v → HasNoWritingForeignKeysAt new.schema (chosen s m.tree (tree v))
         calmed v (inl e) k = new_calm old new m
         calmed v (inr ne) (inl e) = absurd (ne e)
         calmed v (inr ne) (inr k) = still_calm old new m (tree v) (h.calm v k)

@@ -41,8 +41,8 @@ module _ {S V E : Type 0} (g : Ghosts S) (sql : List ℕ) (params : Row) (old ne
   step_ok count never runs survives does =
       let on : IsTrue (state g old).in_transaction = elim (cases_Bool (state g old).in_transaction) [ inl e ↦ e | inr e ↦ absurd (never e) ] in
       record {
-        kept = λ clean. kept_inside sql params (state g old) (state g new) (Ok count) (runs clean on);
-        made = λ clean _. let h = runs clean on in go out h.1.mode (λ v e. does v e h.0);
+        commits_nothing = λ clean. kept_inside sql params (state g old) (state g new) (Ok count) (runs clean on);
+        relates_states = λ clean _. let h = runs clean on in go out h.1.mode (λ v e. does v e h.0);
         survives = survives;
       }
     where
@@ -55,11 +55,11 @@ module _ {S V E : Type 0} (g : Ghosts S) (sql : List ℕ) (params : Row) (old ne
       → (HasCleanDisk (state g new) → IsTrue (state g old).in_transaction → ExecutesInside 0 sql params (state g old) (state g new) (Err e))
       → Survives (state g old) (state g new) (λ _. ⊥) → IsTransactionStep (state g old) (state g new) out made
   step_err e failed still runs survives = record {
-    kept = λ clean. elim (cases_Bool (state g old).in_transaction) [
+    commits_nothing = λ clean. elim (cases_Bool (state g old).in_transaction) [
       | inl on ↦ kept_inside sql params (state g old) (state g new) (Err e) (runs clean on)
       | inr off ↦ subst (λ h. KeepsCommit (state g old) (state g h)) (sym (still off)) (record { was_open = λ o. o; committed = λ _. refl })
     ];
-    made = λ clean _. on_err out _ failed;
+    relates_states = λ clean _. on_err out _ failed;
     survives = survives;
   }
 
@@ -71,8 +71,8 @@ clean_before a b P s clean = omega (arith, s.clean)
 pub step_then : {U V E F : Type 0} (a b c : State) (u : U) (r : Result V F) (P : U → State → State → Type 0) (Q R : V → State → State → Type 0)
     → ((v : V) → P u a b → Q v b c → R v a c) → IsTransactionStep {V = U} {E = E} a b (Ok u) P → IsTransactionStep b c r Q → IsTransactionStep a c r R
 step_then {U} {V} {E} {F} a b c u r P Q R joins first next = record {
-  kept = λ clean. keeps_then a b c (first.kept (clean_before b c (λ _. ⊥) next.survives clean)) (next.kept clean);
-  made = λ clean on. go r (first.made (clean_before b c (λ _. ⊥) next.survives clean) on) (next.made clean);
+  commits_nothing = λ clean. keeps_then a b c (first.commits_nothing (clean_before b c (λ _. ⊥) next.survives clean)) (next.commits_nothing clean);
+  relates_states = λ clean on. go r (first.relates_states (clean_before b c (λ _. ⊥) next.survives clean) on) (next.relates_states clean);
   survives = survives_then a b c (λ _. ⊥) (λ _. ⊥) (λ _. ⊥) (λ _ db none. none) (λ _ db none. none) first.survives next.survives;
 }
   where
@@ -82,7 +82,7 @@ step_then {U} {V} {E} {F} a b c u r P Q R joins first next = record {
 
 -- the same step, of which less is told, or of whose answer something was made
 pub step_weaker : {V E : Type 0} (a b : State) (r : Result V E) (P Q : V → State → State → Type 0) → ((v : V) → P v a b → Q v a b) → IsTransactionStep a b r P → IsTransactionStep a b r Q
-step_weaker {V} {E} a b r P Q less step = record { kept = step.kept; made = λ clean on. go r (step.made clean on); survives = step.survives }
+step_weaker {V} {E} a b r P Q less step = record { commits_nothing = step.commits_nothing; relates_states = λ clean on. go r (step.relates_states clean on); survives = step.survives }
   where
     go : (r : Result V E) → IfOk r (λ v. IsTrue b.in_transaction × P v a b) → IfOk r (λ v. IsTrue b.in_transaction × Q v a b)
     go (Ok v) h = (h.0, less v h.1)
@@ -90,7 +90,7 @@ step_weaker {V} {E} a b r P Q less step = record { kept = step.kept; made = λ c
 
 pub step_read : {U V E F : Type 0} (a b : State) (u : U) (r : Result V F) (P : U → State → State → Type 0) (Q : V → State → State → Type 0)
     → ((v : V) → r ≡ Ok v → P u a b → Q v a b) → IsTransactionStep {V = U} {E = E} a b (Ok u) P → IsTransactionStep a b r Q
-step_read {U} {V} {E} {F} a b u r P Q tells step = record { kept = step.kept; made = λ clean on. go r (step.made clean on) tells; survives = step.survives }
+step_read {U} {V} {E} {F} a b u r P Q tells step = record { commits_nothing = step.commits_nothing; relates_states = λ clean on. go r (step.relates_states clean on) tells; survives = step.survives }
   where
     go : (r : Result V F) → IsTrue b.in_transaction × P u a b → ((v : V) → r ≡ Ok v → P u a b → Q v a b) → IfOk r (λ v. IsTrue b.in_transaction × Q v a b)
     go (Ok v) h more = (h.0, more v refl h.1)
@@ -107,15 +107,15 @@ module _ {S E : Type 0} (g : Ghosts S) (old mid end : Held S) (made : Database �
   commits_all (Ok x) clean ok =
       let s = (ok clean).1 in
       let before = clean_before (state g mid) (state g end) _ late clean in
-      let m = (step.made before refl).1 in
-      ((step.kept before).was_open s.was_open, s.is_open, subst (made (state g old).now) (sym s.now_is) m, s.committed_is ∙ sym s.now_is)
+      let m = (step.relates_states before refl).1 in
+      ((step.commits_nothing before).was_open s.was_open, s.is_open, subst (made (state g old).now) (sym s.now_is) m, s.committed_is ∙ sym s.now_is)
   commits_all (Err e) clean ok = tt
 
   pub commits_crash : Survives (state g old) (state g end) (λ trees. (db : Database) × made (state g old).now db × (trees ≡ db.trees))
   commits_crash =
       let P = λ (trees : Trees). (db : Database) × made (state g old).now db × (trees ≡ db.trees) in
       survives_then (state g old) (state g mid) (state g end) (λ _. ⊥) (λ db. db ≡ (state g mid).now.trees) P (λ _ db none. absurd none)
-      (λ clean db is. ((state g mid).now, (step.made (clean_before (state g mid) (state g end) _ late clean) refl).1, is))
+      (λ clean db is. ((state g mid).now, (step.relates_states (clean_before (state g mid) (state g end) _ late clean) refl).1, is))
       (survives_begin g old (state g mid) (λ _. ⊥) step.survives) late
 
 -- ---- a read
@@ -135,14 +135,14 @@ module _ {V E : Type 0} (sql : List ℕ) (params : Row) (old new : State) (rows_
   -- the rows came
   pub look_ok : (v : V) → (HasCleanDisk new → Shown sql params old new (rows_of v)) → IsTransactionStep {V = V} {E = E} old new (Ok v) (λ v. SelectsRows sql params (rows_of v))
   look_ok v shown = record {
-    kept = λ clean. kept_unchanged old new (bare_rows sql params old new (rows_of v) plain (shown clean));
-    made = λ clean on. let u = bare_rows sql params old new (rows_of v) plain (shown clean) in (subst IsTrue (sym u.0.mode) on, (shown clean, u.0.now_is, u.0.was_open));
+    commits_nothing = λ clean. kept_unchanged old new (bare_rows sql params old new (rows_of v) plain (shown clean));
+    relates_states = λ clean on. let u = bare_rows sql params old new (rows_of v) plain (shown clean) in (subst IsTrue (sym u.0.mode) on, (shown clean, u.0.now_is, u.0.was_open));
     survives = survives;
   }
 
   pub look_err : (e : Error) (out : Result V E) → IsErr out → (HasCleanDisk new → FailsToQuery sql params old new e ⊎ IsTooLate sql params old new e) → IsTransactionStep old new out (λ v. SelectsRows sql params (rows_of v))
   look_err e out failed fails = record {
-    kept = λ clean. bare_failure sql params old new e plain (fails clean);
-    made = λ clean on. on_err out _ failed;
+    commits_nothing = λ clean. bare_failure sql params old new e plain (fails clean);
+    relates_states = λ clean on. on_err out _ failed;
     survives = survives;
   }

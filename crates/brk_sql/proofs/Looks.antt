@@ -24,7 +24,7 @@ use Rattle.sqlite.specs.Effect.{Answers}
 use Rattle.sqlite.specs.State.{State, Shown}
 use Rattle.sqlite.proofs.Callers.{IsPlain, command_of, reads_as}
 use Rattle.brk_sql.specs.Rows.{cells_in_column_order}
-use Rattle.brk_sql.specs.Desk.{Desk, IsTableAt, TablesSatisfy}
+use Rattle.brk_sql.specs.Desk.{ProgramTables, IsTableAt, TablesSatisfy}
 use Rattle.brk_sql.proofs.Effects.{same_value}
 use Rattle.brk_sql.proofs.Kept.{reads_rising, reads_falling, reads_sorted}
 use Rattle.brk_sql.proofs.Meant.{meant, known, when_understood}
@@ -62,7 +62,7 @@ module _ (text : List ℕ) (p : Parsed) (s : ast.Select) (is : first text ≡ Ok
 
 -- ---- the records that it shows
 
-module _ {W T : Type 0} (desk : Desk W T) (w : W) (text : List ℕ) (params : Row) (p : Parsed) (terms project : List Term) (order : List (Term × Key)) (paging : Term × Term) (names : List (List ℕ))
+module _ {W T : Type 0} (desk : ProgramTables W T) (w : W) (text : List ℕ) (params : Row) (p : Parsed) (terms project : List Term) (order : List (Term × Key)) (paging : Term × Term) (names : List (List ℕ))
     (either : (schema : Schema) (at tree : ℕ) → IsTableAt schema (desk.shape w tree) at
     → (compiled schema text ≡ Ok (meant p [] (Select (record { lets = []; body = selection tree terms project order paging }) names))) ⊎ (compiled schema text ≡ Err Mismatch))
     (q : desk.Item w → Bool) (same : (tree : ℕ) (r : Row) (x : desk.Item w) → cells_in_column_order (desk.shape w tree) r ≡ desk.encode w x → passes params terms r ≡ q x)

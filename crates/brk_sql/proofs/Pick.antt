@@ -23,7 +23,7 @@ use Rattle.sqlite_rules.specs.Calls.{ids_of}
 use Rattle.sqlite_rules.specs.Lists.{Has}
 use Rattle.sqlite_rules.proofs.ListLemmas.{all_has, all_from, some_has, some_from, has_filtered, has_kept}
 use Rattle.sqlite_rules.proofs.ProbeLemmas.{has_mapped, mapped_has}
-use Rattle.brk_sql.specs.Rows.{same_rowid}
+use Rattle.brk_sql.specs.Rows.{has_same_rowid}
 use Rattle.brk_sql.proofs.Order.{unmapped, has_permuted, map_twice}
 
 -- ---- a selection from one table
@@ -106,25 +106,25 @@ int_is (Real x) h = absurd (let e = h in cc)
 int_is (Text t) h = absurd (let e = h in cc)
 int_is (Blob b) h = absurd (let e = h in cc)
 
-pub same_rowid_sym : (a b : Row) → same_rowid a b ≡ same_rowid b a
+pub same_rowid_sym : (a b : Row) → has_same_rowid a b ≡ has_same_rowid b a
 same_rowid_sym a b = ap is_eq (value_cmp_total.antisymm (rowid a) (rowid b)) ∙ reversed_eq (value_cmp (rowid b) (rowid a))
 
 abbrev pub Keyed : List Row → Type 0
 Keyed = AllByRecursion (λ r. IsTrue (is_int (rowid r)))
 
 abbrev pub Apart : List Row → Type 0
-Apart = IsDistinct same_rowid
+Apart = IsDistinct has_same_rowid
 
 clash : (b : Bool) → b ≡ true → b ≡ false → ⊥
 clash b p q = let e = sym p ∙ q in cc
 
 -- two rows with one rowid are one
-pub same_row : (rows : List Row) (a b : Row) → Apart rows → Has rows a → Has rows b → same_rowid a b ≡ true → a ≡ b
+pub same_row : (rows : List Row) (a b : Row) → Apart rows → Has rows a → Has rows b → has_same_rowid a b ≡ true → a ≡ b
 unfolding IsDistinct
 same_row [] a b apart h k is = absurd h
 same_row (r ∷ rows) a b apart (inl e) (inl f) is = e ∙ sym f
-same_row (r ∷ rows) a b apart (inl e) (inr k) is = absurd (clash (same_rowid r b) (subst (λ x. same_rowid x b ≡ true) e is) (all_has _ rows b apart.0 k))
-same_row (r ∷ rows) a b apart (inr h) (inl f) is = absurd (clash (same_rowid r a) (same_rowid_sym r a ∙ subst (λ x. same_rowid a x ≡ true) f is) (all_has _ rows a apart.0 h))
+same_row (r ∷ rows) a b apart (inl e) (inr k) is = absurd (clash (has_same_rowid r b) (subst (λ x. has_same_rowid x b ≡ true) e is) (all_has _ rows b apart.0 k))
+same_row (r ∷ rows) a b apart (inr h) (inl f) is = absurd (clash (has_same_rowid r a) (same_rowid_sym r a ∙ subst (λ x. has_same_rowid a x ≡ true) f is) (all_has _ rows a apart.0 h))
 same_row (r ∷ rows) a b apart (inr h) (inr k) is = same_row rows a b apart.1 h k is
 
 has_itself : (rows : List Row) (r : Row) → Keyed rows → Has rows r → has_rowid (id_in (rowid r)) r ≡ true
@@ -210,11 +210,11 @@ put_all_is (n ∷ news) rows fresh =
     IsPermutation-trans _ _ _ (IsPermutation-sym _ _ (IsPermutation-middle news n rows))
     (IsPermutation-trans _ _ _ (IsPermutation-append news news _ _ (IsPermutation-refl news) (put_is n rows f.0)) (put_all_is news (put_row n rows) f.1))
 
-untaken : (new : Row) (rows : List Row) → is_taken rows new ≡ false → AllByRecursion (λ r. same_rowid new r ≡ false) rows
+untaken : (new : Row) (rows : List Row) → is_taken rows new ≡ false → AllByRecursion (λ r. has_same_rowid new r ≡ false) rows
 untaken new [] free = tt
-untaken new (r ∷ rows) free = go (same_rowid r new) refl free (untaken new rows)
+untaken new (r ∷ rows) free = go (has_same_rowid r new) refl free (untaken new rows)
   where
-    go : (b : Bool) → same_rowid r new ≡ b → (b || is_taken rows new) ≡ false → (is_taken rows new ≡ false → AllByRecursion (λ r. same_rowid new r ≡ false) rows) → AllByRecursion (λ r. same_rowid new r ≡ false) (r ∷ rows)
+    go : (b : Bool) → has_same_rowid r new ≡ b → (b || is_taken rows new) ≡ false → (is_taken rows new ≡ false → AllByRecursion (λ r. has_same_rowid new r ≡ false) rows) → AllByRecursion (λ r. has_same_rowid new r ≡ false) (r ∷ rows)
     go true e free more = absurd (let f = free in cc)
     go false e free more = (same_rowid_sym new r ∙ e, more free)
 
@@ -231,7 +231,7 @@ apart_filter p (r ∷ rows) apart = elim (cases_Bool (p r)) [
 ]
 
 pub apart_permuted : (rows those : List Row) → IsPermutation rows those → Apart rows → Apart those
-apart_permuted rows those same = IsDistinct-IsPermutation same_rowid same_rowid_sym rows those same
+apart_permuted rows those same = IsDistinct-IsPermutation has_same_rowid same_rowid_sym rows those same
 
 module _ (f : Row → Row) (keeps : (r : Row) → rowid (f r) ≡ rowid r) where
   pub apart_map : (rows : List Row) → Apart rows → Apart (map f rows)
@@ -239,7 +239,7 @@ module _ (f : Row → Row) (keeps : (r : Row) → rowid (f r) ≡ rowid r) where
   apart_map [] apart = tt
   apart_map (r ∷ rows) apart = (each rows apart.0, apart_map rows apart.1)
     where
-      each : (ys : List Row) → AllByRecursion (λ y. same_rowid r y ≡ false) ys → AllByRecursion (λ y. same_rowid (f r) y ≡ false) (map f ys)
+      each : (ys : List Row) → AllByRecursion (λ y. has_same_rowid r y ≡ false) ys → AllByRecursion (λ y. has_same_rowid (f r) y ≡ false) (map f ys)
       each [] all = tt
       each (y ∷ ys) all = (rw (keeps r, keeps y) all.0, each ys all.1)
 

@@ -25,7 +25,7 @@ use Rattle.sqlite.specs.declared.error.Error.{Error}
 use Rattle.sqlite.specs.declared.error.Error.TheVariants.{SqlInputError}
 use Rattle.sqlite.specs.State.{State, HasCleanDisk, KeepsCommit, Survives, IsUnchanged, IsNotRun, store_error}
 use Rattle.brk_sql.specs.Model.{IsTransactionStep}
-use Rattle.brk_sql.specs.Desk.{MatchesResultColumns, MatchesCompilation}
+use Rattle.brk_sql.specs.Desk.{MatchesResultColumns, IsCompilationOutcome}
 use Rattle.brk_sql.proofs.Inside.{kept_unchanged, kept_rolled, on_err}
 use Rattle.brk_sql.proofs.Meant.{deletes_or}
 
@@ -57,7 +57,7 @@ module _ (text : List ℕ) (p : Parsed) (name : Name) (is : first text ≡ Ok p)
   ]
 
   -- the answer says whether the schema has a table of this name
-  pub probed : (schema : Schema) (has : Bool) → MatchesCompilation text has schema → has ≡ is_some (table_named schema name)
+  pub probed : (schema : Schema) (has : Bool) → IsCompilationOutcome text has schema → has ≡ is_some (table_named schema name)
   probed schema true h = go (table_named schema name) refl
     where
       go : (r : Option ℕ) → table_named schema name ≡ r → true ≡ is_some r
@@ -96,12 +96,12 @@ there_told text schema o h = go (understood schema text) refl h
 
 module _ (text : List ℕ) (old new : State) (survives : Survives old new (λ _. ⊥)) where
   abbrev pub Says : Bool → State → State → Type 0
-  Says has before after = IsTrue before.is_open × (after.now ≡ before.now) × MatchesCompilation text has before.now.schema
+  Says has before after = IsTrue before.is_open × (after.now ≡ before.now) × IsCompilationOutcome text has before.now.schema
 
   pub says_there : (o : Outline) → (HasCleanDisk new → IsUnchanged old new) → (HasCleanDisk new → Outlines (understood old.now.schema text) o) → IsTransactionStep {E = Error} old new (Ok true) Says
   says_there o same shape = record {
-    kept = λ clean. kept_unchanged old new (same clean);
-    made = λ clean on. let u = same clean in (subst IsTrue (sym u.0.mode) on, (u.0.was_open, u.0.now_is, there_told text old.now.schema o (shape clean)));
+    commits_nothing = λ clean. kept_unchanged old new (same clean);
+    relates_states = λ clean on. let u = same clean in (subst IsTrue (sym u.0.mode) on, (u.0.was_open, u.0.now_is, there_told text old.now.schema o (shape clean)));
     survives = survives;
   }
 
@@ -109,8 +109,8 @@ module _ (text : List ℕ) (old new : State) (survives : Survives old new (λ _.
   says_absent e named fails =
       let told = λ (clean : HasCleanDisk new). absent_told text old new (subst (IsNotRun old new text []) named (fails clean)) in
       record {
-        kept = λ clean. kept_unchanged old new (told clean).1;
-        made = λ clean on. let u = (told clean).1 in (subst IsTrue (sym u.0.mode) on, (u.0.was_open, u.0.now_is, (told clean).0));
+        commits_nothing = λ clean. kept_unchanged old new (told clean).1;
+        relates_states = λ clean on. let u = (told clean).1 in (subst IsTrue (sym u.0.mode) on, (u.0.was_open, u.0.now_is, (told clean).0));
         survives = survives;
       }
 
@@ -126,11 +126,11 @@ headed text schema o names has h tells = go (understood schema text) refl h
 pub says_columns : (text : List ℕ) (old new : State) (names : List (List ℕ)) (has : Bool) (o : Outline) → Survives old new (λ _. ⊥) → (HasCleanDisk new → IsUnchanged old new) → (HasCleanDisk new → Outlines (understood old.now.schema text) o)
     → (IsTrue has ↔ o.columns ≡ names) → IsTransactionStep {E = Error} old new (Ok has) (λ has before after. IsTrue before.is_open × (after.now ≡ before.now) × MatchesResultColumns text names has before.now.schema)
 says_columns text old new names has o survives same shape tells = record {
-  kept = λ clean. kept_unchanged old new (same clean);
-  made = λ clean on. let u = same clean in (subst IsTrue (sym u.0.mode) on, (u.0.was_open, u.0.now_is, headed text old.now.schema o names has (shape clean) tells));
+  commits_nothing = λ clean. kept_unchanged old new (same clean);
+  relates_states = λ clean on. let u = same clean in (subst IsTrue (sym u.0.mode) on, (u.0.was_open, u.0.now_is, headed text old.now.schema o names has (shape clean) tells));
   survives = survives;
 }
 
 -- an error tells nothing, whatever was asked
 pub says_nothing : {V : Type 0} (text : List ℕ) (old new : State) (made : V → State → State → Type 0) (e : Error) (out : Result V Error) → IsErr out → Survives old new (λ _. ⊥) → (HasCleanDisk new → IsNotRun old new text [] e) → IsTransactionStep old new out made
-says_nothing text old new made e out failed survives fails = record { kept = λ clean. not_run_kept text [] old new e (fails clean); made = λ clean on. on_err out _ failed; survives = survives }
+says_nothing text old new made e out failed survives fails = record { commits_nothing = λ clean. not_run_kept text [] old new e (fails clean); relates_states = λ clean on. on_err out _ failed; survives = survives }

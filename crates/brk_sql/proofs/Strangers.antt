@@ -18,7 +18,7 @@ use Rattle.sqlite_rules.specs.declared.action.Deed.{Deed}
 use Rattle.sqlite_rules.specs.declared.action.Deed.TheVariants.{Refuse}
 use Rattle.sqlite_rules.proofs.ListLemmas.{all_has, all_from}
 use Rattle.sqlite.specs.Effect.{Database}
-use Rattle.brk_sql.specs.Desk.{writes_rows, foreign_key_writes_rows, has_no_actions_at, HasNoActionsAt, PreservesUnrelatedTables}
+use Rattle.brk_sql.specs.Desk.{action_writes_rows, foreign_key_writes_rows, has_no_writing_foreign_keys_if_at, HasNoWritingForeignKeysAt, PreservesUnrelatedTables}
 use Rattle.brk_sql.proofs.Effects.{split}
 
 first_of : (b : Bool) (P Q : Type 0) → ¬ Q → MatchBool b P Q → P
@@ -30,7 +30,7 @@ second_of true P Q off h = absurd (off h)
 second_of false P Q off h = h
 
 -- a foreign key that does not act refuses at most
-refuses_at_most : (deletes : Bool) (action : Action) (other : Bool) → not (writes_rows action || other) ≡ true → (deed : Deed) → deed_of Enforced deletes action ≡ Some deed → refuses deed ≡ true
+refuses_at_most : (deletes : Bool) (action : Action) (other : Bool) → not (action_writes_rows action || other) ≡ true → (deed : Deed) → deed_of Enforced deletes action ≡ Some deed → refuses deed ≡ true
 refuses_at_most deletes NoAction other off deed e = absurd (let f = e in cc)
 refuses_at_most deletes Restrict other off deed e = let same : Refuse ≡ deed = cc in subst (λ d. refuses d ≡ true) same refl
 refuses_at_most deletes Cascade other off deed e = absurd (let f = off in cc)
@@ -38,8 +38,8 @@ refuses_at_most deletes SetNull other off deed e = absurd (let f = off in cc)
 refuses_at_most deletes SetDefault other off deed e = absurd (let f = off in cc)
 
 only_refuses : (deletes : Bool) (ref : Reference) → not (foreign_key_writes_rows ref) ≡ true → (deed : Deed) → deed_for Enforced deletes ref ≡ Some deed → refuses deed ≡ true
-only_refuses true ref off deed e = refuses_at_most true ref.on_delete (writes_rows ref.on_update) off deed e
-only_refuses false ref off deed e = refuses_at_most false ref.on_update false (second (writes_rows ref.on_delete) (writes_rows ref.on_update) off) deed e
+only_refuses true ref off deed e = refuses_at_most true ref.on_delete (action_writes_rows ref.on_update) off deed e
+only_refuses false ref off deed e = refuses_at_most false ref.on_update false (second (action_writes_rows ref.on_delete) (action_writes_rows ref.on_update) off) deed e
   where
     second : (a b : Bool) → not (a || b) ≡ true → not (b || false) ≡ true
     second true b off = absurd (let f = off in cc)
@@ -85,18 +85,18 @@ module _ (tree : ℕ) where
       one_work depth at (pairs olds news) child ref (deed_for Enforced (length news == 0) ref) (parent_key schema.tables ref) _ (λ d e. inr (only_refuses (length news == 0) ref both.0 d e))
       (works_calm schema depth at olds news child refs both.1)
 
-  works_in : (schema : Schema) (depth at : ℕ) (olds news : List Row) (tables : List Table) → list_all (has_no_actions_at tree) tables ≡ true
+  works_in : (schema : Schema) (depth at : ℕ) (olds news : List Row) (tables : List Table) → list_all (has_no_writing_foreign_keys_if_at tree) tables ≡ true
       → AllByRecursion Spares (flat_map (λ child. filter_map (work_for schema Enforced depth at olds news child) child.references) tables)
   works_in schema depth at olds news [] calm = tt
   works_in schema depth at olds news (child ∷ tables) calm =
-      let both = split (has_no_actions_at tree child) (list_all (has_no_actions_at tree) tables) calm in
+      let both = split (has_no_writing_foreign_keys_if_at tree child) (list_all (has_no_writing_foreign_keys_if_at tree) tables) calm in
       all_join _ _ (go (child.tree == tree) refl both.0) (works_in schema depth at olds news tables both.1)
     where
       go : (b : Bool) → (child.tree == tree) ≡ b → (not b || list_all (λ ref. not (foreign_key_writes_rows ref)) child.references) ≡ true → AllByRecursion Spares (filter_map (work_for schema Enforced depth at olds news child) child.references)
       go true e off = works_calm schema depth at olds news child child.references off
       go false e off = works_apart schema depth at olds news child (λ same. absurd (let f = sym (eq-eqb child.tree tree same) ∙ e in cc)) child.references
 
-  module _ (schema : Schema) (calm : HasNoActionsAt schema tree) (table : Table) (listed : Has schema.tables table) (is : table.tree ≡ tree) where
+  module _ (schema : Schema) (calm : HasNoWritingForeignKeysAt schema tree) (table : Table) (listed : Has schema.tables table) (is : table.tree ≡ tree) where
     step : (db next : Trees) (edit : Edit) → edit.table.tree ≢ tree → Applies schema Enforced db edit next → next tree ≡ db tree
     step db next edit apart h = subst (λ n. next n ≡ db n) is (all_has (λ t. t.tree ≢ edit.table.tree → next t.tree ≡ db t.tree) schema.tables table h.tables listed (λ e. apart (sym e ∙ is)))
 
@@ -144,7 +144,7 @@ module _ (tree : ℕ) where
 module _ {W : Type 0} (tree : W → ℕ) where
   -- what is so of each table
   abbrev Keeps : Database → Database → Table → Type 0
-  Keeps old new k = ((w : W) → k.tree ≢ tree w) → HasNoActionsAt old.schema k.tree → new.trees k.tree ≡ old.trees k.tree
+  Keeps old new k = ((w : W) → k.tree ≢ tree w) → HasNoWritingForeignKeysAt old.schema k.tree → new.trees k.tree ≡ old.trees k.tree
 
   pub spares_itself : (db : Database) → PreservesUnrelatedTables tree db db
   spares_itself db = record { schema = refl; rows = all_from (Keeps db db) db.schema.tables (λ k there apart calm. refl) }
@@ -153,6 +153,6 @@ module _ {W : Type 0} (tree : W → ℕ) where
   spares_then a b c first next = record {
     schema = next.schema ∙ first.schema;
     rows = all_from (Keeps a c) a.schema.tables (λ k there apart calm.
-        all_has (Keeps b c) b.schema.tables k next.rows (subst (λ (s : Schema). Has s.tables k) (sym first.schema) there) apart (subst (λ (s : Schema). HasNoActionsAt s k.tree) (sym first.schema) calm)
+        all_has (Keeps b c) b.schema.tables k next.rows (subst (λ (s : Schema). Has s.tables k) (sym first.schema) there) apart (subst (λ (s : Schema). HasNoWritingForeignKeysAt s k.tree) (sym first.schema) calm)
         ∙ all_has (Keeps a b) a.schema.tables k first.rows there apart calm);
   }

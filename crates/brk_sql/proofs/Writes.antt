@@ -33,8 +33,8 @@ use Rattle.sqlite_keyed.specs.Lists.{insert_sorted, update_where, delete_where}
 use Rattle.sqlite.specs.Effect.{Database, IsDatabase, value_rows}
 use Rattle.sqlite.specs.Rows.{stamped}
 use Rattle.sqlite.specs.State.{State, Executes}
-use Rattle.brk_sql.specs.Rows.{cells_in_column_order, same_rowid, TreeHoldsRecords}
-use Rattle.brk_sql.specs.Desk.{Desk, IsTableAt, HasNoActionsAt, HasTables, PreservesUnrelatedTables, ChangesTablesBy}
+use Rattle.brk_sql.specs.Rows.{cells_in_column_order, has_same_rowid, TreeHoldsRecords}
+use Rattle.brk_sql.specs.Desk.{ProgramTables, IsTableAt, HasNoWritingForeignKeysAt, HasTables, PreservesUnrelatedTables, ChangesTablesBy}
 use Rattle.brk_sql.proofs.Effects.{inserted, took, altered}
 use Rattle.brk_sql.proofs.Kept.{held_with, held_without, held_changed, row_of, record_of}
 use Rattle.brk_sql.proofs.Meant.{meant}
@@ -46,7 +46,7 @@ use Rattle.brk_sql.proofs.Values.{differ_ints}
 
 -- the key of a record is the rowid
 abbrev pub IsRowidKey : {X : Type 0} → (ℕ → Table) → (X → Row) → (X → X → Ordering) → Type 0
-IsRowidKey {X} shape encode cmp = (tree : ℕ) (r s : Row) (x y : X) → cells_in_column_order (shape tree) r ≡ encode x → cells_in_column_order (shape tree) s ≡ encode y → is_eq (cmp x y) ≡ same_rowid r s
+IsRowidKey {X} shape encode cmp = (tree : ℕ) (r s : Row) (x y : X) → cells_in_column_order (shape tree) r ≡ encode x → cells_in_column_order (shape tree) s ≡ encode y → is_eq (cmp x y) ≡ has_same_rowid r s
 
 -- it is what the first UNIQUE names
 pub record IsUniqueKey {X : Type 0} (shape : ℕ → Table) (encode : X → Row) (cmp : X → X → Ordering) : Type 0 where
@@ -55,7 +55,7 @@ pub record IsUniqueKey {X : Type 0} (shape : ℕ → Table) (encode : X → Row)
   pub tied : (tree : ℕ) (r s : Row) (x y : X) → cells_in_column_order (shape tree) r ≡ encode x → cells_in_column_order (shape tree) s ≡ encode y → is_eq (cmp x y) ≡ agree (slice_index_or (shape tree).orders 0 plain) key r key s
 
 -- what is to be known of one table of a desk
-pub record Place {W T : Type 0} (desk : Desk W T) (w : W) : Type 0 where
+pub record Place {W T : Type 0} (desk : ProgramTables W T) (w : W) : Type 0 where
   pub split : (v : W) → (v ≡ w) ⊎ (v ≢ w)
   pub put : List (desk.Item w) → T → T
   pub put_this : (xs : List (desk.Item w)) (t : T) → desk.list w (put xs t) ≡ xs
@@ -67,16 +67,16 @@ pub record Place {W T : Type 0} (desk : Desk W T) (w : W) : Type 0 where
 -- ---- a record whose key came in is new
 
 module _ {X : Type 0} (table : Table) (encode : X → Row) (cmp : X → X → Ordering) (xs : List X) (rows : List Row) (h : TreeHoldsRecords table encode cmp xs rows) (new : Row) (x : X) (e : cells_in_column_order table new ≡ encode x) (free : is_taken rows new ≡ false) where
-  untaken : (rows : List Row) → is_taken rows new ≡ false → (r : Row) → Has rows r → same_rowid new r ≡ false
+  untaken : (rows : List Row) → is_taken rows new ≡ false → (r : Row) → Has rows r → has_same_rowid new r ≡ false
   untaken [] free r there = absurd there
-  untaken (s ∷ rows) free r there = go (same_rowid s new) refl free there (λ off later. untaken rows off r later)
+  untaken (s ∷ rows) free r there = go (has_same_rowid s new) refl free there (λ off later. untaken rows off r later)
     where
-      go : (b : Bool) → same_rowid s new ≡ b → (b || is_taken rows new) ≡ false → Has (s ∷ rows) r → (is_taken rows new ≡ false → Has rows r → same_rowid new r ≡ false) → same_rowid new r ≡ false
+      go : (b : Bool) → has_same_rowid s new ≡ b → (b || is_taken rows new) ≡ false → Has (s ∷ rows) r → (is_taken rows new ≡ false → Has rows r → has_same_rowid new r ≡ false) → has_same_rowid new r ≡ false
       go true k off there more = absurd (let f = off in cc)
-      go false k off (inl same) more = subst (λ z. same_rowid new z ≡ false) (sym same) (same_rowid_sym new s ∙ k)
+      go false k off (inl same) more = subst (λ z. has_same_rowid new z ≡ false) (sym same) (same_rowid_sym new s ∙ k)
       go false k off (inr later) more = more off later
 
-  absent_rowid : ((r s : Row) (x y : X) → cells_in_column_order table r ≡ encode x → cells_in_column_order table s ≡ encode y → is_eq (cmp x y) ≡ same_rowid r s) → AllByRecursion (λ y. is_eq (cmp x y) ≡ false) xs
+  absent_rowid : ((r s : Row) (x y : X) → cells_in_column_order table r ≡ encode x → cells_in_column_order table s ≡ encode y → is_eq (cmp x y) ≡ has_same_rowid r s) → AllByRecursion (λ y. is_eq (cmp x y) ≡ false) xs
   absent_rowid tied =
       all_from _ xs (λ y there.
       let r = row_of table encode cmp xs rows h y there in
@@ -94,7 +94,7 @@ module _ {X : Type 0} (table : Table) (encode : X → Row) (cmp : X → X → Or
       ∙ ap not (ap is_eq (ap₂ value_cmp (sym (int_is (rowid new) whole)) (sym (int_is (rowid r.0) (all_has _ rows r.0 h.keyed r.1)))) ∙ untaken rows free r.0 r.1) in
       tied new r.0 x y e r.2 ∙ once r.0 new (has_permuted _ (new ∷ rows) r.0 (IsPermutation-sym _ _ perm) (inr r.1)) (has_permuted _ (new ∷ rows) new (IsPermutation-sym _ _ perm) (inl refl)) other)
 
-module _ {W T : Type 0} (desk : Desk W T) (w : W) (place : Place desk w) where
+module _ {W T : Type 0} (desk : ProgramTables W T) (w : W) (place : Place desk w) where
   abbrev shape : ℕ → Table
   shape = desk.shape w
 
@@ -105,7 +105,7 @@ module _ {W T : Type 0} (desk : Desk W T) (w : W) (place : Place desk w) where
 
   -- what a statement on this table leaves of any other
   abbrev Leaves : (tree : W → ℕ) (old new : Database) → Table → Type 0
-  Leaves tree old new k = k.tree ≢ tree w → HasNoActionsAt old.schema k.tree → new.trees k.tree ≡ old.trees k.tree
+  Leaves tree old new k = k.tree ≢ tree w → HasNoWritingForeignKeysAt old.schema k.tree → new.trees k.tree ≡ old.trees k.tree
 
   pub framed : (t : T) (xs : List Item) (tree : W → ℕ) (old new : Database) → HasTables desk t tree old → new.schema ≡ old.schema → ((k : Table) → Has old.schema.tables k → Leaves tree old new k)
       → TreeHoldsRecords (shape (tree w)) (desk.encode w) (desk.order w) xs (new.trees (tree w)) → IsDatabase new → HasTables desk (place.put xs t) tree new × PreservesUnrelatedTables tree old new
@@ -116,7 +116,7 @@ module _ {W T : Type 0} (desk : Desk W T) (w : W) (place : Place desk w) where
           place = h.place;
           stands = λ v. subst (λ s. IsTableAt s (desk.shape v (tree v)) (h.place v)) back (h.stands v);
           apart = h.apart;
-          calm = λ v. subst (λ s. HasNoActionsAt s (tree v)) back (h.calm v);
+          calm = λ v. subst (λ s. HasNoWritingForeignKeysAt s (tree v)) back (h.calm v);
           sound = sound;
           rows = λ v. elim (place.split v) [
             | inl same ↦ subst (λ v. TreeHoldsRecords (desk.shape v (tree v)) (desk.encode v) (desk.order v) (desk.list v u) (new.trees (tree v))) (sym same)
@@ -133,7 +133,7 @@ module _ {W T : Type 0} (desk : Desk W T) (w : W) (place : Place desk w) where
           let table = desk.shape v (tree v) in
           let at : table.tree ≡ tree v = desk.placed v (tree v) in
           subst (λ n. new.trees n ≡ old.trees n) at
-          (leaves table (has_got old.schema.tables (h.place v) table (h.stands v).found) (λ same. other (h.apart v w (sym at ∙ same))) (subst (HasNoActionsAt old.schema) (sym at) (h.calm v)))
+          (leaves table (has_got old.schema.tables (h.place v) table (h.stands v).found) (λ same. other (h.apart v w (sym at ∙ same))) (subst (HasNoWritingForeignKeysAt old.schema) (sym at) (h.calm v)))
 
   -- ---- a step on this table, and all that it sets off
 

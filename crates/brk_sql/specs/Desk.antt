@@ -74,30 +74,30 @@ pub record IsTableAt (schema : Schema) (table : Table) (at : ℕ) : Type 0 where
 
 -- True if the foreign-key action changes or deletes the referring rows. The other actions at most
 -- refuse the change.
-abbrev pub writes_rows : Action → Bool
-writes_rows NoAction = false
-writes_rows Restrict = false
-writes_rows Cascade = true
-writes_rows SetNull = true
-writes_rows SetDefault = true
+abbrev pub action_writes_rows : Action → Bool
+action_writes_rows NoAction = false
+action_writes_rows Restrict = false
+action_writes_rows Cascade = true
+action_writes_rows SetNull = true
+action_writes_rows SetDefault = true
 
 -- True if the foreign key, on delete or on update, changes or deletes the rows that refer by it.
 abbrev pub foreign_key_writes_rows : Reference → Bool
-foreign_key_writes_rows ref = writes_rows ref.on_delete || writes_rows ref.on_update
+foreign_key_writes_rows ref = action_writes_rows ref.on_delete || action_writes_rows ref.on_update
 
 -- True if none of the foreign keys of the table `t` changes or deletes rows. True as well if the
 -- rows of `t` are not at `tree`.
-abbrev pub has_no_actions_at : ℕ → Table → Bool
-has_no_actions_at tree t = not (t.tree == tree) || list_all (λ ref. not (foreign_key_writes_rows ref)) t.references
+abbrev pub has_no_writing_foreign_keys_if_at : ℕ → Table → Bool
+has_no_writing_foreign_keys_if_at tree t = not (t.tree == tree) || list_all (λ ref. not (foreign_key_writes_rows ref)) t.references
 
 -- For each table of the schema whose rows are at `tree`: none of its foreign keys changes or
 -- deletes rows. Vacuous if no table has its rows there.
-abbrev pub HasNoActionsAt : Schema → ℕ → Type 0
-HasNoActionsAt schema tree = list_all (has_no_actions_at tree) schema.tables ≡ true
+abbrev pub HasNoWritingForeignKeysAt : Schema → ℕ → Type 0
+HasNoWritingForeignKeysAt schema tree = list_all (has_no_writing_foreign_keys_if_at tree) schema.tables ≡ true
 
 -- True if none of the table's foreign keys changes or deletes its rows.
-abbrev pub has_no_actions : Table → Bool
-has_no_actions t = list_all (λ ref. not (foreign_key_writes_rows ref)) t.references
+abbrev pub has_no_writing_foreign_keys : Table → Bool
+has_no_writing_foreign_keys t = list_all (λ ref. not (foreign_key_writes_rows ref)) t.references
 
 -- The database `new` has a table, without rows, that `old` did not have, and all tables of `old` at
 -- their positions with their rows. The new table is defined as `shape` of its tree.
@@ -106,14 +106,14 @@ pub record CreatesTableOfShape (old new : Database) (shape : ℕ → Table) : Ty
   pub at : ℕ
   pub stands : IsTableAt new.schema (shape tree) at
   pub empty : new.trees tree ≡ []
-  pub kept : (table : Table) (place : ℕ) → IsTableAt old.schema table place → IsTableAt new.schema table place
+  pub keeps_positions : (table : Table) (place : ℕ) → IsTableAt old.schema table place → IsTableAt new.schema table place
   pub rows : AllByRecursion (λ t. new.trees t.tree ≡ old.trees t.tree) old.schema.tables
   -- The tree of the new table belonged to no table.
   pub apart : AllByRecursion (λ t. t.tree ≢ tree) old.schema.tables
   -- The added tables, whose foreign keys write no rows.
   pub more : List Table
   pub tables : new.schema.tables ≡ old.schema.tables ++ more
-  pub inert : list_all has_no_actions more ≡ true
+  pub inert : list_all has_no_writing_foreign_keys more ≡ true
   pub sound : IsDatabase new
 
 -- The database `new` is `old` after the tables of these shapes were created, in order, each as
@@ -127,7 +127,7 @@ CreatesEachTable (shape ∷ shapes) old new = (mid : Database) × CreatesTableOf
 -- The tables of a program: `W` names them, and `T` contains a list of records for each of them. For
 -- each table: its definition with the rows at a tree (`shape`), the type of its records (`Item`),
 -- the row that encodes a record, the order of the records, and the list of them in `T`.
-pub record Desk (W T : Type 0) : Type 1 where
+pub record ProgramTables (W T : Type 0) : Type 1 where
   pub shape : W → ℕ → Table
   pub placed : (w : W) (tree : ℕ) → (shape w tree).tree ≡ tree
   pub Item : W → Type 0
@@ -137,11 +137,11 @@ pub record Desk (W T : Type 0) : Type 1 where
 
 -- The database contains all tables of the program, at the trees `tree`, with the records of `t`. No
 -- foreign key changes or deletes rows at these trees. The database may contain other tables.
-pub record HasTables {W T : Type 0} (desk : Desk W T) (t : T) (tree : W → ℕ) (db : Database) : Type 0 where
+pub record HasTables {W T : Type 0} (desk : ProgramTables W T) (t : T) (tree : W → ℕ) (db : Database) : Type 0 where
   pub place : W → ℕ
   pub stands : (w : W) → IsTableAt db.schema (desk.shape w (tree w)) (place w)
   pub apart : (v w : W) → tree v ≡ tree w → v ≡ w
-  pub calm : (w : W) → HasNoActionsAt db.schema (tree w)
+  pub calm : (w : W) → HasNoWritingForeignKeysAt db.schema (tree w)
   -- The trees list the schema and obey it, so reopening the database finds the same schema.
   pub sound : IsDatabase db
   pub rows : (w : W) → TreeHoldsRecords (desk.shape w (tree w)) (desk.encode w) (desk.order w) (desk.list w t) (db.trees (tree w))
@@ -149,11 +149,11 @@ pub record HasTables {W T : Type 0} (desk : Desk W T) (t : T) (tree : W → ℕ)
 -- The database contains those tables `w` of the program for which `In w` holds, at the trees
 -- `tree`, with their records of `t`. No foreign key changes or deletes rows at these trees. The
 -- database may contain other tables.
-pub record HasSelectedTables {W T : Type 0} (desk : Desk W T) (In : W → Type 0) (t : T) (tree : W → ℕ) (db : Database) : Type 0 where
+pub record HasSelectedTables {W T : Type 0} (desk : ProgramTables W T) (In : W → Type 0) (t : T) (tree : W → ℕ) (db : Database) : Type 0 where
   pub place : W → ℕ
   pub stands : (w : W) → In w → IsTableAt db.schema (desk.shape w (tree w)) (place w)
   pub apart : (v w : W) → In v → In w → tree v ≡ tree w → v ≡ w
-  pub calm : (w : W) → In w → HasNoActionsAt db.schema (tree w)
+  pub calm : (w : W) → In w → HasNoWritingForeignKeysAt db.schema (tree w)
   pub sound : IsDatabase db
   pub rows : (w : W) → In w → TreeHoldsRecords (desk.shape w (tree w)) (desk.encode w) (desk.order w) (desk.list w t) (db.trees (tree w))
 
@@ -161,18 +161,18 @@ pub record HasSelectedTables {W T : Type 0} (desk : Desk W T) (In : W → Type 0
 -- `tree` are unchanged, unless a foreign key of that table changes or deletes rows.
 pub record PreservesUnrelatedTables {W : Type 0} (tree : W → ℕ) (old new : Database) : Type 0 where
   pub schema : new.schema ≡ old.schema
-  pub rows : AllByRecursion (λ k. ((w : W) → k.tree ≢ tree w) → HasNoActionsAt old.schema k.tree → new.trees k.tree ≡ old.trees k.tree) old.schema.tables
+  pub rows : AllByRecursion (λ k. ((w : W) → k.tree ≢ tree w) → HasNoWritingForeignKeysAt old.schema k.tree → new.trees k.tree ≡ old.trees k.tree) old.schema.tables
 
 -- For all records `t` and trees `tree`: if the database `old` contains the tables with the records
 -- `t` at these trees, `new` contains them with the records `f t` at the same trees. Other tables
 -- are unchanged, unless a foreign key of their own writes their rows. Vacuous if `old` does not
 -- contain the tables.
-abbrev pub ChangesTablesBy : {W T : Type 0} → Desk W T → (T → T) → Database → Database → Type 0
+abbrev pub ChangesTablesBy : {W T : Type 0} → ProgramTables W T → (T → T) → Database → Database → Type 0
 ChangesTablesBy {W} {T} desk f old new = (t : T) (tree : W → ℕ) → HasTables desk t tree old → HasTables desk (f t) tree new × PreservesUnrelatedTables tree old new
 
 -- `P` holds of the records that the database contains in the program's tables. Vacuous if the
 -- database does not contain these tables.
-abbrev pub TablesSatisfy : {W T : Type 0} → Desk W T → (T → Type 0) → Database → Type 0
+abbrev pub TablesSatisfy : {W T : Type 0} → ProgramTables W T → (T → Type 0) → Database → Type 0
 TablesSatisfy {W} {T} desk P db = (t : T) (tree : W → ℕ) → HasTables desk t tree db → P t
 
 -- Each table of `old` is in `new`, at the same position and with the same rows. The database `new`
@@ -184,7 +184,7 @@ pub record PreservesAllTables (old new : Database) : Type 0 where
 
 -- The database `new` contains the program's tables with the records `t`, at trees that belong to no
 -- table of `old`, and all tables of `old` with their rows.
-pub record CreatesTablesWith {W T : Type 0} (desk : Desk W T) (t : T) (old new : Database) : Type 0 where
+pub record CreatesTablesWithRecords {W T : Type 0} (desk : ProgramTables W T) (t : T) (old new : Database) : Type 0 where
   pub tree : W → ℕ
   pub tables : HasTables desk t tree new
   pub fresh : (w : W) → AllByRecursion (λ t. t.tree ≢ tree w) old.schema.tables
@@ -192,9 +192,9 @@ pub record CreatesTablesWith {W T : Type 0} (desk : Desk W T) (t : T) (old new :
 
 -- If the Boolean is true, the statement `text` compiles in the schema. If it is false, `text` does
 -- not compile, because a table that it names does not exist.
-abbrev pub MatchesCompilation : List ℕ → Bool → Schema → Type 0
-MatchesCompilation text true schema = (c : Compiled) × (understood schema text ≡ Ok c)
-MatchesCompilation text false schema = understood schema text ≡ Err NoSuchTable
+abbrev pub IsCompilationOutcome : List ℕ → Bool → Schema → Type 0
+IsCompilationOutcome text true schema = (c : Compiled) × (understood schema text ≡ Ok c)
+IsCompilationOutcome text false schema = understood schema text ≡ Err NoSuchTable
 
 -- The statement `text` compiles in the schema, and `has` is true if and only if the columns of its
 -- result have exactly the names `names`, in order.

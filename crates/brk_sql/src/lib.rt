@@ -6,9 +6,9 @@ mod columns;
 ghost use Rattle.std.specs.Prelude.{◌≡◌, IfOk, IsTrue, None, map};
 ghost use Rattle.sqlite_value.specs.declared.value.Value.TheVariants.{Int};
 ghost use Rattle.sqlite_value.specs.Order.{column};
-ghost use Rattle.brk_sql.specs.Rows.{is_ascending_from};
+ghost use Rattle.brk_sql.specs.Rows.{is_strictly_ascending_above};
 ghost use Rattle.brk_sql.specs.Model.{IsConnectionStep};
-ghost use Rattle.brk_sql.specs.Desk.{MatchesCompilation};
+ghost use Rattle.brk_sql.specs.Desk.{IsCompilationOutcome};
 
 pub use columns::statement_has_columns;
 use sqlite::{Alter, Error, Row, Transaction};
@@ -17,7 +17,7 @@ use std::alloc::Global;
 
 /// Returns true if each number is greater than the one before it.
 pub fn numbers_strictly_ascend(numbers: &[i64]) -> bool
-    ensures { result ≡ is_ascending_from None numbers.now }
+    ensures { result ≡ is_strictly_ascending_above None numbers.now }
 {
     let mut last: Option<i64> = None;
     for number in numbers {
@@ -33,7 +33,7 @@ pub fn numbers_strictly_ascend(numbers: &[i64]) -> bool
 
 /// Returns the numbers in column `at` of the rows, in order. Fails if one of these columns is not
 /// an INTEGER, or with the error of an allocation.
-pub fn numbers_in(alloc: Global, rows: &[Row], at: usize) -> Result<Vec<i64>, Error>
+pub fn integers_in_column(alloc: Global, rows: &[Row], at: usize) -> Result<Vec<i64>, Error>
     ensures { IfOk result (λ all. map Int all.items ≡ map (λ r. column r at) rows.now) }
 {
     let mut all = Vec::new(alloc);
@@ -47,7 +47,7 @@ pub fn numbers_in(alloc: Global, rows: &[Row], at: usize) -> Result<Vec<i64>, Er
 /// returns a value, the database was open and is unchanged. Fails with the error of the database.
 pub fn statement_compiles<S: Alter>(tx: &mut Transaction<'_, S>, text: &str) -> Result<bool, Error>
     ensures same_reference { tx.new.conn.ghost_name ≡ tx.old.conn.ghost_name }
-    ensures step { IsConnectionStep S.Store tx.old tx.new result (λ has old new. IsTrue old.is_open × (new.now ≡ old.now) × MatchesCompilation text.now has old.now.schema) }
+    ensures step { IsConnectionStep S.Store tx.old tx.new result (λ has old new. IsTrue old.is_open × (new.now ≡ old.now) × IsCompilationOutcome text.now has old.now.schema) }
 {
     match tx.prepare(text) {
         Ok(_) => Ok(true),

@@ -14,31 +14,31 @@ use Rattle.brk_model.specs.Tables.{Tables}
 use Rattle.brk_changes.specs.declared.schema.Schema as known
 use Rattle.brk_changes.specs.declared.schema.Schema.TheVariants.{Third}
 use Rattle.brk_changes.specs.Schemas.{abstract_schema}
-use Rattle.brk_changes.specs.Sheets.{tables_in_sheets}
+use Rattle.brk_changes.specs.Sheets.{abstract_sheets}
 use Rattle.brk_changes.specs.declared.sheets.Sheets.{Sheets}
 use Rattle.brk_sql.specs.Model.{IsTransactionStep}
 use Rattle.brk_sql.proofs.Inside.{step_read, step_then}
 use Rattle.brk_tables_unique.proofs.OneTables.{one_schema}
-use Rattle.brk_tables_schema.specs.Made.{HasRowsInSchema}
-use Rattle.brk_tables_scan.specs.Schemas.{HasDesk, SchemaNamesImplyDefinitions}
+use Rattle.brk_tables_schema.specs.Made.{HasDeskTablesInSchema}
+use Rattle.brk_tables_scan.specs.Schemas.{HasDeskOfSchema, NamedTablesMatchSchemaDefinitions}
 use Rattle.brk_tables_scan.specs.Whole.{AreSheetsOfDatabase}
-use Rattle.brk_store.specs.Audited.{IsAuditBySchema}
+use Rattle.brk_store.specs.Audited.{IsDatabaseAuditResultBySchema}
 use Rattle.brk_store.proofs.Texts.{typed_texts}
 
 -- ---- conditions of rows
 
 -- The condition is one of rows: any condition but `NotEmpty` and `Schema`.
-abbrev pub IsOfRows : Condition → Type 0
-IsOfRows condition.NotEmpty = ⊥
-IsOfRows condition.Schema = ⊥
-IsOfRows c = ⊤
+abbrev pub IsConditionOfRows : Condition → Type 0
+IsConditionOfRows condition.NotEmpty = ⊥
+IsConditionOfRows condition.Schema = ⊥
+IsConditionOfRows c = ⊤
 
-failing_is_of_rows : (schema : Schema) (cs : List Condition) (t : Tables) (c : Condition) → AllByRecursion IsOfRows cs → IsFirstFailingCondition schema cs t (Some c) → IsOfRows c
+failing_is_of_rows : (schema : Schema) (cs : List Condition) (t : Tables) (c : Condition) → AllByRecursion IsConditionOfRows cs → IsFirstFailingCondition schema cs t (Some c) → IsConditionOfRows c
 failing_is_of_rows schema [] t c all h = absurd (let e : Some c ≡ None = h in cc)
 failing_is_of_rows schema (d ∷ cs) t c all (inl h) = failing_is_of_rows schema cs t c all.1 h.1
-failing_is_of_rows schema (d ∷ cs) t c all (inr h) = let e : d ≡ c = (let f : Some c ≡ Some d = h.1 in cc) in subst IsOfRows e all.0
+failing_is_of_rows schema (d ∷ cs) t c all (inr h) = let e : d ≡ c = (let f : Some c ≡ Some d = h.1 in cc) in subst IsConditionOfRows e all.0
 
-audit_is_of_rows : (schema : Schema) (t : Tables) (c : Condition) → IsAuditResult schema t (Some c) → IsOfRows c
+audit_is_of_rows : (schema : Schema) (t : Tables) (c : Condition) → IsAuditResult schema t (Some c) → IsConditionOfRows c
 audit_is_of_rows schema t c h = failing_is_of_rows schema row_conditions t c
     (tt, (tt, (tt, (tt, (tt, (tt, (tt, (tt, (tt, (tt, (tt, tt))))))))))) h
 
@@ -59,8 +59,8 @@ form_fails schema t h texts =
     inr ((λ (form : IsTrue (satisfies_form_condition schema t)). let e : satisfies_form_condition schema t && has_utf8_texts t ≡ true = rw (form, texts) refl in let f : true ≡ false = sym e ∙ h in absurd (cc)), refl)
 
 -- the answer of the rows is that of the database
-pub rows_are_audited : (schema : known.Schema) (db : Database) (t : Tables) (answer : Option Condition) → HasDesk (abstract_schema schema) db → HasRowsInSchema (abstract_schema schema) t db → IsTrue (has_utf8_texts t) → IsAuditResult (abstract_schema schema) t answer
-    → IsAuditBySchema (abstract_schema schema) db answer
+pub rows_are_audited : (schema : known.Schema) (db : Database) (t : Tables) (answer : Option Condition) → HasDeskOfSchema (abstract_schema schema) db → HasDeskTablesInSchema (abstract_schema schema) t db → IsTrue (has_utf8_texts t) → IsAuditResult (abstract_schema schema) t answer
+    → IsDatabaseAuditResultBySchema (abstract_schema schema) db answer
 rows_are_audited schema db t None there rows texts h = (t, (rows, texts, h))
 rows_are_audited schema db t (Some condition.NotEmpty) there rows texts h = audit_is_of_rows (abstract_schema schema) t condition.NotEmpty h
 rows_are_audited schema db t (Some condition.Schema) there rows texts h = absurd (audit_is_of_rows (abstract_schema schema) t condition.Schema h)
@@ -72,54 +72,54 @@ rows_are_audited schema db t (Some c) there rows texts h = (t, (rows, texts, h))
 -- A read of an open database left it unchanged, and `has` is true if and only if it has a desk of
 -- `schema`. The result is specified only if tables with the names of the schema's tables have their
 -- definitions.
-abbrev pub Asked : known.Schema → Bool → State → State → Type 0
-Asked schema has a b = IsTrue a.is_open × (b.now ≡ a.now) × (SchemaNamesImplyDefinitions (abstract_schema schema) a.now → IsTrue has ↔ HasDesk (abstract_schema schema) a.now)
+abbrev pub ShowsIfHasDesk : known.Schema → Bool → State → State → Type 0
+ShowsIfHasDesk schema has a b = IsTrue a.is_open × (b.now ≡ a.now) × (NamedTablesMatchSchemaDefinitions (abstract_schema schema) a.now → IsTrue has ↔ HasDeskOfSchema (abstract_schema schema) a.now)
 
 -- A read of an open database left it unchanged and returned `read`, the typed rows of its tables of
 -- `schema` (`AreSheetsOfDatabase`). The result is specified only if the database has a desk of
 -- `schema` with the definitions of its tables.
-abbrev pub WereRead : known.Schema → Option Sheets → State → State → Type 0
-WereRead schema read a b = IsTrue a.is_open × (b.now ≡ a.now) × (SchemaNamesImplyDefinitions (abstract_schema schema) a.now → HasDesk (abstract_schema schema) a.now → AreSheetsOfDatabase (abstract_schema schema) a.now read)
+abbrev pub ReadsSheetsOfSchema : known.Schema → Option Sheets → State → State → Type 0
+ReadsSheetsOfSchema schema read a b = IsTrue a.is_open × (b.now ≡ a.now) × (NamedTablesMatchSchemaDefinitions (abstract_schema schema) a.now → HasDeskOfSchema (abstract_schema schema) a.now → AreSheetsOfDatabase (abstract_schema schema) a.now read)
 
 -- An audit of an open database left it unchanged and returned `answer`, the result of its audit by
 -- `schema`. The result is specified only if the database has a desk of `schema` with the
 -- definitions of its tables.
-abbrev pub Tried : known.Schema → Option Condition → State → State → Type 0
-Tried schema answer a b = IsTrue a.is_open × (b.now ≡ a.now) × (SchemaNamesImplyDefinitions (abstract_schema schema) a.now → HasDesk (abstract_schema schema) a.now → IsAuditBySchema (abstract_schema schema) a.now answer)
+abbrev pub AuditsDeskOfSchema : known.Schema → Option Condition → State → State → Type 0
+AuditsDeskOfSchema schema answer a b = IsTrue a.is_open × (b.now ≡ a.now) × (NamedTablesMatchSchemaDefinitions (abstract_schema schema) a.now → HasDeskOfSchema (abstract_schema schema) a.now → IsDatabaseAuditResultBySchema (abstract_schema schema) a.now answer)
 
 -- An audit of an open database left it unchanged and returned `answer`, the result of its audit by
 -- schema 3. The result is specified only if tables with the names of the schema's tables have their
 -- definitions.
-abbrev pub Told : Option Condition → State → State → Type 0
-Told answer a b = IsTrue a.is_open × (b.now ≡ a.now) × (SchemaNamesImplyDefinitions third_schema a.now → IsAuditBySchema third_schema a.now answer)
+abbrev pub AuditsByThirdSchema : Option Condition → State → State → Type 0
+AuditsByThirdSchema answer a b = IsTrue a.is_open × (b.now ≡ a.now) × (NamedTablesMatchSchemaDefinitions third_schema a.now → IsDatabaseAuditResultBySchema third_schema a.now answer)
 
 module _ (schema : known.Schema) (a b : State) where
-  pub no_form : IsTransactionStep {V = Option Sheets} {E = Fault} a b (Ok None) (WereRead schema) → IsTransactionStep {V = Option Condition} {E = Fault} a b (Ok (Some condition.Form)) (Tried schema)
+  pub no_form : IsTransactionStep {V = Option Sheets} {E = Fault} a b (Ok None) (ReadsSheetsOfSchema schema) → IsTransactionStep {V = Option Condition} {E = Fault} a b (Ok (Some condition.Form)) (AuditsDeskOfSchema schema)
   no_form step =
-      step_read a b None (Ok (Some condition.Form)) (WereRead schema) (Tried schema)
+      step_read a b None (Ok (Some condition.Form)) (ReadsSheetsOfSchema schema) (AuditsDeskOfSchema schema)
       (λ answer is p.
       let e : Some condition.Form ≡ answer = cc in
-      subst (λ told. Tried schema told a b) e (p.0, p.1, λ defined there. (there, λ t rows texts. form_fails (abstract_schema schema) t (p.2 defined there t rows) texts))) step
+      subst (λ told. AuditsDeskOfSchema schema told a b) e (p.0, p.1, λ defined there. (there, λ t rows texts. form_fails (abstract_schema schema) t (p.2 defined there t rows) texts))) step
 
-  pub rows_told : (sheets : Sheets) (r : Result (Option Condition) Fault) → IsTransactionStep {V = Option Sheets} {E = Fault} a b (Ok (Some sheets)) (WereRead schema) → IfOk r (λ answer. IsAuditResult (abstract_schema schema) (tables_in_sheets sheets) answer)
-      → IsTransactionStep {V = Option Condition} {E = Fault} a b r (Tried schema)
+  pub rows_told : (sheets : Sheets) (r : Result (Option Condition) Fault) → IsTransactionStep {V = Option Sheets} {E = Fault} a b (Ok (Some sheets)) (ReadsSheetsOfSchema schema) → IfOk r (λ answer. IsAuditResult (abstract_schema schema) (abstract_sheets sheets) answer)
+      → IsTransactionStep {V = Option Condition} {E = Fault} a b r (AuditsDeskOfSchema schema)
   rows_told sheets r step audit =
-      step_read a b (Some sheets) r (WereRead schema) (Tried schema)
+      step_read a b (Some sheets) r (ReadsSheetsOfSchema schema) (AuditsDeskOfSchema schema)
       (λ answer is p. (
         p.0,
         p.1,
         λ defined there.
-            rows_are_audited schema a.now (tables_in_sheets sheets) answer there (p.2 defined there) (typed_texts sheets) (subst (λ o. IfOk o (λ answer. IsAuditResult (abstract_schema schema) (tables_in_sheets sheets) answer)) is audit),
+            rows_are_audited schema a.now (abstract_sheets sheets) answer there (p.2 defined there) (typed_texts sheets) (subst (λ o. IfOk o (λ answer. IsAuditResult (abstract_schema schema) (abstract_sheets sheets) answer)) is audit),
       )) step
 
 -- the desk of the third schema was asked for, and is there
-pub desk_told : (a b c : State) (r : Result (Option Condition) Fault) → IsTransactionStep {V = Bool} {E = Fault} a b (Ok true) (Asked Third) → IsTransactionStep {V = Option Condition} {E = Fault} b c r (Tried Third)
-    → IsTransactionStep {V = Option Condition} {E = Fault} a c r Told
+pub desk_told : (a b c : State) (r : Result (Option Condition) Fault) → IsTransactionStep {V = Bool} {E = Fault} a b (Ok true) (ShowsIfHasDesk Third) → IsTransactionStep {V = Option Condition} {E = Fault} b c r (AuditsDeskOfSchema Third)
+    → IsTransactionStep {V = Option Condition} {E = Fault} a c r AuditsByThirdSchema
 desk_told a b c r asked tried =
-    step_then a b c true r (Asked Third) (Tried Third) Told
+    step_then a b c true r (ShowsIfHasDesk Third) (AuditsDeskOfSchema Third) AuditsByThirdSchema
     (λ answer p q. (
       p.0,
       q.1 ∙ p.1,
-      λ defined. (subst (λ d. SchemaNamesImplyDefinitions third_schema d → HasDesk third_schema d → IsAuditBySchema third_schema d answer) p.1 q.2) defined ((p.2 defined).0 refl),
+      λ defined. (subst (λ d. NamedTablesMatchSchemaDefinitions third_schema d → HasDeskOfSchema third_schema d → IsDatabaseAuditResultBySchema third_schema d answer) p.1 q.2) defined ((p.2 defined).0 refl),
     ))
     asked tried

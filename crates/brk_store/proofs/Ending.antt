@@ -15,23 +15,23 @@ use Rattle.brk_sql.specs.Model.{IsTransactionStep, IsUnchangedAndSatisfies}
 use Rattle.brk_sql.proofs.Inside.{clean_before, commits_all, commits_crash, step_then}
 use Rattle.brk_money.specs.declared.fault.Fault.{Fault}
 use Rattle.brk_money.specs.declared.fault.Fault.TheVariants.{Store}
-use Rattle.brk_tables_schema.specs.Desk.{desk}
-use Rattle.brk_tables_schema.specs.Made.{HasRows}
+use Rattle.brk_tables_schema.specs.Desk.{desk_tables}
+use Rattle.brk_tables_schema.specs.Made.{HasDeskTables}
 use Rattle.brk_tables_create.specs.Made.{CreatesDeskTables}
 use Rattle.brk_tables_create.specs.Present.{has_table_of_desk}
 use Rattle.brk_store.specs.Holds.{HoldsRows, WasOpenAndIsUnchanged, ReadPost, ApplyPost, CreatePost}
 
 -- The connection `old` with a transaction open on it.
-abbrev pub begun : {S : Type 0} → Held S → Held S
-begun old = record old { in_transaction = true }
+abbrev pub with_transaction_open : {S : Type 0} → Held S → Held S
+with_transaction_open old = record old { in_transaction = true }
 
 module _ {S : Type 0} (g : Ghosts S) (old mid end : Held S) (settled : IsTrue (state g old).is_open → (state g old).now ≡ (state g old).committed) where
   -- rolled back
-  pub rolled_back : {V E : Type 0} (r : Result V E) (Q : V → State → State → Type 0) (P : Trees → Type 0) → IsTransactionStep (state g (begun old)) (state g mid) r Q → (HasCleanDisk (state g end) → IsRolledBack (state g mid) (state g end))
+  pub rolled_back : {V E : Type 0} (r : Result V E) (Q : V → State → State → Type 0) (P : Trees → Type 0) → IsTransactionStep (state g (with_transaction_open old)) (state g mid) r Q → (HasCleanDisk (state g end) → IsRolledBack (state g mid) (state g end))
       → Survives (state g mid) (state g end) P → HasCleanDisk (state g end) → IsTrue (state g end).is_open → WasOpenAndIsUnchanged (state g old) (state g end)
   rolled_back r Q P step back late clean o =
       let b = back clean in
-      let kept = step.kept (clean_before (state g mid) (state g end) P late clean) in
+      let kept = step.commits_nothing (clean_before (state g mid) (state g end) P late clean) in
       let mid_open = b.was_open o in
       let old_open = kept.was_open mid_open in
       record { now = (b.undone o).0 ∙ kept.committed mid_open ∙ sym (settled old_open); committed = (b.undone o).1 ∙ kept.committed mid_open; was_open = old_open }
@@ -39,58 +39,58 @@ module _ {S : Type 0} (g : Ghosts S) (old mid end : Held S) (settled : IsTrue (s
   pub still_holds : (P : Trees → Type 0) → Survives (state g old) (state g end) P → (HasCleanDisk (state g end) → IsTrue (state g end).is_open → WasOpenAndIsUnchanged (state g old) (state g end)) → (t : Tables) → HoldsRows g old t → HoldsRows g end t
   still_holds P through kept t holds clean o =
       let k = kept clean o in
-      subst (HasRows t) (sym k.now) (holds (clean_before (state g old) (state g end) P through clean) k.was_open)
+      subst (HasDeskTables t) (sym k.now) (holds (clean_before (state g old) (state g end) P through clean) k.was_open)
 
-  module _ {V E : Type 0} (r : Result V E) (Q : V → State → State → Type 0) (step : IsTransactionStep (state g (begun old)) (state g mid) r Q) (late : Survives (state g mid) (state g end) (λ _. ⊥)) where
+  module _ {V E : Type 0} (r : Result V E) (Q : V → State → State → Type 0) (step : IsTransactionStep (state g (with_transaction_open old)) (state g mid) r Q) (late : Survives (state g mid) (state g end) (λ _. ⊥)) where
     pub through : Survives (state g old) (state g end) (λ _. ⊥)
     through = survives_then (state g old) (state g mid) (state g end) (λ _. ⊥) (λ _. ⊥) (λ _. ⊥) (λ _ db none. none) (λ _ db none. none) (survives_begin g old (state g mid) (λ _. ⊥) step.survives) late
 
   -- a read, whose transaction is dropped
-  pub is_read : {V E : Type 0} (out : Result V E) (P : V → Tables → Type 0) → IsTransactionStep (state g (begun old)) (state g mid) out (λ v. IsUnchangedAndSatisfies desk (P v)) → Survives (state g mid) (state g end) (λ _. ⊥)
+  pub is_read : {V E : Type 0} (out : Result V E) (P : V → Tables → Type 0) → IsTransactionStep (state g (with_transaction_open old)) (state g mid) out (λ v. IsUnchangedAndSatisfies desk_tables (P v)) → Survives (state g mid) (state g end) (λ _. ⊥)
       → (HasCleanDisk (state g end) → IsRolledBack (state g mid) (state g end)) → ReadPost g old end out P
   is_read {V} {E} out P step late back =
-      let whole = through out (λ v. IsUnchangedAndSatisfies desk (P v)) step late in
-      let kept = rolled_back out (λ v. IsUnchangedAndSatisfies desk (P v)) (λ _. ⊥) step back late in
+      let whole = through out (λ v. IsUnchangedAndSatisfies desk_tables (P v)) step late in
+      let kept = rolled_back out (λ v. IsUnchangedAndSatisfies desk_tables (P v)) (λ _. ⊥) step back late in
       record {
-        told = λ clean. tells out (clean_before (state g old) (state g end) (λ _. ⊥) whole clean) (step.made (clean_before (state g mid) (state g end) (λ _. ⊥) late clean) refl);
-        opened = λ clean. opens out (step.made (clean_before (state g mid) (state g end) (λ _. ⊥) late clean) refl);
-        kept = still_holds _ whole kept;
+        answered = λ clean. tells out (clean_before (state g old) (state g end) (λ _. ⊥) whole clean) (step.relates_states (clean_before (state g mid) (state g end) (λ _. ⊥) late clean) refl);
+        opened = λ clean. opens out (step.relates_states (clean_before (state g mid) (state g end) (λ _. ⊥) late clean) refl);
+        same_rows = still_holds _ whole kept;
         same = kept;
         survives = whole;
       }
     where
-      tells : (o : Result V E) → HasCleanDisk (state g old) → IfOk o (λ v. IsTrue (state g mid).in_transaction × IsUnchangedAndSatisfies desk (P v) (state g (begun old)) (state g mid)) → IfOk o (λ v. (t : Tables) → HoldsRows g old t → P v t)
+      tells : (o : Result V E) → HasCleanDisk (state g old) → IfOk o (λ v. IsTrue (state g mid).in_transaction × IsUnchangedAndSatisfies desk_tables (P v) (state g (with_transaction_open old)) (state g mid)) → IfOk o (λ v. (t : Tables) → HoldsRows g old t → P v t)
       tells (Ok v) clean h = λ t holds. let has = holds clean h.1.0 in h.1.2 t has.0 has.1
       tells (Err e) clean h = tt
 
-      opens : (o : Result V E) → IfOk o (λ v. IsTrue (state g mid).in_transaction × IsUnchangedAndSatisfies desk (P v) (state g (begun old)) (state g mid)) → OnOk o (IsTrue (state g old).is_open)
+      opens : (o : Result V E) → IfOk o (λ v. IsTrue (state g mid).in_transaction × IsUnchangedAndSatisfies desk_tables (P v) (state g (with_transaction_open old)) (state g mid)) → OnOk o (IsTrue (state g old).is_open)
       opens (Ok v) h = h.1.0
       opens (Err e) h = tt
 
 -- a read in a transaction that was begun over a store's connection
-pub is_read_of : {S V E : Type 0} (g : Ghosts S) (old conn first mid end : Held S) (out : Result V E) (P : V → Tables → Type 0) → conn ≡ old → first ≡ begun conn
-    → (IsTrue (state g conn).is_open → (state g conn).now ≡ (state g conn).committed) → IsTransactionStep (state g first) (state g mid) out (λ v. IsUnchangedAndSatisfies desk (P v))
+pub is_read_of : {S V E : Type 0} (g : Ghosts S) (old conn first mid end : Held S) (out : Result V E) (P : V → Tables → Type 0) → conn ≡ old → first ≡ with_transaction_open conn
+    → (IsTrue (state g conn).is_open → (state g conn).now ≡ (state g conn).committed) → IsTransactionStep (state g first) (state g mid) out (λ v. IsUnchangedAndSatisfies desk_tables (P v))
     → Survives (state g mid) (state g end) (λ _. ⊥) → (HasCleanDisk (state g end) → IsRolledBack (state g mid) (state g end)) → ReadPost g old end out P
 is_read_of g old conn first mid end out P same first_is settled step late back =
     subst (λ h. ReadPost g h end out P) same
-    (is_read g conn mid end settled out P (subst (λ h. IsTransactionStep (state g h) (state g mid) out (λ v. IsUnchangedAndSatisfies desk (P v))) first_is step) late back)
+    (is_read g conn mid end settled out P (subst (λ h. IsTransactionStep (state g h) (state g mid) out (λ v. IsUnchangedAndSatisfies desk_tables (P v))) first_is step) late back)
 
 -- ---- a look before the changes, which shows that the store is open
 
-module _ {S L E F : Type 0} (g : Ghosts S) (old first mid : Held S) (last : L) (P : L → Tables → Type 0) (look : IsTransactionStep {E = E} (state g (begun old)) (state g first) (Ok last) (λ l. IsUnchangedAndSatisfies desk (P l)))
-    (r : Result (Unit {0}) F) (after : Tables → Tables) (changes : IsTransactionStep (state g first) (state g mid) r (λ _ a b. ChangesTablesBy desk after a.now b.now)) where
-  pub after_look : IsTransactionStep (state g (begun old)) (state g mid) r (λ _ a b. ChangesTablesBy desk after a.now b.now)
+module _ {S L E F : Type 0} (g : Ghosts S) (old first mid : Held S) (last : L) (P : L → Tables → Type 0) (look : IsTransactionStep {E = E} (state g (with_transaction_open old)) (state g first) (Ok last) (λ l. IsUnchangedAndSatisfies desk_tables (P l)))
+    (r : Result (Unit {0}) F) (after : Tables → Tables) (changes : IsTransactionStep (state g first) (state g mid) r (λ _ a b. ChangesTablesBy desk_tables after a.now b.now)) where
+  pub after_look : IsTransactionStep (state g (with_transaction_open old)) (state g mid) r (λ _ a b. ChangesTablesBy desk_tables after a.now b.now)
   after_look =
-      step_then (state g (begun old)) (state g first) (state g mid) last r (λ l. IsUnchangedAndSatisfies desk (P l)) (λ _ a b. ChangesTablesBy desk after a.now b.now) (λ _ a b. ChangesTablesBy desk after a.now b.now)
-      (λ _ p q. subst (λ d. ChangesTablesBy desk after d (state g mid).now) p.1 q) look changes
+      step_then (state g (with_transaction_open old)) (state g first) (state g mid) last r (λ l. IsUnchangedAndSatisfies desk_tables (P l)) (λ _ a b. ChangesTablesBy desk_tables after a.now b.now) (λ _ a b. ChangesTablesBy desk_tables after a.now b.now)
+      (λ _ p q. subst (λ d. ChangesTablesBy desk_tables after d (state g mid).now) p.1 q) look changes
 
   pub open_at_look : HasCleanDisk (state g mid) → IsTrue (state g old).is_open
-  open_at_look clean = (look.made (clean_before (state g first) (state g mid) (λ _. ⊥) changes.survives clean) refl).1.0
+  open_at_look clean = (look.relates_states (clean_before (state g first) (state g mid) (λ _. ⊥) changes.survives clean) refl).1.0
 
 -- ---- committed, or not
 
 module _ {S : Type 0} (g : Ghosts S) (old mid end : Held S) (settled : IsTrue (state g old).is_open → (state g old).now ≡ (state g old).committed) (made : Database → Database → Type 0)
-    (step : IsTransactionStep {V = Unit {0}} {E = Fault} (state g (begun old)) (state g mid) (Ok tt) (λ _ a b. made a.now b.now)) (late : Survives (state g mid) (state g end) (λ db. db ≡ (state g mid).now.trees)) where
+    (step : IsTransactionStep {V = Unit {0}} {E = Fault} (state g (with_transaction_open old)) (state g mid) (Ok tt) (λ _ a b. made a.now b.now)) (late : Survives (state g mid) (state g end) (λ db. db ≡ (state g mid).now.trees)) where
   pub whole : Survives (state g old) (state g end) (λ trees. (db : Database) × made (state g old).now db × (trees ≡ db.trees))
   whole = commits_crash g old mid end made step late
 
@@ -98,7 +98,7 @@ module _ {S : Type 0} (g : Ghosts S) (old mid end : Held S) (settled : IsTrue (s
   pub back : (e : Error) → (HasCleanDisk (state g end) → FailsToCommit (state g mid) (state g end) e) → HasCleanDisk (state g end) → IsRolledBack (state g mid) (state g end)
   back e fails clean = elim (fails clean) [
     | inl f ↦ f.3
-    | inr off ↦ absurd (let on = (step.made (clean_before (state g mid) (state g end) _ late clean) refl).0 in let f = off.1 in cc)
+    | inr off ↦ absurd (let on = (step.relates_states (clean_before (state g mid) (state g end) _ late clean) refl).0 in let f = off.1 in cc)
   ]
 
   pub kept_at : (e : Error) → (HasCleanDisk (state g end) → FailsToCommit (state g mid) (state g end) e) → HasCleanDisk (state g end) → IsTrue (state g end).is_open → WasOpenAndIsUnchanged (state g old) (state g end)
@@ -112,16 +112,16 @@ module _ {S : Type 0} (g : Ghosts S) (old mid end : Held S) (settled : IsTrue (s
     leaves_now : ((db : Trees) → IsTrue (state g end).is_open → (state g end).may_leave db → db ≡ (state g end).committed.trees) → HasCleanDisk (state g end) → (db : Trees) → (state g end).may_leave db → db ≡ (state g end).now.trees
     leaves_now law clean db may = let it = all clean in law db it.1 may ∙ ap (λ (d : Database). d.trees) it.3
 
-    pub applies : ((db : Trees) → IsTrue (state g end).is_open → (state g end).may_leave db → db ≡ (state g end).committed.trees) → (after : Tables → Tables) → ((a b : Database) → made a b → ChangesTablesBy desk after a b)
+    pub applies : ((db : Trees) → IsTrue (state g end).is_open → (state g end).may_leave db → db ≡ (state g end).committed.trees) → (after : Tables → Tables) → ((a b : Database) → made a b → ChangesTablesBy desk_tables after a b)
         → ApplyPost {V = Unit {0}} {E = Fault} g old end (Ok tt) after
     applies law after turns = record {
-      made = λ t holds clean o.
+      applied = λ t holds clean o.
           let it = all clean in
           let has = holds (clean_before (state g old) (state g end) _ whole clean) it.0 in
           (has.0, (turns _ _ it.2 t has.0 has.1).0);
       opened = λ clean. let it = all clean in (it.0, it.1, it.3);
       others = λ clean t tree has. (turns _ _ (all clean).2 t tree has).1;
-      kept = tt;
+      same_rows_at_error = tt;
       same = λ clean o. tt;
       survives = survives_weaker (state g old) (state g end) _ _ (λ clean db h. ((all clean).0, (λ t has. (h.0, (has.0, (turns _ _ h.1 t has.0 has.1).0), h.2)))) whole;
       durable = λ clean t holds trees may.
@@ -133,7 +133,7 @@ module _ {S : Type 0} (g : Ghosts S) (old mid end : Held S) (settled : IsTrue (s
     pub creates : ((db : Trees) → IsTrue (state g end).is_open → (state g end).may_leave db → db ≡ (state g end).committed.trees) → ((a b : Database) → made a b → (has_table_of_desk a.schema ≡ false) × CreatesDeskTables a b)
         → CreatePost g old end (Ok tt)
     creates law tells = record {
-      made = λ clean o. (tells _ _ (all clean).2).1.rows;
+      created = λ clean o. (tells _ _ (all clean).2).1.rows;
       opened = λ clean. let it = all clean in (it.0, it.1, it.3);
       absent = λ clean. (tells _ _ (all clean).2).0;
       others = λ clean. (tells _ _ (all clean).2).1.others;
@@ -146,12 +146,12 @@ module _ {S : Type 0} (g : Ghosts S) (old mid end : Held S) (settled : IsTrue (s
 
   module _ (e : Error) (fails : HasCleanDisk (state g end) → FailsToCommit (state g mid) (state g end) e) where
     -- it was open where the changes began
-    pub applies_none : (HasCleanDisk (state g mid) → IsTrue (state g old).is_open) → (fault : Fault) (after : Tables → Tables) → ((a b : Database) → made a b → ChangesTablesBy desk after a b) → ApplyPost {V = Unit {0}} {E = Fault} g old end (Err fault) after
+    pub applies_none : (HasCleanDisk (state g mid) → IsTrue (state g old).is_open) → (fault : Fault) (after : Tables → Tables) → ((a b : Database) → made a b → ChangesTablesBy desk_tables after a b) → ApplyPost {V = Unit {0}} {E = Fault} g old end (Err fault) after
     applies_none was_open fault after turns = record {
-      made = tt;
+      applied = tt;
       opened = λ clean. tt;
       others = λ clean. tt;
-      kept = still_holds g old mid end settled _ whole (kept_at e fails);
+      same_rows_at_error = still_holds g old mid end settled _ whole (kept_at e fails);
       same = kept_at e fails;
       survives = survives_weaker (state g old) (state g end) _ _
           (λ clean db h. (was_open (clean_before (state g mid) (state g end) _ late clean), (λ t has. (h.0, (has.0, (turns _ _ h.1 t has.0 has.1).0), h.2)))) whole;
@@ -160,7 +160,7 @@ module _ {S : Type 0} (g : Ghosts S) (old mid end : Held S) (settled : IsTrue (s
 
     pub commits_none : ((a b : Database) → made a b → (has_table_of_desk a.schema ≡ false) × CreatesDeskTables a b) → CreatePost g old end (Err Store)
     commits_none tells = record {
-      made = tt;
+      created = tt;
       opened = λ clean. tt;
       absent = λ clean. tt;
       others = λ clean. tt;

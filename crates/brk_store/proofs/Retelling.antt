@@ -5,18 +5,18 @@ use Rattle.sqlite.specs.Held.{Held, state}
 use Rattle.sqlite.specs.State.{HasCleanDisk}
 use Rattle.brk_model.specs.Tables.{Tables}
 use Rattle.brk_sql.proofs.Inside.{clean_before}
-use Rattle.brk_tables_schema.specs.Made.{HasRows}
+use Rattle.brk_tables_schema.specs.Made.{HasDeskTables}
 use Rattle.brk_store.specs.Holds.{HoldsRows, ReadPost}
-use Rattle.brk_store.specs.Kept.{IsUnchangedByReads, clean_at, kept_read, kept_then}
+use Rattle.brk_store.specs.ReadSequences.{IsUnchangedByReads, disk_was_clean_before_reads, single_read_changes_nothing, joined_reads_change_nothing}
 
 module _ {S : Type 0} (g : Ghosts S) where
   -- what was read tells this too, of rows that a database has
   pub retold_of : (old end : Held S) {V X E H : Type 0} (v : V) (x : X) (P : V → Tables → Type 0) (R : X → Tables → Type 0)
-      → ((t : Tables) → HasRows t (state g old).now → P v t → R x t) → ReadPost {E = E} g old end (Ok v) P → ReadPost {E = H} g old end (Ok x) R
+      → ((t : Tables) → HasDeskTables t (state g old).now → P v t → R x t) → ReadPost {E = E} g old end (Ok v) P → ReadPost {E = H} g old end (Ok x) R
   retold_of old end v x P R tell read = record {
-    told = λ clean t holds. tell t (holds (clean_before (state g old) (state g end) (λ _. ⊥) read.survives clean) (read.opened clean)) (read.told clean t holds);
+    answered = λ clean t holds. tell t (holds (clean_before (state g old) (state g end) (λ _. ⊥) read.survives clean) (read.opened clean)) (read.answered clean t holds);
     opened = read.opened;
-    kept = read.kept;
+    same_rows = read.same_rows;
     same = read.same;
     survives = read.survives;
   }
@@ -29,9 +29,9 @@ module _ {S : Type 0} (g : Ghosts S) where
   -- a read after another tells of the rows that stood before both
   pub read_after : (old mid end : Held S) {V W E F : Type 0} (v : V) (r : Result W F) (P : V → Tables → Type 0) (Q : W → Tables → Type 0) → ReadPost {E = E} g old mid (Ok v) P → ReadPost g mid end r Q → ReadPost g old end r Q
   read_after old mid end {V} {W} {E} {F} v r P Q first next = record {
-    told = λ clean. tells r (next.told clean);
+    answered = λ clean. tells r (next.answered clean);
     opened = λ clean. opens r (first.opened (before clean)) (next.opened clean);
-    kept = both.kept;
+    same_rows = both.kept;
     same = both.same;
     survives = both.survives;
   }

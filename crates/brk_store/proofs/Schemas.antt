@@ -9,25 +9,25 @@ use Rattle.brk_changes.specs.declared.schema.Schema.TheVariants.{First, Second, 
 use Rattle.brk_changes.specs.Schemas.{abstract_schema}
 use Rattle.brk_sql.specs.Desk.{IsTableAt}
 use Rattle.brk_sql.proofs.Grown.{all_there, some_there}
-use Rattle.brk_tables_schema.specs.Desk.{Which, TheDesk, CashMoves, SettleRules, desk_of_schema}
-use Rattle.brk_tables_schema.specs.Shapes.{desk_row}
-use Rattle.brk_tables_schema.specs.Made.{HasRows, HasRowsInSchema, IsTableOfSchema}
-use Rattle.brk_tables_scan.specs.Schemas.{HasDesk, DeskNamesImplyDefinitions, SchemaNamesImplyDefinitions, HasDeskDefinitions, HasOneDeskRow}
+use Rattle.brk_tables_schema.specs.Desk.{DeskTable, TheDesk, CashMoves, SettleRules, desk_tables_of_schema}
+use Rattle.brk_tables_schema.specs.Shapes.{desk_row_table}
+use Rattle.brk_tables_schema.specs.Made.{HasDeskTables, HasDeskTablesInSchema, IsTableOfSchema}
+use Rattle.brk_tables_scan.specs.Schemas.{HasDeskOfSchema, NamedTablesMatchDeskDefinitions, NamedTablesMatchSchemaDefinitions, HasDeskDefinitions, IsOneDeskRowOfSchema}
 use Rattle.brk_tables_scan.proofs.Defined.{desk_is_defined, desk_is_there}
 
 -- in the third schema all tables are there
-of_third : (w : Which) → IsTableOfSchema third_schema w
+of_third : (w : DeskTable) → IsTableOfSchema third_schema w
 of_third CashMoves = refl
 of_third SettleRules = refl
 of_third w = refl
 
-pub third_rows : (t : Tables) (db : Database) → HasRowsInSchema third_schema t db → HasRows t db
-third_rows t db has = (has.0, all_there (desk_of_schema third_schema) t (IsTableOfSchema third_schema) has.0 db of_third has.1)
+pub third_rows : (t : Tables) (db : Database) → HasDeskTablesInSchema third_schema t db → HasDeskTables t db
+third_rows t db has = (has.0, all_there (desk_tables_of_schema third_schema) t (IsTableOfSchema third_schema) has.0 db of_third has.1)
 
-pub rows_third : (t : Tables) (db : Database) → HasRows t db → HasRowsInSchema third_schema t db
+pub rows_third : (t : Tables) (db : Database) → HasDeskTables t db → HasDeskTablesInSchema third_schema t db
 rows_third t db has = (
   has.0,
-  some_there (desk_of_schema third_schema) t (IsTableOfSchema third_schema) has.0 db has.1,
+  some_there (desk_tables_of_schema third_schema) t (IsTableOfSchema third_schema) has.0 db has.1,
   λ w none. absurd (let e : true ≡ false = sym (of_third w) ∙ none in cc),
 )
 
@@ -41,12 +41,12 @@ narrowed schema db m = record {
   keyed = λ w of. m.keyed w (of_third w);
 }
 
-pub rows_defined : (t : Tables) (db : Database) → HasRows t db → DeskNamesImplyDefinitions db
+pub rows_defined : (t : Tables) (db : Database) → HasDeskTables t db → NamedTablesMatchDeskDefinitions db
 rows_defined t db has schema tables =
     let third = rows_third t db has in
     narrowed (abstract_schema schema) db (desk_is_defined third_schema t db third (desk_is_there third_schema t db third).tables)
 
-pub desk_of_rows : (t : Tables) (db : Database) → HasRows t db → HasDesk third_schema db
+pub desk_of_rows : (t : Tables) (db : Database) → HasDeskTables t db → HasDeskOfSchema third_schema db
 desk_of_rows t db has = desk_is_there third_schema t db (rows_third t db has)
 
 -- ---- the number in DESK tells the schema
@@ -62,31 +62,31 @@ same_schema Third First e = absurd (let f : 3 ≡ 1 = e in cc)
 same_schema Third Second e = absurd (let f : 3 ≡ 2 = e in cc)
 same_schema Third Third e = refl
 
-said_alike : (a b : Schema) (rows : List Row) → HasOneDeskRow a rows → HasOneDeskRow b rows → a.number ≡ b.number
+said_alike : (a b : Schema) (rows : List Row) → IsOneDeskRowOfSchema a rows → IsOneDeskRowOfSchema b rows → a.number ≡ b.number
 said_alike a b rows h k = let e = sym h.1 ∙ k.1 in cc
 
-pub one_desk : (a b : known.Schema) (t : Tables) (db : Database) → HasDesk (abstract_schema a) db → HasRowsInSchema (abstract_schema b) t db → a ≡ b
+pub one_desk : (a b : known.Schema) (t : Tables) (db : Database) → HasDeskOfSchema (abstract_schema a) db → HasDeskTablesInSchema (abstract_schema b) t db → a ≡ b
 one_desk a b t db there has =
     let stands = has.1.stands TheDesk refl in
     same_schema a b
     (said_alike (abstract_schema a) (abstract_schema b) _ (there.row (has.1.place TheDesk) (has.0 TheDesk) stands) ((desk_is_there (abstract_schema b) t db has).row (has.1.place TheDesk) (has.0 TheDesk) stands))
 
 -- where its tables are there as a desk makes them
-pub two_desks : (b : known.Schema) (db : Database) → SchemaNamesImplyDefinitions third_schema db → HasDesk third_schema db → HasDesk (abstract_schema b) db → Third ≡ b
+pub two_desks : (b : known.Schema) (db : Database) → NamedTablesMatchSchemaDefinitions third_schema db → HasDeskOfSchema third_schema db → HasDeskOfSchema (abstract_schema b) db → Third ≡ b
 two_desks b db defined there other =
     let alike = defined there.tables in
     let first = there.tables.0 in
-    let shaped : first.1 ≡ desk_row first.1.tree = alike.shaped TheDesk refl first.0 first.1 first.2.named first.2.found in
-    let stands : IsTableAt db.schema (desk_row first.1.tree) first.0 = record { named = first.2.named; found = first.2.found ∙ ap Some shaped } in
+    let shaped : first.1 ≡ desk_row_table first.1.tree = alike.shaped TheDesk refl first.0 first.1 first.2.named first.2.found in
+    let stands : IsTableAt db.schema (desk_row_table first.1.tree) first.0 = record { named = first.2.named; found = first.2.found ∙ ap Some shaped } in
     same_schema Third b (said_alike third_schema (abstract_schema b) _ (there.row first.0 first.1.tree stands) (other.row first.0 first.1.tree stands))
 
 -- only the third has the settlement day
-pub third_has_rule : (schema : known.Schema) → (abstract_schema schema).has_rule ≡ true → schema ≡ Third
+pub third_has_rule : (schema : known.Schema) → (abstract_schema schema).has_settle_rule_table ≡ true → schema ≡ Third
 third_has_rule First e = absurd (let f : false ≡ true = e in cc)
 third_has_rule Second e = absurd (let f : false ≡ true = e in cc)
 third_has_rule Third e = refl
 
-pub older_has_none : (schema : known.Schema) → (abstract_schema schema).has_rule ≡ false → schema ≡ Third → ⊥
+pub older_has_none : (schema : known.Schema) → (abstract_schema schema).has_settle_rule_table ≡ false → schema ≡ Third → ⊥
 older_has_none First e f = absurd (let g : First ≡ Third = f in cc)
 older_has_none Second e f = absurd (let g : Second ≡ Third = f in cc)
 older_has_none Third e f = absurd (let g : true ≡ false = e in cc)

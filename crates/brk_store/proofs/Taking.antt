@@ -25,10 +25,10 @@ use Rattle.brk_audit_theorems.proofs.Passing.{passing_books, passing_tables}
 use Rattle.brk_invariant_theorems.proofs.Adopted.{passing_sound, sound_passes}
 use Rattle.brk_tables_unique.proofs.OneTables.{one_schema}
 use Rattle.brk_sql.proofs.Inside.{clean_before}
-use Rattle.brk_tables_schema.specs.Made.{HasRowsInSchema}
-use Rattle.brk_tables_scan.specs.Schemas.{HasDesk}
+use Rattle.brk_tables_schema.specs.Made.{HasDeskTablesInSchema}
+use Rattle.brk_tables_scan.specs.Schemas.{HasDeskOfSchema}
 use Rattle.brk_tables_scan.proofs.Defined.{desk_is_there}
-use Rattle.brk_store.specs.Audited.{IsAuditOfStoredRows, IsAuditOfDatabase, IsAuditBySchema, IsDeskSchema, UpgradesPassingRows, StoreHasThirdDesk, Represents, AdoptPost, AuditPost, StoreNamesImplyDefinitions, ThirdNamesImplyDefinitions, OnAuditAnswer}
+use Rattle.brk_store.specs.Audited.{StoresRowsWithAuditResult, IsDatabaseAuditResult, IsDatabaseAuditResultBySchema, IsSchemaOfDatabase, UpgradesPassingRows, StoreHasDeskOfThirdSchema, Represents, AdoptPost, AuditPost, StoreNamedTablesMatchDeskDefinitions, StoreNamedTablesMatchThirdSchema, AuditAnswerSatisfies}
 use Rattle.brk_store.specs.Holds.{HoldsRows}
 use Rattle.brk_store.proofs.Adoption.{upgraded_pass, upgraded_read}
 use Rattle.brk_store.proofs.Answering.{one_failing}
@@ -38,7 +38,7 @@ use Rattle.brk_store.proofs.Schemas.{desk_of_rows, one_desk, rows_defined, rows_
 -- ---- the answer of a database is that of its rows, and one alone
 
 -- by one schema
-pub rows_answer : (schema : known.Schema) (db : Database) (t : Tables) (answer : Option Condition) → HasRowsInSchema (abstract_schema schema) t db → IsTrue (has_utf8_texts t) → IsAuditBySchema (abstract_schema schema) db answer → IsAuditResult (abstract_schema schema) t answer
+pub rows_answer : (schema : known.Schema) (db : Database) (t : Tables) (answer : Option Condition) → HasDeskTablesInSchema (abstract_schema schema) t db → IsTrue (has_utf8_texts t) → IsDatabaseAuditResultBySchema (abstract_schema schema) db answer → IsAuditResult (abstract_schema schema) t answer
 rows_answer schema db t None rows texts h = subst (λ u. IsAuditResult (abstract_schema schema) u None) (one_schema schema schema h.0 t db h.1.0 rows).1 h.1.2
 rows_answer schema db t (Some NotEmpty) rows texts h = absurd h
 rows_answer schema db t (Some Schema) rows texts h = absurd (h (desk_is_there (abstract_schema schema) t db rows))
@@ -47,21 +47,21 @@ rows_answer schema db t (Some c) rows texts h = subst (λ u. IsAuditResult (abst
 
 -- The database has rows of `schema` with texts in UTF-8; or it has a desk of `schema` and `answer`
 -- is `Form`; or it has none and `answer` is `Schema`.
-abbrev Kind : known.Schema → Database → Option Condition → Type 0
-Kind schema db answer =
-    ((t : Tables) × HasRowsInSchema (abstract_schema schema) t db × IsTrue (has_utf8_texts t)) ⊎ (((answer ≡ Some Form) × HasDesk (abstract_schema schema) db) ⊎ ((answer ≡ Some Schema) × (¬ HasDesk (abstract_schema schema) db)))
+abbrev HasReadableRowsOrFails : known.Schema → Database → Option Condition → Type 0
+HasReadableRowsOrFails schema db answer =
+    ((t : Tables) × HasDeskTablesInSchema (abstract_schema schema) t db × IsTrue (has_utf8_texts t)) ⊎ (((answer ≡ Some Form) × HasDeskOfSchema (abstract_schema schema) db) ⊎ ((answer ≡ Some Schema) × (¬ HasDeskOfSchema (abstract_schema schema) db)))
 
-kind_of : (schema : known.Schema) (db : Database) (answer : Option Condition) → IsAuditBySchema (abstract_schema schema) db answer → Kind schema db answer
+kind_of : (schema : known.Schema) (db : Database) (answer : Option Condition) → IsDatabaseAuditResultBySchema (abstract_schema schema) db answer → HasReadableRowsOrFails schema db answer
 kind_of schema db None h = inl (h.0, h.1.0, h.1.1)
 kind_of schema db (Some NotEmpty) h = absurd h
 kind_of schema db (Some Schema) h = inr (inr (refl, h))
 kind_of schema db (Some Form) h = inr (inl (refl, h.0))
 kind_of schema db (Some c) h = inl (h.0, h.1.0, h.1.1)
 
-one_by_rows : (schema : known.Schema) (db : Database) (a b : Option Condition) → (t : Tables) × HasRowsInSchema (abstract_schema schema) t db × IsTrue (has_utf8_texts t) → IsAuditBySchema (abstract_schema schema) db a → IsAuditBySchema (abstract_schema schema) db b → a ≡ b
+one_by_rows : (schema : known.Schema) (db : Database) (a b : Option Condition) → (t : Tables) × HasDeskTablesInSchema (abstract_schema schema) t db × IsTrue (has_utf8_texts t) → IsDatabaseAuditResultBySchema (abstract_schema schema) db a → IsDatabaseAuditResultBySchema (abstract_schema schema) db b → a ≡ b
 one_by_rows schema db a b r h k = one_failing (abstract_schema schema) row_conditions r.0 a b (rows_answer schema db r.0 a r.1 r.2 h) (rows_answer schema db r.0 b r.1 r.2 k)
 
-one_of_kinds : (schema : known.Schema) (db : Database) (a b : Option Condition) → IsAuditBySchema (abstract_schema schema) db a → IsAuditBySchema (abstract_schema schema) db b → Kind schema db a → Kind schema db b → a ≡ b
+one_of_kinds : (schema : known.Schema) (db : Database) (a b : Option Condition) → IsDatabaseAuditResultBySchema (abstract_schema schema) db a → IsDatabaseAuditResultBySchema (abstract_schema schema) db b → HasReadableRowsOrFails schema db a → HasReadableRowsOrFails schema db b → a ≡ b
 one_of_kinds schema db a b h k (inl r) l = one_by_rows schema db a b r h k
 one_of_kinds schema db a b h k (inr p) (inl r) = one_by_rows schema db a b r h k
 one_of_kinds schema db a b h k (inr (inl p)) (inr (inl q)) = p.0 ∙ sym q.0
@@ -69,15 +69,15 @@ one_of_kinds schema db a b h k (inr (inl p)) (inr (inr q)) = absurd (q.1 p.1)
 one_of_kinds schema db a b h k (inr (inr p)) (inr (inl q)) = absurd (p.1 q.1)
 one_of_kinds schema db a b h k (inr (inr p)) (inr (inr q)) = p.0 ∙ sym q.0
 
-pub one_answer_by : (schema : known.Schema) (db : Database) (a b : Option Condition) → IsAuditBySchema (abstract_schema schema) db a → IsAuditBySchema (abstract_schema schema) db b → a ≡ b
+pub one_answer_by : (schema : known.Schema) (db : Database) (a b : Option Condition) → IsDatabaseAuditResultBySchema (abstract_schema schema) db a → IsDatabaseAuditResultBySchema (abstract_schema schema) db b → a ≡ b
 one_answer_by schema db a b h k = one_of_kinds schema db a b h k (kind_of schema db a h) (kind_of schema db b k)
 
 -- `answer` is `Schema` and the database has a desk of no schema; or the database has a desk of some
 -- schema, and `answer` is the result of its audit by this schema.
-abbrev Answer : Database → Option Condition → Type 0
-Answer db answer = ((answer ≡ Some Schema) × IsDeskSchema None db) ⊎ ((schema : known.Schema) × HasDesk (abstract_schema schema) db × IsAuditBySchema (abstract_schema schema) db answer)
+abbrev IsAuditOfSomeDeskOrNone : Database → Option Condition → Type 0
+IsAuditOfSomeDeskOrNone db answer = ((answer ≡ Some Schema) × IsSchemaOfDatabase None db) ⊎ ((schema : known.Schema) × HasDeskOfSchema (abstract_schema schema) db × IsDatabaseAuditResultBySchema (abstract_schema schema) db answer)
 
-answer_of : (db : Database) (answer : Option Condition) → IsAuditOfDatabase db answer → Answer db answer
+answer_of : (db : Database) (answer : Option Condition) → IsDatabaseAuditResult db answer → IsAuditOfSomeDeskOrNone db answer
 answer_of db None h = inr (h.0, desk_is_there (abstract_schema h.0) h.1.0 db h.1.1.0, h.1)
 answer_of db (Some NotEmpty) h = absurd h
 answer_of db (Some Schema) h = inl (refl, h)
@@ -85,52 +85,52 @@ answer_of db (Some Form) h = inr (h.0, h.1.0, h.1)
 answer_of db (Some c) h = inr (h.0, desk_is_there (abstract_schema h.0) h.1.0 db h.1.1.0, h.1)
 
 -- rows of one schema, and what was answered by one of which a desk is there
-one_by_desk : (db : Database) (a b : Option Condition) (s r : known.Schema) (t : Tables) → HasRowsInSchema (abstract_schema s) t db → IsAuditBySchema (abstract_schema s) db a → HasDesk (abstract_schema r) db → IsAuditBySchema (abstract_schema r) db b → a ≡ b
-one_by_desk db a b s r t rows h there k = one_answer_by s db a b h (subst (λ (q : known.Schema). IsAuditBySchema (abstract_schema q) db b) (one_desk r s t db there rows) k)
+one_by_desk : (db : Database) (a b : Option Condition) (s r : known.Schema) (t : Tables) → HasDeskTablesInSchema (abstract_schema s) t db → IsDatabaseAuditResultBySchema (abstract_schema s) db a → HasDeskOfSchema (abstract_schema r) db → IsDatabaseAuditResultBySchema (abstract_schema r) db b → a ≡ b
+one_by_desk db a b s r t rows h there k = one_answer_by s db a b h (subst (λ (q : known.Schema). IsDatabaseAuditResultBySchema (abstract_schema q) db b) (one_desk r s t db there rows) k)
 
-one_of_answers : (db : Database) (a b : Option Condition) → Answer db a → Answer db b → a ≡ b
+one_of_answers : (db : Database) (a b : Option Condition) → IsAuditOfSomeDeskOrNone db a → IsAuditOfSomeDeskOrNone db b → a ≡ b
 one_of_answers db a b (inl p) (inl q) = p.0 ∙ sym q.0
 one_of_answers db a b (inl p) (inr q) = absurd (p.1 q.0 q.1)
 one_of_answers db a b (inr p) (inl q) = absurd (q.1 p.0 p.1)
 one_of_answers db a b (inr p) (inr q) = go (kind_of p.0 db a p.2) (kind_of q.0 db b q.2)
   where
-    go : Kind p.0 db a → Kind q.0 db b → a ≡ b
+    go : HasReadableRowsOrFails p.0 db a → HasReadableRowsOrFails q.0 db b → a ≡ b
     go (inl r) l = one_by_desk db a b p.0 q.0 r.0 r.1 p.2 q.1 q.2
     go (inr l) (inl r) = sym (one_by_desk db b a q.0 p.0 r.0 r.1 q.2 p.1 p.2)
     go (inr (inr n)) l = absurd (n.1 p.1)
     go (inr l) (inr (inr n)) = absurd (n.1 q.1)
     go (inr (inl l)) (inr (inl r)) = l.0 ∙ sym r.0
 
-pub one_answer : (db : Database) (a b : Option Condition) → IsAuditOfDatabase db a → IsAuditOfDatabase db b → a ≡ b
+pub one_answer : (db : Database) (a b : Option Condition) → IsDatabaseAuditResult db a → IsDatabaseAuditResult db b → a ≡ b
 one_answer db a b h k = one_of_answers db a b (answer_of db a h) (answer_of db b k)
 
 -- ---- a store
 
-pub defined_in : {S : Type 0} (g : Ghosts S) (held : Held S) (t : Tables) → HoldsRows g held t → StoreNamesImplyDefinitions g held
+pub defined_in : {S : Type 0} (g : Ghosts S) (held : Held S) (t : Tables) → HoldsRows g held t → StoreNamedTablesMatchDeskDefinitions g held
 defined_in g held t holds clean on = rows_defined t (state g held).now (holds clean on)
 
-third_defined_in : {S : Type 0} (g : Ghosts S) (held : Held S) (t : Tables) → HoldsRows g held t → ThirdNamesImplyDefinitions g held
+third_defined_in : {S : Type 0} (g : Ghosts S) (held : Held S) (t : Tables) → HoldsRows g held t → StoreNamedTablesMatchThirdSchema g held
 third_defined_in g held t holds clean on = rows_defined t (state g held).now (holds clean on) Third
 
-pub third_in : {S : Type 0} (g : Ghosts S) (held : Held S) (t : Tables) → HoldsRows g held t → StoreHasThirdDesk g held
+pub third_in : {S : Type 0} (g : Ghosts S) (held : Held S) (t : Tables) → HoldsRows g held t → StoreHasDeskOfThirdSchema g held
 third_in g held t holds clean on = desk_of_rows t (state g held).now (holds clean on)
 
 module _ {S : Type 0} (g : Ghosts S) (old new : Held S) (result : Result (Unit {0}) Fault) where
   module _ (audited : AuditPost g old new result) where
-    pub tells_of_rows : (t : Tables) → HoldsRows g old t → IsTrue (has_utf8_texts t) → HasCleanDisk (state g new) → OnAuditAnswer result (IsAuditResult third_schema t)
+    pub tells_of_rows : (t : Tables) → HoldsRows g old t → IsTrue (has_utf8_texts t) → HasCleanDisk (state g new) → AuditAnswerSatisfies result (IsAuditResult third_schema t)
     tells_of_rows t holds texts clean =
-        answer_with result (IsAuditBySchema third_schema (state g old).now) (λ _. IsTrue (state g old).is_open) (IsAuditResult third_schema t)
+        answer_with result (IsDatabaseAuditResultBySchema third_schema (state g old).now) (λ _. IsTrue (state g old).is_open) (IsAuditResult third_schema t)
         (λ answer h on. rows_answer Third (state g old).now t answer (rows_third t (state g old).now (holds (clean_before (state g old) (state g new) (λ _. ⊥) audited.survives clean) on)) texts h)
-        (audited.told clean (third_defined_in g old t holds)) (audited.opened clean)
+        (audited.answered clean (third_defined_in g old t holds)) (audited.opened clean)
 
-    pub sound_books_pass : (base : Base) → Represents g old base → HasCleanDisk (state g new) → OnAuditAnswer result (λ answer. answer ≡ None)
+    pub sound_books_pass : (base : Base) → Represents g old base → HasCleanDisk (state g new) → AuditAnswerSatisfies result (λ answer. answer ≡ None)
     sound_books_pass base holds clean =
         answer_with result (IsAuditResult third_schema (sheets base)) (λ _. IsTrue true) (λ answer. answer ≡ None)
         (λ answer h _. one_failing third_schema row_conditions (sheets base) answer None h (sound_passes base holds.books holds.sound))
         (tells_of_rows (sheets base) holds.rows holds.texts clean)
         (everything result)
       where
-        everything : (r : Result (Unit {0}) Fault) → OnAuditAnswer r (λ _. IsTrue true)
+        everything : (r : Result (Unit {0}) Fault) → AuditAnswerSatisfies r (λ _. IsTrue true)
         everything (Ok x) = refl
         everything (Err (Damaged c)) = refl
         everything (Err Memory) = tt
@@ -150,7 +150,7 @@ passing_books_held g store t holds passes texts =
       consistent = record { books = passing_books third_schema t passes; sound = passing_sound t passes; texts = subst (λ u. IsTrue (has_utf8_texts u)) (sym e) texts };
     }
 
-pub adopted_books : {S : Type 0} (g : Ghosts S) (old new : Held S) → AdoptPost g old new (Ok tt) → StoreNamesImplyDefinitions g old → (base : Base) × Represents g new base
+pub adopted_books : {S : Type 0} (g : Ghosts S) (old new : Held S) → AdoptPost g old new (Ok tt) → StoreNamedTablesMatchDeskDefinitions g old → (base : Base) × Represents g new base
 adopted_books g old new is defined = let a = is.adopted defined in (base_of_tables a.0, passing_books_held g new a.0 a.1 a.2 a.3)
 
 -- the books that a move leaves are those of the rows that passed
@@ -164,6 +164,6 @@ upgraded_books g new db m =
     subst (Represents g new) (upgraded_base m.0 m.1 m.2.2)
     (passing_books_held g new (sheets (base_of_tables m.1)) (λ _ _. m.3) (upgraded_pass m.0 m.1 m.2.2) (upgraded_read m.0 m.1 m.2.2 m.2.1))
 
-pub held_after : {S : Type 0} (g : Ghosts S) (old new : Held S) → AdoptPost g old new (Ok tt) → StoreNamesImplyDefinitions g old → HasCleanDisk (state g new) → IsTrue (state g new).is_open
-    → (schema : known.Schema) × (rows : Tables) × IsAuditOfStoredRows (abstract_schema schema) rows (state g old).now None × Represents g new (base_of_tables rows)
+pub held_after : {S : Type 0} (g : Ghosts S) (old new : Held S) → AdoptPost g old new (Ok tt) → StoreNamedTablesMatchDeskDefinitions g old → HasCleanDisk (state g new) → IsTrue (state g new).is_open
+    → (schema : known.Schema) × (rows : Tables) × StoresRowsWithAuditResult (abstract_schema schema) rows (state g old).now None × Represents g new (base_of_tables rows)
 held_after g old new is defined clean on = let m = (is.upgraded clean on defined).0 in (m.0, m.1, m.2, upgraded_books g new (state g old).now m)

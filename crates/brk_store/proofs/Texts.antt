@@ -13,7 +13,7 @@ use Rattle.brk_model.specs.Tables.{CashRow, MoveRow, Tables, numbered_move_rows}
 use Rattle.brk_ref.specs.declared.key.Kept as kept
 use Rattle.brk_ref.specs.Records.{abstract_kept_row}
 use Rattle.brk_changes.specs.Rows.{abstract_cash_row, abstract_move_row, abstract_trade_row}
-use Rattle.brk_changes.specs.Sheets.{tables_in_sheets}
+use Rattle.brk_changes.specs.Sheets.{abstract_sheets}
 use Rattle.brk_changes.specs.declared.cash_row.CashRow as cash
 use Rattle.brk_changes.specs.declared.move_row.MoveRow as posted
 use Rattle.brk_changes.specs.declared.sheets.Sheets.{Sheets}
@@ -45,7 +45,7 @@ move_texts : (rs : List posted.MoveRow) → list_all (λ r. is_utf8 r.name) (map
 move_texts [] = refl
 move_texts (r ∷ rs) = and_both _ _ (text_is_utf8 r.name) (move_texts rs)
 
-pub typed_texts : (s : Sheets) → IsTrue (has_utf8_texts (tables_in_sheets s))
+pub typed_texts : (s : Sheets) → IsTrue (has_utf8_texts (abstract_sheets s))
 typed_texts s = and_both _ _ (and_both _ _ (and_both _ _ (kept_texts s.kept.items) (trade_texts s.trades.items)) (cash_texts s.cash.items)) (move_texts s.moves.items)
 
 -- ---- the move keeps them
@@ -67,10 +67,10 @@ mapped f P Q each [] h = tt
 mapped f P Q each (x ∷ xs) h = (each x h.0, mapped f P Q each xs h.1)
 
 -- The name of the cash row is UTF-8.
-abbrev Readable : Posting → Type 0
-Readable p = is_utf8 p.name ≡ true
+abbrev HasUtf8Name : Posting → Type 0
+HasUtf8Name p = is_utf8 p.name ≡ true
 
-numbered_texts : (n : ℕ) (ps : List Posting) → AllByRecursion Readable ps → list_all (λ r. is_utf8 r.name) (numbered_move_rows n ps) ≡ true
+numbered_texts : (n : ℕ) (ps : List Posting) → AllByRecursion HasUtf8Name ps → list_all (λ r. is_utf8 r.name) (numbered_move_rows n ps) ≡ true
 numbered_texts n [] h = refl
 numbered_texts n (p ∷ ps) h = and_both _ _ h.0 (numbered_texts (n + 1) ps h.1)
 
@@ -81,7 +81,7 @@ upgraded_texts t h =
     let lower = and_parts _ (list_all (λ (r : CashRow). is_utf8 r.name) t.cash) upper.0 in
     and_both _ _ (and_both _ _ lower.0 refl)
     (numbered_texts 1 (postings_sorted_by_stamp (postings_of_tables t))
-    (All-sort Readable (λ (a b : Posting). nat_lt a.stamp b.stamp) (postings_of_tables t)
-    (joined Readable (map (posting_of_cash_row t) t.cash) (map posting_of_move_row t.moves)
-    (mapped (posting_of_cash_row t) (λ (r : CashRow). is_utf8 r.name ≡ true) Readable (λ x k. k) t.cash (all_of (λ (r : CashRow). is_utf8 r.name) t.cash lower.1))
-    (mapped posting_of_move_row (λ (r : MoveRow). is_utf8 r.name ≡ true) Readable (λ x k. k) t.moves (all_of (λ (r : MoveRow). is_utf8 r.name) t.moves upper.1)))))
+    (All-sort HasUtf8Name (λ (a b : Posting). nat_lt a.stamp b.stamp) (postings_of_tables t)
+    (joined HasUtf8Name (map (posting_of_cash_row t) t.cash) (map posting_of_move_row t.moves)
+    (mapped (posting_of_cash_row t) (λ (r : CashRow). is_utf8 r.name ≡ true) HasUtf8Name (λ x k. k) t.cash (all_of (λ (r : CashRow). is_utf8 r.name) t.cash lower.1))
+    (mapped posting_of_move_row (λ (r : MoveRow). is_utf8 r.name ≡ true) HasUtf8Name (λ x k. k) t.moves (all_of (λ (r : MoveRow). is_utf8 r.name) t.moves upper.1)))))

@@ -14,11 +14,11 @@ use Rattle.brk_store.specs.Holds.{HoldsRows}
 use Rattle.brk_model.specs.Tables.{Tables, HoldingRow}
 use Rattle.brk_changes.specs.Rows.{abstract_holding_row}
 use Rattle.brk_changes.specs.declared.holding_row.HoldingRow as row
-use Rattle.brk_tables_trading.specs.Pages.{page_after, page_size}
+use Rattle.brk_tables_trading.specs.Pages.{page_after_skipped, page_size}
 use Rattle.brk_book_theorems.specs.TradeReads.{lot_of_row}
-use Rattle.brk_store.specs.Pages.{remaining_page_lots, unread_rows, lot_rows_from_end}
+use Rattle.brk_store.specs.Pages.{remaining_page_lots, unread_rows, lot_rows_in_closing_order}
 
-pub page_turned : (rows : List HoldingRow) (read : ℕ) (page : List row.HoldingRow) → map abstract_holding_row page ≡ page_after read rows
+pub page_turned : (rows : List HoldingRow) (read : ℕ) (page : List row.HoldingRow) → map abstract_holding_row page ≡ page_after_skipped read rows
     → remaining_page_lots page (nat_lt (length page) page_size) (read + length page) rows ≡ map lot_of_row (drop read rows)
 page_turned rows read page e = ap (map lot_of_row) (go (nat_lt (length page) page_size) refl)
   where
@@ -48,27 +48,27 @@ next_row xs n x e = let f : n + 1 ≡ suc n = omega arith in rw f (after_row xs 
 module _ {S : Type 0} (g : Ghosts S) (held : Held S) (lifo : Bool) (account : ℕ) (symbol : Text) where
   -- For some rows that the store holds, `ls` are the lots that a source of pages with this state
   -- still has to return.
-  abbrev pub RestOf : List row.HoldingRow → Bool → ℕ → List Lot → Type 0
-  RestOf pending ended read ls = (t : Tables) × HoldsRows g held t × (ls ≡ remaining_page_lots pending ended read (lot_rows_from_end lifo account symbol t))
+  abbrev pub AreRemainingLotsOfPages : List row.HoldingRow → Bool → ℕ → List Lot → Type 0
+  AreRemainingLotsOfPages pending ended read ls = (t : Tables) × HoldsRows g held t × (ls ≡ remaining_page_lots pending ended read (lot_rows_in_closing_order lifo account symbol t))
 
   -- the first lot of a page, and what is left then
   pub turned : (t : Tables) (holds : HoldsRows g held t) (read read' : ℕ) (page : List row.HoldingRow) (ended : Bool) (first : Option Lot) (ls : List Lot)
-      → map abstract_holding_row page ≡ page_after read (lot_rows_from_end lifo account symbol t) → read' ≡ read + length page → ended ≡ nat_lt (length page) page_size → first ≡ option_map lot_of_typed_row (slice_get page 0)
-      → ls ≡ map lot_of_row (drop read (lot_rows_from_end lifo account symbol t))
-      → MatchOption first ((ls ≡ []) × RestOf (drop 1 page) ended read' []) (λ lot. (more : List Lot) × (ls ≡ lot ∷ more) × RestOf (drop 1 page) ended read' more)
+      → map abstract_holding_row page ≡ page_after_skipped read (lot_rows_in_closing_order lifo account symbol t) → read' ≡ read + length page → ended ≡ nat_lt (length page) page_size → first ≡ option_map lot_of_typed_row (slice_get page 0)
+      → ls ≡ map lot_of_row (drop read (lot_rows_in_closing_order lifo account symbol t))
+      → MatchOption first ((ls ≡ []) × AreRemainingLotsOfPages (drop 1 page) ended read' []) (λ lot. (more : List Lot) × (ls ≡ lot ∷ more) × AreRemainingLotsOfPages (drop 1 page) ended read' more)
   turned t holds read read' page ended first ls shown count last is left =
-      let rows = lot_rows_from_end lifo account symbol t in
+      let rows = lot_rows_in_closing_order lifo account symbol t in
       let whole : ls ≡ remaining_page_lots page ended read' rows = left ∙ sym (page_turned rows read page shown) ∙ ap (λ b. remaining_page_lots page b (read + length page) rows) (sym last) ∙ ap (λ n. remaining_page_lots page ended n rows) (sym count) in
       go page is last whole
     where
-      go : (page : List row.HoldingRow) → first ≡ option_map lot_of_typed_row (slice_get page 0) → ended ≡ nat_lt (length page) page_size → ls ≡ remaining_page_lots page ended read' (lot_rows_from_end lifo account symbol t)
-          → MatchOption first ((ls ≡ []) × RestOf (drop 1 page) ended read' []) (λ lot. (more : List Lot) × (ls ≡ lot ∷ more) × RestOf (drop 1 page) ended read' more)
+      go : (page : List row.HoldingRow) → first ≡ option_map lot_of_typed_row (slice_get page 0) → ended ≡ nat_lt (length page) page_size → ls ≡ remaining_page_lots page ended read' (lot_rows_in_closing_order lifo account symbol t)
+          → MatchOption first ((ls ≡ []) × AreRemainingLotsOfPages (drop 1 page) ended read' []) (λ lot. (more : List Lot) × (ls ≡ lot ∷ more) × AreRemainingLotsOfPages (drop 1 page) ended read' more)
       go [] f l w =
-          let none : remaining_page_lots [] ended read' (lot_rows_from_end lifo account symbol t) ≡ [] = ap (λ b. remaining_page_lots [] b read' (lot_rows_from_end lifo account symbol t)) l in
-          subst (λ o. MatchOption o ((ls ≡ []) × RestOf [] ended read' []) (λ lot. (more : List Lot) × (ls ≡ lot ∷ more) × RestOf [] ended read' more)) (sym f) (w ∙ none, (t, holds, sym none))
+          let none : remaining_page_lots [] ended read' (lot_rows_in_closing_order lifo account symbol t) ≡ [] = ap (λ b. remaining_page_lots [] b read' (lot_rows_in_closing_order lifo account symbol t)) l in
+          subst (λ o. MatchOption o ((ls ≡ []) × AreRemainingLotsOfPages [] ended read' []) (λ lot. (more : List Lot) × (ls ≡ lot ∷ more) × AreRemainingLotsOfPages [] ended read' more)) (sym f) (w ∙ none, (t, holds, sym none))
       go (p ∷ ps) f l w =
-          subst (λ o. MatchOption o ((ls ≡ []) × RestOf ps ended read' []) (λ lot. (more : List Lot) × (ls ≡ lot ∷ more) × RestOf ps ended read' more)) (sym f)
-          (remaining_page_lots ps ended read' (lot_rows_from_end lifo account symbol t), w, (t, holds, refl))
+          subst (λ o. MatchOption o ((ls ≡ []) × AreRemainingLotsOfPages ps ended read' []) (λ lot. (more : List Lot) × (ls ≡ lot ∷ more) × AreRemainingLotsOfPages ps ended read' more)) (sym f)
+          (remaining_page_lots ps ended read' (lot_rows_in_closing_order lifo account symbol t), w, (t, holds, refl))
 
 -- ---- from an end
 

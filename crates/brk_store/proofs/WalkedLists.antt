@@ -20,13 +20,13 @@ use Rattle.brk_changes.specs.declared.trade_row.TradeRow as trade
 use Rattle.brk_model.specs.Keys.{word, rows_sorted_by_key, is_row_key_less}
 use Rattle.brk_model.specs.Joins.{trade_rows_oldest_first}
 use Rattle.brk_model.specs.Lists.{insert_by, is_pair_less, sort_by, sort_by_key, is_text_less}
-use Rattle.brk_model.specs.Statement.{lot_rows_of_account}
+use Rattle.brk_model.specs.Statement.{holding_rows_of_account}
 use Rattle.brk_model.specs.Tables.{AccountRow, HoldingRow, MoveRow, Tables, TradeRow}
 use Rattle.brk_money.specs.Kinds.{is_same_trade_status}
 use Rattle.brk_money.specs.declared.status.Status.TheVariants.{Completed}
 use Rattle.brk_sql.specs.Rows.{IsStrictlyAscending}
-use Rattle.brk_tables_schema.specs.Desk.{Accounts, CashMoves, Holdings, Trades, order}
-use Rattle.brk_tables_schema.specs.Made.{HasRows}
+use Rattle.brk_tables_schema.specs.Desk.{Accounts, CashMoves, Holdings, Trades, ordering_by_primary_key}
+use Rattle.brk_tables_schema.specs.Made.{HasDeskTables}
 use Rattle.brk_book_theorems.proofs.Bools.{same_text, texts_back}
 use Rattle.brk_book_theorems.proofs.LotReading.{All-sort}
 use Rattle.brk_book_theorems.proofs.Order.{by_key-filter, key_total, nat_one_way, nat_splits, sort_filter}
@@ -39,18 +39,18 @@ use Rattle.brk_store.proofs.Walking.{is_walked}
 -- ---- rows that stand by a number need no more of it in their order
 
 -- The numbers `n` of the elements are strictly ascending.
-abbrev pub Climb : {X : Type 0} → (X → ℕ) → List X → Type 0
-Climb n [] = ⊤
-Climb n (x ∷ xs) = AllByRecursion (λ y. nat_lt (n x) (n y) ≡ true) xs × Climb n xs
+abbrev pub IsStrictlyAscendingBy : {X : Type 0} → (X → ℕ) → List X → Type 0
+IsStrictlyAscendingBy n [] = ⊤
+IsStrictlyAscendingBy n (x ∷ xs) = AllByRecursion (λ y. nat_lt (n x) (n y) ≡ true) xs × IsStrictlyAscendingBy n xs
 
 All-of : {X : Type 0} (P Q : X → Type 0) (xs : List X) → ((x : X) → P x → Q x) → AllByRecursion P xs → AllByRecursion Q xs
 All-of P Q [] f h = tt
 All-of P Q (x ∷ xs) f h = (f x h.0, All-of P Q xs f h.1)
 
-climb_filter : {X : Type 0} (n : X → ℕ) (p : X → Bool) (xs : List X) → Climb n xs → Climb n (filter p xs)
+climb_filter : {X : Type 0} (n : X → ℕ) (p : X → Bool) (xs : List X) → IsStrictlyAscendingBy n xs → IsStrictlyAscendingBy n (filter p xs)
 climb_filter n p [] h = tt
 climb_filter n p (x ∷ xs) h =
-    elim (p x) as (λ b. Climb n (cond b (x ∷ filter p xs) (filter p xs))) [ true ↦ (All-kept xs h.0, climb_filter n p xs h.1) | false ↦ climb_filter n p xs h.1 ]
+    elim (p x) as (λ b. IsStrictlyAscendingBy n (cond b (x ∷ filter p xs) (filter p xs))) [ true ↦ (All-kept xs h.0, climb_filter n p xs h.1) | false ↦ climb_filter n p xs h.1 ]
   where
     All-kept : (ys : List _) → AllByRecursion (λ y. nat_lt (n x) (n y) ≡ true) ys → AllByRecursion (λ y. nat_lt (n x) (n y) ≡ true) (filter p ys)
     All-kept [] k = tt
@@ -61,7 +61,7 @@ insert_same b c x [] h = refl
 insert_same b c x (y ∷ ys) h = λ i. cond (h.0 i) (y ∷ insert_same b c x ys h.1 i) (x ∷ y ∷ ys)
 
 -- two orders that differ only in that number sort them alike
-sort_same : {X : Type 0} (n : X → ℕ) (b c : X → X → Bool) (xs : List X) → ((x y : X) → nat_lt (n x) (n y) ≡ true → b y x ≡ c y x) → Climb n xs → sort_by b xs ≡ sort_by c xs
+sort_same : {X : Type 0} (n : X → ℕ) (b c : X → X → Bool) (xs : List X) → ((x y : X) → nat_lt (n x) (n y) ≡ true → b y x ≡ c y x) → IsStrictlyAscendingBy n xs → sort_by b xs ≡ sort_by c xs
 unfolding sort_by
 sort_same n b c [] same h = refl
 sort_same n b c (x ∷ xs) same h =
@@ -105,7 +105,7 @@ unlike s t a = go (bytes_eq s t) refl
 not_above : (m n : ℕ) → nat_lt m n ≡ true → nat_lt n m ≡ false
 not_above m n h = grind (arith, nat_tests)
 
-pub lots_same : (account : ℕ) (t : Tables) → Climb (λ r. r.trade) t.holdings → lots_by_symbol account t ≡ lot_rows_of_account t account
+pub lots_same : (account : ℕ) (t : Tables) → IsStrictlyAscendingBy (λ r. r.trade) t.holdings → lots_by_symbol account t ≡ holding_rows_of_account t account
 lots_same account t climb =
     sort_same (λ (r : HoldingRow). r.trade) (is_row_key_less lot_sort_key) (λ a b. is_text_less a.symbol b.symbol || (bytes_eq a.symbol b.symbol && nat_lt a.stamp b.stamp))
     (filter (λ (r : HoldingRow). r.account == account) t.holdings)
@@ -129,7 +129,7 @@ cash_tie true b p q k = refl
 cash_tie false true p q k = refl
 cash_tie false false p q k = rw k (alone false q)
 
-pub cash_same : (account from to : ℕ) (t : Tables) → Climb (λ r. r.id) t.moves → cash_rows_between account from to t ≡ cash_rows_in_span account from to t
+pub cash_same : (account from to : ℕ) (t : Tables) → IsStrictlyAscendingBy (λ r. r.id) t.moves → cash_rows_between account from to t ≡ cash_rows_in_span account from to t
 cash_same account from to t climb =
     let mine = λ (r : MoveRow). r.account == account in
     let within = λ (r : MoveRow). nat_le from r.stamp && nat_le r.stamp to in
@@ -141,7 +141,7 @@ cash_same account from to t climb =
 
 -- ---- completed trades
 
-pub completed_same : (t : Tables) → Climb (λ r. r.id) t.trades → completed_trades_by_stamp_and_id t ≡ completed_trades_by_stamp t
+pub completed_same : (t : Tables) → IsStrictlyAscendingBy (λ r. r.id) t.trades → completed_trades_by_stamp_and_id t ≡ completed_trades_by_stamp t
 completed_same t climb =
     let done = λ (r : TradeRow). is_same_trade_status r.status Completed in
     sort_same (λ (r : TradeRow). r.id) (is_row_key_less stamp_and_id_key) (λ a b. nat_lt a.stamp b.stamp) (filter done t.trades)
@@ -154,7 +154,7 @@ old_tie true e p k = refl
 old_tie false true p k = k
 old_tie false false p k = refl
 
-pub oldest_same : (q : TradeRow → Bool) (t : Tables) → Climb (λ r. r.id) t.trades → trade_rows_oldest_first (filter q t.trades) ≡ sort_by_key (λ (r : TradeRow). r.stamp) (filter q t.trades)
+pub oldest_same : (q : TradeRow → Bool) (t : Tables) → IsStrictlyAscendingBy (λ r. r.id) t.trades → trade_rows_oldest_first (filter q t.trades) ≡ sort_by_key (λ (r : TradeRow). r.stamp) (filter q t.trades)
 oldest_same q t climb =
     sort_same (λ (r : TradeRow). r.id) (λ a b. is_pair_less a.stamp b.stamp a.id b.id) (λ a b. nat_lt a.stamp b.stamp) (filter q t.trades)
     (λ x y k. old_tie (nat_lt y.stamp x.stamp) (y.stamp == x.stamp) (nat_lt y.id x.id) (not_above x.id y.id k))
@@ -178,28 +178,28 @@ less_number m n h = go (nat_lt m n) refl
         let k : ordering_then (int_cmp (pos m) (pos n)) Equal ≡ Less = rw (value_cmp-Int (pos m) (pos n)) at h in
         elim (cases_Bool (nat_lt n m)) [ inl b ↦ absurd (let f = rw (e, b) at k in cc) | inr b ↦ absurd (let f = rw (e, b) at k in cc) ]
 
-climbs : {X : Type 0} (n : X → ℕ) (order : X → X → Ordering) → ((x y : X) → order x y ≡ Less → nat_lt (n x) (n y) ≡ true) → (xs : List X) → IsStrictlyAscending order xs → Climb n xs
+climbs : {X : Type 0} (n : X → ℕ) (order : X → X → Ordering) → ((x y : X) → order x y ≡ Less → nat_lt (n x) (n y) ≡ true) → (xs : List X) → IsStrictlyAscending order xs → IsStrictlyAscendingBy n xs
 climbs n order less [] h = tt
 climbs n order less (x ∷ xs) h = (All-of (λ y. order x y ≡ Less) (λ y. nat_lt (n x) (n y) ≡ true) xs (λ y k. less x y k) h.0, climbs n order less xs h.1)
 
-pub holdings_climb : (t : Tables) (db : Database) → HasRows t db → Climb (λ r. r.trade) t.holdings
-holdings_climb t db has = climbs (λ (r : HoldingRow). r.trade) (order Holdings) (λ x y k. less_number x.trade y.trade k) t.holdings (has.1.rows Holdings).rising
+pub holdings_climb : (t : Tables) (db : Database) → HasDeskTables t db → IsStrictlyAscendingBy (λ r. r.trade) t.holdings
+holdings_climb t db has = climbs (λ (r : HoldingRow). r.trade) (ordering_by_primary_key Holdings) (λ x y k. less_number x.trade y.trade k) t.holdings (has.1.rows Holdings).rising
 
-pub moves_climb : (t : Tables) (db : Database) → HasRows t db → Climb (λ r. r.id) t.moves
-moves_climb t db has = climbs (λ (r : MoveRow). r.id) (order CashMoves) (λ x y k. less_number x.id y.id k) t.moves (has.1.rows CashMoves).rising
+pub moves_climb : (t : Tables) (db : Database) → HasDeskTables t db → IsStrictlyAscendingBy (λ r. r.id) t.moves
+moves_climb t db has = climbs (λ (r : MoveRow). r.id) (ordering_by_primary_key CashMoves) (λ x y k. less_number x.id y.id k) t.moves (has.1.rows CashMoves).rising
 
-pub trades_climb : (t : Tables) (db : Database) → HasRows t db → Climb (λ r. r.id) t.trades
-trades_climb t db has = climbs (λ (r : TradeRow). r.id) (order Trades) (λ x y k. less_number x.id y.id k) t.trades (has.1.rows Trades).rising
+pub trades_climb : (t : Tables) (db : Database) → HasDeskTables t db → IsStrictlyAscendingBy (λ r. r.id) t.trades
+trades_climb t db has = climbs (λ (r : TradeRow). r.id) (ordering_by_primary_key Trades) (λ x y k. less_number x.id y.id k) t.trades (has.1.rows Trades).rising
 
-pub accounts_climb : (t : Tables) (db : Database) → HasRows t db → Climb (λ r. r.id) t.accounts
-accounts_climb t db has = climbs (λ (r : AccountRow). r.id) (order Accounts) (λ x y k. less_number x.id y.id k) t.accounts (has.1.rows Accounts).rising
+pub accounts_climb : (t : Tables) (db : Database) → HasDeskTables t db → IsStrictlyAscendingBy (λ r. r.id) t.accounts
+accounts_climb t db has = climbs (λ (r : AccountRow). r.id) (ordering_by_primary_key Accounts) (λ x y k. less_number x.id y.id k) t.accounts (has.1.rows Accounts).rising
 
 -- ---- walks of a store
 
 pub lots_walked : {S V E : Type 0} (g : Ghosts S) (old new : Held S) (account : ℕ) (takes : V → holding.HoldingRow → V → Type 0) (stops : V → holding.HoldingRow → E → V → Type 0) (before after : V) (result : Result (Unit {0}) (WalkError E))
-    → TableWalkPost g old new abstract_holding_row (lots_by_symbol account) takes stops before after result → WalkPost g old new abstract_holding_row (λ t. lot_rows_of_account t account) takes stops before after result
+    → TableWalkPost g old new abstract_holding_row (lots_by_symbol account) takes stops before after result → WalkPost g old new abstract_holding_row (λ t. holding_rows_of_account t account) takes stops before after result
 lots_walked g old new account takes stops before after result w =
-    is_walked g old new abstract_holding_row (lots_by_symbol account) (λ t. lot_rows_of_account t account) takes stops before after (λ t has. lots_same account t (holdings_climb t (state g old).now has)) result w
+    is_walked g old new abstract_holding_row (lots_by_symbol account) (λ t. holding_rows_of_account t account) takes stops before after (λ t has. lots_same account t (holdings_climb t (state g old).now has)) result w
 
 pub cash_walked : {S V E : Type 0} (g : Ghosts S) (old new : Held S) (account from to : ℕ) (takes : V → row.MoveRow → V → Type 0) (stops : V → row.MoveRow → E → V → Type 0) (before after : V) (result : Result (Unit {0}) (WalkError E))
     → TableWalkPost g old new abstract_move_row (cash_rows_between account from to) takes stops before after result → WalkPost g old new abstract_move_row (cash_rows_in_span account from to) takes stops before after result

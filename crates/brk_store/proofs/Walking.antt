@@ -6,18 +6,18 @@ use Rattle.sqlite.specs.Held.{Held, state}
 use Rattle.sqlite.specs.State.{HasCleanDisk}
 use Rattle.brk_model.specs.Tables.{Tables}
 use Rattle.brk_sql.proofs.Inside.{clean_before}
-use Rattle.brk_tables_schema.specs.Made.{HasRows}
+use Rattle.brk_tables_schema.specs.Made.{HasDeskTables}
 use Rattle.brk_tables_walks.specs.Walk.{IsWalkError}
 use Rattle.brk_tables_walks.specs.Walks as tables
-use Rattle.brk_tables_walks.specs.Walks.{StopsBeforeEnd, TakesInOrder, TableWalkPost}
+use Rattle.brk_tables_walks.specs.Walks.{TableWalkEndsEarly, TakesListSatisfying, TableWalkPost}
 use Rattle.brk_tables_walks.specs.declared.walking.WalkError.{WalkError}
 use Rattle.brk_tables_walks.specs.declared.walking.WalkError.TheVariants.{Failed, Cause}
-use Rattle.brk_store.specs.Walked.{IsWholeStoredList, IsPrefixOfStoredList, WalkPost}
+use Rattle.brk_store.specs.Walked.{EqualsStoredList, IsPrefixOfStoredList, WalkPost}
 
 -- ---- one walk
 
 module _ {S X M V E : Type 0} (g : Ghosts S) (old new : Held S) (of : X → M) (walked list : Tables → List M) (takes : V → X → V → Type 0) (stops : V → X → E → V → Type 0) (before after : V)
-    (same : (t : Tables) → HasRows t (state g old).now → walked t ≡ list t) where
+    (same : (t : Tables) → HasDeskTables t (state g old).now → walked t ≡ list t) where
   clean_at : (result : Result (Unit {0}) (WalkError E)) → TableWalkPost g old new of walked takes stops before after result → HasCleanDisk (state g new) → HasCleanDisk (state g old)
   clean_at result w clean = clean_before (state g old) (state g new) (λ _. ⊥) w.survives clean
 
@@ -25,7 +25,7 @@ module _ {S X M V E : Type 0} (g : Ghosts S) (old new : Held S) (of : X → M) (
   first_of clean first (inl none) t holds = (list t, ap (λ l. l ++ list t) none)
   first_of clean first (inr h) t holds = let has = holds clean h.0 in let it = h.1 t has in (it.0, it.1 ∙ same t has)
 
-  breaks_of : HasCleanDisk (state g old) → (stop : WalkError E) → StopsBeforeEnd (tables.IsPrefixOfList (state g old) walked) of takes stops before after stop → StopsBeforeEnd (IsPrefixOfStoredList g old list) of takes stops before after stop
+  breaks_of : HasCleanDisk (state g old) → (stop : WalkError E) → TableWalkEndsEarly (tables.IsPrefixOfList (state g old) walked) of takes stops before after stop → TableWalkEndsEarly (IsPrefixOfStoredList g old list) of takes stops before after stop
   breaks_of clean (Failed fault) h = (h.0, (h.1.0, h.1.1, first_of clean (map of h.1.0) h.1.2))
   breaks_of clean (Cause e) h = (h.0, h.1, h.2, h.3, h.4, first_of clean (map of (h.0 ++ h.1 ∷ [])) h.5)
 
@@ -35,20 +35,20 @@ module _ {S X M V E : Type 0} (g : Ghosts S) (old new : Held S) (of : X → M) (
     early = λ clean. broken result (clean_at result w clean) (w.early clean);
     fault = w.fault;
     opened = λ clean. opens result (w.all clean);
-    kept = λ t holds clean o. let k = w.same clean o in subst (HasRows t) (sym k.1) (holds (clean_at result w clean) k.0);
+    same_rows = λ t holds clean o. let k = w.same clean o in subst (HasDeskTables t) (sym k.1) (holds (clean_at result w clean) k.0);
     same = λ clean o. let k = w.same clean o in record { was_open = k.0; now = k.1; committed = k.2 };
     survives = w.survives;
   }
     where
-      done : (r : Result (Unit {0}) (WalkError E)) → HasCleanDisk (state g old) → OnOk r (TakesInOrder (tables.IsWholeList (state g old) walked) of takes before after) → OnOk r (TakesInOrder (IsWholeStoredList g old list) of takes before after)
+      done : (r : Result (Unit {0}) (WalkError E)) → HasCleanDisk (state g old) → OnOk r (TakesListSatisfying (tables.AreAllRecordsOfList (state g old) walked) of takes before after) → OnOk r (TakesListSatisfying (EqualsStoredList g old list) of takes before after)
       done (Ok u) clean h = (h.0, h.1, λ t holds. let has = holds clean h.2.0 in h.2.1 t has ∙ same t has)
       done (Err stop) clean h = tt
 
-      opens : (r : Result (Unit {0}) (WalkError E)) → OnOk r (TakesInOrder (tables.IsWholeList (state g old) walked) of takes before after) → OnOk r (IsTrue (state g old).is_open)
+      opens : (r : Result (Unit {0}) (WalkError E)) → OnOk r (TakesListSatisfying (tables.AreAllRecordsOfList (state g old) walked) of takes before after) → OnOk r (IsTrue (state g old).is_open)
       opens (Ok u) h = h.2.0
       opens (Err stop) h = tt
 
-      broken : (r : Result (Unit {0}) (WalkError E)) → HasCleanDisk (state g old) → IfErr r (StopsBeforeEnd (tables.IsPrefixOfList (state g old) walked) of takes stops before after) → IfErr r (StopsBeforeEnd (IsPrefixOfStoredList g old list) of takes stops before after)
+      broken : (r : Result (Unit {0}) (WalkError E)) → HasCleanDisk (state g old) → IfErr r (TableWalkEndsEarly (tables.IsPrefixOfList (state g old) walked) of takes stops before after) → IfErr r (TableWalkEndsEarly (IsPrefixOfStoredList g old list) of takes stops before after)
       broken (Ok u) clean h = tt
       broken (Err stop) clean h = breaks_of clean stop h
 
@@ -65,17 +65,17 @@ is_walked_by {S} {X} {M} {V} {W} {E} g old new of list inner takes stops before 
   early = λ clean. broken result (w.early clean);
   fault = ends result w.fault;
   opened = w.opened;
-  kept = w.kept;
+  same_rows = w.same_rows;
   same = w.same;
   survives = w.survives;
 }
   where
-    done : (r : Result (Unit {0}) (WalkError E)) → OnOk r (TakesInOrder (IsWholeStoredList g old list) of (λ p x q. takes (inner p) x (inner q)) before after) → OnOk r (TakesInOrder (IsWholeStoredList g old list) of takes (inner before) (inner after))
+    done : (r : Result (Unit {0}) (WalkError E)) → OnOk r (TakesListSatisfying (EqualsStoredList g old list) of (λ p x q. takes (inner p) x (inner q)) before after) → OnOk r (TakesListSatisfying (EqualsStoredList g old list) of takes (inner before) (inner after))
     done (Ok u) h = (h.0, folds_inner inner takes before h.0 after h.1, h.2)
     done (Err stop) h = tt
 
-    broken : (r : Result (Unit {0}) (WalkError E)) → IfErr r (StopsBeforeEnd (IsPrefixOfStoredList g old list) of (λ p x q. takes (inner p) x (inner q)) (λ p x e q. stops (inner p) x e (inner q)) before after)
-        → IfErr r (StopsBeforeEnd (IsPrefixOfStoredList g old list) of takes stops (inner before) (inner after))
+    broken : (r : Result (Unit {0}) (WalkError E)) → IfErr r (TableWalkEndsEarly (IsPrefixOfStoredList g old list) of (λ p x q. takes (inner p) x (inner q)) (λ p x e q. stops (inner p) x e (inner q)) before after)
+        → IfErr r (TableWalkEndsEarly (IsPrefixOfStoredList g old list) of takes stops (inner before) (inner after))
     broken (Ok u) h = tt
     broken (Err (Failed fault)) h = (h.0, (h.1.0, folds_inner inner takes before h.1.0 after h.1.1, h.1.2))
     broken (Err (Cause e)) h = (h.0, h.1, inner h.2, folds_inner inner takes before h.0 h.2 h.3, h.4, h.5)

@@ -1,6 +1,6 @@
 -- The result of an audit of a database, and the postconditions of an audit and of an adoption. In
 -- this file a desk of a schema is a set of tables, not a value of the type `Desk`. A database has a
--- desk of a schema (`HasDesk`) if it has each table of the schema, with its name and exactly its
+-- desk of a schema (`HasDeskOfSchema`) if it has each table of the schema, with its name and exactly its
 -- columns, no table that a later schema adds, and one row of the table DESK, with the number of the
 -- schema. `brk_store/specs/Holds.antt` explains the other terms of the clauses. A clause with the
 -- premise `HasCleanDisk` for the new state, and the promise on crashes in `survives`, are vacuous
@@ -25,78 +25,78 @@ use Rattle.brk_model.specs.Tables.{Tables}
 use Rattle.brk_changes.specs.declared.schema.Schema as known
 use Rattle.brk_changes.specs.declared.schema.Schema.TheVariants.{Third}
 use Rattle.brk_changes.specs.Schemas.{abstract_schema}
-use Rattle.brk_tables_schema.specs.Made.{HasRows, HasRowsInSchema, IsTableOfSchema}
+use Rattle.brk_tables_schema.specs.Made.{HasDeskTables, HasDeskTablesInSchema, IsTableOfSchema}
 use Rattle.brk_tables_upgrade.specs.Upgrade.{PreservesTablesOutside}
-use Rattle.brk_tables_scan.specs.Schemas.{HasDesk, DeskNamesImplyDefinitions, SchemaNamesImplyDefinitions}
+use Rattle.brk_tables_scan.specs.Schemas.{HasDeskOfSchema, NamedTablesMatchDeskDefinitions, NamedTablesMatchSchemaDefinitions}
 use Rattle.brk_book_theorems.specs.Books.{BooksInvariant}
 use Rattle.brk_audit_theorems.specs.Passing.{PassesAudit}
 use Rattle.brk_invariant_theorems.specs.Sound.{AuditInvariant}
-use Rattle.brk_store.specs.Holds.{AreTreesOfRows, HoldsRows, WasOpenAndIsUnchanged}
+use Rattle.brk_store.specs.Holds.{IsDiskContentOfRows, HoldsRows, WasOpenAndIsUnchanged}
 
 -- ---- answers of an audit
 
 -- The database `db` contains the tables of `schema` with the rows `t`, whose texts are UTF-8.
 -- `answer` is the result of the audit of `t` by the conditions of `schema`: the first condition
 -- that `t` fails, or `None` if `t` passes.
-abbrev pub IsAuditOfStoredRows : Schema → Tables → Database → Option Condition → Type 0
-IsAuditOfStoredRows schema t db answer = HasRowsInSchema schema t db × IsTrue (has_utf8_texts t) × IsAuditResult schema t answer
+abbrev pub StoresRowsWithAuditResult : Schema → Tables → Database → Option Condition → Type 0
+StoresRowsWithAuditResult schema t db answer = HasDeskTablesInSchema schema t db × IsTrue (has_utf8_texts t) × IsAuditResult schema t answer
 
 -- `answer` is the result of an audit of the database `db` by the conditions of `schema`: the first
 -- condition that the database fails, or `None` if it passes.
-abbrev pub IsAuditBySchema : Schema → Database → Option Condition → Type 0
+abbrev pub IsDatabaseAuditResultBySchema : Schema → Database → Option Condition → Type 0
 -- An audit never returns `NotEmpty`, which only the creation of the tables returns.
-IsAuditBySchema schema db (Some condition.NotEmpty) = ⊥
+IsDatabaseAuditResultBySchema schema db (Some condition.NotEmpty) = ⊥
 -- `Schema`: the database has no desk of the schema.
-IsAuditBySchema schema db (Some condition.Schema) = ¬ HasDesk schema db
+IsDatabaseAuditResultBySchema schema db (Some condition.Schema) = ¬ HasDeskOfSchema schema db
 -- `Form`: the database has a desk of the schema, and for all rows `t` that it contains with texts
 -- in UTF-8, the audit of `t` returns `Form`. So the result is `Form`, too, if the database contains
 -- no such rows, for example because a text is not UTF-8.
-IsAuditBySchema schema db (Some condition.Form) =
-    HasDesk schema db × ((t : Tables) → HasRowsInSchema schema t db → IsTrue (has_utf8_texts t) → IsAuditResult schema t (Some condition.Form))
+IsDatabaseAuditResultBySchema schema db (Some condition.Form) =
+    HasDeskOfSchema schema db × ((t : Tables) → HasDeskTablesInSchema schema t db → IsTrue (has_utf8_texts t) → IsAuditResult schema t (Some condition.Form))
 -- Any other result, `None` included, is that of the audit of the rows that the database contains.
-IsAuditBySchema schema db answer = (t : Tables) × IsAuditOfStoredRows schema t db answer
+IsDatabaseAuditResultBySchema schema db answer = (t : Tables) × StoresRowsWithAuditResult schema t db answer
 
 -- `Some schema`: the database has a desk of this schema. `None`: the database has a desk of no
 -- schema.
-abbrev pub IsDeskSchema : Option known.Schema → Database → Type 0
-IsDeskSchema (Some schema) db = HasDesk (abstract_schema schema) db
-IsDeskSchema None db = (schema : known.Schema) → ¬ HasDesk (abstract_schema schema) db
+abbrev pub IsSchemaOfDatabase : Option known.Schema → Database → Type 0
+IsSchemaOfDatabase (Some schema) db = HasDeskOfSchema (abstract_schema schema) db
+IsSchemaOfDatabase None db = (schema : known.Schema) → ¬ HasDeskOfSchema (abstract_schema schema) db
 
 -- `answer` is the result of an audit of the database `db` by the conditions of the schema whose
 -- desk it has. The result is never `NotEmpty`, and it is `Schema` if the database has a desk of no
 -- schema.
-abbrev pub IsAuditOfDatabase : Database → Option Condition → Type 0
-IsAuditOfDatabase db (Some condition.NotEmpty) = ⊥
-IsAuditOfDatabase db (Some condition.Schema) = IsDeskSchema None db
-IsAuditOfDatabase db answer = (schema : known.Schema) × IsAuditBySchema (abstract_schema schema) db answer
+abbrev pub IsDatabaseAuditResult : Database → Option Condition → Type 0
+IsDatabaseAuditResult db (Some condition.NotEmpty) = ⊥
+IsDatabaseAuditResult db (Some condition.Schema) = IsSchemaOfDatabase None db
+IsDatabaseAuditResult db answer = (schema : known.Schema) × IsDatabaseAuditResultBySchema (abstract_schema schema) db answer
 
 -- `P` holds for the result of the audit that a call with this result made: for `None` at `Ok`, and
 -- for the condition at `Damaged`. Vacuous at `Memory` and `Store`.
-abbrev pub OnAuditAnswer : Result (Unit {0}) Fault → (Option Condition → Type 0) → Type 0
-OnAuditAnswer (Ok x) P = P None
-OnAuditAnswer (Err (Damaged failing)) P = P (Some failing)
-OnAuditAnswer (Err Memory) P = ⊤
-OnAuditAnswer (Err Store) P = ⊤
+abbrev pub AuditAnswerSatisfies : Result (Unit {0}) Fault → (Option Condition → Type 0) → Type 0
+AuditAnswerSatisfies (Ok x) P = P None
+AuditAnswerSatisfies (Err (Damaged failing)) P = P (Some failing)
+AuditAnswerSatisfies (Err Memory) P = ⊤
+AuditAnswerSatisfies (Err Store) P = ⊤
 
 -- ---- premises on the database
 
 -- For each schema: if the current database has all tables of a desk of this schema, by their names
 -- and columns, these tables have the definitions of the desk's tables: their types, keys and
--- foreign keys (`DeskNamesImplyDefinitions`). So a database without these tables, for example an
+-- foreign keys (`NamedTablesMatchDeskDefinitions`). So a database without these tables, for example an
 -- empty one, satisfies it. Vacuous if the disk assumption fails, or once the database is closed.
-abbrev pub StoreNamesImplyDefinitions : {S : Type 0} → Ghosts S → Held S → Type 0
-StoreNamesImplyDefinitions g held = HasCleanDisk (state g held) → IsTrue (state g held).is_open → DeskNamesImplyDefinitions (state g held).now
+abbrev pub StoreNamedTablesMatchDeskDefinitions : {S : Type 0} → Ghosts S → Held S → Type 0
+StoreNamedTablesMatchDeskDefinitions g held = HasCleanDisk (state g held) → IsTrue (state g held).is_open → NamedTablesMatchDeskDefinitions (state g held).now
 
 -- If the current database has all tables of schema 3, by their names and columns, these tables have
 -- the definitions of the desk's tables: their types, keys and foreign keys. Vacuous if the disk
 -- assumption fails, or once the database is closed.
-abbrev pub ThirdNamesImplyDefinitions : {S : Type 0} → Ghosts S → Held S → Type 0
-ThirdNamesImplyDefinitions g held = HasCleanDisk (state g held) → IsTrue (state g held).is_open → SchemaNamesImplyDefinitions third_schema (state g held).now
+abbrev pub StoreNamedTablesMatchThirdSchema : {S : Type 0} → Ghosts S → Held S → Type 0
+StoreNamedTablesMatchThirdSchema g held = HasCleanDisk (state g held) → IsTrue (state g held).is_open → NamedTablesMatchSchemaDefinitions third_schema (state g held).now
 
 -- The current database has a desk of schema 3. Vacuous if the disk assumption fails, or once the
 -- database is closed.
-abbrev pub StoreHasThirdDesk : {S : Type 0} → Ghosts S → Held S → Type 0
-StoreHasThirdDesk g held = HasCleanDisk (state g held) → IsTrue (state g held).is_open → HasDesk third_schema (state g held).now
+abbrev pub StoreHasDeskOfThirdSchema : {S : Type 0} → Ghosts S → Held S → Type 0
+StoreHasDeskOfThirdSchema g held = HasCleanDisk (state g held) → IsTrue (state g held).is_open → HasDeskOfSchema third_schema (state g held).now
 
 -- ---- an audit
 
@@ -104,12 +104,12 @@ StoreHasThirdDesk g held = HasCleanDisk (state g held) → IsTrue (state g held)
 pub record AuditPost {S : Type 0} (g : Ghosts S) (old new : Held S) (result : Result (Unit {0}) Fault) : Type 0 where
   -- `Ok` is returned only if the rows pass, and `Damaged` only with the first condition that fails.
   -- Vacuous if the disk assumption fails after the call, or if the old database does not satisfy
-  -- `ThirdNamesImplyDefinitions`.
-  pub told : HasCleanDisk (state g new) → ThirdNamesImplyDefinitions g old → OnAuditAnswer result (IsAuditBySchema third_schema (state g old).now)
+  -- `StoreNamedTablesMatchThirdSchema`.
+  pub answered : HasCleanDisk (state g new) → StoreNamedTablesMatchThirdSchema g old → AuditAnswerSatisfies result (IsDatabaseAuditResultBySchema third_schema (state g old).now)
   -- `Ok` and `Damaged` are returned only if the database was open.
-  pub opened : HasCleanDisk (state g new) → OnAuditAnswer result (λ _. IsTrue (state g old).is_open)
+  pub opened : HasCleanDisk (state g new) → AuditAnswerSatisfies result (λ _. IsTrue (state g old).is_open)
   -- The store holds after the call the rows that it held before, whatever the result.
-  pub kept : (t : Tables) → HoldsRows g old t → HoldsRows g new t
+  pub same_rows : (t : Tables) → HoldsRows g old t → HoldsRows g new t
   -- If the database is open after the call, it was open before and is unchanged.
   pub same : HasCleanDisk (state g new) → IsTrue (state g new).is_open → WasOpenAndIsUnchanged (state g old) (state g new)
   -- A crash exposes only states that a crash before the call could expose.
@@ -123,41 +123,41 @@ pub record AuditPost {S : Type 0} (g : Ghosts S) (old new : Held S) (result : Re
 -- changes or deletes the rows by CASCADE, SET NULL or SET DEFAULT.
 abbrev pub UpgradesPassingRows : Database → Database → Type 0
 UpgradesPassingRows db after =
-    (schema : known.Schema) × (t : Tables) × (passed : IsAuditOfStoredRows (abstract_schema schema) t db None) × HasRows (sheets (base_of_tables t)) after × PreservesTablesOutside (IsTableOfSchema (abstract_schema schema)) passed.0.0 db after
+    (schema : known.Schema) × (t : Tables) × (passed : StoresRowsWithAuditResult (abstract_schema schema) t db None) × HasDeskTables (sheets (base_of_tables t)) after × PreservesTablesOutside (IsTableOfSchema (abstract_schema schema)) passed.0.0 db after
 
 -- The database `db` contains rows of a schema older than 3 that pass the audit of this schema, and
 -- `trees` are the disk contents of a database that contains the tables of schema 3 with the rows of
 -- the base that these rows determine.
-abbrev pub AreUpgradedTrees : Database → Trees → Type 0
-AreUpgradedTrees db trees = (schema : known.Schema) × (t : Tables) × (schema ≢ Third) × IsAuditOfStoredRows (abstract_schema schema) t db None × AreTreesOfRows (sheets (base_of_tables t)) trees
+abbrev pub IsUpgradedDiskContent : Database → Trees → Type 0
+IsUpgradedDiskContent db trees = (schema : known.Schema) × (t : Tables) × (schema ≢ Third) × StoresRowsWithAuditResult (abstract_schema schema) t db None × IsDiskContentOfRows (sheets (base_of_tables t)) trees
 
 -- The postcondition of an adoption: an audit by the conditions of the schema whose desk the
 -- database has and, at `Ok`, a store that holds the rows, converted to schema 3. The clauses with
--- the premise `StoreNamesImplyDefinitions` are vacuous for a database that has all tables of a desk
+-- the premise `StoreNamedTablesMatchDeskDefinitions` are vacuous for a database that has all tables of a desk
 -- by their names and columns, but with other definitions.
 pub record AdoptPost {S : Type 0} (g : Ghosts S) (old new : Held S) (result : Result (Unit {0}) Fault) : Type 0 where
   -- `Ok` is returned only if the rows pass, and `Damaged` only with the first condition that fails.
   -- Vacuous if the disk assumption fails after the call, or if the old database does not satisfy
-  -- `StoreNamesImplyDefinitions`.
-  pub told : HasCleanDisk (state g new) → StoreNamesImplyDefinitions g old → OnAuditAnswer result (IsAuditOfDatabase (state g old).now)
+  -- `StoreNamedTablesMatchDeskDefinitions`.
+  pub answered : HasCleanDisk (state g new) → StoreNamedTablesMatchDeskDefinitions g old → AuditAnswerSatisfies result (IsDatabaseAuditResult (state g old).now)
   -- `Ok` and `Damaged` are returned only if the database was open.
-  pub opened : HasCleanDisk (state g new) → OnAuditAnswer result (λ _. IsTrue (state g old).is_open)
+  pub opened : HasCleanDisk (state g new) → AuditAnswerSatisfies result (λ _. IsTrue (state g old).is_open)
   -- At `Ok` the store holds rows that pass the audit of schema 3, with texts in UTF-8. Vacuous if
-  -- the old database does not satisfy `StoreNamesImplyDefinitions`.
-  pub adopted : StoreNamesImplyDefinitions g old → OnOk result ((t : Tables) × HoldsRows g new t × PassesAudit third_schema t × IsTrue (has_utf8_texts t))
+  -- the old database does not satisfy `StoreNamedTablesMatchDeskDefinitions`.
+  pub adopted : StoreNamedTablesMatchDeskDefinitions g old → OnOk result ((t : Tables) × HoldsRows g new t × PassesAudit third_schema t × IsTrue (has_utf8_texts t))
   -- At `Ok`, if the store is open, it has committed the tables of the base that the old rows
   -- determine.
-  pub upgraded : HasCleanDisk (state g new) → IsTrue (state g new).is_open → StoreNamesImplyDefinitions g old → OnOk result (UpgradesPassingRows (state g old).now (state g new).now × ((state g new).committed ≡ (state g new).now))
+  pub upgraded : HasCleanDisk (state g new) → IsTrue (state g new).is_open → StoreNamedTablesMatchDeskDefinitions g old → OnOk result (UpgradesPassingRows (state g old).now (state g new).now × ((state g new).committed ≡ (state g new).now))
   -- At `Ok` the store is open, unless the database had a desk of schema 3.
-  pub stays : HasCleanDisk (state g new) → StoreNamesImplyDefinitions g old → OnOk result (StoreHasThirdDesk g old ⊎ IsTrue (state g new).is_open)
+  pub open_after_upgrade : HasCleanDisk (state g new) → StoreNamedTablesMatchDeskDefinitions g old → OnOk result (StoreHasDeskOfThirdSchema g old ⊎ IsTrue (state g new).is_open)
   -- At an error: if the database is open after the call, it was open before and is unchanged.
   pub same : HasCleanDisk (state g new) → IsTrue (state g new).is_open → OnErr result (WasOpenAndIsUnchanged (state g old) (state g new))
   -- A crash exposes a state that a crash before the call could expose or, if rows of an older
   -- schema passed their audit, the tables of their base in schema 3.
-  pub survives : StoreNamesImplyDefinitions g old → Survives (state g old) (state g new) (AreUpgradedTrees (state g old).now)
+  pub survives : StoreNamedTablesMatchDeskDefinitions g old → Survives (state g old) (state g new) (IsUpgradedDiskContent (state g old).now)
   -- If the database had a desk of schema 3, the adoption satisfies the postcondition of an audit by
   -- schema 3, which writes nothing.
-  pub audited : StoreNamesImplyDefinitions g old → StoreHasThirdDesk g old → AuditPost g old new result
+  pub audited : StoreNamedTablesMatchDeskDefinitions g old → StoreHasDeskOfThirdSchema g old → AuditPost g old new result
 
 -- The base satisfies the books invariant and the audit invariant, and its texts are UTF-8.
 pub record IsConsistent (base : Base) : Type 0 where

@@ -7,7 +7,7 @@ use Rattle.brk_changes.specs.declared.holding_row.HoldingRow.{HoldingRow}
 
 -- A call of the closure `f` with the symbol and the lot of `row` may return `r`, and the state of
 -- the closure is then `f'`.
-pub record IsCallWithLot {F R : Type 0} (g : Mut F (Bor (List ℕ) × (Bor Lot × Unit {0})) R) (f : F) (row : HoldingRow) (r : R) (f' : F) : Type 0 where
+pub record IsClosureCallWithLot {F R : Type 0} (g : Mut F (Bor (List ℕ) × (Bor Lot × Unit {0})) R) (f : F) (row : HoldingRow) (r : R) (f' : F) : Type 0 where
   pub symbol : Bor (List ℕ)
   pub lot : Bor Lot
   pub named : symbol.now ≡ row.symbol

@@ -20,19 +20,19 @@ use Rattle.brk_money.specs.declared.fault.Fault.{Fault}
 use Rattle.brk_money.specs.declared.fault.Fault.TheVariants.{Damaged, Store}
 use Rattle.brk_model.specs.Tables.{Tables, tables_without_rows}
 use Rattle.brk_sql.specs.Desk.{HasTables, PreservesAllTables, PreservesUnrelatedTables}
-use Rattle.brk_tables_schema.specs.Desk.{Which, desk}
-use Rattle.brk_tables_schema.specs.Made.{HasRows}
+use Rattle.brk_tables_schema.specs.Desk.{DeskTable, desk_tables}
+use Rattle.brk_tables_schema.specs.Made.{HasDeskTables}
 use Rattle.brk_tables_create.specs.Present.{has_table_of_desk}
 
 -- The database of `store` contains all tables of a desk in schema 3, with exactly the rows `t`.
 -- Vacuous if the disk assumption fails (`HasCleanDisk`), or once the store is closed.
 abbrev pub HoldsRows : {S : Type 0} → Ghosts S → Held S → Tables → Type 0
-HoldsRows g store t = HasCleanDisk (state g store) → IsTrue (state g store).is_open → HasRows t (state g store).now
+HoldsRows g store t = HasCleanDisk (state g store) → IsTrue (state g store).is_open → HasDeskTables t (state g store).now
 
 -- `trees` are the disk contents of some database that contains all tables of a desk with exactly
--- the rows `t` (`HasRows`).
-abbrev pub AreTreesOfRows : Tables → Trees → Type 0
-AreTreesOfRows t trees = (db : Database) × HasRows t db × (trees ≡ db.trees)
+-- the rows `t` (`HasDeskTables`).
+abbrev pub IsDiskContentOfRows : Tables → Trees → Type 0
+IsDiskContentOfRows t trees = (db : Database) × HasDeskTables t db × (trees ≡ db.trees)
 
 -- All disk contents that a crash of the store may expose satisfy `P`.
 abbrev pub CrashStatesSatisfy : {S : Type 0} → Ghosts S → Held S → (Trees → Type 0) → Type 0
@@ -45,16 +45,16 @@ pub record WasOpenAndIsUnchanged (old new : State) : Type 0 where
   pub now : new.now ≡ old.now
   pub committed : new.committed ≡ old.committed
 
--- The postcondition of a read, which writes nothing. `Told` relates the returned value to the rows
+-- The postcondition of a read, which writes nothing. `AuditsByThirdSchema` relates the returned value to the rows
 -- that the store holds.
 pub record ReadPost {S V E : Type 0} (g : Ghosts S) (old new : Held S) (result : Result V E) (Told : V → Tables → Type 0) : Type 0 where
-  -- A returned value satisfies `Told` with the rows that the store held before the call. Vacuous if
+  -- A returned value satisfies `AuditsByThirdSchema` with the rows that the store held before the call. Vacuous if
   -- the disk assumption fails after the call.
-  pub told : HasCleanDisk (state g new) → IfOk result (λ answer. (t : Tables) → HoldsRows g old t → Told answer t)
+  pub answered : HasCleanDisk (state g new) → IfOk result (λ answer. (t : Tables) → HoldsRows g old t → Told answer t)
   -- A value is returned only if the store was open.
   pub opened : HasCleanDisk (state g new) → OnOk result (IsTrue (state g old).is_open)
   -- The store holds after the call the rows that it held before, whatever the result.
-  pub kept : (t : Tables) → HoldsRows g old t → HoldsRows g new t
+  pub same_rows : (t : Tables) → HoldsRows g old t → HoldsRows g new t
   -- If the database is open after the call, it was open before and is unchanged.
   pub same : HasCleanDisk (state g new) → IsTrue (state g new).is_open → WasOpenAndIsUnchanged (state g old) (state g new)
   -- A crash exposes only states that a crash before the call could expose.
@@ -63,26 +63,26 @@ pub record ReadPost {S V E : Type 0} (g : Ghosts S) (old new : Held S) (result :
 -- The postcondition of an atomic call that changes the rows `t` to `after t`.
 pub record ApplyPost {S V E : Type 0} (g : Ghosts S) (old new : Held S) (result : Result V E) (after : Tables → Tables) : Type 0 where
   -- At `Ok` the store holds the changed rows.
-  pub made : OnOk result ((t : Tables) → HoldsRows g old t → HoldsRows g new (after t))
+  pub applied : OnOk result ((t : Tables) → HoldsRows g old t → HoldsRows g new (after t))
   -- At `Ok` the store was open, is open, and has committed its current state.
   pub opened : HasCleanDisk (state g new) → OnOk result (IsTrue (state g old).is_open × IsTrue (state g new).is_open × ((state g new).committed ≡ (state g new).now))
   -- At `Ok` the database schema is unchanged. The rows of each other table are unchanged too,
   -- unless a foreign key of that table changes or deletes them by CASCADE, SET NULL or SET DEFAULT.
-  pub others : HasCleanDisk (state g new) → OnOk result ((t : Tables) (tree : Which → ℕ) → HasTables desk t tree (state g old).now → PreservesUnrelatedTables tree (state g old).now (state g new).now)
+  pub others : HasCleanDisk (state g new) → OnOk result ((t : Tables) (tree : DeskTable → ℕ) → HasTables desk_tables t tree (state g old).now → PreservesUnrelatedTables tree (state g old).now (state g new).now)
   -- At an error the store holds the rows that it held before.
-  pub kept : OnErr result ((t : Tables) → HoldsRows g old t → HoldsRows g new t)
+  pub same_rows_at_error : OnErr result ((t : Tables) → HoldsRows g old t → HoldsRows g new t)
   -- At an error: if the database is open after the call, it was open before and is unchanged.
   pub same : HasCleanDisk (state g new) → IsTrue (state g new).is_open → OnErr result (WasOpenAndIsUnchanged (state g old) (state g new))
   -- A crash exposes a state that a crash before the call could expose, or the changed rows; the
   -- changed rows only if the store was open.
-  pub survives : Survives (state g old) (state g new) (λ trees. IsTrue (state g old).is_open × ((t : Tables) → HasRows t (state g old).now → AreTreesOfRows (after t) trees))
+  pub survives : Survives (state g old) (state g new) (λ trees. IsTrue (state g old).is_open × ((t : Tables) → HasDeskTables t (state g old).now → IsDiskContentOfRows (after t) trees))
   -- At `Ok` a crash exposes only the changed rows.
-  pub durable : HasCleanDisk (state g new) → OnOk result ((t : Tables) → HoldsRows g old t → CrashStatesSatisfy g new (AreTreesOfRows (after t)))
+  pub durable : HasCleanDisk (state g new) → OnOk result ((t : Tables) → HoldsRows g old t → CrashStatesSatisfy g new (IsDiskContentOfRows (after t)))
 
 -- The postcondition of the atomic creation of the tables.
 pub record CreatePost {S : Type 0} (g : Ghosts S) (old new : Held S) (result : Result (Unit {0}) Fault) : Type 0 where
   -- At `Ok` the store holds the tables without rows.
-  pub made : OnOk result (HoldsRows g new tables_without_rows)
+  pub created : OnOk result (HoldsRows g new tables_without_rows)
   -- At `Ok` the store was open, is open, and has committed its current state.
   pub opened : HasCleanDisk (state g new) → OnOk result (IsTrue (state g old).is_open × IsTrue (state g new).is_open × ((state g new).committed ≡ (state g new).now))
   -- At `Ok` no table with the name of a desk's table existed.
@@ -98,13 +98,13 @@ pub record CreatePost {S : Type 0} (g : Ghosts S) (old new : Held S) (result : R
   -- At an error: if the database is open after the call, it was open before and is unchanged.
   pub same : HasCleanDisk (state g new) → IsTrue (state g new).is_open → OnErr result (WasOpenAndIsUnchanged (state g old) (state g new))
   -- A crash exposes a state that a crash before the call could expose, or the tables without rows.
-  pub survives : Survives (state g old) (state g new) (AreTreesOfRows tables_without_rows)
+  pub survives : Survives (state g old) (state g new) (IsDiskContentOfRows tables_without_rows)
   -- At `Ok` a crash exposes only the tables without rows.
-  pub durable : HasCleanDisk (state g new) → OnOk result (CrashStatesSatisfy g new (AreTreesOfRows tables_without_rows))
+  pub durable : HasCleanDisk (state g new) → OnOk result (CrashStatesSatisfy g new (IsDiskContentOfRows tables_without_rows))
 
 -- `conn` is a connection to a database with the disk contents `trees`: under the disk assumption
 -- its current database has these contents, and its current and its committed database are
 -- well-formed if it is open.
-pub record IsOpenedOverTrees {S : Type 0} (g : Ghosts S) (trees : Trees) (conn : Held S) : Type 0 where
+pub record IsConnectionToDiskContent {S : Type 0} (g : Ghosts S) (trees : Trees) (conn : Held S) : Type 0 where
   pub live : HasCleanDisk (state g conn) → IsLive (state g conn)
   pub same : HasCleanDisk (state g conn) → (state g conn).now.trees ≡ trees

@@ -1,9 +1,9 @@
 pub mod Audited
 pub mod AuditResult
 pub mod Holds
-pub mod Kept
+pub mod ReadSequences
 pub mod Numbers
 pub mod Walked
 pub mod Calling
 pub mod Pages
-pub mod Resting
+pub mod RemainingLots

@@ -11,8 +11,8 @@ use Rattle.brk_book_theorems.specs.TradeReads.{lot_of_row}
 
 -- The rows of the lots of `account` in the security `symbol`, sorted by age: the newest first if
 -- `lifo`, otherwise the oldest first.
-abbrev pub lot_rows_from_end : Bool → ℕ → Text → Tables → List HoldingRow
-lot_rows_from_end lifo account symbol t = list_in_closing_order lifo (position_lots_by_age account symbol t)
+abbrev pub lot_rows_in_closing_order : Bool → ℕ → Text → Tables → List HoldingRow
+lot_rows_in_closing_order lifo account symbol t = list_in_closing_order lifo (position_lots_by_age account symbol t)
 
 -- The elements of `rows` after the first `read`, or no element if `ended` is true.
 abbrev pub unread_rows : Bool → ℕ → List HoldingRow → List HoldingRow

@@ -14,7 +14,7 @@ use Rattle.brk_model.specs.Tables.{Tables, MoveRow, TradeRow}
 use Rattle.brk_money.specs.Kinds.{is_same_trade_status}
 use Rattle.brk_money.specs.declared.status.Status.TheVariants.{Completed}
 use Rattle.brk_tables_walks.specs.Walk.{IsWalkError}
-use Rattle.brk_tables_walks.specs.Walks.{StopsBeforeEnd, TakesInOrder}
+use Rattle.brk_tables_walks.specs.Walks.{TableWalkEndsEarly, TakesListSatisfying}
 use Rattle.brk_tables_walks.specs.declared.walking.WalkError.{WalkError}
 use Rattle.brk_tables_walks.specs.declared.walking.WalkError.TheVariants.{Failed, Cause}
 use Rattle.brk_store.specs.Holds.{HoldsRows, WasOpenAndIsUnchanged}
@@ -29,8 +29,8 @@ abbrev pub completed_trades_by_stamp : Tables → List TradeRow
 completed_trades_by_stamp t = sort_by_key (λ r. r.stamp) (filter (λ r. is_same_trade_status r.status Completed) t.trades)
 
 -- The records `all` equal the whole list that `list` selects from the rows that the store holds.
-abbrev pub IsWholeStoredList : {S M : Type 0} → Ghosts S → Held S → (Tables → List M) → List M → Type 0
-IsWholeStoredList g store list all = (t : Tables) → HoldsRows g store t → all ≡ list t
+abbrev pub EqualsStoredList : {S M : Type 0} → Ghosts S → Held S → (Tables → List M) → List M → Type 0
+EqualsStoredList g store list all = (t : Tables) → HoldsRows g store t → all ≡ list t
 
 -- The records `first` are a prefix of the list that `list` selects from the rows that the store
 -- holds.
@@ -44,17 +44,17 @@ IsPrefixOfStoredList {S} {M} g store list first = (t : Tables) → HoldsRows g s
 pub record WalkPost {S X M V E : Type 0} (g : Ghosts S) (old new : Held S) (of : X → M) (list : Tables → List M) (takes : V → X → V → Type 0) (stops : V → X → E → V → Type 0)
     (before after : V) (result : Result (Unit {0}) (WalkError E)) : Type 0 where
   -- At `Ok` the visitor has taken every record.
-  pub all : HasCleanDisk (state g new) → OnOk result (TakesInOrder (IsWholeStoredList g old list) of takes before after)
+  pub all : HasCleanDisk (state g new) → OnOk result (TakesListSatisfying (EqualsStoredList g old list) of takes before after)
   -- At a fault the visitor has taken a prefix of the records. At its own error it has taken the
   -- records before the one for which it returned the error.
-  pub early : HasCleanDisk (state g new) → IfErr result (StopsBeforeEnd (IsPrefixOfStoredList g old list) of takes stops before after)
+  pub early : HasCleanDisk (state g new) → IfErr result (TableWalkEndsEarly (IsPrefixOfStoredList g old list) of takes stops before after)
   -- The error is `Memory` or `Store`, or that of the visitor, whether or not the disk assumption
   -- holds.
   pub fault : IfErr result (IsWalkError stops after)
   -- `Ok` is returned only if the store was open.
   pub opened : HasCleanDisk (state g new) → OnOk result (IsTrue (state g old).is_open)
   -- The store holds after the call the rows that it held before, whatever the result.
-  pub kept : (t : Tables) → HoldsRows g old t → HoldsRows g new t
+  pub same_rows : (t : Tables) → HoldsRows g old t → HoldsRows g new t
   -- If the database is open after the call, it was open before and is unchanged.
   pub same : HasCleanDisk (state g new) → IsTrue (state g new).is_open → WasOpenAndIsUnchanged (state g old) (state g new)
   -- A crash exposes only states that a crash before the call could expose.
@@ -71,6 +71,6 @@ MatchesWalkResult {E} gives (Err (Failed fault)) result = (e : E) × (result ≡
 -- returned an error or the walk failed. The result is `Ok` after the last record, otherwise the
 -- closure's error, or an error that `gives` relates to the fault. The calls satisfy `WalkPost`,
 -- with the closure as the visitor.
-abbrev pub CallsClosureOnEach : {S X M F E : Type 0} → Ghosts S → Held S → Held S → (X → M) → (Tables → List M) → (F → X → Result (Unit {0}) E → F → Type 0) → (Fault → E → Type 0) → F → Result (Unit {0}) E → Type 0
-CallsClosureOnEach {S} {X} {M} {F} {E} g old new of list called gives call result =
+abbrev pub CallsClosureWithEachRecord : {S X M F E : Type 0} → Ghosts S → Held S → Held S → (X → M) → (Tables → List M) → (F → X → Result (Unit {0}) E → F → Type 0) → (Fault → E → Type 0) → F → Result (Unit {0}) E → Type 0
+CallsClosureWithEachRecord {S} {X} {M} {F} {E} g old new of list called gives call result =
     (last : F) × (outcome : Result (Unit {0}) (WalkError E)) × WalkPost g old new of list (λ p x q. called p x (Ok tt) q) (λ p x e q. called p x (Err e) q) call last outcome × MatchesWalkResult gives outcome result

@@ -15,38 +15,38 @@ ghost use Rattle.brk_model.specs.Tables.{Tables};
 ghost use Rattle.brk_changes.specs.declared.schema.Schema.{Schema};
 ghost use Rattle.brk_changes.specs.Schemas.{abstract_schema};
 ghost use Rattle.brk_audit_theorems.specs.Passing.{PassesAudit};
-ghost use Rattle.brk_store.specs.Audited.{IsAuditOfStoredRows, IsAuditOfDatabase, IsAuditBySchema, StoreHasThirdDesk, Represents, AdoptPost, AuditPost, StoreNamesImplyDefinitions, OnAuditAnswer};
+ghost use Rattle.brk_store.specs.Audited.{StoresRowsWithAuditResult, IsDatabaseAuditResult, IsDatabaseAuditResultBySchema, StoreHasDeskOfThirdSchema, Represents, AdoptPost, AuditPost, StoreNamedTablesMatchDeskDefinitions, AuditAnswerSatisfies};
 ghost use Rattle.brk_store.specs.Holds.{HoldsRows};
 
 use sqlite::Alter;
 
 /// Proves that an audit of a database has at most one result, both by the schema whose desk the
 /// database has (`whole`) and by a given schema (`by`).
-pub fn an_audit_has_one_answer()
-    ensures whole { (db : Database) (a b : Option Condition) → IsAuditOfDatabase db a → IsAuditOfDatabase db b → a ≡ b }
-    ensures by { (schema : Schema) (db : Database) (a b : Option Condition) → IsAuditBySchema (abstract_schema schema) db a → IsAuditBySchema (abstract_schema schema) db b → a ≡ b }
+pub fn audit_results_are_unique()
+    ensures of_database { (db : Database) (a b : Option Condition) → IsDatabaseAuditResult db a → IsDatabaseAuditResult db b → a ≡ b }
+    ensures by_schema { (schema : Schema) (db : Database) (a b : Option Condition) → IsDatabaseAuditResultBySchema (abstract_schema schema) db a → IsDatabaseAuditResultBySchema (abstract_schema schema) db b → a ≡ b }
 {}
 
 /// Proves that a store that holds the tables of schema 3 with any rows satisfies the premise of an
-/// adoption (`StoreNamesImplyDefinitions`) and has a desk of schema 3.
-pub fn stored_rows_imply_definitions<S: Alter>()
-    ensures defined { (held : Held S) (t : Tables) → HoldsRows S.Store held t → StoreNamesImplyDefinitions S.Store held }
-    ensures there { (held : Held S) (t : Tables) → HoldsRows S.Store held t → StoreHasThirdDesk S.Store held }
+/// adoption (`StoreNamedTablesMatchDeskDefinitions`) and has a desk of schema 3.
+pub fn stores_with_rows_have_desk_definitions<S: Alter>()
+    ensures defined { (held : Held S) (t : Tables) → HoldsRows S.Store held t → StoreNamedTablesMatchDeskDefinitions S.Store held }
+    ensures has_tables { (held : Held S) (t : Tables) → HoldsRows S.Store held t → StoreHasDeskOfThirdSchema S.Store held }
 {}
 
 /// Proves, under the disk assumption, that an audit of a store that holds rows with texts in UTF-8
 /// returns the result of the audit of these rows (`rows`), and does not return `Damaged` if the
 /// store represents a base (`books`). Vacuous if the audit fails with `Memory` or `Store`.
-pub fn audits_return_the_audit_of_rows<S: Alter>()
+pub fn audits_return_result_for_stored_rows<S: Alter>()
     ensures rows { (old new : Held S) (result : Result (Unit {0}) Fault) (t : Tables)
-        → AuditPost S.Store old new result → HoldsRows S.Store old t → IsTrue (has_utf8_texts t) → HasCleanDisk (state S.Store new) → OnAuditAnswer result (IsAuditResult third_schema t) }
+        → AuditPost S.Store old new result → HoldsRows S.Store old t → IsTrue (has_utf8_texts t) → HasCleanDisk (state S.Store new) → AuditAnswerSatisfies result (IsAuditResult third_schema t) }
     ensures books { (old new : Held S) (result : Result (Unit {0}) Fault) (base : Base)
-        → AuditPost S.Store old new result → Represents S.Store old base → HasCleanDisk (state S.Store new) → OnAuditAnswer result (λ answer. answer ≡ None) }
+        → AuditPost S.Store old new result → Represents S.Store old base → HasCleanDisk (state S.Store new) → AuditAnswerSatisfies result (λ answer. answer ≡ None) }
 {}
 
 /// Proves that an adoption of a database that holds rows of schema 3 satisfies the postcondition of
 /// an audit: it writes nothing.
-pub fn an_adoption_of_rows_is_an_audit<S: Alter>()
+pub fn adoption_of_third_schema_is_audit<S: Alter>()
     ensures { (old new : Held S) (result : Result (Unit {0}) Fault) (t : Tables)
         → AdoptPost S.Store old new result → HoldsRows S.Store old t → AuditPost S.Store old new result }
 {}
@@ -54,7 +54,7 @@ pub fn an_adoption_of_rows_is_an_audit<S: Alter>()
 /// Proves that a store represents the base that its rows determine, if these pass the audit of
 /// schema 3 and their texts are UTF-8 (`rows`).
 ///
-/// `adopted`: a store that was adopted under the premise `StoreNamesImplyDefinitions` represents
+/// `adopted`: a store that was adopted under the premise `StoreNamedTablesMatchDeskDefinitions` represents
 /// some base.
 ///
 /// `found`: if this store is open, then under the disk assumption the old database contained rows
@@ -62,7 +62,7 @@ pub fn an_adoption_of_rows_is_an_audit<S: Alter>()
 /// determine.
 pub fn adopted_stores_represent_a_base<S: Alter>()
     ensures rows { (store : Held S) (t : Tables) → HoldsRows S.Store store t → PassesAudit third_schema t → IsTrue (has_utf8_texts t) → Represents S.Store store (base_of_tables t) }
-    ensures adopted { (old new : Held S) → AdoptPost S.Store old new (Ok tt) → StoreNamesImplyDefinitions S.Store old → (base : Base) × Represents S.Store new base }
-    ensures found { (old new : Held S) → AdoptPost S.Store old new (Ok tt) → StoreNamesImplyDefinitions S.Store old → HasCleanDisk (state S.Store new) → IsTrue (state S.Store new).is_open
-        → (schema : Schema) × (rows : Tables) × IsAuditOfStoredRows (abstract_schema schema) rows (state S.Store old).now None × Represents S.Store new (base_of_tables rows) }
+    ensures adopted { (old new : Held S) → AdoptPost S.Store old new (Ok tt) → StoreNamedTablesMatchDeskDefinitions S.Store old → (base : Base) × Represents S.Store new base }
+    ensures base_of_old_rows { (old new : Held S) → AdoptPost S.Store old new (Ok tt) → StoreNamedTablesMatchDeskDefinitions S.Store old → HasCleanDisk (state S.Store new) → IsTrue (state S.Store new).is_open
+        → (schema : Schema) × (rows : Tables) × StoresRowsWithAuditResult (abstract_schema schema) rows (state S.Store old).now None × Represents S.Store new (base_of_tables rows) }
 {}

@@ -7,29 +7,29 @@ ghost use Rattle.brk_model.specs.Run.{IsCallFault};
 ghost use Rattle.brk_model.specs.Schemas.{third_schema};
 ghost use Rattle.brk_changes.specs.Schemas.{abstract_schema};
 ghost use Rattle.brk_sql.specs.Model.{IsConnectionStep};
-ghost use Rattle.brk_store.specs.Audited.{IsAuditBySchema, AuditPost};
-ghost use Rattle.brk_tables_scan.specs.Schemas.{HasDesk, SchemaNamesImplyDefinitions};
+ghost use Rattle.brk_store.specs.Audited.{IsDatabaseAuditResultBySchema, AuditPost};
+ghost use Rattle.brk_tables_scan.specs.Schemas.{HasDeskOfSchema, NamedTablesMatchSchemaDefinitions};
 
 use crate::Store;
 use crate::beginning::begin_transaction;
 use brk_audit::audit_rows;
 use brk_changes::Schema;
 use brk_money::{Condition, Fault};
-use brk_tables_scan::{has_desk, read_sheets};
+use brk_tables_scan::{has_desk_of_schema, read_sheets};
 use sqlite::{Alter, Connection, Transaction};
 use std::alloc::Global;
 
 /// Returns the first condition of a schema that the rows of its tables fail, or `None` if they
 /// pass. Fails with `Memory` or `Store` only. The result is specified only if the database has a
-/// desk of the schema, with the definitions of the desk's tables (`HasDesk`,
-/// `SchemaNamesImplyDefinitions`).
+/// desk of the schema, with the definitions of the desk's tables (`HasDeskOfSchema`,
+/// `NamedTablesMatchSchemaDefinitions`).
 pub(crate) fn audit_rows_of_schema<S: Alter>(
     tx: &mut Transaction<'_, S>,
     alloc: Global,
     schema: Schema,
 ) -> Result<Option<Condition>, Fault>
     ensures same_reference { tx.new.conn.ghost_name ≡ tx.old.conn.ghost_name }
-    ensures step { IsConnectionStep S.Store tx.old tx.new result (λ answer a b. IsTrue a.is_open × (b.now ≡ a.now) × (SchemaNamesImplyDefinitions (abstract_schema schema) a.now → HasDesk (abstract_schema schema) a.now → IsAuditBySchema (abstract_schema schema) a.now answer)) }
+    ensures step { IsConnectionStep S.Store tx.old tx.new result (λ answer a b. IsTrue a.is_open × (b.now ≡ a.now) × (NamedTablesMatchSchemaDefinitions (abstract_schema schema) a.now → HasDeskOfSchema (abstract_schema schema) a.now → IsDatabaseAuditResultBySchema (abstract_schema schema) a.now answer)) }
     ensures condition { IfOk result (λ answer. answer ≢ Some NotEmpty) }
     ensures fault { IfErr result IsCallFault }
 {
@@ -41,17 +41,17 @@ pub(crate) fn audit_rows_of_schema<S: Alter>(
 
 // Returns the first condition of schema 3 that the database fails, or `None` if it passes. Fails
 // with `Memory` or `Store` only. The result is specified only if tables with the names and columns
-// of schema 3 have the definitions of the desk's tables (`SchemaNamesImplyDefinitions`).
+// of schema 3 have the definitions of the desk's tables (`NamedTablesMatchSchemaDefinitions`).
 fn first_failing_condition<S: Alter>(
     tx: &mut Transaction<'_, S>,
     alloc: Global,
 ) -> Result<Option<Condition>, Fault>
     ensures same_reference { tx.new.conn.ghost_name ≡ tx.old.conn.ghost_name }
-    ensures step { IsConnectionStep S.Store tx.old tx.new result (λ answer a b. IsTrue a.is_open × (b.now ≡ a.now) × (SchemaNamesImplyDefinitions third_schema a.now → IsAuditBySchema third_schema a.now answer)) }
+    ensures step { IsConnectionStep S.Store tx.old tx.new result (λ answer a b. IsTrue a.is_open × (b.now ≡ a.now) × (NamedTablesMatchSchemaDefinitions third_schema a.now → IsDatabaseAuditResultBySchema third_schema a.now answer)) }
     ensures condition { IfOk result (λ answer. answer ≢ Some NotEmpty) }
     ensures fault { IfErr result IsCallFault }
 {
-    if !has_desk(tx, Schema::Third)? {
+    if !has_desk_of_schema(tx, Schema::Third)? {
         return Ok(Some(Condition::Schema));
     }
     audit_rows_of_schema(tx, alloc, Schema::Third)
@@ -60,7 +60,7 @@ fn first_failing_condition<S: Alter>(
 // Audits the database by the conditions of schema 3 in a transaction, which is rolled back. Fails
 // with `Damaged` and the first condition that fails, or with `Memory` or `Store`.
 #[tactic(auto, using(crate::proofs::Closing::audit_passes, crate::proofs::Closing::audit_fails, crate::proofs::Closing::audit_gives_up))]
-fn audit_desk<S: Alter>(conn: &mut Connection<S>, alloc: Global) -> Result<(), Fault>
+fn audit_database<S: Alter>(conn: &mut Connection<S>, alloc: Global) -> Result<(), Fault>
     requires { conn.old.in_transaction ≡ false }
     ensures mode { conn.new.in_transaction ≡ false }
     ensures audited { AuditPost S.Store conn.old conn.new result }
@@ -82,14 +82,14 @@ impl<S: Alter> Store<S> {
     ///
     /// A crash exposes only states that a crash before the call could expose.
     ///
-    /// The result is specified only if the database satisfies `ThirdNamesImplyDefinitions`: if it
+    /// The result is specified only if the database satisfies `StoreNamedTablesMatchThirdSchema`: if it
     /// has all tables of schema 3, by their names and columns, these have the definitions of the
     /// desk's tables. Every store that holds rows satisfies this premise
-    /// (`stored_rows_imply_definitions`).
+    /// (`stores_with_rows_have_desk_definitions`).
     pub fn audit(&mut self, alloc: Global) -> Result<(), Fault>
         ensures audited { AuditPost S.Store self.old self.new result }
         ensures condition { IfErr result (λ f. f ≢ fault.Damaged NotEmpty) }
     {
-        audit_desk(&mut self.conn, alloc)
+        audit_database(&mut self.conn, alloc)
     }
 }

@@ -26,7 +26,7 @@ impl<S: Alter> Store<S> {
         ensures fault { IfErr result IsCallFault }
     {
         let mut tx = begin_transaction(&mut self.conn);
-        brk_tables_views::brokers_named(&mut tx, alloc, name)
+        brk_tables_views::brokers_with_name(&mut tx, alloc, name)
     }
 
     /// Returns the requests of a broker, sorted by trade, ascending. Changes nothing. Fails with
@@ -50,6 +50,6 @@ impl<S: Alter> Store<S> {
         ensures fault { IfErr result IsCallFault }
     {
         let mut tx = begin_transaction(&mut self.conn);
-        brk_tables_views::accounts_of_broker(&mut tx, alloc, broker)
+        brk_tables_views::account_ids_of_broker(&mut tx, alloc, broker)
     }
 }

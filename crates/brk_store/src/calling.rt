@@ -6,11 +6,11 @@ use brk_tables_walks::Visitor;
 
 /// A visitor that calls a closure with each record.
 #[derive(Drop)]
-pub struct Calls<F> {
+pub struct ClosureVisitor<F> {
     pub call: F,
 }
 
-impl<R, E, F: FnMut(&R) -> Result<(), E>> Visitor<R, E> for Calls<F> {
+impl<R, E, F: FnMut(&R) -> Result<(), E>> Visitor<R, E> for ClosureVisitor<F> {
     ghost use Rattle.std.specs.Fn.{CalledAt};
     ghost use Rattle.std.specs.Prelude.{Ok, Err};
 
@@ -34,21 +34,21 @@ impl<R, E, F: FnMut(&R) -> Result<(), E>> Visitor<R, E> for Calls<F> {
 
 /// A visitor that calls a closure with each lot and its symbol.
 #[derive(Drop)]
-pub struct LotCalls<F> {
+pub struct LotClosureVisitor<F> {
     pub call: F,
 }
 
-impl<E, F: FnMut(&str, &Lot) -> Result<(), E>> Visitor<HoldingRow, E> for LotCalls<F> {
-    ghost use Rattle.brk_store.specs.Calling.{IsCallWithLot};
+impl<E, F: FnMut(&str, &Lot) -> Result<(), E>> Visitor<HoldingRow, E> for LotClosureVisitor<F> {
+    ghost use Rattle.brk_store.specs.Calling.{IsClosureCallWithLot};
     ghost use Rattle.std.specs.Prelude.{Ok, Err};
 
     ghost ready = { λ v. F.IsAlwaysCallable v.call };
 
     ghost leads = { λ _ _. Unit {0} };
 
-    ghost takes = { λ p item q. IsCallWithLot F.FnMut p.call item (Ok tt) q.call };
+    ghost takes = { λ p item q. IsClosureCallWithLot F.FnMut p.call item (Ok tt) q.call };
 
-    ghost stops = { λ p item e q. IsCallWithLot F.FnMut p.call item (Err e) q.call };
+    ghost stops = { λ p item e q. IsClosureCallWithLot F.FnMut p.call item (Err e) q.call };
 
     /// Calls the closure with the symbol and the lot of the row. Fails with the closure's error.
     fn visit(&mut self, item: &HoldingRow) -> Result<(), E> {

@@ -6,7 +6,7 @@ ghost use Rattle.brk_money.specs.declared.fault.Fault.TheVariants as fault;
 ghost use Rattle.brk_model.specs.Limits.{greatest_id};
 ghost use Rattle.brk_model.specs.LookupView.{is_cash_row_of_trade};
 ghost use Rattle.brk_changes.specs.Rows.{abstract_move_row};
-ghost use Rattle.brk_book_theorems.specs.TradeReads.{last_cash_row_number};
+ghost use Rattle.brk_book_theorems.specs.TradeReads.{last_cash_row_number_or_zero};
 ghost use Rattle.brk_store.specs.Holds.{ReadPost};
 ghost use Rattle.brk_tables_schema.specs.Desk.{CashMoves};
 ghost use Rattle.brk_tables_schema.specs.Statements.{IsFirstMatch};
@@ -18,7 +18,7 @@ use brk_money::{Day, Fault, Id, MoveId};
 use sqlite::Alter;
 
 // The greatest number of deposits and withdrawals.
-const ALL_MOVEMENTS: u64 = 1_000_000_000_000;
+const GREATEST_MOVEMENT_COUNT: u64 = 1_000_000_000_000;
 
 #[tactic(auto, using(crate::proofs::Ending::is_read_of))]
 impl<S: Alter> Store<S> {
@@ -49,12 +49,12 @@ impl<S: Alter> Store<S> {
         ensures fault { OnErr result (result ≡ Err fault.Store) }
     {
         let mut tx = begin_transaction(&mut self.conn);
-        brk_tables_cash::last_move(&mut tx)
+        brk_tables_cash::cash_row_with_greatest_number(&mut tx)
     }
 
-    // Returns true if there are at least `ALL_MOVEMENTS` deposits and withdrawals. The time grows
+    // Returns true if there are at least `GREATEST_MOVEMENT_COUNT` deposits and withdrawals. The time grows
     // with the number of cash rows. Changes nothing. Fails with `Store` only.
-    fn movement_count_is_maximum(&mut self) -> Result<bool, Fault>
+    fn has_maximum_movements_by_count(&mut self) -> Result<bool, Fault>
         ensures read { ReadPost S.Store self.old self.new result (λ all t. all ≡ nat_le greatest_id (length (filter (λ r. is_none r.trade) t.moves))) }
         ensures fault { OnErr result (result ≡ Err fault.Store) }
     {
@@ -66,7 +66,7 @@ impl<S: Alter> Store<S> {
     /// no cash row. Changes nothing. Fails with `Store` only, also if the greatest `MoveId` is in
     /// use.
     pub fn next_cash_row_number(&mut self) -> Result<MoveId, Fault>
-        ensures read { ReadPost S.Store self.old self.new result (λ next t. next ≡ last_cash_row_number t + 1) }
+        ensures read { ReadPost S.Store self.old self.new result (λ next t. next ≡ last_cash_row_number_or_zero t + 1) }
         ensures fault { OnErr result (result ≡ Err fault.Store) }
     {
         let number = match self.last_cash_row()? {
@@ -86,11 +86,11 @@ impl<S: Alter> Store<S> {
         ensures fault { OnErr result (result ≡ Err fault.Store) }
     {
         let next = self.next_cash_row_number()?;
-        // If the next number is below `ALL_MOVEMENTS`, there are fewer movements than that, so they
+        // If the next number is below `GREATEST_MOVEMENT_COUNT`, there are fewer movements than that, so they
         // are not counted.
-        if next.get() < ALL_MOVEMENTS {
+        if next.get() < GREATEST_MOVEMENT_COUNT {
             return Ok(false);
         }
-        self.movement_count_is_maximum()
+        self.has_maximum_movements_by_count()
     }
 }

@@ -6,7 +6,7 @@ ghost use Rattle.brk_money.specs.declared.fault.Fault.TheVariants as fault;
 ghost use Rattle.sqlite.specs.Held.{state};
 ghost use Rattle.brk_sql.specs.Desk.{ChangesTablesBy};
 ghost use Rattle.brk_sql.specs.Model.{IsTransactionStep};
-ghost use Rattle.brk_tables_schema.specs.Desk.{desk};
+ghost use Rattle.brk_tables_schema.specs.Desk.{desk_tables};
 ghost use Rattle.brk_changes.specs.Changes.{tables_after_change, tables_after_changes};
 ghost use Rattle.brk_store.specs.Holds.{ApplyPost, CreatePost};
 
@@ -17,7 +17,7 @@ use sqlite::{Alter, Connection, Transaction};
 // Applies one change to its row in the transaction. Fails with `Store` only.
 fn apply_change<S: Alter>(tx: &mut Transaction<'_, S>, change: &Change) -> Result<(), Fault>
     ensures same_reference { tx.new.conn.ghost_name ≡ tx.old.conn.ghost_name }
-    ensures step { IsTransactionStep (state S.Store tx.old.conn.now) (state S.Store tx.new.conn.now) result (λ _ a b. ChangesTablesBy desk (tables_after_change change.now) a.now b.now) }
+    ensures step { IsTransactionStep (state S.Store tx.old.conn.now) (state S.Store tx.new.conn.now) result (λ _ a b. ChangesTablesBy desk_tables (tables_after_change change.now) a.now b.now) }
     ensures fault { OnErr result (result ≡ Err fault.Store) }
 {
     match change {
@@ -36,8 +36,8 @@ fn apply_change<S: Alter>(tx: &mut Transaction<'_, S>, change: &Change) -> Resul
             trade,
             status,
             stamp,
-        } => brk_tables_trading::set_status(tx, *trade, *status, *stamp),
-        Change::AddHistory(mark) => brk_tables_trading::add_trade_history(tx, mark),
+        } => brk_tables_trading::set_trade_status(tx, *trade, *status, *stamp),
+        Change::AddHistory(mark) => brk_tables_trading::add_trade_history_row(tx, mark),
         Change::AddRequest(request) => brk_tables_trading::add_request(tx, request),
         Change::RemoveRequest(trade) => brk_tables_trading::remove_request(tx, *trade),
         Change::SetLastTrade(last_trade) => brk_tables_trading::set_last_trade(tx, last_trade),
@@ -52,21 +52,21 @@ fn apply_change<S: Alter>(tx: &mut Transaction<'_, S>, change: &Change) -> Resul
         Change::SetLot { trade, qty } => brk_tables_trading::set_lot_quantity(tx, *trade, *qty),
         Change::RemoveLot(trade) => brk_tables_trading::remove_lot(tx, *trade),
         Change::AddLotChange(made) => brk_tables_trading::add_lot_change(tx, made),
-        Change::AddSummary(summary) => brk_tables_trading::add_summary(tx, summary),
-        Change::SetSummary(summary) => brk_tables_trading::set_summary(tx, summary),
-        Change::RemoveSummary { account, symbol } => brk_tables_trading::remove_summary(
+        Change::AddSummary(summary) => brk_tables_trading::add_holding_summary(tx, summary),
+        Change::SetSummary(summary) => brk_tables_trading::set_holding_summary_quantity(tx, summary),
+        Change::RemoveSummary { account, symbol } => brk_tables_trading::remove_holding_summary(
             tx, *account, symbol,
         ),
         Change::AddSettlement(settlement) => brk_tables_trading::add_settlement(tx, settlement),
         Change::AddMove(posted) => brk_tables_cash::add_cash_row(tx, posted),
-        Change::SetBalance { account, balance } => brk_tables_trading::set_balance(
+        Change::SetBalance { account, balance } => brk_tables_trading::set_account_balance(
             tx, *account, *balance,
         ),
-        Change::SetBrokerNumbers {
+        Change::SetBrokerTotals {
             broker,
             trades,
             commissions,
-        } => brk_tables_trading::set_broker_numbers(tx, *broker, *trades, *commissions),
+        } => brk_tables_trading::set_broker_totals(tx, *broker, *trades, *commissions),
         Change::SetExecutor { trade, executor } => brk_tables_trading::set_executor(
             tx,
             *trade,
@@ -75,21 +75,21 @@ fn apply_change<S: Alter>(tx: &mut Transaction<'_, S>, change: &Change) -> Resul
         Change::SetCashType { trade, cash_type } => brk_tables_trading::set_cash_type(
             tx, *trade, *cash_type,
         ),
-        Change::SetCashName { trade, name } => brk_tables_cash::set_cash_name(
+        Change::SetCashName { trade, name } => brk_tables_cash::set_cash_row_name(
             tx,
             *trade,
             name.as_str(),
         ),
-        Change::SetRule(day) => brk_tables_cash::set_settlement_day(tx, *day),
-        Change::Keep(kept) => brk_tables_schema::add_kept_row(tx, kept),
-        Change::SetLast(stamp) => brk_tables_schema::set_last_stamp(tx, *stamp),
+        Change::SetSettlementDay(day) => brk_tables_cash::set_settlement_day(tx, *day),
+        Change::AddStoredReply(kept) => brk_tables_schema::add_kept_row(tx, kept),
+        Change::SetLastStamp(stamp) => brk_tables_schema::set_last_stamp(tx, *stamp),
     }
 }
 
 // Applies the changes in order in the transaction. Fails with `Store` only.
 fn apply_each_change<S: Alter>(tx: &mut Transaction<'_, S>, changes: &[Change]) -> Result<(), Fault>
     ensures same_reference { tx.new.conn.ghost_name ≡ tx.old.conn.ghost_name }
-    ensures step { IsTransactionStep (state S.Store tx.old.conn.now) (state S.Store tx.new.conn.now) result (λ _ a b. ChangesTablesBy desk (tables_after_changes changes.now) a.now b.now) }
+    ensures step { IsTransactionStep (state S.Store tx.old.conn.now) (state S.Store tx.new.conn.now) result (λ _ a b. ChangesTablesBy desk_tables (tables_after_changes changes.now) a.now b.now) }
     ensures fault { OnErr result (result ≡ Err fault.Store) }
 {
     for change in changes {
@@ -100,7 +100,7 @@ fn apply_each_change<S: Alter>(tx: &mut Transaction<'_, S>, changes: &[Change]) 
 
 /// Applies the changes in order in one transaction and commits them, or changes nothing in the open
 /// database. Fails with `Store` only.
-pub(crate) fn apply_in_transaction<S: Alter>(
+pub(crate) fn apply_changes_in_transaction<S: Alter>(
     conn: &mut Connection<S>,
     changes: &[Change],
 ) -> Result<(), Fault>
@@ -123,7 +123,7 @@ pub(crate) fn apply_in_transaction<S: Alter>(
 /// Creates the tables in one transaction and commits them, or changes nothing in the open database.
 /// Fails with `Store`; or with `Damaged(NotEmpty)`, which it returns only if one of the tables
 /// exists.
-pub(crate) fn create_in_transaction<S: Alter>(conn: &mut Connection<S>) -> Result<(), Fault>
+pub(crate) fn create_tables_in_transaction<S: Alter>(conn: &mut Connection<S>) -> Result<(), Fault>
     requires { conn.old.in_transaction ≡ false }
     ensures mode { conn.new.in_transaction ≡ false }
     ensures created { CreatePost S.Store conn.old conn.new result }
@@ -134,7 +134,7 @@ pub(crate) fn create_in_transaction<S: Alter>(conn: &mut Connection<S>) -> Resul
     if brk_tables_create::has_some_desk_table(&mut tx)? {
         return Err(Fault::Damaged(Condition::NotEmpty));
     }
-    brk_tables_create::create_tables(&mut tx)?;
+    brk_tables_create::create_third_schema_tables(&mut tx)?;
     match tx.commit() {
         Ok(()) => Ok(()),
         Err(_) => Err(Fault::Store),

@@ -5,15 +5,15 @@ ghost use Rattle.brk_money.specs.declared.fault.Condition.TheVariants.{NotEmpty}
 ghost use Rattle.brk_money.specs.declared.fault.Fault.TheVariants as fault;
 ghost use Rattle.brk_model.specs.Run.{IsCallFault};
 ghost use Rattle.brk_sql.specs.Model.{IsConnectionStep};
-ghost use Rattle.brk_store.specs.Audited.{IsDeskSchema};
+ghost use Rattle.brk_store.specs.Audited.{IsSchemaOfDatabase};
 ghost use Rattle.brk_store.specs.AuditResult.{IsTrueAuditResult};
 ghost use Rattle.brk_store.specs.declared.examining.AuditResult.TheVariants as told;
-ghost use Rattle.brk_tables_scan.specs.Schemas.{DeskNamesImplyDefinitions};
+ghost use Rattle.brk_tables_scan.specs.Schemas.{NamedTablesMatchDeskDefinitions};
 
 use crate::auditing::audit_rows_of_schema;
 use brk_changes::Schema;
 use brk_money::{Condition, Fault};
-use brk_tables_scan::has_desk;
+use brk_tables_scan::has_desk_of_schema;
 use sqlite::{Alter, Transaction};
 use std::alloc::Global;
 
@@ -28,19 +28,19 @@ pub enum AuditResult {
 
 // Returns the schema whose desk the database has, or `None` if it has a desk of no schema. Fails
 // with `Store` only. The result is specified only if the database satisfies
-// `DeskNamesImplyDefinitions`.
-fn schema_of_desk<S: Alter>(tx: &mut Transaction<'_, S>) -> Result<Option<Schema>, Fault>
+// `NamedTablesMatchDeskDefinitions`.
+fn schema_of_database<S: Alter>(tx: &mut Transaction<'_, S>) -> Result<Option<Schema>, Fault>
     ensures same_reference { tx.new.conn.ghost_name ≡ tx.old.conn.ghost_name }
-    ensures step { IsConnectionStep S.Store tx.old tx.new result (λ found a b. IsTrue a.is_open × (b.now ≡ a.now) × (DeskNamesImplyDefinitions a.now → IsDeskSchema found a.now)) }
+    ensures step { IsConnectionStep S.Store tx.old tx.new result (λ found a b. IsTrue a.is_open × (b.now ≡ a.now) × (NamedTablesMatchDeskDefinitions a.now → IsSchemaOfDatabase found a.now)) }
     ensures fault { OnErr result (result ≡ Err fault.Store) }
 {
-    if has_desk(tx, Schema::Third)? {
+    if has_desk_of_schema(tx, Schema::Third)? {
         return Ok(Some(Schema::Third));
     }
-    if has_desk(tx, Schema::Second)? {
+    if has_desk_of_schema(tx, Schema::Second)? {
         return Ok(Some(Schema::Second));
     }
-    if has_desk(tx, Schema::First)? {
+    if has_desk_of_schema(tx, Schema::First)? {
         return Ok(Some(Schema::First));
     }
     Ok(None)
@@ -49,17 +49,17 @@ fn schema_of_desk<S: Alter>(tx: &mut Transaction<'_, S>) -> Result<Option<Schema
 /// Audits the database by the conditions of the schema whose desk it has, and returns the result:
 /// `Fails` with the condition `Schema` if it has a desk of no schema. Fails with `Memory` or
 /// `Store` only. The result is specified only if the database satisfies
-/// `DeskNamesImplyDefinitions`.
+/// `NamedTablesMatchDeskDefinitions`.
 pub(crate) fn audit_by_own_schema<S: Alter>(
     tx: &mut Transaction<'_, S>,
     alloc: Global,
 ) -> Result<AuditResult, Fault>
     ensures same_reference { tx.new.conn.ghost_name ≡ tx.old.conn.ghost_name }
-    ensures step { IsConnectionStep S.Store tx.old tx.new result (λ examined a b. IsTrue a.is_open × (b.now ≡ a.now) × (DeskNamesImplyDefinitions a.now → IsTrueAuditResult examined a.now)) }
+    ensures step { IsConnectionStep S.Store tx.old tx.new result (λ examined a b. IsTrue a.is_open × (b.now ≡ a.now) × (NamedTablesMatchDeskDefinitions a.now → IsTrueAuditResult examined a.now)) }
     ensures condition { IfOk result (λ examined. examined ≢ told.Fails NotEmpty) }
     ensures fault { IfErr result IsCallFault }
 {
-    let Some(schema) = schema_of_desk(tx)? else {
+    let Some(schema) = schema_of_database(tx)? else {
         return Ok(AuditResult::Fails(Condition::Schema));
     };
     match audit_rows_of_schema(tx, alloc, schema)? {

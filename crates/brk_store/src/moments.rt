@@ -22,7 +22,7 @@ use std::alloc::Global;
 impl<S: Alter> Store<S> {
     /// Returns the first twenty trades of an account whose stamps are in a span, both ends
     /// included, the oldest first. Changes nothing. Fails with `Memory` or `Store`.
-    pub fn twenty_trades_of_account(
+    pub fn first_twenty_trades_of_account(
         &mut self,
         alloc: Global,
         account: Id,
@@ -32,12 +32,12 @@ impl<S: Alter> Store<S> {
         ensures fault { IfErr result IsCallFault }
     {
         let mut tx = begin_transaction(&mut self.conn);
-        brk_tables_views::twenty_trades_of_account(&mut tx, alloc, account, span.first, span.last)
+        brk_tables_views::first_twenty_trades_of_account(&mut tx, alloc, account, span.first, span.last)
     }
 
     /// Returns the first twenty trades of a symbol whose stamps are in a span, both ends included,
     /// the oldest first. Changes nothing. Fails with `Memory` or `Store`.
-    pub fn twenty_trades_of_symbol(
+    pub fn first_twenty_trades_of_symbol(
         &mut self,
         alloc: Global,
         symbol: &Symbol,
@@ -47,7 +47,7 @@ impl<S: Alter> Store<S> {
         ensures fault { IfErr result IsCallFault }
     {
         let mut tx = begin_transaction(&mut self.conn);
-        brk_tables_views::twenty_trades_of_symbol(&mut tx, alloc, symbol, span.first, span.last)
+        brk_tables_views::first_twenty_trades_of_symbol(&mut tx, alloc, symbol, span.first, span.last)
     }
 
     /// Returns the first trade of an account, sorted by stamp and then by id, whose stamp is
@@ -61,6 +61,6 @@ impl<S: Alter> Store<S> {
         ensures fault { OnErr result (result ≡ Err fault.Store) }
     {
         let mut tx = begin_transaction(&mut self.conn);
-        brk_tables_views::first_trade_since(&mut tx, account, first)
+        brk_tables_views::first_trade_of_account_from_stamp(&mut tx, account, first)
     }
 }

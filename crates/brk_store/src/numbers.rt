@@ -6,13 +6,13 @@ ghost use Rattle.brk_store.specs.Holds.{ReadPost};
 ghost use Rattle.brk_store.specs.Numbers.{AreBrokerTotals};
 
 use crate::Store;
-use brk_changes::{Amount, BrokerNumbers, TradeCount};
+use brk_changes::{Amount, BrokerTotals, TradeCount};
 use brk_money::{Cents, Fault, Id};
 use brk_ref::BrokerRow;
 use sqlite::Alter;
 
 // Returns the totals in a broker's row, or `None` if one of them is out of range.
-fn totals_in_broker_row(row: &BrokerRow) -> Option<BrokerNumbers>
+fn totals_in_broker_row(row: &BrokerRow) -> Option<BrokerTotals>
     ensures { IfSome result (λ numbers. (pos numbers.trades ≡ row.now.trades) × (numbers.commissions ≡ row.now.commissions)) }
 {
     if row.trades < 0 {
@@ -24,7 +24,7 @@ fn totals_in_broker_row(row: &BrokerRow) -> Option<BrokerNumbers>
     let Some(commissions) = Amount::new(row.commissions) else {
         return None;
     };
-    Some(BrokerNumbers {
+    Some(BrokerTotals {
         trades,
         commissions,
     })
@@ -34,7 +34,7 @@ fn totals_in_broker_row(row: &BrokerRow) -> Option<BrokerNumbers>
 impl<S: Alter> Store<S> {
     /// Returns the totals of a broker, or `None` if the broker does not exist. Changes nothing.
     /// Fails with `Store` only, also if a total is out of range.
-    pub fn broker_numbers(&mut self, broker: Id) -> Result<Option<BrokerNumbers>, Fault>
+    pub fn broker_totals(&mut self, broker: Id) -> Result<Option<BrokerTotals>, Fault>
         ensures read { ReadPost S.Store self.old self.new result (λ numbers t. AreBrokerTotals numbers (find (λ r. r.id == broker) t.brokers)) }
         ensures fault { OnErr result (result ≡ Err fault.Store) }
     {
@@ -49,7 +49,7 @@ impl<S: Alter> Store<S> {
 
     /// Returns the balance of an account in cents (CA_BAL), or `None` if the account does not
     /// exist. Changes nothing. Fails with `Store` only.
-    pub fn balance_of(&mut self, account: Id) -> Result<Option<Cents>, Fault>
+    pub fn account_balance(&mut self, account: Id) -> Result<Option<Cents>, Fault>
         ensures read { ReadPost S.Store self.old self.new result (λ balance t. balance ≡ option_map (λ r. r.balance) (find (λ r. r.id == account) t.accounts)) }
         ensures fault { OnErr result (result ≡ Err fault.Store) }
     {

@@ -4,10 +4,10 @@ ghost use Rattle.std.specs.Prelude.{◌≡◌, ◌≢◌, ◌≤◌, ◌+◌, If
 ghost use Rattle.std.specs.List.{All};
 ghost use Rattle.brk_model.specs.Run.{IsCallFault};
 ghost use Rattle.brk_changes.specs.Rows.{abstract_holding_row};
-ghost use Rattle.brk_tables_trading.specs.Pages.{page_after, page_size};
+ghost use Rattle.brk_tables_trading.specs.Pages.{page_after_skipped, page_size};
 ghost use Rattle.brk_book_theorems.specs.OrderReads.{lot_of_typed_row};
 ghost use Rattle.brk_store.specs.Holds.{ReadPost};
-ghost use Rattle.brk_store.specs.Pages.{lot_rows_from_end};
+ghost use Rattle.brk_store.specs.Pages.{lot_rows_in_closing_order};
 
 use crate::Store;
 use brk_changes::HoldingRow;
@@ -25,7 +25,7 @@ const PAGE_SIZE: usize = 16;
 #[derive(Drop)]
 pub struct Page {
     rows: Vec<HoldingRow>,
-    given: usize,
+    returned: usize,
     ghost few: { length rows.items ≤ given + 15 },
     ghost some_shares: { All (λ r. r.qty ≢ pos 0) rows.items },
 }
@@ -79,13 +79,13 @@ fn read_page<S: Alter>(
     lifo: bool,
     skipped: u32,
 ) -> Result<Vec<HoldingRow>, Fault>
-    ensures read { ReadPost S.Store store.old store.new result (λ all t. map abstract_holding_row all.items ≡ page_after skipped (lot_rows_from_end lifo account symbol.now t)) }
+    ensures read { ReadPost S.Store store.old store.new result (λ all t. map abstract_holding_row all.items ≡ page_after_skipped skipped (lot_rows_in_closing_order lifo account symbol.now t)) }
     ensures fault { IfErr result IsCallFault }
 {
     if lifo {
-        store.newest_lots(alloc, account, symbol, skipped)
+        store.page_of_newest_lots(alloc, account, symbol, skipped)
     } else {
-        store.oldest_lots(alloc, account, symbol, skipped)
+        store.page_of_oldest_lots(alloc, account, symbol, skipped)
     }
 }
 
@@ -107,7 +107,7 @@ fn read_valid_page<S: Alter>(
     lifo: bool,
     skipped: u32,
 ) -> Result<Vec<HoldingRow>, Fault>
-    ensures read { ReadPost S.Store store.old store.new result (λ all t. map abstract_holding_row all.items ≡ page_after skipped (lot_rows_from_end lifo account symbol.now t)) }
+    ensures read { ReadPost S.Store store.old store.new result (λ all t. map abstract_holding_row all.items ≡ page_after_skipped skipped (lot_rows_in_closing_order lifo account symbol.now t)) }
     ensures few { IfOk result (λ all. length all.items ≤ page_size) }
     ensures some_shares { IfOk result (λ all. All (λ r. r.qty ≢ pos 0) all.items) }
     ensures fault { IfErr result IsCallFault }
@@ -137,8 +137,8 @@ impl<S: Alter> Store<S> {
     ghost use Rattle.brk_lots.specs.Lots.{list_in_closing_order};
     ghost use Rattle.brk_model.specs.Tables.{Tables};
     ghost use Rattle.brk_store.specs.Holds.{HoldsRows};
-    ghost use Rattle.brk_store.specs.Resting.{borrowed_store, number_of_rows_read};
-    ghost use Rattle.brk_book_theorems.specs.TradeReads.{position_lots};
+    ghost use Rattle.brk_store.specs.RemainingLots.{borrowed_store, number_of_rows_read};
+    ghost use Rattle.brk_book_theorems.specs.TradeReads.{lots_of_position};
 
     /// Returns a source of the lots of an account in a security, the newest first if `lifo`,
     /// otherwise the oldest first. It has read no row yet.
@@ -156,13 +156,13 @@ impl<S: Alter> Store<S> {
     ) -> LotPages<'a, S>
         ensures same_reference { (borrowed_store result).ghost_name ≡ self.entry.ghost_name }
         ensures same { (borrowed_store result).now ≡ self.old }
-        ensures remaining { (t : Tables) → HoldsRows S.Store self.old t → ⟦<Pages<'static, S, Page> as LotSource>⟧.remaining result (list_in_closing_order lifo (position_lots t account symbol.now)) }
+        ensures remaining { (t : Tables) → HoldsRows S.Store self.old t → ⟦<Pages<'static, S, Page> as LotSource>⟧.remaining result (list_in_closing_order lifo (lots_of_position t account symbol.now)) }
         ensures asked { ⟦<Pages<'static, S, Page> as LotSource>⟧.asked result ≡ 0 }
         ensures unread { number_of_rows_read result ≡ 0 }
     {
         let page = Page {
             rows: Vec::new(alloc),
-            given: 0,
+            returned: 0,
         };
         Pages {
             store: self,
@@ -187,10 +187,10 @@ impl<S: Alter> Pages<'_, S, Page> {
     ghost use Rattle.brk_model.specs.Run.{IsCallFault};
     ghost use Rattle.brk_model.specs.Tables.{Tables};
     ghost use Rattle.brk_store.specs.Holds.{HoldsRows};
-    ghost use Rattle.brk_store.specs.Kept.{IsUnchangedByReads};
-    ghost use Rattle.brk_store.specs.Pages.{lot_rows_from_end};
-    ghost use Rattle.brk_store.specs.Resting.{AreRemainingLots, number_of_rows_read};
-    ghost use Rattle.brk_tables_trading.specs.Pages.{page_after, page_size};
+    ghost use Rattle.brk_store.specs.ReadSequences.{IsUnchangedByReads};
+    ghost use Rattle.brk_store.specs.Pages.{lot_rows_in_closing_order};
+    ghost use Rattle.brk_store.specs.RemainingLots.{AreRemainingLots, number_of_rows_read};
+    ghost use Rattle.brk_tables_trading.specs.Pages.{page_after_skipped, page_size};
 
     /// Returns the number of rows that were read: at least the number of lots that were returned,
     /// and at most 15 more.
@@ -209,10 +209,10 @@ impl<S: Alter> Pages<'_, S, Page> {
         ensures same_reference { self.new.store.ghost_name ≡ self.old.store.ghost_name }
         ensures same { self.new ≡ record self.old { store = self.new.store; read = self.new.read } }
         ensures store { IsUnchangedByReads S.Store self.old.store.now self.new.store.now }
-        ensures told { HasCleanDisk (state S.Store self.new.store.now) → IfOk result (λ page. (t : Tables) → HoldsRows S.Store self.old.store.now t →
-            map abstract_holding_row page.items ≡ page_after self.old.read (lot_rows_from_end self.old.lifo self.old.account self.old.symbol.now t)) }
+        ensures rows { HasCleanDisk (state S.Store self.new.store.now) → IfOk result (λ page. (t : Tables) → HoldsRows S.Store self.old.store.now t →
+            map abstract_holding_row page.items ≡ page_after_skipped self.old.read (lot_rows_in_closing_order self.old.lifo self.old.account self.old.symbol.now t)) }
         ensures counted { IfOk result (λ page. self.new.read ≡ self.old.read + length page.items) }
-        ensures unread { OnErr result (self.new.read ≡ self.old.read) }
+        ensures count_at_error { OnErr result (self.new.read ≡ self.old.read) }
         ensures few { IfOk result (λ page. length page.items ≤ page_size) }
         ensures some_shares { IfOk result (λ page. All (λ r. r.qty ≢ pos 0) page.items) }
         ensures fault { IfErr result IsCallFault }
@@ -234,15 +234,15 @@ impl<S: Alter> Pages<'_, S, Page> {
 
     // Reads the next page and returns its first lot, or `None` if no lot remains. Fails with
     // `Memory` or `Store` only; the remaining lots are then unchanged.
-    fn turn_to_next_page(&mut self) -> Result<Option<Lot>, Fault>
-        requires { length self.old.page.rows.items ≤ self.old.page.given }
+    fn read_first_lot_of_next_page(&mut self) -> Result<Option<Lot>, Fault>
+        requires { length self.old.page.rows.items ≤ self.old.page.returned }
         ensures same_reference { self.new.store.ghost_name ≡ self.old.store.ghost_name }
         ensures store { IsUnchangedByReads S.Store self.old.store.now self.new.store.now }
-        ensures given { IfOk result (λ given. HasCleanDisk (state S.Store self.new.store.now) → (ls : List TheLot) → AreRemainingLots S.Store self.old ls →
+        ensures first_lot { IfOk result (λ given. HasCleanDisk (state S.Store self.new.store.now) → (ls : List TheLot) → AreRemainingLots S.Store self.old ls →
             MatchOption given ((ls ≡ []) × AreRemainingLots S.Store self.new []) (λ lot. (more : List TheLot) × (ls ≡ lot ∷ more) × AreRemainingLots S.Store self.new more)) }
         ensures some_shares { IfOk result (λ given. IfSome given (λ lot. lot.qty ≢ pos 0)) }
-        ensures kept { IfErr result (λ _. (ls : List TheLot) → AreRemainingLots S.Store self.old ls → AreRemainingLots S.Store self.new ls) }
-        ensures asked { self.new.read - (length self.new.page.rows.items - self.new.page.given) ≤ self.old.read + 1 }
+        ensures remaining_at_error { IfErr result (λ _. (ls : List TheLot) → AreRemainingLots S.Store self.old ls → AreRemainingLots S.Store self.new ls) }
+        ensures asked { self.new.read - (length self.new.page.rows.items - self.new.page.returned) ≤ self.old.read + 1 }
         ensures fault { IfErr result IsCallFault }
     {
         if self.ended {
@@ -256,7 +256,7 @@ impl<S: Alter> Pages<'_, S, Page> {
         self.ended = page.len() < PAGE_SIZE;
         self.page = Page {
             rows: page,
-            given: 1,
+            returned: 1,
         };
         Ok(first)
     }
@@ -268,8 +268,8 @@ impl<S: Alter> LotSource for Pages<'_, S, Page> {
     ghost use Rattle.sqlite.specs.Held.{state};
     ghost use Rattle.sqlite.specs.State.{HasCleanDisk};
     ghost use Rattle.brk_model.specs.Run.{IsCallFault};
-    ghost use Rattle.brk_store.specs.Kept.{IsUnchangedByReads, clean_at, kept_none, kept_then};
-    ghost use Rattle.brk_store.specs.Resting.{AreRemainingLots};
+    ghost use Rattle.brk_store.specs.ReadSequences.{IsUnchangedByReads, disk_was_clean_before_reads, no_reads_change_nothing, joined_reads_change_nothing};
+    ghost use Rattle.brk_store.specs.RemainingLots.{AreRemainingLots};
 
     ghost remaining = { λ p ls. AreRemainingLots S.Store p ls };
 
@@ -277,7 +277,7 @@ impl<S: Alter> LotSource for Pages<'_, S, Page> {
 
     ghost leads = { λ p q. (q.store.ghost_name ≡ p.store.ghost_name) × IsUnchangedByReads S.Store p.store.now q.store.now };
 
-    ghost asked = { λ p. p.read - (length p.page.rows.items - p.page.given) };
+    ghost asked = { λ p. p.read - (length p.page.rows.items - p.page.returned) };
 
     ghost faulted = { λ _. 0 };
 
@@ -287,19 +287,19 @@ impl<S: Alter> LotSource for Pages<'_, S, Page> {
     /// one were returned. Fails with `Memory` or `Store` only; the remaining lots are then
     /// unchanged.
     fn next(&mut self) -> Result<Option<Lot>, Fault> {
-        match self.page.rows.get(self.page.given) {
+        match self.page.rows.get(self.page.returned) {
             Some(row) => {
                 let lot = lot_of_holding_row(row);
-                self.page.given += 1;
+                self.page.returned += 1;
                 Ok(Some(lot))
             }
-            None => self.turn_to_next_page(),
+            None => self.read_first_lot_of_next_page(),
         }
     }
 
-    ghost reflexive = { λ p. (refl, kept_none p.store.now) };
+    ghost reflexive = { λ p. (refl, no_reads_change_nothing p.store.now) };
 
-    ghost transitive = { λ p q r a b. (b.0 ∙ a.0, kept_then p.store.now q.store.now r.store.now a.1 b.1) };
+    ghost transitive = { λ p q r a b. (b.0 ∙ a.0, joined_reads_change_nothing p.store.now q.store.now r.store.now a.1 b.1) };
 
-    ghost told_before = { λ p q m. clean_at p.store.now q.store.now m.1 };
+    ghost faithful_before = { λ p q m. disk_was_clean_before_reads p.store.now q.store.now m.1 };
 }

@@ -7,18 +7,18 @@ ghost use Rattle.sqlite_trees.specs.Tree.{Trees};
 ghost use Rattle.sqlite_trees.specs.declared.memory.MemStore.{MemStore};
 ghost use Rattle.std.specs.Prelude.{◌≡◌, IsTrue};
 ghost use Rattle.brk_model.specs.Tables.{Tables};
-ghost use Rattle.brk_store.specs.Holds.{AreTreesOfRows, HoldsRows, IsOpenedOverTrees, CrashStatesSatisfy};
+ghost use Rattle.brk_store.specs.Holds.{IsDiskContentOfRows, HoldsRows, IsConnectionToDiskContent, CrashStatesSatisfy};
 
 use sqlite::Alter;
 
 /// Proves that a connection to a database whose disk contents (`trees`) have the rows `t` holds
 /// these rows.
-pub fn reopening_finds_the_rows<S: Alter>()
-    ensures { (t : Tables) (trees : Trees) (conn : Held S) → AreTreesOfRows t trees → IsOpenedOverTrees S.Store trees conn → HoldsRows S.Store conn t }
+pub fn connection_holds_rows_of_disk_content<S: Alter>()
+    ensures { (t : Tables) (trees : Trees) (conn : Held S) → IsDiskContentOfRows t trees → IsConnectionToDiskContent S.Store trees conn → HoldsRows S.Store conn t }
 {}
 
 /// Proves that a crash of an open store exposes only the disk contents of its last commit.
-pub fn an_open_store_leaves_its_last_commit<S: Alter>()
+pub fn crash_of_open_store_exposes_last_commit<S: Alter>()
     ensures { (store : Held S) → IsTrue (state S.Store store).is_open → CrashStatesSatisfy S.Store store (λ trees. trees ≡ (state S.Store store).committed.trees) }
 {}
 

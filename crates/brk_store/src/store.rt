@@ -1,4 +1,4 @@
-use crate::changing::{apply_in_transaction, create_in_transaction};
+use crate::changing::{apply_changes_in_transaction, create_tables_in_transaction};
 use brk_changes::Change;
 use brk_money::Fault;
 use sqlite::{Alter, Connection};
@@ -53,13 +53,13 @@ impl<S: Alter> Store<S> {
     pub fn create(mut conn: Connection<S>) -> Result<Store<S>, (Connection<S>, Fault)>
         ensures created { MatchResult result (λ store. CreatePost S.Store conn store (Ok tt)) (λ e. CreatePost S.Store conn e.0 (Err e.1)) }
         ensures fault { IfErr result (λ e. (e.1 ≡ fault.Store) ⊎ (e.1 ≡ fault.Damaged NotEmpty)) }
-        ensures ended { IfErr result (λ e. conn.in_transaction ≡ false → e.0.in_transaction ≡ false) }
+        ensures no_transaction_open { IfErr result (λ e. conn.in_transaction ≡ false → e.0.in_transaction ≡ false) }
         ensures refused { conn.in_transaction ≡ true → result ≡ Err (conn, fault.Store) }
     {
         if !conn.is_autocommit() {
             return Err((conn, Fault::Store));
         }
-        match create_in_transaction(&mut conn) {
+        match create_tables_in_transaction(&mut conn) {
             Ok(()) => Ok(Store { conn }),
             Err(fault) => Err((conn, fault)),
         }
@@ -73,11 +73,11 @@ impl<S: Alter> Store<S> {
     ///
     /// A crash exposes a state that a crash before the call could expose, or the changed rows;
     /// after `Ok` only the latter. After an error, too, a crash may expose the changed rows.
-    pub fn apply(&mut self, changes: &[Change]) -> Result<(), Fault>
+    pub fn apply_changes(&mut self, changes: &[Change]) -> Result<(), Fault>
         ensures applied { ApplyPost S.Store self.old self.new result (tables_after_changes changes.now) }
         ensures fault { OnErr result (result ≡ Err fault.Store) }
     {
-        apply_in_transaction(&mut self.conn, changes)
+        apply_changes_in_transaction(&mut self.conn, changes)
     }
 
     /// Returns the connection of the store, on which no transaction is open.

@@ -28,7 +28,7 @@ impl<S: Alter> Store<S> {
         ensures fault { OnErr result (result ≡ Err fault.Store) }
     {
         let mut tx = begin_transaction(&mut self.conn);
-        brk_tables_reference::permission_by_key(&mut tx, account, tax_id)
+        brk_tables_reference::permission_by_account_and_tax_id(&mut tx, account, tax_id)
     }
 
     /// Returns the security with the symbol `symbol`, or `None` if there is none. Changes nothing.
@@ -48,12 +48,12 @@ impl<S: Alter> Store<S> {
         ensures fault { OnErr result (result ≡ Err fault.Store) }
     {
         let mut tx = begin_transaction(&mut self.conn);
-        brk_tables_reference::charge_by_key(&mut tx, kind, tier)
+        brk_tables_reference::charge_by_type_and_tier(&mut tx, kind, tier)
     }
 
     /// Returns the commission bands of a tier, a trade type and an exchange, sorted by lower bound,
     /// ascending. Changes nothing. Fails with `Memory` or `Store`.
-    pub fn bands_for(
+    pub fn commission_bands(
         &mut self,
         alloc: Global,
         tier: Tier,
@@ -64,12 +64,12 @@ impl<S: Alter> Store<S> {
         ensures fault { IfErr result IsCallFault }
     {
         let mut tx = begin_transaction(&mut self.conn);
-        brk_tables_reference::bands_for(&mut tx, alloc, tier, kind, exchange)
+        brk_tables_reference::bands_by_tier_type_and_exchange(&mut tx, alloc, tier, kind, exchange)
     }
 
     /// Returns the tax with the id `id`, or `None` if there is none. Changes nothing. Fails with
     /// `Store` only.
-    pub fn tax_rate(&mut self, id: Id) -> Result<Option<Tax>, Fault>
+    pub fn tax_with_id(&mut self, id: Id) -> Result<Option<Tax>, Fault>
         ensures read { ReadPost S.Store self.old self.new result (IsFirstMatch TaxRates abstract_tax_rate (λ r. r.id == id)) }
         ensures fault { OnErr result (result ≡ Err fault.Store) }
     {
@@ -84,12 +84,12 @@ impl<S: Alter> Store<S> {
         ensures fault { OnErr result (result ≡ Err fault.Store) }
     {
         let mut tx = begin_transaction(&mut self.conn);
-        brk_tables_reference::customer_tax_by_key(&mut tx, customer, tax)
+        brk_tables_reference::customer_tax_by_customer_and_tax(&mut tx, customer, tax)
     }
 
     /// Returns the taxes that a customer pays, sorted by the id of the tax, ascending. Changes
     /// nothing. Fails with `Memory` or `Store`.
-    pub fn customer_taxes_of(
+    pub fn taxes_of_customer(
         &mut self,
         alloc: Global,
         customer: Id,
@@ -98,6 +98,6 @@ impl<S: Alter> Store<S> {
         ensures fault { IfErr result IsCallFault }
     {
         let mut tx = begin_transaction(&mut self.conn);
-        brk_tables_reference::customer_taxes_of(&mut tx, alloc, customer)
+        brk_tables_reference::taxes_of_customer(&mut tx, alloc, customer)
     }
 }

@@ -11,7 +11,7 @@ ghost use Rattle.brk_changes.specs.Rows.{abstract_holding_row, abstract_request_
 ghost use Rattle.brk_store.specs.Holds.{ReadPost};
 ghost use Rattle.brk_tables_schema.specs.Desk.{LastTrades, Requests, Summaries, Trades};
 ghost use Rattle.brk_tables_schema.specs.Statements.{IsFirstMatch, AreMatchingRows};
-ghost use Rattle.brk_tables_trading.specs.Pages.{position_lots_by_age, page_after};
+ghost use Rattle.brk_tables_trading.specs.Pages.{position_lots_by_age, page_after_skipped};
 
 use crate::Store;
 use crate::beginning::begin_transaction;
@@ -40,7 +40,7 @@ impl<S: Alter> Store<S> {
         ensures fault { OnErr result (result ≡ Err fault.Store) }
     {
         let mut tx = begin_transaction(&mut self.conn);
-        brk_tables_trading::last_trade_id(&mut tx)
+        brk_tables_trading::greatest_trade_id(&mut tx)
     }
 
     /// Returns the submitted trades, sorted by id, ascending. Changes nothing. Fails with `Memory`
@@ -66,7 +66,7 @@ impl<S: Alter> Store<S> {
         ensures fault { IfErr result IsCallFault }
     {
         let mut tx = begin_transaction(&mut self.conn);
-        brk_tables_trading::requests_at_or_above(&mut tx, alloc, symbol, kind, price)
+        brk_tables_trading::requests_with_bid_at_least(&mut tx, alloc, symbol, kind, price)
     }
 
     /// Returns the requests of a symbol and a trade type with a bid of at most `price`, sorted by
@@ -82,7 +82,7 @@ impl<S: Alter> Store<S> {
         ensures fault { IfErr result IsCallFault }
     {
         let mut tx = begin_transaction(&mut self.conn);
-        brk_tables_trading::requests_at_or_below(&mut tx, alloc, symbol, kind, price)
+        brk_tables_trading::requests_with_bid_at_most(&mut tx, alloc, symbol, kind, price)
     }
 
     /// Returns the row of LAST_TRADE of a symbol, with its last price on the market, or `None` if
@@ -98,54 +98,54 @@ impl<S: Alter> Store<S> {
     // Returns a page of the lots of an account in a security: at most 16, after the first
     // `skipped`, sorted by opening stamp and then by trade, the oldest first. Changes nothing.
     // Fails with `Memory` or `Store`.
-    pub(crate) fn oldest_lots(
+    pub(crate) fn page_of_oldest_lots(
         &mut self,
         alloc: Global,
         account: Id,
         symbol: &Symbol,
         skipped: u32,
     ) -> Result<Vec<HoldingRow>, Fault>
-        ensures read { ReadPost S.Store self.old self.new result (λ all t. map abstract_holding_row all.items ≡ page_after skipped (position_lots_by_age account symbol.now t)) }
+        ensures read { ReadPost S.Store self.old self.new result (λ all t. map abstract_holding_row all.items ≡ page_after_skipped skipped (position_lots_by_age account symbol.now t)) }
         ensures fault { IfErr result IsCallFault }
     {
         let mut tx = begin_transaction(&mut self.conn);
-        brk_tables_trading::oldest_lots(&mut tx, alloc, account, symbol, skipped)
+        brk_tables_trading::page_of_lots_oldest_first(&mut tx, alloc, account, symbol, skipped)
     }
 
     // Returns a page of the lots of an account in a security: at most 16, after the first
     // `skipped`, sorted by opening stamp and then by trade, the newest first. Changes nothing.
     // Fails with `Memory` or `Store`.
-    pub(crate) fn newest_lots(
+    pub(crate) fn page_of_newest_lots(
         &mut self,
         alloc: Global,
         account: Id,
         symbol: &Symbol,
         skipped: u32,
     ) -> Result<Vec<HoldingRow>, Fault>
-        ensures read { ReadPost S.Store self.old self.new result (λ all t. map abstract_holding_row all.items ≡ page_after skipped (reverse (position_lots_by_age account symbol.now t))) }
+        ensures read { ReadPost S.Store self.old self.new result (λ all t. map abstract_holding_row all.items ≡ page_after_skipped skipped (reverse (position_lots_by_age account symbol.now t))) }
         ensures fault { IfErr result IsCallFault }
     {
         let mut tx = begin_transaction(&mut self.conn);
-        brk_tables_trading::newest_lots(&mut tx, alloc, account, symbol, skipped)
+        brk_tables_trading::page_of_lots_newest_first(&mut tx, alloc, account, symbol, skipped)
     }
 
     /// Returns the summaries of an account, sorted by symbol, ascending. Changes nothing. Fails
     /// with `Memory` or `Store`.
-    pub fn summaries_of(&mut self, alloc: Global, account: Id) -> Result<Vec<SummaryRow>, Fault>
+    pub fn summaries_of_account(&mut self, alloc: Global, account: Id) -> Result<Vec<SummaryRow>, Fault>
         ensures read { ReadPost S.Store self.old self.new result (AreMatchingRows Summaries abstract_summary_row (λ r. r.account == account)) }
         ensures fault { IfErr result IsCallFault }
     {
         let mut tx = begin_transaction(&mut self.conn);
-        brk_tables_trading::summaries_of(&mut tx, alloc, account)
+        brk_tables_trading::holding_summaries_of_account(&mut tx, alloc, account)
     }
 
     /// Returns the summary of an account in a security, or `None` if there is none. Changes
     /// nothing. Fails with `Store` only.
-    pub fn summary_of(&mut self, account: Id, symbol: &Symbol) -> Result<Option<SummaryRow>, Fault>
+    pub fn summary_of_position(&mut self, account: Id, symbol: &Symbol) -> Result<Option<SummaryRow>, Fault>
         ensures read { ReadPost S.Store self.old self.new result (IsFirstMatch Summaries abstract_summary_row (λ r. (r.account == account) && bytes_eq r.symbol symbol.now)) }
         ensures fault { OnErr result (result ≡ Err fault.Store) }
     {
         let mut tx = begin_transaction(&mut self.conn);
-        brk_tables_trading::summary_of(&mut tx, account, symbol)
+        brk_tables_trading::holding_summary_by_account_and_symbol(&mut tx, account, symbol)
     }
 }

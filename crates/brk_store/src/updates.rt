@@ -22,32 +22,32 @@ use std::alloc::Global;
 impl<S: Alter> Store<S> {
     /// Returns the first twenty trades of an account that were completed in a span, both ends
     /// included, the oldest first. Changes nothing. Fails with `Memory` or `Store`.
-    pub fn completed_of_account(
+    pub fn completed_trades_in_span(
         &mut self,
         alloc: Global,
         account: Id,
         span: Span,
     ) -> Result<Vec<TradeRow>, Fault>
-        ensures read { ReadPost S.Store self.old self.new result (λ all t. map abstract_trade_row all.items ≡ chosen.completed_trades_of_account account span.first span.last t) }
+        ensures read { ReadPost S.Store self.old self.new result (λ all t. map abstract_trade_row all.items ≡ chosen.first_twenty_completed_trade_rows_of_account account span.first span.last t) }
         ensures fault { IfErr result IsCallFault }
     {
         let mut tx = begin_transaction(&mut self.conn);
-        brk_tables_trading::completed_of_account(&mut tx, alloc, account, span.first, span.last)
+        brk_tables_trading::first_twenty_completed_trades_of_account(&mut tx, alloc, account, span.first, span.last)
     }
 
     /// Returns the first twenty cash trades of a symbol that were completed in a span, both ends
     /// included, the oldest first. Changes nothing. Fails with `Memory` or `Store`.
-    pub fn completed_cash_of_symbol(
+    pub fn completed_cash_trades_in_span(
         &mut self,
         alloc: Global,
         symbol: &Symbol,
         span: Span,
     ) -> Result<Vec<TradeRow>, Fault>
-        ensures read { ReadPost S.Store self.old self.new result (λ all t. map abstract_trade_row all.items ≡ chosen.completed_cash_trades_of_symbol symbol.now span.first span.last t) }
+        ensures read { ReadPost S.Store self.old self.new result (λ all t. map abstract_trade_row all.items ≡ chosen.first_twenty_completed_cash_trade_rows_of_symbol symbol.now span.first span.last t) }
         ensures fault { IfErr result IsCallFault }
     {
         let mut tx = begin_transaction(&mut self.conn);
-        brk_tables_trading::completed_cash_of_symbol(&mut tx, alloc, symbol, span.first, span.last)
+        brk_tables_trading::first_twenty_completed_cash_trades_of_symbol(&mut tx, alloc, symbol, span.first, span.last)
     }
 
     /// Returns the settlement of a trade, or `None` if it has none. Changes nothing. Fails with

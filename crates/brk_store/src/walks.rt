@@ -3,12 +3,12 @@
 
 ghost use Rattle.std.specs.Fn.{CalledAt};
 ghost use Rattle.brk_changes.specs.Rows.{abstract_holding_row, abstract_move_row, abstract_trade_row};
-ghost use Rattle.brk_model.specs.Statement.{lot_rows_of_account};
-ghost use Rattle.brk_store.specs.Calling.{IsCallWithLot};
-ghost use Rattle.brk_store.specs.Walked.{CallsClosureOnEach, WalkPost, cash_rows_in_span, completed_trades_by_stamp};
+ghost use Rattle.brk_model.specs.Statement.{holding_rows_of_account};
+ghost use Rattle.brk_store.specs.Calling.{IsClosureCallWithLot};
+ghost use Rattle.brk_store.specs.Walked.{CallsClosureWithEachRecord, WalkPost, cash_rows_in_span, completed_trades_by_stamp};
 
 use crate::Store;
-use crate::calling::{Calls, LotCalls};
+use crate::calling::{ClosureVisitor, LotClosureVisitor};
 use brk_changes::{HoldingRow, MoveRow, TradeRow};
 use brk_lots::Lot;
 use brk_money::{Fault, Id, Stamp};
@@ -24,7 +24,7 @@ impl<S: Alter> Store<S> {
     /// `Store` after a prefix of the rows. The open database is unchanged, whatever the result.
     ///
     /// A crash exposes only states that a crash before the call could expose.
-    pub fn visit_cash<E, V: Visitor<MoveRow, E>>(
+    pub fn visit_cash_rows<E, V: Visitor<MoveRow, E>>(
         &mut self,
         account: Id,
         from: Stamp,
@@ -36,7 +36,7 @@ impl<S: Alter> Store<S> {
         ensures leads { V.leads visitor.old visitor.new }
         ensures walked { WalkPost S.Store self.old self.new abstract_move_row (cash_rows_in_span account from to) V.takes V.stops visitor.old visitor.new result }
     {
-        brk_tables_walks::walk_cash_between::<S, E, V>(&mut self.conn, account, from, to, visitor)
+        brk_tables_walks::walk_cash_rows_of_account::<S, E, V>(&mut self.conn, account, from, to, visitor)
     }
 
     /// Passes the lots of an account to a visitor, sorted by symbol, then by opening stamp. Returns
@@ -54,7 +54,7 @@ impl<S: Alter> Store<S> {
         requires ready { V.ready visitor.old }
         ensures ready { V.ready visitor.new }
         ensures leads { V.leads visitor.old visitor.new }
-        ensures walked { WalkPost S.Store self.old self.new abstract_holding_row (λ t. lot_rows_of_account t account) V.takes V.stops visitor.old visitor.new result }
+        ensures walked { WalkPost S.Store self.old self.new abstract_holding_row (λ t. holding_rows_of_account t account) V.takes V.stops visitor.old visitor.new result }
     {
         brk_tables_walks::walk_lots::<S, E, V>(&mut self.conn, account, visitor)
     }
@@ -85,7 +85,7 @@ impl<S: Alter> Store<S> {
     /// type `E`, after a prefix of the rows. The open database is unchanged, whatever the result.
     ///
     /// A crash exposes only states that a crash before the call could expose.
-    pub fn walk_cash<E: From<Fault>, F: FnMut(&MoveRow) -> Result<(), E> + Drop>(
+    pub fn walk_cash_rows<E: From<Fault>, F: FnMut(&MoveRow) -> Result<(), E> + Drop>(
         &mut self,
         account: Id,
         from: Stamp,
@@ -93,10 +93,10 @@ impl<S: Alter> Store<S> {
         call: F,
     ) -> Result<(), E>
         requires callable { F.IsAlwaysCallable call }
-        ensures called { CallsClosureOnEach S.Store self.old self.new abstract_move_row (cash_rows_in_span account from to) (CalledAt F.FnMut) E.from_gives call result }
+        ensures called { CallsClosureWithEachRecord S.Store self.old self.new abstract_move_row (cash_rows_in_span account from to) (CalledAt F.FnMut) E.from_gives call result }
     {
-        let mut calls = Calls { call };
-        match self.visit_cash::<E, Calls<F>>(account, from, to, &mut calls) {
+        let mut calls = ClosureVisitor { call };
+        match self.visit_cash_rows::<E, ClosureVisitor<F>>(account, from, to, &mut calls) {
             Ok(()) => Ok(()),
             Err(WalkError::Failed(fault)) => Err(E::from(fault)),
             Err(WalkError::Cause(cause)) => Err(cause),
@@ -116,10 +116,10 @@ impl<S: Alter> Store<S> {
         call: F,
     ) -> Result<(), E>
         requires callable { F.IsAlwaysCallable call }
-        ensures called { CallsClosureOnEach S.Store self.old self.new abstract_holding_row (λ t. lot_rows_of_account t account) (IsCallWithLot F.FnMut) E.from_gives call result }
+        ensures called { CallsClosureWithEachRecord S.Store self.old self.new abstract_holding_row (λ t. holding_rows_of_account t account) (IsClosureCallWithLot F.FnMut) E.from_gives call result }
     {
-        let mut calls = LotCalls { call };
-        match self.visit_lots::<E, LotCalls<F>>(account, &mut calls) {
+        let mut calls = LotClosureVisitor { call };
+        match self.visit_lots::<E, LotClosureVisitor<F>>(account, &mut calls) {
             Ok(()) => Ok(()),
             Err(WalkError::Failed(fault)) => Err(E::from(fault)),
             Err(WalkError::Cause(cause)) => Err(cause),

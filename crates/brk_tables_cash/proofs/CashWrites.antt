@@ -22,13 +22,13 @@ use Rattle.brk_sql.proofs.Values.{cast_int, cast_null, cast_whole}
 use Rattle.brk_sql.proofs.Writes.{inserts_as, updates_as, deletes_as}
 use Rattle.brk_changes.specs.Changes.{tables_with_cash_text, tables_with_cash_row, tables_with_settlement_day}
 use Rattle.brk_tables_schema.specs.Cells.{DeskRow, RuleRow, natural_as_value, optional_as_value, move_cells}
-use Rattle.brk_tables_schema.specs.Desk.{Which, TheDesk, CashRows, CashMoves, SettleRules, desk, desk_rows, rule_rows, rule_key, list, order}
+use Rattle.brk_tables_schema.specs.Desk.{DeskTable, TheDesk, CashRows, CashMoves, SettleRules, desk_tables, desk_rows, rule_rows, rule_key, rows_of_table, ordering_by_primary_key}
 use Rattle.brk_tables_schema.proofs.Order.{key_total}
 use Rattle.brk_tables_schema.proofs.Places.{the_desk}
 use Rattle.brk_tables_schema.proofs.Steps.{added}
 use Rattle.brk_tables_schema.proofs.Tests.{same_number, same_maybe}
 use Rattle.brk_tables_schema.proofs.Wide.{wide, wide_of, widened, narrowed}
-use Rattle.brk_tables_cash.specs.Upgrade.{SetsThirdSchema, without_cash_transactions}
+use Rattle.brk_tables_cash.specs.Upgrade.{SetsSchemaNumberToThree, tables_without_cash_transactions}
 use Rattle.brk_tables_cash.proofs.Places.{cash_rows, moves, the_rule}
 use Rattle.brk_tables_cash.proofs.AddMove
 use Rattle.brk_tables_cash.proofs.AddRule
@@ -55,10 +55,10 @@ params_are x v0 v1 v2 v3 v4 v5 e0 e1 e2 e3 e4 e5 =
 
 -- ---- rows that come
 
-pub adds_move : (old new : State) (x : MoveRow) → ExecutesStatement AddMove.statement (move_cells x) old new → ChangesTablesBy desk (tables_with_cash_row x) old.now new.now
+pub adds_move : (old new : State) (x : MoveRow) → ExecutesStatement AddMove.statement (move_cells x) old new → ChangesTablesBy desk_tables (tables_with_cash_row x) old.now new.now
 adds_move old new x ran =
     added CashMoves moves x old.now new.now
-    (inserts_as desk CashMoves moves AddMove.statement (move_cells x) (read AddMove.statement) AddMove.terms 7
+    (inserts_as desk_tables CashMoves moves AddMove.statement (move_cells x) (read AddMove.statement) AddMove.terms 7
     (natural_as_value x.id ∷ Null ∷ drop 1 (move_cells x)) x AddMove.understood_as (λ tree. refl)
     (λ tree rows. rw (cast_int (pos x.id), cast_int (pos x.account), cast_maybe x.trade, cast_int (pos x.stamp), cast_int x.amount) refl) old new ran.0 ran.1)
 
@@ -67,25 +67,25 @@ abbrev rule_row : ℕ → RuleRow
 rule_row day = record { id = 1; day = day }
 
 -- two of them have one key
-same_rule : (m n : ℕ) → order SettleRules (rule_row m) (rule_row n) ≡ Equal
+same_rule : (m n : ℕ) → ordering_by_primary_key SettleRules (rule_row m) (rule_row n) ≡ Equal
 same_rule m n = tied_itself (key_total rule_key) (rule_row m)
 
 -- so there is no second
-no_second : (m n : ℕ) → IsStrictlyAscending (order SettleRules) (insert_sorted (order SettleRules) (rule_row m) (rule_row n ∷ [])) → ⊥
-no_second m n up = let both = rw (same_rule m n) at up in let less : order SettleRules (rule_row m) (rule_row n) ≡ Less = both.0.0 in absurd (let f = sym (same_rule m n) ∙ less in cc)
+no_second : (m n : ℕ) → IsStrictlyAscending (ordering_by_primary_key SettleRules) (insert_sorted (ordering_by_primary_key SettleRules) (rule_row m) (rule_row n ∷ [])) → ⊥
+no_second m n up = let both = rw (same_rule m n) at up in let less : ordering_by_primary_key SettleRules (rule_row m) (rule_row n) ≡ Less = both.0.0 in absurd (let f = sym (same_rule m n) ∙ less in cc)
 
-pub adds_rule : (old new : State) (day : ℕ) → ExecutesStatement AddRule.statement (natural_as_value 1 ∷ natural_as_value day ∷ []) old new → ChangesTablesBy desk (tables_with_settlement_day day) old.now new.now
+pub adds_rule : (old new : State) (day : ℕ) → ExecutesStatement AddRule.statement (natural_as_value 1 ∷ natural_as_value day ∷ []) old new → ChangesTablesBy desk_tables (tables_with_settlement_day day) old.now new.now
 adds_rule old new day ran = λ t tree h.
     let turned = inserts_as wide SettleRules the_rule AddRule.statement (natural_as_value 1 ∷ natural_as_value day ∷ []) (read AddRule.statement) AddRule.terms 3
     (natural_as_value 1 ∷ Null ∷ natural_as_value day ∷ []) (rule_row day) AddRule.understood_as (λ tree. refl) (λ tree rows. rw (cast_int (pos 1), cast_int (pos day)) refl) old new ran.0 ran.1
     (wide_of third_schema t) tree (widened third_schema tree old.now t h) in
-    (narrowed third_schema tree new.now (desk_rows third_schema t.last) (insert_sorted (order SettleRules) (rule_row day) (rule_rows t.rule)) t (tables_with_settlement_day day t) refl (alone t.rule (turned.0.rows SettleRules).rising) (λ w _ other. others w other t) turned.0, turned.1)
+    (narrowed third_schema tree new.now (desk_rows third_schema t.last) (insert_sorted (ordering_by_primary_key SettleRules) (rule_row day) (rule_rows t.rule)) t (tables_with_settlement_day day t) refl (alone t.rule (turned.0.rows SettleRules).rising) (λ w _ other. others w other t) turned.0, turned.1)
   where
-    alone : (o : Option ℕ) → IsStrictlyAscending (order SettleRules) (insert_sorted (order SettleRules) (rule_row day) (rule_rows o)) → insert_sorted (order SettleRules) (rule_row day) (rule_rows o) ≡ rule_rows (Some day)
+    alone : (o : Option ℕ) → IsStrictlyAscending (ordering_by_primary_key SettleRules) (insert_sorted (ordering_by_primary_key SettleRules) (rule_row day) (rule_rows o)) → insert_sorted (ordering_by_primary_key SettleRules) (rule_row day) (rule_rows o) ≡ rule_rows (Some day)
     alone None up = refl
     alone (Some n) up = absurd (no_second day n up)
 
-    others : (w : Which) → w ≢ SettleRules → (t : Tables) → list w (tables_with_settlement_day day t) ≡ list w t
+    others : (w : DeskTable) → w ≢ SettleRules → (t : Tables) → rows_of_table w (tables_with_settlement_day day t) ≡ rows_of_table w t
     others SettleRules other t = absurd (other refl)
     others w other t = refl
 
@@ -95,17 +95,17 @@ every : (xs : List CashRow) → delete_where (λ _. true) xs ≡ []
 every [] = refl
 every (x ∷ xs) = every xs
 
-pub removes_cash : (old new : State) → ExecutesStatement RemoveCashRows.statement [] old new → ChangesTablesBy desk without_cash_transactions old.now new.now
+pub removes_cash : (old new : State) → ExecutesStatement RemoveCashRows.statement [] old new → ChangesTablesBy desk_tables tables_without_cash_transactions old.now new.now
 removes_cash old new ran = λ t tree h.
-    let turned = deletes_as desk CashRows cash_rows RemoveCashRows.statement [] (read RemoveCashRows.statement) RemoveCashRows.terms RemoveCashRows.project (λ (r : CashRow). true)
+    let turned = deletes_as desk_tables CashRows cash_rows RemoveCashRows.statement [] (read RemoveCashRows.statement) RemoveCashRows.terms RemoveCashRows.project (λ (r : CashRow). true)
     (λ tree r x e. refl) (λ r. refl) RemoveCashRows.understood_as old new ran.0 ran.1 t tree h in
-    (subst (λ (xs : List CashRow). HasTables desk (record t { cash = xs }) tree new.now) (every t.cash) turned.0, turned.1)
+    (subst (λ (xs : List CashRow). HasTables desk_tables (record t { cash = xs }) tree new.now) (every t.cash) turned.0, turned.1)
 
 -- ---- rows that change
 
-pub sets_cash_name : (old new : State) (trade : ℕ) (name : List ℕ) → ExecutesStatement SetCashName.statement (Words name ∷ natural_as_value trade ∷ []) old new → ChangesTablesBy desk (tables_with_cash_text trade name) old.now new.now
+pub sets_cash_name : (old new : State) (trade : ℕ) (name : List ℕ) → ExecutesStatement SetCashName.statement (Words name ∷ natural_as_value trade ∷ []) old new → ChangesTablesBy desk_tables (tables_with_cash_text trade name) old.now new.now
 sets_cash_name old new trade name ran =
-    updates_as desk CashMoves moves SetCashName.statement (Words name ∷ natural_as_value trade ∷ []) (read SetCashName.statement) SetCashName.terms SetCashName.project (is_cash_row_of_trade trade)
+    updates_as desk_tables CashMoves moves SetCashName.statement (Words name ∷ natural_as_value trade ∷ []) (read SetCashName.statement) SetCashName.terms SetCashName.project (is_cash_row_of_trade trade)
     (λ tree r x e. let a : column r 3 ≡ optional_as_value x.trade = cc in rw (a, same_maybe x.trade trade) (and_true _)) (λ r. refl) SetCashName.understood_as
     (λ r. column r 0 ∷ Null ∷ column r 2 ∷ column r 3 ∷ column r 4 ∷ column r 5 ∷ Words name ∷ [])
     (λ (r : MoveRow). record r { name = name }) (λ x y. refl) (λ x y. refl) (λ r. refl)
@@ -125,7 +125,7 @@ sets_cash_name old new trade name ran =
 
 -- ---- the number of the schema
 
-pub raises : (old new : State) → ExecutesStatement SetSchema.statement (natural_as_value 3 ∷ natural_as_value 1 ∷ []) old new → SetsThirdSchema old.now new.now
+pub raises : (old new : State) → ExecutesStatement SetSchema.statement (natural_as_value 3 ∷ natural_as_value 1 ∷ []) old new → SetsSchemaNumberToThree old.now new.now
 raises old new ran = λ schema t tree h.
     let turned = updates_as wide TheDesk the_desk SetSchema.statement (natural_as_value 3 ∷ natural_as_value 1 ∷ []) (read SetSchema.statement) SetSchema.terms SetSchema.project (λ (r : DeskRow). r.id == 1)
     (λ tree r x e. let a : column r 0 ≡ natural_as_value x.id = cc in rw (a, same_number x.id 1) (and_true _)) (λ r. refl) SetSchema.understood_as

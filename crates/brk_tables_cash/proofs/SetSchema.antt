@@ -23,7 +23,7 @@ use Rattle.brk_sql.proofs.Meant.{meant, updates_or}
 use Rattle.brk_sql.proofs.Pick.{selection, whole_page}
 use Rattle.brk_sql.proofs.Scoped.{column_is}
 use Rattle.brk_sql.proofs.Texts.{read}
-use Rattle.brk_tables_schema.specs.Shapes.{desk_row}
+use Rattle.brk_tables_schema.specs.Shapes.{desk_row_table}
 
 abbrev pub statement : List ℕ
 statement = codes "UPDATE DESK SET D_SCHEMA = ?1 WHERE D_ID = ?2"
@@ -43,11 +43,11 @@ project = col 1 0 ∷ col 1 0 ∷ lit Null ∷ col 0 0 ∷ col 1 3 ∷ []
 abbrev pub draft : ℕ → Draft
 draft tree = simple (Inner tree ∷ []) terms project
 
-draft_is : (schema : Schema) (at tree : ℕ) → slice_get schema.tables at ≡ Some (desk_row tree) → updated schema at (desk_row tree) sets (Some test) ≡ Ok (draft tree)
+draft_is : (schema : Schema) (at tree : ℕ) → slice_get schema.tables at ≡ Some (desk_row_table tree) → updated schema at (desk_row_table tree) sets (Some test) ≡ Ok (draft tree)
 unfolding lowering
-draft_is schema at tree found = rw (column_is schema at (desk_row tree) found (codes "DESK") [] [] false true (codes "D_ID") 0 (integer_column (codes "D_ID")) refl refl)
+draft_is schema at tree found = rw (column_is schema at (desk_row_table tree) found (codes "DESK") [] [] false true (codes "D_ID") 0 (integer_column (codes "D_ID")) refl refl)
 
-pub understood_as : (schema : Schema) (at tree : ℕ) → IsTableAt schema (desk_row tree) at
+pub understood_as : (schema : Schema) (at tree : ℕ) → IsTableAt schema (desk_row_table tree) at
     → (compiled schema statement ≡ Ok (meant (read statement) [] (Update at (record { lets = []; body = selection tree terms project [] whole_page })))) ⊎ (compiled schema statement ≡ Err Mismatch)
 unfolding everything
-understood_as schema at tree h = updates_or schema statement (read statement) refl refl (codes "DESK") at (desk_row tree) h.named h.found sets (Some test) (draft tree) refl (draft_is schema at tree h.found)
+understood_as schema at tree h = updates_or schema statement (read statement) refl refl (codes "DESK") at (desk_row_table tree) h.named h.found sets (Some test) (draft tree) refl (draft_is schema at tree h.found)

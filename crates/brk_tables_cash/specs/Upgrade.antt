@@ -4,15 +4,15 @@ use Rattle.sqlite.specs.Effect.{Database}
 use Rattle.brk_model.specs.Schemas.{Schema}
 use Rattle.brk_model.specs.Tables.{Tables}
 use Rattle.brk_sql.specs.Desk.{HasTables, PreservesUnrelatedTables}
-use Rattle.brk_tables_schema.specs.Desk.{Which, desk, desk_of_schema}
+use Rattle.brk_tables_schema.specs.Desk.{DeskTable, desk_tables, desk_tables_of_schema}
 
 -- The tables `t` with no rows in CASH_TRANSACTION.
-abbrev pub without_cash_transactions : Tables → Tables
-without_cash_transactions t = record t { cash = [] }
+abbrev pub tables_without_cash_transactions : Tables → Tables
+tables_without_cash_transactions t = record t { cash = [] }
 
 -- If the database `old` contains all tables of a desk with the rows `t` and the number of some
 -- schema, `new` contains them with the rows `t` and the number 3, at the same trees. Other tables
 -- are unchanged, unless a foreign key of their own writes their rows. Vacuous if `old` does not
 -- contain all these tables.
-abbrev pub SetsThirdSchema : Database → Database → Type 0
-SetsThirdSchema old new = (schema : Schema) (t : Tables) (tree : Which → ℕ) → HasTables (desk_of_schema schema) t tree old → HasTables desk t tree new × PreservesUnrelatedTables tree old new
+abbrev pub SetsSchemaNumberToThree : Database → Database → Type 0
+SetsSchemaNumberToThree old new = (schema : Schema) (t : Tables) (tree : DeskTable → ℕ) → HasTables (desk_tables_of_schema schema) t tree old → HasTables desk_tables t tree new × PreservesUnrelatedTables tree old new

@@ -14,7 +14,7 @@ use brk_money::{Fault, Id};
 use brk_tables_schema::calls::{execute_statement, select_rows};
 use brk_tables_schema::record::decode_first_row;
 use brk_tables_schema::values::{
-    cents_value, id_value, maybe_id_value, move_id_value, number_value, stamp_value, text_value,
+    cents_as_parameter, id_as_parameter, optional_id_as_parameter, cash_row_id_as_parameter, integer_as_parameter, stamp_as_parameter, text_as_parameter,
 };
 use sqlite::{Alter, Transaction};
 
@@ -28,19 +28,19 @@ pub fn add_cash_row<S: Alter>(tx: &mut Transaction<'_, S>, row: &MoveRow) -> Res
         tx,
         "INSERT INTO CASH_MOVE (CM_ID, CM_CA_ID, CM_T_ID, CM_DTS, CM_AMT, CM_NAME) VALUES (?1, ?2, ?3, ?4, ?5, ?6)",
         &[
-            move_id_value(row.id),
-            id_value(row.account),
-            maybe_id_value(row.trade),
-            stamp_value(row.stamp),
-            cents_value(row.amount),
-            text_value(row.name.as_str()),
+            cash_row_id_as_parameter(row.id),
+            id_as_parameter(row.account),
+            optional_id_as_parameter(row.trade),
+            stamp_as_parameter(row.stamp),
+            cents_as_parameter(row.amount),
+            text_as_parameter(row.name.as_str()),
         ],
     )
 }
 
 /// Returns the cash row with the greatest number, or `None` if there is none. Changes nothing.
 /// Fails with `Store` only.
-pub fn last_move<S: Alter>(tx: &mut Transaction<'_, S>) -> Result<Option<MoveRow>, Fault>
+pub fn cash_row_with_greatest_number<S: Alter>(tx: &mut Transaction<'_, S>) -> Result<Option<MoveRow>, Fault>
     ensures same_reference { tx.new.conn.ghost_name ≡ tx.old.conn.ghost_name }
     ensures step { ReadsDeskTables S.Store tx.old tx.new result (λ o t. option_map abstract_move_row o ≡ slice_get (reverse t.moves) 0) }
     ensures fault { OnErr result (result ≡ Err Store) }
@@ -63,7 +63,7 @@ pub fn has_maximum_movements<S: Alter>(tx: &mut Transaction<'_, S>) -> Result<bo
     let rows = select_rows(
         tx,
         "SELECT CM_ID, CM_CA_ID, CM_T_ID, CM_DTS, CM_AMT, CM_NAME FROM CASH_MOVE WHERE CM_T_ID IS NULL ORDER BY CM_ID LIMIT 1 OFFSET ?1",
-        &[number_value(999_999_999_999)],
+        &[integer_as_parameter(999_999_999_999)],
     )?;
     Ok(!rows.is_empty())
 }
@@ -81,13 +81,13 @@ pub fn cash_row_by_trade<S: Alter>(
     let rows = select_rows(
         tx,
         "SELECT CM_ID, CM_CA_ID, CM_T_ID, CM_DTS, CM_AMT, CM_NAME FROM CASH_MOVE WHERE CM_T_ID = ?1 ORDER BY CM_ID",
-        &[id_value(trade)],
+        &[id_as_parameter(trade)],
     )?;
     decode_first_row(&rows)
 }
 
 /// Sets the text of a trade's cash row (CM_NAME). Fails with `Store` only.
-pub fn set_cash_name<S: Alter>(
+pub fn set_cash_row_name<S: Alter>(
     tx: &mut Transaction<'_, S>,
     trade: Id,
     name: &str,
@@ -99,6 +99,6 @@ pub fn set_cash_name<S: Alter>(
     execute_statement(
         tx,
         "UPDATE CASH_MOVE SET CM_NAME = ?1 WHERE CM_T_ID = ?2",
-        &[text_value(name), id_value(trade)],
+        &[text_as_parameter(name), id_as_parameter(trade)],
     )
 }

@@ -9,8 +9,8 @@ ghost use Rattle.brk_tables_schema.specs.Statements.{ReadsDeskTables, WritesDesk
 
 use brk_money::{Day, Fault};
 use brk_tables_schema::calls::{execute_statement, select_rows};
-use brk_tables_schema::rule_row::day_in_rows;
-use brk_tables_schema::values::{day_value, number_value};
+use brk_tables_schema::rule_row::settlement_day_in_rule_rows;
+use brk_tables_schema::values::{day_as_parameter, integer_as_parameter};
 use sqlite::{Alter, Row, Transaction};
 
 /// Inserts the settlement day, the first day whose completions settle after one day (SR_DAY). Fails
@@ -23,7 +23,7 @@ pub fn set_settlement_day<S: Alter>(tx: &mut Transaction<'_, S>, day: Day) -> Re
     execute_statement(
         tx,
         "INSERT INTO SETTLE_RULE (SR_ID, SR_DAY) VALUES (?1, ?2)",
-        &[number_value(1), day_value(day)],
+        &[integer_as_parameter(1), day_as_parameter(day)],
     )
 }
 
@@ -32,7 +32,7 @@ fn settlement_day_in_rows(rows: &[Row]) -> Result<Option<Day>, Fault>
     ensures value { IfOk result (λ day. map rule_cells (rule_rows day) ≡ rows.now) }
     ensures fault { OnErr result (result ≡ Err Store) }
 {
-    Ok(day_in_rows(rows)?)
+    Ok(settlement_day_in_rule_rows(rows)?)
 }
 
 /// Returns the settlement day, the first day whose completions settle after one day (SR_DAY), or

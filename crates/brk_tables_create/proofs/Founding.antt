@@ -9,14 +9,14 @@ use Rattle.sqlite.specs.State.{State}
 use Rattle.sqlite_value.specs.declared.value.Value.TheVariants.{Null, Int}
 use Rattle.brk_model.specs.Schemas.{third_schema}
 use Rattle.brk_model.specs.Tables.{tables_without_rows}
-use Rattle.brk_sql.specs.Desk.{CreatesTablesWith, CreatesEachTable}
+use Rattle.brk_sql.specs.Desk.{CreatesTablesWithRecords, CreatesEachTable}
 use Rattle.brk_sql.specs.Model.{ExecutesStatement}
 use Rattle.brk_sql.proofs.Founded.{all_left, part_none, part_each, founded, first_sound}
 use Rattle.brk_sql.proofs.Texts.{read}
 use Rattle.brk_sql.proofs.Values.{cast_int, cast_null}
 use Rattle.brk_sql.proofs.Writes.{inserts_alone, inserts_as}
-use Rattle.brk_tables_schema.specs.Shapes.{desk_row}
-use Rattle.brk_tables_schema.specs.Desk.{TheDesk, all_tables, desk_rows, shape}
+use Rattle.brk_tables_schema.specs.Shapes.{desk_row_table}
+use Rattle.brk_tables_schema.specs.Desk.{TheDesk, all_tables, desk_rows, table_definition_at}
 use Rattle.brk_tables_create.specs.Made.{CreatesDeskTables}
 use Rattle.brk_tables_schema.proofs.Which.{split}
 use Rattle.brk_tables_schema.proofs.Wide.{wide, narrowed}
@@ -26,8 +26,8 @@ use Rattle.brk_tables_create.proofs.Makes.{all_made, none_held, bare}
 
 -- ---- all of them
 
-pub founds_bare : (old new : Database) → CreatesEachTable (map shape all_tables) old new → CreatesTablesWith wide bare old new
-founds_bare old new made = founded wide _ old new (part_each wide split all_tables (λ _. ⊥) old old new (part_none wide old) made) (first_sound desk_row (drop 1 (map shape all_tables)) old new made) all_made bare none_held
+pub founds_bare : (old new : Database) → CreatesEachTable (map table_definition_at all_tables) old new → CreatesTablesWithRecords wide bare old new
+founds_bare old new made = founded wide _ old new (part_each wide split all_tables (λ _. ⊥) old old new (part_none wide old) made) (first_sound desk_row_table (drop 1 (map table_definition_at all_tables)) old new made) all_made bare none_held
 
 -- the row of DESK comes last
 kept_by : (a b c : Trees) (n : ℕ) (tables : List Table) → AllByRecursion (λ t. t.tree ≢ n) tables → AllByRecursion (λ t. b t.tree ≡ a t.tree) tables → AllByRecursion (λ t. t.tree ≢ n → c t.tree ≡ b t.tree) tables
@@ -35,7 +35,7 @@ kept_by : (a b c : Trees) (n : ℕ) (tables : List Table) → AllByRecursion (λ
 kept_by a b c n [] fresh same left = tt
 kept_by a b c n (t ∷ tables) fresh same left = (left.0 fresh.0 ∙ same.0, kept_by a b c n tables fresh.1 same.1 left.1)
 
-pub founds_desk : (a : Database) (old new : State) → CreatesTablesWith wide bare a old.now → ExecutesStatement AddDesk.statement [] old new → CreatesDeskTables a new.now
+pub founds_desk : (a : Database) (old new : State) → CreatesTablesWithRecords wide bare a old.now → ExecutesStatement AddDesk.statement [] old new → CreatesDeskTables a new.now
 founds_desk a old new f ran =
     let turned = inserts_as wide TheDesk the_desk AddDesk.statement [] (read AddDesk.statement) AddDesk.terms 4
     (Int (pos 1) ∷ Null ∷ Int (pos 3) ∷ Null ∷ []) (record { id = 1; schema = 3; last = None })

@@ -4,19 +4,19 @@ use Rattle.sqlite.specs.Effect.{Database}
 use Rattle.brk_model.specs.Schemas.{Schema}
 use Rattle.brk_model.specs.Tables.{tables_without_rows}
 use Rattle.brk_sql.specs.Desk.{PreservesAllTables}
-use Rattle.brk_tables_schema.specs.Desk.{Which, all_tables, has_table}
-use Rattle.brk_tables_schema.specs.Made.{HasRows}
+use Rattle.brk_tables_schema.specs.Desk.{DeskTable, all_tables, schema_has_table}
+use Rattle.brk_tables_schema.specs.Made.{HasDeskTables}
 
 -- The tables of a desk that this schema does not have, which later schemas add.
-abbrev pub tables_added_after : Schema → List Which
-tables_added_after schema = filter (λ w. not (has_table schema w)) all_tables
+abbrev pub tables_of_later_schemas : Schema → List DeskTable
+tables_of_later_schemas schema = filter (λ w. not (schema_has_table schema w)) all_tables
 
 -- The database `new` contains the tables of a desk in schema 3, without rows, except for the one
 -- row of DESK, and all tables of `old` with their rows.
 pub record CreatesDeskTables (old new : Database) : Type 0 where
-  pub rows : HasRows tables_without_rows new
+  pub rows : HasDeskTables tables_without_rows new
   pub others : PreservesAllTables old new
 
 -- The text of the SQL statement that inserts the one row of DESK, with schema 3 and no stamp.
-abbrev pub desk_row_text : List ℕ
-desk_row_text = codes "INSERT INTO DESK (D_ID, D_SCHEMA, D_LAST) VALUES (1, 3, NULL)"
+abbrev pub insert_desk_row_text : List ℕ
+insert_desk_row_text = codes "INSERT INTO DESK (D_ID, D_SCHEMA, D_LAST) VALUES (1, 3, NULL)"

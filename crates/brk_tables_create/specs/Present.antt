@@ -4,11 +4,11 @@ use Rattle.std.specs.List.{list_any, list_all}
 use Rattle.sqlite_schema.specs.declared.schema.Schema as database
 use Rattle.sqlite_schema.specs.Names.{table_named}
 use Rattle.brk_model.specs.Schemas.{Schema}
-use Rattle.brk_tables_schema.specs.Desk.{Which, all_tables, table_name, tables_in_schema}
-use Rattle.brk_tables_create.specs.Made.{tables_added_after}
+use Rattle.brk_tables_schema.specs.Desk.{DeskTable, all_tables, table_name, tables_in_schema}
+use Rattle.brk_tables_create.specs.Made.{tables_of_later_schemas}
 
 -- True if the schema of the database has a table with the name of `w`, with any columns.
-abbrev pub has_table_named : database.Schema → Which → Bool
+abbrev pub has_table_named : database.Schema → DeskTable → Bool
 has_table_named schema w = is_some (table_named schema (table_name w))
 
 -- True if the schema of the database has a table with the name of some table of a desk.
@@ -18,4 +18,4 @@ has_table_of_desk schema = list_any (has_table_named schema) all_tables
 -- True if the database has, by name, each table of the desk's schema `desk`, and none that a later
 -- schema adds.
 abbrev pub has_exact_table_names : Schema → database.Schema → Bool
-has_exact_table_names desk schema = list_all (has_table_named schema) (tables_in_schema desk) && not (list_any (has_table_named schema) (tables_added_after desk))
+has_exact_table_names desk schema = list_all (has_table_named schema) (tables_in_schema desk) && not (list_any (has_table_named schema) (tables_of_later_schemas desk))

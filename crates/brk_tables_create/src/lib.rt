@@ -8,6 +8,6 @@ pub mod making;
 pub mod presence;
 pub mod table;
 
-pub use making::{create_later_tables, create_tables};
-pub use presence::{has_some_desk_table, has_tables_of};
+pub use making::{create_tables_of_later_schemas, create_third_schema_tables};
+pub use presence::{has_some_desk_table, has_exact_tables_by_name};
 pub use table::Table;

@@ -5,8 +5,8 @@ ghost use Rattle.brk_money.specs.declared.fault.Fault.TheVariants.{Store};
 ghost use Rattle.brk_changes.specs.Schemas.{abstract_schema};
 ghost use Rattle.brk_sql.specs.Desk.{CreatesTableOfShape, CreatesEachTable};
 ghost use Rattle.brk_sql.specs.Model.{ExecutesStatement, IsConnectionStep};
-ghost use Rattle.brk_tables_schema.specs.Desk.{shape};
-ghost use Rattle.brk_tables_create.specs.Made.{CreatesDeskTables, desk_row_text, tables_added_after};
+ghost use Rattle.brk_tables_schema.specs.Desk.{table_definition_at};
+ghost use Rattle.brk_tables_create.specs.Made.{CreatesDeskTables, insert_desk_row_text, tables_of_later_schemas};
 ghost use Rattle.brk_tables_create.specs.Texts.{specified_table};
 
 use crate::table::{ADDED_AFTER_FIRST, ADDED_AFTER_SECOND, IN_THIRD, Table};
@@ -18,16 +18,16 @@ use sqlite::{Alter, Transaction};
 // Creates a table without rows. Fails with `Store` only.
 fn create_desk_table<S: Alter>(tx: &mut Transaction<'_, S>, table: Table) -> Result<(), Fault>
     ensures same_reference { tx.new.conn.ghost_name ≡ tx.old.conn.ghost_name }
-    ensures step { IsConnectionStep S.Store tx.old tx.new result (λ _ a b. CreatesTableOfShape a.now b.now (shape (specified_table table))) }
+    ensures step { IsConnectionStep S.Store tx.old tx.new result (λ _ a b. CreatesTableOfShape a.now b.now (table_definition_at (specified_table table))) }
     ensures fault { OnErr result (result ≡ Err Store) }
 {
-    execute_statement(tx, table.create_text(), &[])
+    execute_statement(tx, table.create_table_text(), &[])
 }
 
 // Creates the tables in order, without rows. Fails with `Store` only.
 fn create_each_table<S: Alter>(tx: &mut Transaction<'_, S>, tables: &[Table]) -> Result<(), Fault>
     ensures same_reference { tx.new.conn.ghost_name ≡ tx.old.conn.ghost_name }
-    ensures step { IsConnectionStep S.Store tx.old tx.new result (λ _ a b. CreatesEachTable (map (λ table. shape (specified_table table)) tables.now) a.now b.now) }
+    ensures step { IsConnectionStep S.Store tx.old tx.new result (λ _ a b. CreatesEachTable (map (λ table. table_definition_at (specified_table table)) tables.now) a.now b.now) }
     ensures fault { OnErr result (result ≡ Err Store) }
 {
     for table in tables {
@@ -39,7 +39,7 @@ fn create_each_table<S: Alter>(tx: &mut Transaction<'_, S>, tables: &[Table]) ->
 // Inserts the one row of DESK, with schema 3 and no stamp. Fails with `Store` only.
 fn add_desk_row<S: Alter>(tx: &mut Transaction<'_, S>) -> Result<(), Fault>
     ensures same_reference { tx.new.conn.ghost_name ≡ tx.old.conn.ghost_name }
-    ensures step { IsConnectionStep S.Store tx.old tx.new result (λ _. ExecutesStatement desk_row_text []) }
+    ensures step { IsConnectionStep S.Store tx.old tx.new result (λ _. ExecutesStatement insert_desk_row_text []) }
     ensures fault { OnErr result (result ≡ Err Store) }
 {
     execute_statement(
@@ -51,7 +51,7 @@ fn add_desk_row<S: Alter>(tx: &mut Transaction<'_, S>) -> Result<(), Fault>
 
 /// Creates the tables of schema 3, without rows, except for the one row of DESK. The rows of
 /// existing tables are unchanged. Fails with `Store` only.
-pub fn create_tables<S: Alter>(tx: &mut Transaction<'_, S>) -> Result<(), Fault>
+pub fn create_third_schema_tables<S: Alter>(tx: &mut Transaction<'_, S>) -> Result<(), Fault>
     ensures same_reference { tx.new.conn.ghost_name ≡ tx.old.conn.ghost_name }
     ensures step { IsConnectionStep S.Store tx.old tx.new result (λ _ a b. CreatesDeskTables a.now b.now) }
     ensures fault { OnErr result (result ≡ Err Store) }
@@ -62,12 +62,12 @@ pub fn create_tables<S: Alter>(tx: &mut Transaction<'_, S>) -> Result<(), Fault>
 
 /// Creates the tables that `schema` does not have and later schemas add, without rows. Fails with
 /// `Store` only.
-pub fn create_later_tables<S: Alter>(
+pub fn create_tables_of_later_schemas<S: Alter>(
     tx: &mut Transaction<'_, S>,
     schema: Schema,
 ) -> Result<(), Fault>
     ensures same_reference { tx.new.conn.ghost_name ≡ tx.old.conn.ghost_name }
-    ensures step { IsConnectionStep S.Store tx.old tx.new result (λ _ a b. CreatesEachTable (map shape (tables_added_after (abstract_schema schema))) a.now b.now) }
+    ensures step { IsConnectionStep S.Store tx.old tx.new result (λ _ a b. CreatesEachTable (map table_definition_at (tables_of_later_schemas (abstract_schema schema))) a.now b.now) }
     ensures fault { OnErr result (result ≡ Err Store) }
 {
     match schema {

@@ -21,7 +21,7 @@ fn table_exists<S: Alter>(tx: &mut Transaction<'_, S>, table: Table) -> Result<b
     ensures step { IsConnectionStep S.Store tx.old tx.new result (λ has a b. IsTrue a.is_open × (b.now ≡ a.now) × (has ≡ has_table_named a.now.schema (specified_table table))) }
     ensures fault { OnErr result (result ≡ Err Store) }
 {
-    statement_compiles(tx, table.probe_text())
+    statement_compiles(tx, table.existence_probe_text())
 }
 
 // Returns true if at least one of the tables exists, by name. Changes nothing. Fails with `Store`
@@ -85,7 +85,7 @@ fn has_exactly_tables<S: Alter>(
 
 // Returns true if the tables that a schema has exist, by name, and none that a later schema adds.
 // Changes nothing. Fails with `Store` only.
-fn has_exactly_tables_of<S: Alter>(
+fn has_exactly_tables_of_schema<S: Alter>(
     tx: &mut Transaction<'_, S>,
     schema: Schema,
 ) -> Result<bool, Fault>
@@ -102,12 +102,12 @@ fn has_exactly_tables_of<S: Alter>(
 
 /// Returns true if the tables that a schema has exist, by name, and none that a later schema adds.
 /// If it returns a value, the database was open and is unchanged. Fails with `Store` only.
-pub fn has_tables_of<S: Alter>(tx: &mut Transaction<'_, S>, schema: Schema) -> Result<bool, Fault>
+pub fn has_exact_tables_by_name<S: Alter>(tx: &mut Transaction<'_, S>, schema: Schema) -> Result<bool, Fault>
     ensures same_reference { tx.new.conn.ghost_name ≡ tx.old.conn.ghost_name }
     ensures step { IsConnectionStep S.Store tx.old tx.new result (λ has a b. IsTrue a.is_open × (b.now ≡ a.now) × (has ≡ has_exact_table_names (abstract_schema schema) a.now.schema)) }
     ensures fault { OnErr result (result ≡ Err Store) }
 {
     // Any result shows that the database is open. DESK is looked up a second time below.
     let _there = table_exists(tx, Table::TheDesk)?;
-    has_exactly_tables_of(tx, schema)
+    has_exactly_tables_of_schema(tx, schema)
 }

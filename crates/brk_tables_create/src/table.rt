@@ -1,7 +1,7 @@
 //! Written by tools/tables.py: the tables of a desk, and their SQL texts.
 
 ghost use Rattle.std.specs.Prelude.{◌≡◌};
-ghost use Rattle.brk_tables_create.specs.Texts.{create_text, probe_text, specified_table};
+ghost use Rattle.brk_tables_create.specs.Texts.{create_table_text, existence_probe_text, specified_table};
 
 /// A table of a desk.
 #[derive(Clone, Copy)]
@@ -54,8 +54,8 @@ pub enum Table {
 
 impl Table {
     /// Returns the text of the CREATE TABLE statement of the table.
-    pub fn create_text(self) -> &'static str
-        ensures { result.now ≡ create_text (specified_table self) }
+    pub fn create_table_text(self) -> &'static str
+        ensures { result.now ≡ create_table_text (specified_table self) }
     {
         match self {
             Table::TheDesk =>
@@ -106,8 +106,8 @@ impl Table {
     }
 
     /// Returns the text of a DELETE statement on the table, which is prepared and never executed.
-    pub fn probe_text(self) -> &'static str
-        ensures { result.now ≡ probe_text (specified_table self) }
+    pub fn existence_probe_text(self) -> &'static str
+        ensures { result.now ≡ existence_probe_text (specified_table self) }
     {
         match self {
             Table::TheDesk => "DELETE FROM DESK",

@@ -21,7 +21,7 @@ use Rattle.brk_sql.proofs.Meant.{meant, reads_or}
 use Rattle.brk_sql.proofs.Pick.{selection}
 use Rattle.brk_sql.proofs.Scoped.{column_is, heading_is}
 use Rattle.brk_sql.proofs.Texts.{read}
-use Rattle.brk_tables_schema.specs.Shapes.{account}
+use Rattle.brk_tables_schema.specs.Shapes.{account_table}
 use Rattle.sqlite_ast.specs.declared.Shown.TheVariants.{One}
 use Rattle.sqlite_ast.specs.declared.Origin.TheVariants.{Table}
 use Rattle.sqlite_ast.specs.declared.Source.{Source, roll-Source}
@@ -95,39 +95,39 @@ names = codes "CA_ID" ∷ codes "CA_C_ID" ∷ codes "CA_B_ID" ∷ codes "CA_NAME
 abbrev after : ℕ → Carried → State
 after spent last = record (fresh 2 max_budget) { budget = max_budget - spent; last = last }
 
-module _ (schema : Schema) (at tree : ℕ) (h : IsTableAt schema (account tree) at) where
-  abbrev found : slice_get schema.tables at ≡ Some (account tree)
+module _ (schema : Schema) (at tree : ℕ) (h : IsTableAt schema (account_table tree) at) where
+  abbrev found : slice_get schema.tables at ≡ Some (account_table tree)
   found = h.found
 
   shows : result lower (outermost schema) (level_one (codes "CUSTOMER_ACCOUNT") at []) core (fresh 2 max_budget) ≡ Ok (columns, after 7 binary)
   unfolding lowering
   shows =
       rw (
-        column_is schema at (account tree) found (codes "CUSTOMER_ACCOUNT") [] [] true true (codes "CA_ID") 0 (integer_column (codes "CA_ID")) refl refl,
-        heading_is schema at (account tree) found (codes "CUSTOMER_ACCOUNT") [] [] true true (e.Column None (codes "CA_ID")) (codes "CA_ID") (codes "CA_ID") 0 (integer_column (codes "CA_ID")) refl refl refl,
-        column_is schema at (account tree) found (codes "CUSTOMER_ACCOUNT") [] [] true true (codes "CA_C_ID") 1 (integer_column (codes "CA_C_ID")) refl refl,
-        heading_is schema at (account tree) found (codes "CUSTOMER_ACCOUNT") [] [] true true (e.Column None (codes "CA_C_ID")) (codes "CA_C_ID") (codes "CA_C_ID") 1 (integer_column (codes "CA_C_ID")) refl refl refl,
-        column_is schema at (account tree) found (codes "CUSTOMER_ACCOUNT") [] [] true true (codes "CA_B_ID") 2 (integer_column (codes "CA_B_ID")) refl refl,
-        heading_is schema at (account tree) found (codes "CUSTOMER_ACCOUNT") [] [] true true (e.Column None (codes "CA_B_ID")) (codes "CA_B_ID") (codes "CA_B_ID") 2 (integer_column (codes "CA_B_ID")) refl refl refl,
-        column_is schema at (account tree) found (codes "CUSTOMER_ACCOUNT") [] [] true true (codes "CA_NAME") 3 (text_column (codes "CA_NAME")) refl refl,
-        heading_is schema at (account tree) found (codes "CUSTOMER_ACCOUNT") [] [] true true (e.Column None (codes "CA_NAME")) (codes "CA_NAME") (codes "CA_NAME") 3 (text_column (codes "CA_NAME")) refl refl refl,
-        column_is schema at (account tree) found (codes "CUSTOMER_ACCOUNT") [] [] true true (codes "CA_TAX_ST") 4 (integer_column (codes "CA_TAX_ST")) refl refl,
-        heading_is schema at (account tree) found (codes "CUSTOMER_ACCOUNT") [] [] true true (e.Column None (codes "CA_TAX_ST")) (codes "CA_TAX_ST") (codes "CA_TAX_ST") 4 (integer_column (codes "CA_TAX_ST")) refl refl refl,
-        column_is schema at (account tree) found (codes "CUSTOMER_ACCOUNT") [] [] true true (codes "CA_OPEN") 5 (integer_column (codes "CA_OPEN")) refl refl,
-        heading_is schema at (account tree) found (codes "CUSTOMER_ACCOUNT") [] [] true true (e.Column None (codes "CA_OPEN")) (codes "CA_OPEN") (codes "CA_OPEN") 5 (integer_column (codes "CA_OPEN")) refl refl refl,
-        column_is schema at (account tree) found (codes "CUSTOMER_ACCOUNT") [] [] true true (codes "CA_BAL") 6 (integer_column (codes "CA_BAL")) refl refl,
-        heading_is schema at (account tree) found (codes "CUSTOMER_ACCOUNT") [] [] true true (e.Column None (codes "CA_BAL")) (codes "CA_BAL") (codes "CA_BAL") 6 (integer_column (codes "CA_BAL")) refl refl refl,
+        column_is schema at (account_table tree) found (codes "CUSTOMER_ACCOUNT") [] [] true true (codes "CA_ID") 0 (integer_column (codes "CA_ID")) refl refl,
+        heading_is schema at (account_table tree) found (codes "CUSTOMER_ACCOUNT") [] [] true true (e.Column None (codes "CA_ID")) (codes "CA_ID") (codes "CA_ID") 0 (integer_column (codes "CA_ID")) refl refl refl,
+        column_is schema at (account_table tree) found (codes "CUSTOMER_ACCOUNT") [] [] true true (codes "CA_C_ID") 1 (integer_column (codes "CA_C_ID")) refl refl,
+        heading_is schema at (account_table tree) found (codes "CUSTOMER_ACCOUNT") [] [] true true (e.Column None (codes "CA_C_ID")) (codes "CA_C_ID") (codes "CA_C_ID") 1 (integer_column (codes "CA_C_ID")) refl refl refl,
+        column_is schema at (account_table tree) found (codes "CUSTOMER_ACCOUNT") [] [] true true (codes "CA_B_ID") 2 (integer_column (codes "CA_B_ID")) refl refl,
+        heading_is schema at (account_table tree) found (codes "CUSTOMER_ACCOUNT") [] [] true true (e.Column None (codes "CA_B_ID")) (codes "CA_B_ID") (codes "CA_B_ID") 2 (integer_column (codes "CA_B_ID")) refl refl refl,
+        column_is schema at (account_table tree) found (codes "CUSTOMER_ACCOUNT") [] [] true true (codes "CA_NAME") 3 (text_column (codes "CA_NAME")) refl refl,
+        heading_is schema at (account_table tree) found (codes "CUSTOMER_ACCOUNT") [] [] true true (e.Column None (codes "CA_NAME")) (codes "CA_NAME") (codes "CA_NAME") 3 (text_column (codes "CA_NAME")) refl refl refl,
+        column_is schema at (account_table tree) found (codes "CUSTOMER_ACCOUNT") [] [] true true (codes "CA_TAX_ST") 4 (integer_column (codes "CA_TAX_ST")) refl refl,
+        heading_is schema at (account_table tree) found (codes "CUSTOMER_ACCOUNT") [] [] true true (e.Column None (codes "CA_TAX_ST")) (codes "CA_TAX_ST") (codes "CA_TAX_ST") 4 (integer_column (codes "CA_TAX_ST")) refl refl refl,
+        column_is schema at (account_table tree) found (codes "CUSTOMER_ACCOUNT") [] [] true true (codes "CA_OPEN") 5 (integer_column (codes "CA_OPEN")) refl refl,
+        heading_is schema at (account_table tree) found (codes "CUSTOMER_ACCOUNT") [] [] true true (e.Column None (codes "CA_OPEN")) (codes "CA_OPEN") (codes "CA_OPEN") 5 (integer_column (codes "CA_OPEN")) refl refl refl,
+        column_is schema at (account_table tree) found (codes "CUSTOMER_ACCOUNT") [] [] true true (codes "CA_BAL") 6 (integer_column (codes "CA_BAL")) refl refl,
+        heading_is schema at (account_table tree) found (codes "CUSTOMER_ACCOUNT") [] [] true true (e.Column None (codes "CA_BAL")) (codes "CA_BAL") (codes "CA_BAL") 6 (integer_column (codes "CA_BAL")) refl refl refl,
       )
 
   matches : matching lower (outermost schema) (level_one (codes "CUSTOMER_ACCOUNT") at columns) core (after 7 binary)
       ≡ Ok (record { steps = Inner tree ∷ []; filter = terms }, after 10 nothing)
   unfolding lowering
-  matches = rw (found, column_is schema at (account tree) found (codes "CUSTOMER_ACCOUNT") columns [] false true (codes "CA_ID") 0 (integer_column (codes "CA_ID")) refl refl)
+  matches = rw (found, column_is schema at (account_table tree) found (codes "CUSTOMER_ACCOUNT") columns [] false true (codes "CA_ID") 0 (integer_column (codes "CA_ID")) refl refl)
 
   sorted : sorts lower (inside schema (level_one (codes "CUSTOMER_ACCOUNT") at columns) false) columns by (after 10 nothing) ≡ Ok ((draft tree).order, after 11 nothing)
   unfolding lowering
   sorted =
-      rw (column_is schema at (account tree) found (codes "CUSTOMER_ACCOUNT") columns [] false true (codes "CA_ID") 0 (integer_column (codes "CA_ID")) refl refl)
+      rw (column_is schema at (account_table tree) found (codes "CUSTOMER_ACCOUNT") columns [] false true (codes "CA_ID") 0 (integer_column (codes "CA_ID")) refl refl)
 
   meaning_is : meaning schema select ≡ Ok ((draft tree, names, None ∷ Some Binary ∷ Some Binary ∷ Some Binary ∷ Some Binary ∷ Some Binary ∷ Some Binary ∷ []), [])
   unfolding everything

@@ -10,7 +10,7 @@ use Rattle.sqlite_tied.specs.Compute.{everything}
 use Rattle.brk_sql.specs.Desk.{IsTableAt}
 use Rattle.brk_sql.proofs.Meant.{meant, inserts}
 use Rattle.brk_sql.proofs.Texts.{read}
-use Rattle.brk_tables_schema.specs.Shapes.{band}
+use Rattle.brk_tables_schema.specs.Shapes.{band_table}
 
 abbrev pub statement : List ℕ
 statement = codes "INSERT INTO COMMISSION_RATE (CR_C_TIER, CR_TT_ID, CR_EX_ID, CR_FROM_QTY, CR_TO_QTY, CR_RATE) VALUES (?1, ?2, ?3, ?4, ?5, ?6)"
@@ -18,6 +18,6 @@ statement = codes "INSERT INTO COMMISSION_RATE (CR_C_TIER, CR_TT_ID, CR_EX_ID, C
 abbrev pub terms : List Term
 terms = lit Null ∷ col 0 0 ∷ col 0 1 ∷ col 0 2 ∷ col 0 3 ∷ col 0 4 ∷ col 0 5 ∷ []
 
-pub understood_as : (schema : Schema) (at tree : ℕ) → IsTableAt schema (band tree) at → compiled schema statement ≡ Ok (meant (read statement) [] (Insert at (Values terms 7)))
+pub understood_as : (schema : Schema) (at tree : ℕ) → IsTableAt schema (band_table tree) at → compiled schema statement ≡ Ok (meant (read statement) [] (Insert at (Values terms 7)))
 unfolding everything
-understood_as schema at tree h = inserts schema statement (read statement) refl refl (codes "COMMISSION_RATE") at (band tree) h.named h.found _ _ _ refl refl
+understood_as schema at tree h = inserts schema statement (read statement) refl refl (codes "COMMISSION_RATE") at (band_table tree) h.named h.found _ _ _ refl refl

@@ -10,7 +10,7 @@ use Rattle.sqlite_tied.specs.Compute.{everything}
 use Rattle.brk_sql.specs.Desk.{IsTableAt}
 use Rattle.brk_sql.proofs.Meant.{meant, inserts}
 use Rattle.brk_sql.proofs.Texts.{read}
-use Rattle.brk_tables_schema.specs.Shapes.{broker}
+use Rattle.brk_tables_schema.specs.Shapes.{broker_table}
 
 abbrev pub statement : List ℕ
 statement = codes "INSERT INTO BROKER (B_ID, B_NAME, B_NUM_TRADES, B_COMM_TOTAL) VALUES (?1, ?2, 0, 0)"
@@ -18,6 +18,6 @@ statement = codes "INSERT INTO BROKER (B_ID, B_NAME, B_NUM_TRADES, B_COMM_TOTAL)
 abbrev pub terms : List Term
 terms = col 0 0 ∷ lit Null ∷ col 0 1 ∷ lit (Int (pos 0)) ∷ lit (Int (pos 0)) ∷ []
 
-pub understood_as : (schema : Schema) (at tree : ℕ) → IsTableAt schema (broker tree) at → compiled schema statement ≡ Ok (meant (read statement) [] (Insert at (Values terms 5)))
+pub understood_as : (schema : Schema) (at tree : ℕ) → IsTableAt schema (broker_table tree) at → compiled schema statement ≡ Ok (meant (read statement) [] (Insert at (Values terms 5)))
 unfolding everything
-understood_as schema at tree h = inserts schema statement (read statement) refl refl (codes "BROKER") at (broker tree) h.named h.found _ _ _ refl refl
+understood_as schema at tree h = inserts schema statement (read statement) refl refl (codes "BROKER") at (broker_table tree) h.named h.found _ _ _ refl refl

@@ -10,7 +10,7 @@ use Rattle.sqlite_tied.specs.Compute.{everything}
 use Rattle.brk_sql.specs.Desk.{IsTableAt}
 use Rattle.brk_sql.proofs.Meant.{meant, inserts}
 use Rattle.brk_sql.proofs.Texts.{read}
-use Rattle.brk_tables_schema.specs.Shapes.{charge}
+use Rattle.brk_tables_schema.specs.Shapes.{charge_table}
 
 abbrev pub statement : List ℕ
 statement = codes "INSERT INTO CHARGE (CH_TT_ID, CH_C_TIER, CH_CHRG) VALUES (?1, ?2, ?3)"
@@ -18,6 +18,6 @@ statement = codes "INSERT INTO CHARGE (CH_TT_ID, CH_C_TIER, CH_CHRG) VALUES (?1,
 abbrev pub terms : List Term
 terms = lit Null ∷ col 0 0 ∷ col 0 1 ∷ col 0 2 ∷ []
 
-pub understood_as : (schema : Schema) (at tree : ℕ) → IsTableAt schema (charge tree) at → compiled schema statement ≡ Ok (meant (read statement) [] (Insert at (Values terms 4)))
+pub understood_as : (schema : Schema) (at tree : ℕ) → IsTableAt schema (charge_table tree) at → compiled schema statement ≡ Ok (meant (read statement) [] (Insert at (Values terms 4)))
 unfolding everything
-understood_as schema at tree h = inserts schema statement (read statement) refl refl (codes "CHARGE") at (charge tree) h.named h.found _ _ _ refl refl
+understood_as schema at tree h = inserts schema statement (read statement) refl refl (codes "CHARGE") at (charge_table tree) h.named h.found _ _ _ refl refl

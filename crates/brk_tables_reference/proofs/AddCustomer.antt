@@ -10,7 +10,7 @@ use Rattle.sqlite_tied.specs.Compute.{everything}
 use Rattle.brk_sql.specs.Desk.{IsTableAt}
 use Rattle.brk_sql.proofs.Meant.{meant, inserts}
 use Rattle.brk_sql.proofs.Texts.{read}
-use Rattle.brk_tables_schema.specs.Shapes.{customer}
+use Rattle.brk_tables_schema.specs.Shapes.{customer_table}
 
 abbrev pub statement : List ℕ
 statement = codes "INSERT INTO CUSTOMER (C_ID, C_TIER, C_TAX_ID, C_L_NAME, C_F_NAME) VALUES (?1, ?2, ?3, ?4, ?5)"
@@ -18,6 +18,6 @@ statement = codes "INSERT INTO CUSTOMER (C_ID, C_TIER, C_TAX_ID, C_L_NAME, C_F_N
 abbrev pub terms : List Term
 terms = col 0 0 ∷ lit Null ∷ col 0 1 ∷ col 0 2 ∷ col 0 3 ∷ col 0 4 ∷ []
 
-pub understood_as : (schema : Schema) (at tree : ℕ) → IsTableAt schema (customer tree) at → compiled schema statement ≡ Ok (meant (read statement) [] (Insert at (Values terms 6)))
+pub understood_as : (schema : Schema) (at tree : ℕ) → IsTableAt schema (customer_table tree) at → compiled schema statement ≡ Ok (meant (read statement) [] (Insert at (Values terms 6)))
 unfolding everything
-understood_as schema at tree h = inserts schema statement (read statement) refl refl (codes "CUSTOMER") at (customer tree) h.named h.found _ _ _ refl refl
+understood_as schema at tree h = inserts schema statement (read statement) refl refl (codes "CUSTOMER") at (customer_table tree) h.named h.found _ _ _ refl refl

@@ -10,7 +10,7 @@ use Rattle.sqlite_tied.specs.Compute.{everything}
 use Rattle.brk_sql.specs.Desk.{IsTableAt}
 use Rattle.brk_sql.proofs.Meant.{meant, inserts}
 use Rattle.brk_sql.proofs.Texts.{read}
-use Rattle.brk_tables_schema.specs.Shapes.{customer_tax}
+use Rattle.brk_tables_schema.specs.Shapes.{customer_tax_table}
 
 abbrev pub statement : List ℕ
 statement = codes "INSERT INTO CUSTOMER_TAXRATE (CX_C_ID, CX_TX_ID) VALUES (?1, ?2)"
@@ -18,6 +18,6 @@ statement = codes "INSERT INTO CUSTOMER_TAXRATE (CX_C_ID, CX_TX_ID) VALUES (?1, 
 abbrev pub terms : List Term
 terms = lit Null ∷ col 0 0 ∷ col 0 1 ∷ []
 
-pub understood_as : (schema : Schema) (at tree : ℕ) → IsTableAt schema (customer_tax tree) at → compiled schema statement ≡ Ok (meant (read statement) [] (Insert at (Values terms 3)))
+pub understood_as : (schema : Schema) (at tree : ℕ) → IsTableAt schema (customer_tax_table tree) at → compiled schema statement ≡ Ok (meant (read statement) [] (Insert at (Values terms 3)))
 unfolding everything
-understood_as schema at tree h = inserts schema statement (read statement) refl refl (codes "CUSTOMER_TAXRATE") at (customer_tax tree) h.named h.found _ _ _ refl refl
+understood_as schema at tree h = inserts schema statement (read statement) refl refl (codes "CUSTOMER_TAXRATE") at (customer_tax_table tree) h.named h.found _ _ _ refl refl

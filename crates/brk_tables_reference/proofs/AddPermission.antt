@@ -10,7 +10,7 @@ use Rattle.sqlite_tied.specs.Compute.{everything}
 use Rattle.brk_sql.specs.Desk.{IsTableAt}
 use Rattle.brk_sql.proofs.Meant.{meant, inserts}
 use Rattle.brk_sql.proofs.Texts.{read}
-use Rattle.brk_tables_schema.specs.Shapes.{permission}
+use Rattle.brk_tables_schema.specs.Shapes.{permission_table}
 
 abbrev pub statement : List ℕ
 statement = codes "INSERT INTO ACCOUNT_PERMISSION (AP_CA_ID, AP_TAX_ID, AP_ACL, AP_L_NAME, AP_F_NAME) VALUES (?1, ?2, ?3, ?4, ?5)"
@@ -18,6 +18,6 @@ statement = codes "INSERT INTO ACCOUNT_PERMISSION (AP_CA_ID, AP_TAX_ID, AP_ACL, 
 abbrev pub terms : List Term
 terms = lit Null ∷ col 0 0 ∷ col 0 1 ∷ col 0 2 ∷ col 0 3 ∷ col 0 4 ∷ []
 
-pub understood_as : (schema : Schema) (at tree : ℕ) → IsTableAt schema (permission tree) at → compiled schema statement ≡ Ok (meant (read statement) [] (Insert at (Values terms 6)))
+pub understood_as : (schema : Schema) (at tree : ℕ) → IsTableAt schema (permission_table tree) at → compiled schema statement ≡ Ok (meant (read statement) [] (Insert at (Values terms 6)))
 unfolding everything
-understood_as schema at tree h = inserts schema statement (read statement) refl refl (codes "ACCOUNT_PERMISSION") at (permission tree) h.named h.found _ _ _ refl refl
+understood_as schema at tree h = inserts schema statement (read statement) refl refl (codes "ACCOUNT_PERMISSION") at (permission_table tree) h.named h.found _ _ _ refl refl

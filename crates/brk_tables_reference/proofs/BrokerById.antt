@@ -21,7 +21,7 @@ use Rattle.brk_sql.proofs.Meant.{meant, reads_or}
 use Rattle.brk_sql.proofs.Pick.{selection}
 use Rattle.brk_sql.proofs.Scoped.{column_is, heading_is}
 use Rattle.brk_sql.proofs.Texts.{read}
-use Rattle.brk_tables_schema.specs.Shapes.{broker}
+use Rattle.brk_tables_schema.specs.Shapes.{broker_table}
 use Rattle.sqlite_ast.specs.declared.Shown.TheVariants.{One}
 use Rattle.sqlite_ast.specs.declared.Origin.TheVariants.{Table}
 use Rattle.sqlite_ast.specs.declared.Source.{Source, roll-Source}
@@ -95,33 +95,33 @@ names = codes "B_ID" ∷ codes "B_NAME" ∷ codes "B_NUM_TRADES" ∷ codes "B_CO
 abbrev after : ℕ → Carried → State
 after spent last = record (fresh 2 max_budget) { budget = max_budget - spent; last = last }
 
-module _ (schema : Schema) (at tree : ℕ) (h : IsTableAt schema (broker tree) at) where
-  abbrev found : slice_get schema.tables at ≡ Some (broker tree)
+module _ (schema : Schema) (at tree : ℕ) (h : IsTableAt schema (broker_table tree) at) where
+  abbrev found : slice_get schema.tables at ≡ Some (broker_table tree)
   found = h.found
 
   shows : result lower (outermost schema) (level_one (codes "BROKER") at []) core (fresh 2 max_budget) ≡ Ok (columns, after 4 binary)
   unfolding lowering
   shows =
       rw (
-        column_is schema at (broker tree) found (codes "BROKER") [] [] true true (codes "B_ID") 0 (integer_column (codes "B_ID")) refl refl,
-        heading_is schema at (broker tree) found (codes "BROKER") [] [] true true (e.Column None (codes "B_ID")) (codes "B_ID") (codes "B_ID") 0 (integer_column (codes "B_ID")) refl refl refl,
-        column_is schema at (broker tree) found (codes "BROKER") [] [] true true (codes "B_NAME") 1 (text_column (codes "B_NAME")) refl refl,
-        heading_is schema at (broker tree) found (codes "BROKER") [] [] true true (e.Column None (codes "B_NAME")) (codes "B_NAME") (codes "B_NAME") 1 (text_column (codes "B_NAME")) refl refl refl,
-        column_is schema at (broker tree) found (codes "BROKER") [] [] true true (codes "B_NUM_TRADES") 2 (integer_column (codes "B_NUM_TRADES")) refl refl,
-        heading_is schema at (broker tree) found (codes "BROKER") [] [] true true (e.Column None (codes "B_NUM_TRADES")) (codes "B_NUM_TRADES") (codes "B_NUM_TRADES") 2 (integer_column (codes "B_NUM_TRADES")) refl refl refl,
-        column_is schema at (broker tree) found (codes "BROKER") [] [] true true (codes "B_COMM_TOTAL") 3 (integer_column (codes "B_COMM_TOTAL")) refl refl,
-        heading_is schema at (broker tree) found (codes "BROKER") [] [] true true (e.Column None (codes "B_COMM_TOTAL")) (codes "B_COMM_TOTAL") (codes "B_COMM_TOTAL") 3 (integer_column (codes "B_COMM_TOTAL")) refl refl refl,
+        column_is schema at (broker_table tree) found (codes "BROKER") [] [] true true (codes "B_ID") 0 (integer_column (codes "B_ID")) refl refl,
+        heading_is schema at (broker_table tree) found (codes "BROKER") [] [] true true (e.Column None (codes "B_ID")) (codes "B_ID") (codes "B_ID") 0 (integer_column (codes "B_ID")) refl refl refl,
+        column_is schema at (broker_table tree) found (codes "BROKER") [] [] true true (codes "B_NAME") 1 (text_column (codes "B_NAME")) refl refl,
+        heading_is schema at (broker_table tree) found (codes "BROKER") [] [] true true (e.Column None (codes "B_NAME")) (codes "B_NAME") (codes "B_NAME") 1 (text_column (codes "B_NAME")) refl refl refl,
+        column_is schema at (broker_table tree) found (codes "BROKER") [] [] true true (codes "B_NUM_TRADES") 2 (integer_column (codes "B_NUM_TRADES")) refl refl,
+        heading_is schema at (broker_table tree) found (codes "BROKER") [] [] true true (e.Column None (codes "B_NUM_TRADES")) (codes "B_NUM_TRADES") (codes "B_NUM_TRADES") 2 (integer_column (codes "B_NUM_TRADES")) refl refl refl,
+        column_is schema at (broker_table tree) found (codes "BROKER") [] [] true true (codes "B_COMM_TOTAL") 3 (integer_column (codes "B_COMM_TOTAL")) refl refl,
+        heading_is schema at (broker_table tree) found (codes "BROKER") [] [] true true (e.Column None (codes "B_COMM_TOTAL")) (codes "B_COMM_TOTAL") (codes "B_COMM_TOTAL") 3 (integer_column (codes "B_COMM_TOTAL")) refl refl refl,
       )
 
   matches : matching lower (outermost schema) (level_one (codes "BROKER") at columns) core (after 4 binary)
       ≡ Ok (record { steps = Inner tree ∷ []; filter = terms }, after 7 nothing)
   unfolding lowering
-  matches = rw (found, column_is schema at (broker tree) found (codes "BROKER") columns [] false true (codes "B_ID") 0 (integer_column (codes "B_ID")) refl refl)
+  matches = rw (found, column_is schema at (broker_table tree) found (codes "BROKER") columns [] false true (codes "B_ID") 0 (integer_column (codes "B_ID")) refl refl)
 
   sorted : sorts lower (inside schema (level_one (codes "BROKER") at columns) false) columns by (after 7 nothing) ≡ Ok ((draft tree).order, after 8 nothing)
   unfolding lowering
   sorted =
-      rw (column_is schema at (broker tree) found (codes "BROKER") columns [] false true (codes "B_ID") 0 (integer_column (codes "B_ID")) refl refl)
+      rw (column_is schema at (broker_table tree) found (codes "BROKER") columns [] false true (codes "B_ID") 0 (integer_column (codes "B_ID")) refl refl)
 
   meaning_is : meaning schema select ≡ Ok ((draft tree, names, None ∷ Some Binary ∷ Some Binary ∷ Some Binary ∷ []), [])
   unfolding everything

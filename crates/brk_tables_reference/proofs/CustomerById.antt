@@ -21,7 +21,7 @@ use Rattle.brk_sql.proofs.Meant.{meant, reads_or}
 use Rattle.brk_sql.proofs.Pick.{selection}
 use Rattle.brk_sql.proofs.Scoped.{column_is, heading_is}
 use Rattle.brk_sql.proofs.Texts.{read}
-use Rattle.brk_tables_schema.specs.Shapes.{customer}
+use Rattle.brk_tables_schema.specs.Shapes.{customer_table}
 use Rattle.sqlite_ast.specs.declared.Shown.TheVariants.{One}
 use Rattle.sqlite_ast.specs.declared.Origin.TheVariants.{Table}
 use Rattle.sqlite_ast.specs.declared.Source.{Source, roll-Source}
@@ -95,35 +95,35 @@ names = codes "C_ID" ∷ codes "C_TIER" ∷ codes "C_TAX_ID" ∷ codes "C_L_NAME
 abbrev after : ℕ → Carried → State
 after spent last = record (fresh 2 max_budget) { budget = max_budget - spent; last = last }
 
-module _ (schema : Schema) (at tree : ℕ) (h : IsTableAt schema (customer tree) at) where
-  abbrev found : slice_get schema.tables at ≡ Some (customer tree)
+module _ (schema : Schema) (at tree : ℕ) (h : IsTableAt schema (customer_table tree) at) where
+  abbrev found : slice_get schema.tables at ≡ Some (customer_table tree)
   found = h.found
 
   shows : result lower (outermost schema) (level_one (codes "CUSTOMER") at []) core (fresh 2 max_budget) ≡ Ok (columns, after 5 binary)
   unfolding lowering
   shows =
       rw (
-        column_is schema at (customer tree) found (codes "CUSTOMER") [] [] true true (codes "C_ID") 0 (integer_column (codes "C_ID")) refl refl,
-        heading_is schema at (customer tree) found (codes "CUSTOMER") [] [] true true (e.Column None (codes "C_ID")) (codes "C_ID") (codes "C_ID") 0 (integer_column (codes "C_ID")) refl refl refl,
-        column_is schema at (customer tree) found (codes "CUSTOMER") [] [] true true (codes "C_TIER") 1 (integer_column (codes "C_TIER")) refl refl,
-        heading_is schema at (customer tree) found (codes "CUSTOMER") [] [] true true (e.Column None (codes "C_TIER")) (codes "C_TIER") (codes "C_TIER") 1 (integer_column (codes "C_TIER")) refl refl refl,
-        column_is schema at (customer tree) found (codes "CUSTOMER") [] [] true true (codes "C_TAX_ID") 2 (text_column (codes "C_TAX_ID")) refl refl,
-        heading_is schema at (customer tree) found (codes "CUSTOMER") [] [] true true (e.Column None (codes "C_TAX_ID")) (codes "C_TAX_ID") (codes "C_TAX_ID") 2 (text_column (codes "C_TAX_ID")) refl refl refl,
-        column_is schema at (customer tree) found (codes "CUSTOMER") [] [] true true (codes "C_L_NAME") 3 (text_column (codes "C_L_NAME")) refl refl,
-        heading_is schema at (customer tree) found (codes "CUSTOMER") [] [] true true (e.Column None (codes "C_L_NAME")) (codes "C_L_NAME") (codes "C_L_NAME") 3 (text_column (codes "C_L_NAME")) refl refl refl,
-        column_is schema at (customer tree) found (codes "CUSTOMER") [] [] true true (codes "C_F_NAME") 4 (text_column (codes "C_F_NAME")) refl refl,
-        heading_is schema at (customer tree) found (codes "CUSTOMER") [] [] true true (e.Column None (codes "C_F_NAME")) (codes "C_F_NAME") (codes "C_F_NAME") 4 (text_column (codes "C_F_NAME")) refl refl refl,
+        column_is schema at (customer_table tree) found (codes "CUSTOMER") [] [] true true (codes "C_ID") 0 (integer_column (codes "C_ID")) refl refl,
+        heading_is schema at (customer_table tree) found (codes "CUSTOMER") [] [] true true (e.Column None (codes "C_ID")) (codes "C_ID") (codes "C_ID") 0 (integer_column (codes "C_ID")) refl refl refl,
+        column_is schema at (customer_table tree) found (codes "CUSTOMER") [] [] true true (codes "C_TIER") 1 (integer_column (codes "C_TIER")) refl refl,
+        heading_is schema at (customer_table tree) found (codes "CUSTOMER") [] [] true true (e.Column None (codes "C_TIER")) (codes "C_TIER") (codes "C_TIER") 1 (integer_column (codes "C_TIER")) refl refl refl,
+        column_is schema at (customer_table tree) found (codes "CUSTOMER") [] [] true true (codes "C_TAX_ID") 2 (text_column (codes "C_TAX_ID")) refl refl,
+        heading_is schema at (customer_table tree) found (codes "CUSTOMER") [] [] true true (e.Column None (codes "C_TAX_ID")) (codes "C_TAX_ID") (codes "C_TAX_ID") 2 (text_column (codes "C_TAX_ID")) refl refl refl,
+        column_is schema at (customer_table tree) found (codes "CUSTOMER") [] [] true true (codes "C_L_NAME") 3 (text_column (codes "C_L_NAME")) refl refl,
+        heading_is schema at (customer_table tree) found (codes "CUSTOMER") [] [] true true (e.Column None (codes "C_L_NAME")) (codes "C_L_NAME") (codes "C_L_NAME") 3 (text_column (codes "C_L_NAME")) refl refl refl,
+        column_is schema at (customer_table tree) found (codes "CUSTOMER") [] [] true true (codes "C_F_NAME") 4 (text_column (codes "C_F_NAME")) refl refl,
+        heading_is schema at (customer_table tree) found (codes "CUSTOMER") [] [] true true (e.Column None (codes "C_F_NAME")) (codes "C_F_NAME") (codes "C_F_NAME") 4 (text_column (codes "C_F_NAME")) refl refl refl,
       )
 
   matches : matching lower (outermost schema) (level_one (codes "CUSTOMER") at columns) core (after 5 binary)
       ≡ Ok (record { steps = Inner tree ∷ []; filter = terms }, after 8 nothing)
   unfolding lowering
-  matches = rw (found, column_is schema at (customer tree) found (codes "CUSTOMER") columns [] false true (codes "C_ID") 0 (integer_column (codes "C_ID")) refl refl)
+  matches = rw (found, column_is schema at (customer_table tree) found (codes "CUSTOMER") columns [] false true (codes "C_ID") 0 (integer_column (codes "C_ID")) refl refl)
 
   sorted : sorts lower (inside schema (level_one (codes "CUSTOMER") at columns) false) columns by (after 8 nothing) ≡ Ok ((draft tree).order, after 9 nothing)
   unfolding lowering
   sorted =
-      rw (column_is schema at (customer tree) found (codes "CUSTOMER") columns [] false true (codes "C_ID") 0 (integer_column (codes "C_ID")) refl refl)
+      rw (column_is schema at (customer_table tree) found (codes "CUSTOMER") columns [] false true (codes "C_ID") 0 (integer_column (codes "C_ID")) refl refl)
 
   meaning_is : meaning schema select ≡ Ok ((draft tree, names, None ∷ Some Binary ∷ Some Binary ∷ Some Binary ∷ Some Binary ∷ []), [])
   unfolding everything

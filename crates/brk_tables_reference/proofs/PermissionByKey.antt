@@ -21,7 +21,7 @@ use Rattle.brk_sql.proofs.Meant.{meant, reads_or}
 use Rattle.brk_sql.proofs.Pick.{selection}
 use Rattle.brk_sql.proofs.Scoped.{column_is, heading_is}
 use Rattle.brk_sql.proofs.Texts.{read}
-use Rattle.brk_tables_schema.specs.Shapes.{permission}
+use Rattle.brk_tables_schema.specs.Shapes.{permission_table}
 use Rattle.sqlite_ast.specs.declared.Shown.TheVariants.{One}
 use Rattle.sqlite_ast.specs.declared.Origin.TheVariants.{Table}
 use Rattle.sqlite_ast.specs.declared.Source.{Source, roll-Source}
@@ -95,37 +95,37 @@ names = codes "AP_CA_ID" ∷ codes "AP_TAX_ID" ∷ codes "AP_ACL" ∷ codes "AP_
 abbrev after : ℕ → Carried → State
 after spent last = record (fresh 2 max_budget) { budget = max_budget - spent; last = last }
 
-module _ (schema : Schema) (at tree : ℕ) (h : IsTableAt schema (permission tree) at) where
-  abbrev found : slice_get schema.tables at ≡ Some (permission tree)
+module _ (schema : Schema) (at tree : ℕ) (h : IsTableAt schema (permission_table tree) at) where
+  abbrev found : slice_get schema.tables at ≡ Some (permission_table tree)
   found = h.found
 
   shows : result lower (outermost schema) (level_one (codes "ACCOUNT_PERMISSION") at []) core (fresh 2 max_budget) ≡ Ok (columns, after 5 binary)
   unfolding lowering
   shows =
       rw (
-        column_is schema at (permission tree) found (codes "ACCOUNT_PERMISSION") [] [] true true (codes "AP_CA_ID") 0 (integer_column (codes "AP_CA_ID")) refl refl,
-        heading_is schema at (permission tree) found (codes "ACCOUNT_PERMISSION") [] [] true true (e.Column None (codes "AP_CA_ID")) (codes "AP_CA_ID") (codes "AP_CA_ID") 0 (integer_column (codes "AP_CA_ID")) refl refl refl,
-        column_is schema at (permission tree) found (codes "ACCOUNT_PERMISSION") [] [] true true (codes "AP_TAX_ID") 1 (text_column (codes "AP_TAX_ID")) refl refl,
-        heading_is schema at (permission tree) found (codes "ACCOUNT_PERMISSION") [] [] true true (e.Column None (codes "AP_TAX_ID")) (codes "AP_TAX_ID") (codes "AP_TAX_ID") 1 (text_column (codes "AP_TAX_ID")) refl refl refl,
-        column_is schema at (permission tree) found (codes "ACCOUNT_PERMISSION") [] [] true true (codes "AP_ACL") 2 (text_column (codes "AP_ACL")) refl refl,
-        heading_is schema at (permission tree) found (codes "ACCOUNT_PERMISSION") [] [] true true (e.Column None (codes "AP_ACL")) (codes "AP_ACL") (codes "AP_ACL") 2 (text_column (codes "AP_ACL")) refl refl refl,
-        column_is schema at (permission tree) found (codes "ACCOUNT_PERMISSION") [] [] true true (codes "AP_L_NAME") 3 (text_column (codes "AP_L_NAME")) refl refl,
-        heading_is schema at (permission tree) found (codes "ACCOUNT_PERMISSION") [] [] true true (e.Column None (codes "AP_L_NAME")) (codes "AP_L_NAME") (codes "AP_L_NAME") 3 (text_column (codes "AP_L_NAME")) refl refl refl,
-        column_is schema at (permission tree) found (codes "ACCOUNT_PERMISSION") [] [] true true (codes "AP_F_NAME") 4 (text_column (codes "AP_F_NAME")) refl refl,
-        heading_is schema at (permission tree) found (codes "ACCOUNT_PERMISSION") [] [] true true (e.Column None (codes "AP_F_NAME")) (codes "AP_F_NAME") (codes "AP_F_NAME") 4 (text_column (codes "AP_F_NAME")) refl refl refl,
+        column_is schema at (permission_table tree) found (codes "ACCOUNT_PERMISSION") [] [] true true (codes "AP_CA_ID") 0 (integer_column (codes "AP_CA_ID")) refl refl,
+        heading_is schema at (permission_table tree) found (codes "ACCOUNT_PERMISSION") [] [] true true (e.Column None (codes "AP_CA_ID")) (codes "AP_CA_ID") (codes "AP_CA_ID") 0 (integer_column (codes "AP_CA_ID")) refl refl refl,
+        column_is schema at (permission_table tree) found (codes "ACCOUNT_PERMISSION") [] [] true true (codes "AP_TAX_ID") 1 (text_column (codes "AP_TAX_ID")) refl refl,
+        heading_is schema at (permission_table tree) found (codes "ACCOUNT_PERMISSION") [] [] true true (e.Column None (codes "AP_TAX_ID")) (codes "AP_TAX_ID") (codes "AP_TAX_ID") 1 (text_column (codes "AP_TAX_ID")) refl refl refl,
+        column_is schema at (permission_table tree) found (codes "ACCOUNT_PERMISSION") [] [] true true (codes "AP_ACL") 2 (text_column (codes "AP_ACL")) refl refl,
+        heading_is schema at (permission_table tree) found (codes "ACCOUNT_PERMISSION") [] [] true true (e.Column None (codes "AP_ACL")) (codes "AP_ACL") (codes "AP_ACL") 2 (text_column (codes "AP_ACL")) refl refl refl,
+        column_is schema at (permission_table tree) found (codes "ACCOUNT_PERMISSION") [] [] true true (codes "AP_L_NAME") 3 (text_column (codes "AP_L_NAME")) refl refl,
+        heading_is schema at (permission_table tree) found (codes "ACCOUNT_PERMISSION") [] [] true true (e.Column None (codes "AP_L_NAME")) (codes "AP_L_NAME") (codes "AP_L_NAME") 3 (text_column (codes "AP_L_NAME")) refl refl refl,
+        column_is schema at (permission_table tree) found (codes "ACCOUNT_PERMISSION") [] [] true true (codes "AP_F_NAME") 4 (text_column (codes "AP_F_NAME")) refl refl,
+        heading_is schema at (permission_table tree) found (codes "ACCOUNT_PERMISSION") [] [] true true (e.Column None (codes "AP_F_NAME")) (codes "AP_F_NAME") (codes "AP_F_NAME") 4 (text_column (codes "AP_F_NAME")) refl refl refl,
       )
 
   matches : matching lower (outermost schema) (level_one (codes "ACCOUNT_PERMISSION") at columns) core (after 5 binary)
       ≡ Ok (record { steps = Inner tree ∷ []; filter = terms }, after 12 nothing)
   unfolding lowering
-  matches = rw (found, column_is schema at (permission tree) found (codes "ACCOUNT_PERMISSION") columns [] false true (codes "AP_CA_ID") 0 (integer_column (codes "AP_CA_ID")) refl refl, found, column_is schema at (permission tree) found (codes "ACCOUNT_PERMISSION") columns [] false true (codes "AP_TAX_ID") 1 (text_column (codes "AP_TAX_ID")) refl refl, found)
+  matches = rw (found, column_is schema at (permission_table tree) found (codes "ACCOUNT_PERMISSION") columns [] false true (codes "AP_CA_ID") 0 (integer_column (codes "AP_CA_ID")) refl refl, found, column_is schema at (permission_table tree) found (codes "ACCOUNT_PERMISSION") columns [] false true (codes "AP_TAX_ID") 1 (text_column (codes "AP_TAX_ID")) refl refl, found)
 
   sorted : sorts lower (inside schema (level_one (codes "ACCOUNT_PERMISSION") at columns) false) columns by (after 12 nothing) ≡ Ok ((draft tree).order, after 14 binary)
   unfolding lowering
   sorted =
       rw (
-        column_is schema at (permission tree) found (codes "ACCOUNT_PERMISSION") columns [] false true (codes "AP_CA_ID") 0 (integer_column (codes "AP_CA_ID")) refl refl,
-        column_is schema at (permission tree) found (codes "ACCOUNT_PERMISSION") columns [] false true (codes "AP_TAX_ID") 1 (text_column (codes "AP_TAX_ID")) refl refl,
+        column_is schema at (permission_table tree) found (codes "ACCOUNT_PERMISSION") columns [] false true (codes "AP_CA_ID") 0 (integer_column (codes "AP_CA_ID")) refl refl,
+        column_is schema at (permission_table tree) found (codes "ACCOUNT_PERMISSION") columns [] false true (codes "AP_TAX_ID") 1 (text_column (codes "AP_TAX_ID")) refl refl,
       )
 
   meaning_is : meaning schema select ≡ Ok ((draft tree, names, Some Binary ∷ Some Binary ∷ Some Binary ∷ Some Binary ∷ Some Binary ∷ []), [])

@@ -21,7 +21,7 @@ use Rattle.brk_sql.proofs.Meant.{meant, reads_or}
 use Rattle.brk_sql.proofs.Pick.{selection}
 use Rattle.brk_sql.proofs.Scoped.{column_is, heading_is}
 use Rattle.brk_sql.proofs.Texts.{read}
-use Rattle.brk_tables_schema.specs.Shapes.{tax_rate}
+use Rattle.brk_tables_schema.specs.Shapes.{tax_rate_table}
 use Rattle.sqlite_ast.specs.declared.Shown.TheVariants.{One}
 use Rattle.sqlite_ast.specs.declared.Origin.TheVariants.{Table}
 use Rattle.sqlite_ast.specs.declared.Source.{Source, roll-Source}
@@ -95,31 +95,31 @@ names = codes "TX_ID" ∷ codes "TX_NAME" ∷ codes "TX_RATE" ∷ []
 abbrev after : ℕ → Carried → State
 after spent last = record (fresh 2 max_budget) { budget = max_budget - spent; last = last }
 
-module _ (schema : Schema) (at tree : ℕ) (h : IsTableAt schema (tax_rate tree) at) where
-  abbrev found : slice_get schema.tables at ≡ Some (tax_rate tree)
+module _ (schema : Schema) (at tree : ℕ) (h : IsTableAt schema (tax_rate_table tree) at) where
+  abbrev found : slice_get schema.tables at ≡ Some (tax_rate_table tree)
   found = h.found
 
   shows : result lower (outermost schema) (level_one (codes "TAXRATE") at []) core (fresh 2 max_budget) ≡ Ok (columns, after 3 binary)
   unfolding lowering
   shows =
       rw (
-        column_is schema at (tax_rate tree) found (codes "TAXRATE") [] [] true true (codes "TX_ID") 0 (integer_column (codes "TX_ID")) refl refl,
-        heading_is schema at (tax_rate tree) found (codes "TAXRATE") [] [] true true (e.Column None (codes "TX_ID")) (codes "TX_ID") (codes "TX_ID") 0 (integer_column (codes "TX_ID")) refl refl refl,
-        column_is schema at (tax_rate tree) found (codes "TAXRATE") [] [] true true (codes "TX_NAME") 1 (text_column (codes "TX_NAME")) refl refl,
-        heading_is schema at (tax_rate tree) found (codes "TAXRATE") [] [] true true (e.Column None (codes "TX_NAME")) (codes "TX_NAME") (codes "TX_NAME") 1 (text_column (codes "TX_NAME")) refl refl refl,
-        column_is schema at (tax_rate tree) found (codes "TAXRATE") [] [] true true (codes "TX_RATE") 2 (integer_column (codes "TX_RATE")) refl refl,
-        heading_is schema at (tax_rate tree) found (codes "TAXRATE") [] [] true true (e.Column None (codes "TX_RATE")) (codes "TX_RATE") (codes "TX_RATE") 2 (integer_column (codes "TX_RATE")) refl refl refl,
+        column_is schema at (tax_rate_table tree) found (codes "TAXRATE") [] [] true true (codes "TX_ID") 0 (integer_column (codes "TX_ID")) refl refl,
+        heading_is schema at (tax_rate_table tree) found (codes "TAXRATE") [] [] true true (e.Column None (codes "TX_ID")) (codes "TX_ID") (codes "TX_ID") 0 (integer_column (codes "TX_ID")) refl refl refl,
+        column_is schema at (tax_rate_table tree) found (codes "TAXRATE") [] [] true true (codes "TX_NAME") 1 (text_column (codes "TX_NAME")) refl refl,
+        heading_is schema at (tax_rate_table tree) found (codes "TAXRATE") [] [] true true (e.Column None (codes "TX_NAME")) (codes "TX_NAME") (codes "TX_NAME") 1 (text_column (codes "TX_NAME")) refl refl refl,
+        column_is schema at (tax_rate_table tree) found (codes "TAXRATE") [] [] true true (codes "TX_RATE") 2 (integer_column (codes "TX_RATE")) refl refl,
+        heading_is schema at (tax_rate_table tree) found (codes "TAXRATE") [] [] true true (e.Column None (codes "TX_RATE")) (codes "TX_RATE") (codes "TX_RATE") 2 (integer_column (codes "TX_RATE")) refl refl refl,
       )
 
   matches : matching lower (outermost schema) (level_one (codes "TAXRATE") at columns) core (after 3 binary)
       ≡ Ok (record { steps = Inner tree ∷ []; filter = terms }, after 6 nothing)
   unfolding lowering
-  matches = rw (found, column_is schema at (tax_rate tree) found (codes "TAXRATE") columns [] false true (codes "TX_ID") 0 (integer_column (codes "TX_ID")) refl refl)
+  matches = rw (found, column_is schema at (tax_rate_table tree) found (codes "TAXRATE") columns [] false true (codes "TX_ID") 0 (integer_column (codes "TX_ID")) refl refl)
 
   sorted : sorts lower (inside schema (level_one (codes "TAXRATE") at columns) false) columns by (after 6 nothing) ≡ Ok ((draft tree).order, after 7 nothing)
   unfolding lowering
   sorted =
-      rw (column_is schema at (tax_rate tree) found (codes "TAXRATE") columns [] false true (codes "TX_ID") 0 (integer_column (codes "TX_ID")) refl refl)
+      rw (column_is schema at (tax_rate_table tree) found (codes "TAXRATE") columns [] false true (codes "TX_ID") 0 (integer_column (codes "TX_ID")) refl refl)
 
   meaning_is : meaning schema select ≡ Ok ((draft tree, names, None ∷ Some Binary ∷ Some Binary ∷ []), [])
   unfolding everything

@@ -10,7 +10,7 @@ use brk_money::{Fault, Id};
 use brk_ref::{Account, AccountRow};
 use brk_tables_schema::calls::{execute_statement, select_rows};
 use brk_tables_schema::record::{decode_first_row, decode_rows};
-use brk_tables_schema::values::{cents_value, id_value, tax_status_value, text_value};
+use brk_tables_schema::values::{cents_as_parameter, id_as_parameter, tax_status_as_parameter, text_as_parameter};
 use sqlite::{Alter, Transaction};
 use std::alloc::Global;
 
@@ -25,12 +25,12 @@ pub fn add_account<S: Alter>(tx: &mut Transaction<'_, S>, account: &Account) -> 
         tx,
         "INSERT INTO CUSTOMER_ACCOUNT (CA_ID, CA_C_ID, CA_B_ID, CA_NAME, CA_TAX_ST, CA_OPEN, CA_BAL) VALUES (?1, ?2, ?3, ?4, ?5, ?6, ?6)",
         &[
-            id_value(account.id),
-            id_value(account.customer),
-            id_value(account.broker),
-            text_value(account.name.as_str()),
-            tax_status_value(account.tax_status),
-            cents_value(account.opening),
+            id_as_parameter(account.id),
+            id_as_parameter(account.customer),
+            id_as_parameter(account.broker),
+            text_as_parameter(account.name.as_str()),
+            tax_status_as_parameter(account.tax_status),
+            cents_as_parameter(account.opening),
         ],
     )
 }
@@ -48,7 +48,7 @@ pub fn account_by_id<S: Alter>(
     let rows = select_rows(
         tx,
         "SELECT CA_ID, CA_C_ID, CA_B_ID, CA_NAME, CA_TAX_ST, CA_OPEN, CA_BAL FROM CUSTOMER_ACCOUNT WHERE CA_ID = ?1 ORDER BY CA_ID",
-        &[id_value(id)],
+        &[id_as_parameter(id)],
     )?;
     decode_first_row(&rows)
 }
@@ -67,7 +67,7 @@ pub fn accounts_of_customer<S: Alter>(
     let rows = select_rows(
         tx,
         "SELECT CA_ID, CA_C_ID, CA_B_ID, CA_NAME, CA_TAX_ST, CA_OPEN, CA_BAL FROM CUSTOMER_ACCOUNT WHERE CA_C_ID = ?1 ORDER BY CA_ID",
-        &[id_value(customer)],
+        &[id_as_parameter(customer)],
     )?;
     decode_rows(alloc, &rows)
 }

@@ -11,7 +11,7 @@ use brk_money::{Fault, TradeType};
 use brk_ref::{Band, Exchange, Tier};
 use brk_tables_schema::calls::{execute_statement, select_rows};
 use brk_tables_schema::record::decode_rows;
-use brk_tables_schema::values::{qty_value, rate_value, text_value, tier_value, type_value};
+use brk_tables_schema::values::{quantity_as_parameter, commission_rate_as_parameter, text_as_parameter, tier_as_parameter, trade_type_as_parameter};
 use sqlite::{Alter, Transaction};
 use std::alloc::Global;
 
@@ -26,19 +26,19 @@ pub fn add_band<S: Alter>(tx: &mut Transaction<'_, S>, band: &Band) -> Result<()
         tx,
         "INSERT INTO COMMISSION_RATE (CR_C_TIER, CR_TT_ID, CR_EX_ID, CR_FROM_QTY, CR_TO_QTY, CR_RATE) VALUES (?1, ?2, ?3, ?4, ?5, ?6)",
         &[
-            tier_value(band.tier),
-            type_value(band.kind),
-            text_value(band.exchange.as_str()),
-            qty_value(band.from_qty),
-            qty_value(band.to_qty),
-            rate_value(band.rate),
+            tier_as_parameter(band.tier),
+            trade_type_as_parameter(band.kind),
+            text_as_parameter(band.exchange.as_str()),
+            quantity_as_parameter(band.from_qty),
+            quantity_as_parameter(band.to_qty),
+            commission_rate_as_parameter(band.rate),
         ],
     )
 }
 
 /// Returns the bands of a tier, a type and an exchange, sorted by lower bound, ascending. Changes
 /// nothing. Fails with `Memory` or `Store`.
-pub fn bands_for<S: Alter>(
+pub fn bands_by_tier_type_and_exchange<S: Alter>(
     tx: &mut Transaction<'_, S>,
     alloc: Global,
     tier: Tier,
@@ -53,9 +53,9 @@ pub fn bands_for<S: Alter>(
         tx,
         "SELECT CR_C_TIER, CR_TT_ID, CR_EX_ID, CR_FROM_QTY, CR_TO_QTY, CR_RATE FROM COMMISSION_RATE WHERE CR_C_TIER = ?1 AND CR_TT_ID = ?2 AND CR_EX_ID = ?3 ORDER BY CR_C_TIER, CR_TT_ID, CR_EX_ID, CR_FROM_QTY",
         &[
-            tier_value(tier),
-            type_value(kind),
-            text_value(exchange.as_str()),
+            tier_as_parameter(tier),
+            trade_type_as_parameter(kind),
+            text_as_parameter(exchange.as_str()),
         ],
     )?;
     decode_rows(alloc, &rows)

@@ -9,7 +9,7 @@ use brk_money::{Fault, Id};
 use brk_ref::{Broker, BrokerRow};
 use brk_tables_schema::calls::{execute_statement, select_rows};
 use brk_tables_schema::record::decode_first_row;
-use brk_tables_schema::values::{id_value, text_value};
+use brk_tables_schema::values::{id_as_parameter, text_as_parameter};
 use sqlite::{Alter, Transaction};
 
 /// Inserts the row of a broker, with no trades and no commissions yet. Fails with `Store` only,
@@ -22,7 +22,7 @@ pub fn add_broker<S: Alter>(tx: &mut Transaction<'_, S>, broker: &Broker) -> Res
     execute_statement(
         tx,
         "INSERT INTO BROKER (B_ID, B_NAME, B_NUM_TRADES, B_COMM_TOTAL) VALUES (?1, ?2, 0, 0)",
-        &[id_value(broker.id), text_value(broker.name.as_str())],
+        &[id_as_parameter(broker.id), text_as_parameter(broker.name.as_str())],
     )
 }
 
@@ -39,7 +39,7 @@ pub fn broker_by_id<S: Alter>(
     let rows = select_rows(
         tx,
         "SELECT B_ID, B_NAME, B_NUM_TRADES, B_COMM_TOTAL FROM BROKER WHERE B_ID = ?1 ORDER BY B_ID",
-        &[id_value(id)],
+        &[id_as_parameter(id)],
     )?;
     decode_first_row(&rows)
 }

@@ -10,7 +10,7 @@ use brk_money::{Fault, TradeType};
 use brk_ref::{Charge, Tier};
 use brk_tables_schema::calls::{execute_statement, select_rows};
 use brk_tables_schema::record::decode_first_row;
-use brk_tables_schema::values::{charge_amount_value, tier_value, type_value};
+use brk_tables_schema::values::{charge_amount_as_parameter, tier_as_parameter, trade_type_as_parameter};
 use sqlite::{Alter, Transaction};
 
 /// Inserts a charge. Fails with `Store` only, also if a charge of its type and tier exists.
@@ -23,16 +23,16 @@ pub fn add_charge<S: Alter>(tx: &mut Transaction<'_, S>, charge: &Charge) -> Res
         tx,
         "INSERT INTO CHARGE (CH_TT_ID, CH_C_TIER, CH_CHRG) VALUES (?1, ?2, ?3)",
         &[
-            type_value(charge.kind),
-            tier_value(charge.tier),
-            charge_amount_value(charge.amount),
+            trade_type_as_parameter(charge.kind),
+            tier_as_parameter(charge.tier),
+            charge_amount_as_parameter(charge.amount),
         ],
     )
 }
 
 /// Returns the charge of a type and a tier, or `None` if there is none. Changes nothing. Fails with
 /// `Store` only.
-pub fn charge_by_key<S: Alter>(
+pub fn charge_by_type_and_tier<S: Alter>(
     tx: &mut Transaction<'_, S>,
     kind: TradeType,
     tier: Tier,
@@ -44,7 +44,7 @@ pub fn charge_by_key<S: Alter>(
     let rows = select_rows(
         tx,
         "SELECT CH_TT_ID, CH_C_TIER, CH_CHRG FROM CHARGE WHERE CH_TT_ID = ?1 AND CH_C_TIER = ?2 ORDER BY CH_TT_ID, CH_C_TIER",
-        &[type_value(kind), tier_value(tier)],
+        &[trade_type_as_parameter(kind), tier_as_parameter(tier)],
     )?;
     decode_first_row(&rows)
 }

@@ -9,7 +9,7 @@ use brk_money::{Fault, Id};
 use brk_ref::{Customer, TaxId};
 use brk_tables_schema::calls::{execute_statement, select_rows};
 use brk_tables_schema::record::decode_first_row;
-use brk_tables_schema::values::{id_value, text_value, tier_value};
+use brk_tables_schema::values::{id_as_parameter, text_as_parameter, tier_as_parameter};
 use sqlite::{Alter, Transaction};
 
 /// Inserts a customer. Fails with `Store` only, also if the id or the tax id exists.
@@ -22,11 +22,11 @@ pub fn add_customer<S: Alter>(tx: &mut Transaction<'_, S>, customer: &Customer) 
         tx,
         "INSERT INTO CUSTOMER (C_ID, C_TIER, C_TAX_ID, C_L_NAME, C_F_NAME) VALUES (?1, ?2, ?3, ?4, ?5)",
         &[
-            id_value(customer.id),
-            tier_value(customer.tier),
-            text_value(customer.tax_id.as_str()),
-            text_value(customer.last_name.as_str()),
-            text_value(customer.first_name.as_str()),
+            id_as_parameter(customer.id),
+            tier_as_parameter(customer.tier),
+            text_as_parameter(customer.tax_id.as_str()),
+            text_as_parameter(customer.last_name.as_str()),
+            text_as_parameter(customer.first_name.as_str()),
         ],
     )
 }
@@ -44,7 +44,7 @@ pub fn customer_by_id<S: Alter>(
     let rows = select_rows(
         tx,
         "SELECT C_ID, C_TIER, C_TAX_ID, C_L_NAME, C_F_NAME FROM CUSTOMER WHERE C_ID = ?1 ORDER BY C_ID",
-        &[id_value(id)],
+        &[id_as_parameter(id)],
     )?;
     decode_first_row(&rows)
 }
@@ -62,7 +62,7 @@ pub fn customer_by_tax_id<S: Alter>(
     let rows = select_rows(
         tx,
         "SELECT C_ID, C_TIER, C_TAX_ID, C_L_NAME, C_F_NAME FROM CUSTOMER WHERE C_TAX_ID = ?1 ORDER BY C_ID",
-        &[text_value(tax_id.as_str())],
+        &[text_as_parameter(tax_id.as_str())],
     )?;
     decode_first_row(&rows)
 }

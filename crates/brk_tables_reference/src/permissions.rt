@@ -9,7 +9,7 @@ use brk_money::{Fault, Id};
 use brk_ref::{Permission, TaxId};
 use brk_tables_schema::calls::{execute_statement, select_rows};
 use brk_tables_schema::record::decode_first_row;
-use brk_tables_schema::values::{id_value, text_value};
+use brk_tables_schema::values::{id_as_parameter, text_as_parameter};
 use sqlite::{Alter, Transaction};
 
 /// Inserts a permission. Fails with `Store` only, also if the account has one for the tax id.
@@ -25,18 +25,18 @@ pub fn add_permission<S: Alter>(
         tx,
         "INSERT INTO ACCOUNT_PERMISSION (AP_CA_ID, AP_TAX_ID, AP_ACL, AP_L_NAME, AP_F_NAME) VALUES (?1, ?2, ?3, ?4, ?5)",
         &[
-            id_value(permission.account),
-            text_value(permission.tax_id.as_str()),
-            text_value(permission.acl.as_str()),
-            text_value(permission.last_name.as_str()),
-            text_value(permission.first_name.as_str()),
+            id_as_parameter(permission.account),
+            text_as_parameter(permission.tax_id.as_str()),
+            text_as_parameter(permission.acl.as_str()),
+            text_as_parameter(permission.last_name.as_str()),
+            text_as_parameter(permission.first_name.as_str()),
         ],
     )
 }
 
 /// Returns the permission of an account for a tax id, or `None` if there is none. Changes nothing.
 /// Fails with `Store` only.
-pub fn permission_by_key<S: Alter>(
+pub fn permission_by_account_and_tax_id<S: Alter>(
     tx: &mut Transaction<'_, S>,
     account: Id,
     tax_id: &TaxId,
@@ -48,7 +48,7 @@ pub fn permission_by_key<S: Alter>(
     let rows = select_rows(
         tx,
         "SELECT AP_CA_ID, AP_TAX_ID, AP_ACL, AP_L_NAME, AP_F_NAME FROM ACCOUNT_PERMISSION WHERE AP_CA_ID = ?1 AND AP_TAX_ID = ?2 ORDER BY AP_CA_ID, AP_TAX_ID",
-        &[id_value(account), text_value(tax_id.as_str())],
+        &[id_as_parameter(account), text_as_parameter(tax_id.as_str())],
     )?;
     decode_first_row(&rows)
 }

@@ -9,7 +9,7 @@ use brk_money::Fault;
 use brk_ref::{LastTrade, Security, Symbol};
 use brk_tables_schema::calls::{execute_statement, select_rows};
 use brk_tables_schema::record::decode_first_row;
-use brk_tables_schema::values::{price_value, stamp_value, text_value, volume_value};
+use brk_tables_schema::values::{price_as_parameter, stamp_as_parameter, text_as_parameter, volume_as_parameter};
 use sqlite::{Alter, Transaction};
 
 /// Inserts a security, without its last trade. Fails with `Store` only, also if the symbol exists.
@@ -22,10 +22,10 @@ pub fn add_security<S: Alter>(tx: &mut Transaction<'_, S>, security: &Security) 
         tx,
         "INSERT INTO SECURITY (S_SYMB, S_NAME, S_EX_ID, S_SECTOR) VALUES (?1, ?2, ?3, ?4)",
         &[
-            text_value(security.symbol.as_str()),
-            text_value(security.name.as_str()),
-            text_value(security.exchange.as_str()),
-            text_value(security.sector.as_str()),
+            text_as_parameter(security.symbol.as_str()),
+            text_as_parameter(security.name.as_str()),
+            text_as_parameter(security.exchange.as_str()),
+            text_as_parameter(security.sector.as_str()),
         ],
     )
 }
@@ -43,10 +43,10 @@ pub fn add_last_trade<S: Alter>(
         tx,
         "INSERT INTO LAST_TRADE (LT_S_SYMB, LT_DTS, LT_PRICE, LT_VOL) VALUES (?1, ?2, ?3, ?4)",
         &[
-            text_value(last_trade.symbol.as_str()),
-            stamp_value(last_trade.stamp),
-            price_value(last_trade.price),
-            volume_value(last_trade.volume),
+            text_as_parameter(last_trade.symbol.as_str()),
+            stamp_as_parameter(last_trade.stamp),
+            price_as_parameter(last_trade.price),
+            volume_as_parameter(last_trade.volume),
         ],
     )
 }
@@ -64,7 +64,7 @@ pub fn security_by_symbol<S: Alter>(
     let rows = select_rows(
         tx,
         "SELECT S_SYMB, S_NAME, S_EX_ID, S_SECTOR FROM SECURITY WHERE S_SYMB = ?1 ORDER BY S_SYMB",
-        &[text_value(symbol.as_str())],
+        &[text_as_parameter(symbol.as_str())],
     )?;
     decode_first_row(&rows)
 }

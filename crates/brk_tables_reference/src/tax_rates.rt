@@ -10,7 +10,7 @@ use brk_money::{Fault, Id};
 use brk_ref::{CustomerTax, Tax};
 use brk_tables_schema::calls::{execute_statement, select_rows};
 use brk_tables_schema::record::{decode_first_row, decode_rows};
-use brk_tables_schema::values::{id_value, tax_rate_value, text_value};
+use brk_tables_schema::values::{id_as_parameter, tax_rate_as_parameter, text_as_parameter};
 use sqlite::{Alter, Transaction};
 use std::alloc::Global;
 
@@ -24,9 +24,9 @@ pub fn add_tax_rate<S: Alter>(tx: &mut Transaction<'_, S>, tax: &Tax) -> Result<
         tx,
         "INSERT INTO TAXRATE (TX_ID, TX_NAME, TX_RATE) VALUES (?1, ?2, ?3)",
         &[
-            id_value(tax.id),
-            text_value(tax.name.as_str()),
-            tax_rate_value(tax.rate),
+            id_as_parameter(tax.id),
+            text_as_parameter(tax.name.as_str()),
+            tax_rate_as_parameter(tax.rate),
         ],
     )
 }
@@ -43,7 +43,7 @@ pub fn add_customer_tax<S: Alter>(
     execute_statement(
         tx,
         "INSERT INTO CUSTOMER_TAXRATE (CX_C_ID, CX_TX_ID) VALUES (?1, ?2)",
-        &[id_value(pays.customer), id_value(pays.tax)],
+        &[id_as_parameter(pays.customer), id_as_parameter(pays.tax)],
     )
 }
 
@@ -57,14 +57,14 @@ pub fn tax_rate_by_id<S: Alter>(tx: &mut Transaction<'_, S>, id: Id) -> Result<O
     let rows = select_rows(
         tx,
         "SELECT TX_ID, TX_NAME, TX_RATE FROM TAXRATE WHERE TX_ID = ?1 ORDER BY TX_ID",
-        &[id_value(id)],
+        &[id_as_parameter(id)],
     )?;
     decode_first_row(&rows)
 }
 
 /// Returns the row of a customer and a tax, or `None` if the customer does not pay it. Changes
 /// nothing. Fails with `Store` only.
-pub fn customer_tax_by_key<S: Alter>(
+pub fn customer_tax_by_customer_and_tax<S: Alter>(
     tx: &mut Transaction<'_, S>,
     customer: Id,
     tax: Id,
@@ -76,14 +76,14 @@ pub fn customer_tax_by_key<S: Alter>(
     let rows = select_rows(
         tx,
         "SELECT CX_C_ID, CX_TX_ID FROM CUSTOMER_TAXRATE WHERE CX_C_ID = ?1 AND CX_TX_ID = ?2 ORDER BY CX_C_ID, CX_TX_ID",
-        &[id_value(customer), id_value(tax)],
+        &[id_as_parameter(customer), id_as_parameter(tax)],
     )?;
     decode_first_row(&rows)
 }
 
 /// Returns the taxes that a customer pays, sorted by id of the tax, ascending. Changes nothing.
 /// Fails with `Memory` or `Store`.
-pub fn customer_taxes_of<S: Alter>(
+pub fn taxes_of_customer<S: Alter>(
     tx: &mut Transaction<'_, S>,
     alloc: Global,
     customer: Id,
@@ -95,7 +95,7 @@ pub fn customer_taxes_of<S: Alter>(
     let rows = select_rows(
         tx,
         "SELECT CX_C_ID, CX_TX_ID FROM CUSTOMER_TAXRATE WHERE CX_C_ID = ?1 ORDER BY CX_C_ID, CX_TX_ID",
-        &[id_value(customer)],
+        &[id_as_parameter(customer)],
     )?;
     decode_rows(alloc, &rows)
 }

@@ -18,7 +18,7 @@ use Rattle.brk_sql.proofs.Meant.{meant, reads_or}
 use Rattle.brk_sql.proofs.Pick.{selection}
 use Rattle.brk_sql.proofs.Scoped.{column_is, heading_is}
 use Rattle.brk_sql.proofs.Texts.{read}
-use Rattle.brk_tables_schema.specs.Shapes.{band}
+use Rattle.brk_tables_schema.specs.Shapes.{band_table}
 use Rattle.sqlite_ast.specs.declared.Shown.TheVariants.{One}
 use Rattle.sqlite_ast.specs.declared.Origin.TheVariants.{Table}
 use Rattle.sqlite_ast.specs.declared.Source.{Source, roll-Source}
@@ -92,26 +92,26 @@ names = codes "CR_C_TIER" ∷ codes "CR_TT_ID" ∷ codes "CR_EX_ID" ∷ codes "C
 abbrev after : ℕ → Carried → State
 after spent last = record (fresh 2 max_budget) { budget = max_budget - spent; last = last }
 
-module _ (schema : Schema) (at tree : ℕ) (h : IsTableAt schema (band tree) at) where
-  abbrev found : slice_get schema.tables at ≡ Some (band tree)
+module _ (schema : Schema) (at tree : ℕ) (h : IsTableAt schema (band_table tree) at) where
+  abbrev found : slice_get schema.tables at ≡ Some (band_table tree)
   found = h.found
 
   shows : result lower (outermost schema) (level_one (codes "COMMISSION_RATE") at []) core (fresh 2 max_budget) ≡ Ok (columns, after 6 binary)
   unfolding lowering
   shows =
       rw (
-        column_is schema at (band tree) found (codes "COMMISSION_RATE") [] [] true true (codes "CR_C_TIER") 0 (integer_column (codes "CR_C_TIER")) refl refl,
-        heading_is schema at (band tree) found (codes "COMMISSION_RATE") [] [] true true (e.Column None (codes "CR_C_TIER")) (codes "CR_C_TIER") (codes "CR_C_TIER") 0 (integer_column (codes "CR_C_TIER")) refl refl refl,
-        column_is schema at (band tree) found (codes "COMMISSION_RATE") [] [] true true (codes "CR_TT_ID") 1 (text_column (codes "CR_TT_ID")) refl refl,
-        heading_is schema at (band tree) found (codes "COMMISSION_RATE") [] [] true true (e.Column None (codes "CR_TT_ID")) (codes "CR_TT_ID") (codes "CR_TT_ID") 1 (text_column (codes "CR_TT_ID")) refl refl refl,
-        column_is schema at (band tree) found (codes "COMMISSION_RATE") [] [] true true (codes "CR_EX_ID") 2 (text_column (codes "CR_EX_ID")) refl refl,
-        heading_is schema at (band tree) found (codes "COMMISSION_RATE") [] [] true true (e.Column None (codes "CR_EX_ID")) (codes "CR_EX_ID") (codes "CR_EX_ID") 2 (text_column (codes "CR_EX_ID")) refl refl refl,
-        column_is schema at (band tree) found (codes "COMMISSION_RATE") [] [] true true (codes "CR_FROM_QTY") 3 (integer_column (codes "CR_FROM_QTY")) refl refl,
-        heading_is schema at (band tree) found (codes "COMMISSION_RATE") [] [] true true (e.Column None (codes "CR_FROM_QTY")) (codes "CR_FROM_QTY") (codes "CR_FROM_QTY") 3 (integer_column (codes "CR_FROM_QTY")) refl refl refl,
-        column_is schema at (band tree) found (codes "COMMISSION_RATE") [] [] true true (codes "CR_TO_QTY") 4 (integer_column (codes "CR_TO_QTY")) refl refl,
-        heading_is schema at (band tree) found (codes "COMMISSION_RATE") [] [] true true (e.Column None (codes "CR_TO_QTY")) (codes "CR_TO_QTY") (codes "CR_TO_QTY") 4 (integer_column (codes "CR_TO_QTY")) refl refl refl,
-        column_is schema at (band tree) found (codes "COMMISSION_RATE") [] [] true true (codes "CR_RATE") 5 (integer_column (codes "CR_RATE")) refl refl,
-        heading_is schema at (band tree) found (codes "COMMISSION_RATE") [] [] true true (e.Column None (codes "CR_RATE")) (codes "CR_RATE") (codes "CR_RATE") 5 (integer_column (codes "CR_RATE")) refl refl refl,
+        column_is schema at (band_table tree) found (codes "COMMISSION_RATE") [] [] true true (codes "CR_C_TIER") 0 (integer_column (codes "CR_C_TIER")) refl refl,
+        heading_is schema at (band_table tree) found (codes "COMMISSION_RATE") [] [] true true (e.Column None (codes "CR_C_TIER")) (codes "CR_C_TIER") (codes "CR_C_TIER") 0 (integer_column (codes "CR_C_TIER")) refl refl refl,
+        column_is schema at (band_table tree) found (codes "COMMISSION_RATE") [] [] true true (codes "CR_TT_ID") 1 (text_column (codes "CR_TT_ID")) refl refl,
+        heading_is schema at (band_table tree) found (codes "COMMISSION_RATE") [] [] true true (e.Column None (codes "CR_TT_ID")) (codes "CR_TT_ID") (codes "CR_TT_ID") 1 (text_column (codes "CR_TT_ID")) refl refl refl,
+        column_is schema at (band_table tree) found (codes "COMMISSION_RATE") [] [] true true (codes "CR_EX_ID") 2 (text_column (codes "CR_EX_ID")) refl refl,
+        heading_is schema at (band_table tree) found (codes "COMMISSION_RATE") [] [] true true (e.Column None (codes "CR_EX_ID")) (codes "CR_EX_ID") (codes "CR_EX_ID") 2 (text_column (codes "CR_EX_ID")) refl refl refl,
+        column_is schema at (band_table tree) found (codes "COMMISSION_RATE") [] [] true true (codes "CR_FROM_QTY") 3 (integer_column (codes "CR_FROM_QTY")) refl refl,
+        heading_is schema at (band_table tree) found (codes "COMMISSION_RATE") [] [] true true (e.Column None (codes "CR_FROM_QTY")) (codes "CR_FROM_QTY") (codes "CR_FROM_QTY") 3 (integer_column (codes "CR_FROM_QTY")) refl refl refl,
+        column_is schema at (band_table tree) found (codes "COMMISSION_RATE") [] [] true true (codes "CR_TO_QTY") 4 (integer_column (codes "CR_TO_QTY")) refl refl,
+        heading_is schema at (band_table tree) found (codes "COMMISSION_RATE") [] [] true true (e.Column None (codes "CR_TO_QTY")) (codes "CR_TO_QTY") (codes "CR_TO_QTY") 4 (integer_column (codes "CR_TO_QTY")) refl refl refl,
+        column_is schema at (band_table tree) found (codes "COMMISSION_RATE") [] [] true true (codes "CR_RATE") 5 (integer_column (codes "CR_RATE")) refl refl,
+        heading_is schema at (band_table tree) found (codes "COMMISSION_RATE") [] [] true true (e.Column None (codes "CR_RATE")) (codes "CR_RATE") (codes "CR_RATE") 5 (integer_column (codes "CR_RATE")) refl refl refl,
       )
 
   matches : matching lower (outermost schema) (level_one (codes "COMMISSION_RATE") at columns) core (after 6 binary)
@@ -123,10 +123,10 @@ module _ (schema : Schema) (at tree : ℕ) (h : IsTableAt schema (band tree) at)
   unfolding lowering
   sorted =
       rw (
-        column_is schema at (band tree) found (codes "COMMISSION_RATE") columns [] false true (codes "CR_C_TIER") 0 (integer_column (codes "CR_C_TIER")) refl refl,
-        column_is schema at (band tree) found (codes "COMMISSION_RATE") columns [] false true (codes "CR_TT_ID") 1 (text_column (codes "CR_TT_ID")) refl refl,
-        column_is schema at (band tree) found (codes "COMMISSION_RATE") columns [] false true (codes "CR_EX_ID") 2 (text_column (codes "CR_EX_ID")) refl refl,
-        column_is schema at (band tree) found (codes "COMMISSION_RATE") columns [] false true (codes "CR_FROM_QTY") 3 (integer_column (codes "CR_FROM_QTY")) refl refl,
+        column_is schema at (band_table tree) found (codes "COMMISSION_RATE") columns [] false true (codes "CR_C_TIER") 0 (integer_column (codes "CR_C_TIER")) refl refl,
+        column_is schema at (band_table tree) found (codes "COMMISSION_RATE") columns [] false true (codes "CR_TT_ID") 1 (text_column (codes "CR_TT_ID")) refl refl,
+        column_is schema at (band_table tree) found (codes "COMMISSION_RATE") columns [] false true (codes "CR_EX_ID") 2 (text_column (codes "CR_EX_ID")) refl refl,
+        column_is schema at (band_table tree) found (codes "COMMISSION_RATE") columns [] false true (codes "CR_FROM_QTY") 3 (integer_column (codes "CR_FROM_QTY")) refl refl,
       )
 
   meaning_is : meaning schema select ≡ Ok ((draft tree, names, Some Binary ∷ Some Binary ∷ Some Binary ∷ Some Binary ∷ Some Binary ∷ Some Binary ∷ []), [])

@@ -18,7 +18,7 @@ use Rattle.brk_sql.proofs.Meant.{meant, reads_or}
 use Rattle.brk_sql.proofs.Pick.{selection}
 use Rattle.brk_sql.proofs.Scoped.{column_is, heading_is}
 use Rattle.brk_sql.proofs.Texts.{read}
-use Rattle.brk_tables_schema.specs.Shapes.{charge}
+use Rattle.brk_tables_schema.specs.Shapes.{charge_table}
 use Rattle.sqlite_ast.specs.declared.Shown.TheVariants.{One}
 use Rattle.sqlite_ast.specs.declared.Origin.TheVariants.{Table}
 use Rattle.sqlite_ast.specs.declared.Source.{Source, roll-Source}
@@ -92,20 +92,20 @@ names = codes "CH_TT_ID" ∷ codes "CH_C_TIER" ∷ codes "CH_CHRG" ∷ []
 abbrev after : ℕ → Carried → State
 after spent last = record (fresh 2 max_budget) { budget = max_budget - spent; last = last }
 
-module _ (schema : Schema) (at tree : ℕ) (h : IsTableAt schema (charge tree) at) where
-  abbrev found : slice_get schema.tables at ≡ Some (charge tree)
+module _ (schema : Schema) (at tree : ℕ) (h : IsTableAt schema (charge_table tree) at) where
+  abbrev found : slice_get schema.tables at ≡ Some (charge_table tree)
   found = h.found
 
   shows : result lower (outermost schema) (level_one (codes "CHARGE") at []) core (fresh 2 max_budget) ≡ Ok (columns, after 3 binary)
   unfolding lowering
   shows =
       rw (
-        column_is schema at (charge tree) found (codes "CHARGE") [] [] true true (codes "CH_TT_ID") 0 (text_column (codes "CH_TT_ID")) refl refl,
-        heading_is schema at (charge tree) found (codes "CHARGE") [] [] true true (e.Column None (codes "CH_TT_ID")) (codes "CH_TT_ID") (codes "CH_TT_ID") 0 (text_column (codes "CH_TT_ID")) refl refl refl,
-        column_is schema at (charge tree) found (codes "CHARGE") [] [] true true (codes "CH_C_TIER") 1 (integer_column (codes "CH_C_TIER")) refl refl,
-        heading_is schema at (charge tree) found (codes "CHARGE") [] [] true true (e.Column None (codes "CH_C_TIER")) (codes "CH_C_TIER") (codes "CH_C_TIER") 1 (integer_column (codes "CH_C_TIER")) refl refl refl,
-        column_is schema at (charge tree) found (codes "CHARGE") [] [] true true (codes "CH_CHRG") 2 (integer_column (codes "CH_CHRG")) refl refl,
-        heading_is schema at (charge tree) found (codes "CHARGE") [] [] true true (e.Column None (codes "CH_CHRG")) (codes "CH_CHRG") (codes "CH_CHRG") 2 (integer_column (codes "CH_CHRG")) refl refl refl,
+        column_is schema at (charge_table tree) found (codes "CHARGE") [] [] true true (codes "CH_TT_ID") 0 (text_column (codes "CH_TT_ID")) refl refl,
+        heading_is schema at (charge_table tree) found (codes "CHARGE") [] [] true true (e.Column None (codes "CH_TT_ID")) (codes "CH_TT_ID") (codes "CH_TT_ID") 0 (text_column (codes "CH_TT_ID")) refl refl refl,
+        column_is schema at (charge_table tree) found (codes "CHARGE") [] [] true true (codes "CH_C_TIER") 1 (integer_column (codes "CH_C_TIER")) refl refl,
+        heading_is schema at (charge_table tree) found (codes "CHARGE") [] [] true true (e.Column None (codes "CH_C_TIER")) (codes "CH_C_TIER") (codes "CH_C_TIER") 1 (integer_column (codes "CH_C_TIER")) refl refl refl,
+        column_is schema at (charge_table tree) found (codes "CHARGE") [] [] true true (codes "CH_CHRG") 2 (integer_column (codes "CH_CHRG")) refl refl,
+        heading_is schema at (charge_table tree) found (codes "CHARGE") [] [] true true (e.Column None (codes "CH_CHRG")) (codes "CH_CHRG") (codes "CH_CHRG") 2 (integer_column (codes "CH_CHRG")) refl refl refl,
       )
 
   matches : matching lower (outermost schema) (level_one (codes "CHARGE") at columns) core (after 3 binary)
@@ -117,8 +117,8 @@ module _ (schema : Schema) (at tree : ℕ) (h : IsTableAt schema (charge tree) a
   unfolding lowering
   sorted =
       rw (
-        column_is schema at (charge tree) found (codes "CHARGE") columns [] false true (codes "CH_TT_ID") 0 (text_column (codes "CH_TT_ID")) refl refl,
-        column_is schema at (charge tree) found (codes "CHARGE") columns [] false true (codes "CH_C_TIER") 1 (integer_column (codes "CH_C_TIER")) refl refl,
+        column_is schema at (charge_table tree) found (codes "CHARGE") columns [] false true (codes "CH_TT_ID") 0 (text_column (codes "CH_TT_ID")) refl refl,
+        column_is schema at (charge_table tree) found (codes "CHARGE") columns [] false true (codes "CH_C_TIER") 1 (integer_column (codes "CH_C_TIER")) refl refl,
       )
 
   meaning_is : meaning schema select ≡ Ok ((draft tree, names, Some Binary ∷ Some Binary ∷ Some Binary ∷ []), [])

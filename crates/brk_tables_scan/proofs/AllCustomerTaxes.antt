@@ -18,7 +18,7 @@ use Rattle.brk_sql.proofs.Meant.{meant, reads_or}
 use Rattle.brk_sql.proofs.Pick.{selection}
 use Rattle.brk_sql.proofs.Scoped.{column_is, heading_is}
 use Rattle.brk_sql.proofs.Texts.{read}
-use Rattle.brk_tables_schema.specs.Shapes.{customer_tax}
+use Rattle.brk_tables_schema.specs.Shapes.{customer_tax_table}
 use Rattle.sqlite_ast.specs.declared.Shown.TheVariants.{One}
 use Rattle.sqlite_ast.specs.declared.Origin.TheVariants.{Table}
 use Rattle.sqlite_ast.specs.declared.Source.{Source, roll-Source}
@@ -92,18 +92,18 @@ names = codes "CX_C_ID" ∷ codes "CX_TX_ID" ∷ []
 abbrev after : ℕ → Carried → State
 after spent last = record (fresh 2 max_budget) { budget = max_budget - spent; last = last }
 
-module _ (schema : Schema) (at tree : ℕ) (h : IsTableAt schema (customer_tax tree) at) where
-  abbrev found : slice_get schema.tables at ≡ Some (customer_tax tree)
+module _ (schema : Schema) (at tree : ℕ) (h : IsTableAt schema (customer_tax_table tree) at) where
+  abbrev found : slice_get schema.tables at ≡ Some (customer_tax_table tree)
   found = h.found
 
   shows : result lower (outermost schema) (level_one (codes "CUSTOMER_TAXRATE") at []) core (fresh 2 max_budget) ≡ Ok (columns, after 2 binary)
   unfolding lowering
   shows =
       rw (
-        column_is schema at (customer_tax tree) found (codes "CUSTOMER_TAXRATE") [] [] true true (codes "CX_C_ID") 0 (integer_column (codes "CX_C_ID")) refl refl,
-        heading_is schema at (customer_tax tree) found (codes "CUSTOMER_TAXRATE") [] [] true true (e.Column None (codes "CX_C_ID")) (codes "CX_C_ID") (codes "CX_C_ID") 0 (integer_column (codes "CX_C_ID")) refl refl refl,
-        column_is schema at (customer_tax tree) found (codes "CUSTOMER_TAXRATE") [] [] true true (codes "CX_TX_ID") 1 (integer_column (codes "CX_TX_ID")) refl refl,
-        heading_is schema at (customer_tax tree) found (codes "CUSTOMER_TAXRATE") [] [] true true (e.Column None (codes "CX_TX_ID")) (codes "CX_TX_ID") (codes "CX_TX_ID") 1 (integer_column (codes "CX_TX_ID")) refl refl refl,
+        column_is schema at (customer_tax_table tree) found (codes "CUSTOMER_TAXRATE") [] [] true true (codes "CX_C_ID") 0 (integer_column (codes "CX_C_ID")) refl refl,
+        heading_is schema at (customer_tax_table tree) found (codes "CUSTOMER_TAXRATE") [] [] true true (e.Column None (codes "CX_C_ID")) (codes "CX_C_ID") (codes "CX_C_ID") 0 (integer_column (codes "CX_C_ID")) refl refl refl,
+        column_is schema at (customer_tax_table tree) found (codes "CUSTOMER_TAXRATE") [] [] true true (codes "CX_TX_ID") 1 (integer_column (codes "CX_TX_ID")) refl refl,
+        heading_is schema at (customer_tax_table tree) found (codes "CUSTOMER_TAXRATE") [] [] true true (e.Column None (codes "CX_TX_ID")) (codes "CX_TX_ID") (codes "CX_TX_ID") 1 (integer_column (codes "CX_TX_ID")) refl refl refl,
       )
 
   matches : matching lower (outermost schema) (level_one (codes "CUSTOMER_TAXRATE") at columns) core (after 2 binary)
@@ -115,8 +115,8 @@ module _ (schema : Schema) (at tree : ℕ) (h : IsTableAt schema (customer_tax t
   unfolding lowering
   sorted =
       rw (
-        column_is schema at (customer_tax tree) found (codes "CUSTOMER_TAXRATE") columns [] false true (codes "CX_C_ID") 0 (integer_column (codes "CX_C_ID")) refl refl,
-        column_is schema at (customer_tax tree) found (codes "CUSTOMER_TAXRATE") columns [] false true (codes "CX_TX_ID") 1 (integer_column (codes "CX_TX_ID")) refl refl,
+        column_is schema at (customer_tax_table tree) found (codes "CUSTOMER_TAXRATE") columns [] false true (codes "CX_C_ID") 0 (integer_column (codes "CX_C_ID")) refl refl,
+        column_is schema at (customer_tax_table tree) found (codes "CUSTOMER_TAXRATE") columns [] false true (codes "CX_TX_ID") 1 (integer_column (codes "CX_TX_ID")) refl refl,
       )
 
   meaning_is : meaning schema select ≡ Ok ((draft tree, names, Some Binary ∷ Some Binary ∷ []), [])

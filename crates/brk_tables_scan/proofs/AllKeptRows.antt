@@ -18,7 +18,7 @@ use Rattle.brk_sql.proofs.Meant.{meant, reads_or}
 use Rattle.brk_sql.proofs.Pick.{selection}
 use Rattle.brk_sql.proofs.Scoped.{column_is, heading_is}
 use Rattle.brk_sql.proofs.Texts.{read}
-use Rattle.brk_tables_schema.specs.Shapes.{kept}
+use Rattle.brk_tables_schema.specs.Shapes.{kept_table}
 use Rattle.sqlite_ast.specs.declared.Shown.TheVariants.{One}
 use Rattle.sqlite_ast.specs.declared.Origin.TheVariants.{Table}
 use Rattle.sqlite_ast.specs.declared.Source.{Source, roll-Source}
@@ -92,22 +92,22 @@ names = codes "K_BATCH" ∷ codes "K_N" ∷ codes "K_ROW" ∷ codes "K_LINE" ∷
 abbrev after : ℕ → Carried → State
 after spent last = record (fresh 2 max_budget) { budget = max_budget - spent; last = last }
 
-module _ (schema : Schema) (at tree : ℕ) (h : IsTableAt schema (kept tree) at) where
-  abbrev found : slice_get schema.tables at ≡ Some (kept tree)
+module _ (schema : Schema) (at tree : ℕ) (h : IsTableAt schema (kept_table tree) at) where
+  abbrev found : slice_get schema.tables at ≡ Some (kept_table tree)
   found = h.found
 
   shows : result lower (outermost schema) (level_one (codes "KEPT") at []) core (fresh 2 max_budget) ≡ Ok (columns, after 4 binary)
   unfolding lowering
   shows =
       rw (
-        column_is schema at (kept tree) found (codes "KEPT") [] [] true true (codes "K_BATCH") 0 (text_column (codes "K_BATCH")) refl refl,
-        heading_is schema at (kept tree) found (codes "KEPT") [] [] true true (e.Column None (codes "K_BATCH")) (codes "K_BATCH") (codes "K_BATCH") 0 (text_column (codes "K_BATCH")) refl refl refl,
-        column_is schema at (kept tree) found (codes "KEPT") [] [] true true (codes "K_N") 1 (integer_column (codes "K_N")) refl refl,
-        heading_is schema at (kept tree) found (codes "KEPT") [] [] true true (e.Column None (codes "K_N")) (codes "K_N") (codes "K_N") 1 (integer_column (codes "K_N")) refl refl refl,
-        column_is schema at (kept tree) found (codes "KEPT") [] [] true true (codes "K_ROW") 2 (text_column (codes "K_ROW")) refl refl,
-        heading_is schema at (kept tree) found (codes "KEPT") [] [] true true (e.Column None (codes "K_ROW")) (codes "K_ROW") (codes "K_ROW") 2 (text_column (codes "K_ROW")) refl refl refl,
-        column_is schema at (kept tree) found (codes "KEPT") [] [] true true (codes "K_LINE") 3 (text_column (codes "K_LINE")) refl refl,
-        heading_is schema at (kept tree) found (codes "KEPT") [] [] true true (e.Column None (codes "K_LINE")) (codes "K_LINE") (codes "K_LINE") 3 (text_column (codes "K_LINE")) refl refl refl,
+        column_is schema at (kept_table tree) found (codes "KEPT") [] [] true true (codes "K_BATCH") 0 (text_column (codes "K_BATCH")) refl refl,
+        heading_is schema at (kept_table tree) found (codes "KEPT") [] [] true true (e.Column None (codes "K_BATCH")) (codes "K_BATCH") (codes "K_BATCH") 0 (text_column (codes "K_BATCH")) refl refl refl,
+        column_is schema at (kept_table tree) found (codes "KEPT") [] [] true true (codes "K_N") 1 (integer_column (codes "K_N")) refl refl,
+        heading_is schema at (kept_table tree) found (codes "KEPT") [] [] true true (e.Column None (codes "K_N")) (codes "K_N") (codes "K_N") 1 (integer_column (codes "K_N")) refl refl refl,
+        column_is schema at (kept_table tree) found (codes "KEPT") [] [] true true (codes "K_ROW") 2 (text_column (codes "K_ROW")) refl refl,
+        heading_is schema at (kept_table tree) found (codes "KEPT") [] [] true true (e.Column None (codes "K_ROW")) (codes "K_ROW") (codes "K_ROW") 2 (text_column (codes "K_ROW")) refl refl refl,
+        column_is schema at (kept_table tree) found (codes "KEPT") [] [] true true (codes "K_LINE") 3 (text_column (codes "K_LINE")) refl refl,
+        heading_is schema at (kept_table tree) found (codes "KEPT") [] [] true true (e.Column None (codes "K_LINE")) (codes "K_LINE") (codes "K_LINE") 3 (text_column (codes "K_LINE")) refl refl refl,
       )
 
   matches : matching lower (outermost schema) (level_one (codes "KEPT") at columns) core (after 4 binary)
@@ -119,8 +119,8 @@ module _ (schema : Schema) (at tree : ℕ) (h : IsTableAt schema (kept tree) at)
   unfolding lowering
   sorted =
       rw (
-        column_is schema at (kept tree) found (codes "KEPT") columns [] false true (codes "K_BATCH") 0 (text_column (codes "K_BATCH")) refl refl,
-        column_is schema at (kept tree) found (codes "KEPT") columns [] false true (codes "K_N") 1 (integer_column (codes "K_N")) refl refl,
+        column_is schema at (kept_table tree) found (codes "KEPT") columns [] false true (codes "K_BATCH") 0 (text_column (codes "K_BATCH")) refl refl,
+        column_is schema at (kept_table tree) found (codes "KEPT") columns [] false true (codes "K_N") 1 (integer_column (codes "K_N")) refl refl,
       )
 
   meaning_is : meaning schema select ≡ Ok ((draft tree, names, Some Binary ∷ Some Binary ∷ Some Binary ∷ Some Binary ∷ []), [])

@@ -18,7 +18,7 @@ use Rattle.brk_sql.proofs.Meant.{meant, reads_or}
 use Rattle.brk_sql.proofs.Pick.{selection}
 use Rattle.brk_sql.proofs.Scoped.{column_is, heading_is}
 use Rattle.brk_sql.proofs.Texts.{read}
-use Rattle.brk_tables_schema.specs.Shapes.{last_trade}
+use Rattle.brk_tables_schema.specs.Shapes.{last_trade_table}
 use Rattle.sqlite_ast.specs.declared.Shown.TheVariants.{One}
 use Rattle.sqlite_ast.specs.declared.Origin.TheVariants.{Table}
 use Rattle.sqlite_ast.specs.declared.Source.{Source, roll-Source}
@@ -92,22 +92,22 @@ names = codes "LT_S_SYMB" ∷ codes "LT_DTS" ∷ codes "LT_PRICE" ∷ codes "LT_
 abbrev after : ℕ → Carried → State
 after spent last = record (fresh 2 max_budget) { budget = max_budget - spent; last = last }
 
-module _ (schema : Schema) (at tree : ℕ) (h : IsTableAt schema (last_trade tree) at) where
-  abbrev found : slice_get schema.tables at ≡ Some (last_trade tree)
+module _ (schema : Schema) (at tree : ℕ) (h : IsTableAt schema (last_trade_table tree) at) where
+  abbrev found : slice_get schema.tables at ≡ Some (last_trade_table tree)
   found = h.found
 
   shows : result lower (outermost schema) (level_one (codes "LAST_TRADE") at []) core (fresh 2 max_budget) ≡ Ok (columns, after 4 binary)
   unfolding lowering
   shows =
       rw (
-        column_is schema at (last_trade tree) found (codes "LAST_TRADE") [] [] true true (codes "LT_S_SYMB") 0 (text_column (codes "LT_S_SYMB")) refl refl,
-        heading_is schema at (last_trade tree) found (codes "LAST_TRADE") [] [] true true (e.Column None (codes "LT_S_SYMB")) (codes "LT_S_SYMB") (codes "LT_S_SYMB") 0 (text_column (codes "LT_S_SYMB")) refl refl refl,
-        column_is schema at (last_trade tree) found (codes "LAST_TRADE") [] [] true true (codes "LT_DTS") 1 (integer_column (codes "LT_DTS")) refl refl,
-        heading_is schema at (last_trade tree) found (codes "LAST_TRADE") [] [] true true (e.Column None (codes "LT_DTS")) (codes "LT_DTS") (codes "LT_DTS") 1 (integer_column (codes "LT_DTS")) refl refl refl,
-        column_is schema at (last_trade tree) found (codes "LAST_TRADE") [] [] true true (codes "LT_PRICE") 2 (integer_column (codes "LT_PRICE")) refl refl,
-        heading_is schema at (last_trade tree) found (codes "LAST_TRADE") [] [] true true (e.Column None (codes "LT_PRICE")) (codes "LT_PRICE") (codes "LT_PRICE") 2 (integer_column (codes "LT_PRICE")) refl refl refl,
-        column_is schema at (last_trade tree) found (codes "LAST_TRADE") [] [] true true (codes "LT_VOL") 3 (integer_column (codes "LT_VOL")) refl refl,
-        heading_is schema at (last_trade tree) found (codes "LAST_TRADE") [] [] true true (e.Column None (codes "LT_VOL")) (codes "LT_VOL") (codes "LT_VOL") 3 (integer_column (codes "LT_VOL")) refl refl refl,
+        column_is schema at (last_trade_table tree) found (codes "LAST_TRADE") [] [] true true (codes "LT_S_SYMB") 0 (text_column (codes "LT_S_SYMB")) refl refl,
+        heading_is schema at (last_trade_table tree) found (codes "LAST_TRADE") [] [] true true (e.Column None (codes "LT_S_SYMB")) (codes "LT_S_SYMB") (codes "LT_S_SYMB") 0 (text_column (codes "LT_S_SYMB")) refl refl refl,
+        column_is schema at (last_trade_table tree) found (codes "LAST_TRADE") [] [] true true (codes "LT_DTS") 1 (integer_column (codes "LT_DTS")) refl refl,
+        heading_is schema at (last_trade_table tree) found (codes "LAST_TRADE") [] [] true true (e.Column None (codes "LT_DTS")) (codes "LT_DTS") (codes "LT_DTS") 1 (integer_column (codes "LT_DTS")) refl refl refl,
+        column_is schema at (last_trade_table tree) found (codes "LAST_TRADE") [] [] true true (codes "LT_PRICE") 2 (integer_column (codes "LT_PRICE")) refl refl,
+        heading_is schema at (last_trade_table tree) found (codes "LAST_TRADE") [] [] true true (e.Column None (codes "LT_PRICE")) (codes "LT_PRICE") (codes "LT_PRICE") 2 (integer_column (codes "LT_PRICE")) refl refl refl,
+        column_is schema at (last_trade_table tree) found (codes "LAST_TRADE") [] [] true true (codes "LT_VOL") 3 (integer_column (codes "LT_VOL")) refl refl,
+        heading_is schema at (last_trade_table tree) found (codes "LAST_TRADE") [] [] true true (e.Column None (codes "LT_VOL")) (codes "LT_VOL") (codes "LT_VOL") 3 (integer_column (codes "LT_VOL")) refl refl refl,
       )
 
   matches : matching lower (outermost schema) (level_one (codes "LAST_TRADE") at columns) core (after 4 binary)
@@ -118,7 +118,7 @@ module _ (schema : Schema) (at tree : ℕ) (h : IsTableAt schema (last_trade tre
   sorted : sorts lower (inside schema (level_one (codes "LAST_TRADE") at columns) false) columns by (after 4 binary) ≡ Ok ((draft tree).order, after 5 binary)
   unfolding lowering
   sorted =
-      rw (column_is schema at (last_trade tree) found (codes "LAST_TRADE") columns [] false true (codes "LT_S_SYMB") 0 (text_column (codes "LT_S_SYMB")) refl refl)
+      rw (column_is schema at (last_trade_table tree) found (codes "LAST_TRADE") columns [] false true (codes "LT_S_SYMB") 0 (text_column (codes "LT_S_SYMB")) refl refl)
 
   meaning_is : meaning schema select ≡ Ok ((draft tree, names, Some Binary ∷ Some Binary ∷ Some Binary ∷ Some Binary ∷ []), [])
   unfolding everything

@@ -18,7 +18,7 @@ use Rattle.brk_sql.proofs.Meant.{meant, reads_or}
 use Rattle.brk_sql.proofs.Pick.{selection}
 use Rattle.brk_sql.proofs.Scoped.{column_is, heading_is}
 use Rattle.brk_sql.proofs.Texts.{read}
-use Rattle.brk_tables_schema.specs.Shapes.{security}
+use Rattle.brk_tables_schema.specs.Shapes.{security_table}
 use Rattle.sqlite_ast.specs.declared.Shown.TheVariants.{One}
 use Rattle.sqlite_ast.specs.declared.Origin.TheVariants.{Table}
 use Rattle.sqlite_ast.specs.declared.Source.{Source, roll-Source}
@@ -92,22 +92,22 @@ names = codes "S_SYMB" ∷ codes "S_NAME" ∷ codes "S_EX_ID" ∷ codes "S_SECTO
 abbrev after : ℕ → Carried → State
 after spent last = record (fresh 2 max_budget) { budget = max_budget - spent; last = last }
 
-module _ (schema : Schema) (at tree : ℕ) (h : IsTableAt schema (security tree) at) where
-  abbrev found : slice_get schema.tables at ≡ Some (security tree)
+module _ (schema : Schema) (at tree : ℕ) (h : IsTableAt schema (security_table tree) at) where
+  abbrev found : slice_get schema.tables at ≡ Some (security_table tree)
   found = h.found
 
   shows : result lower (outermost schema) (level_one (codes "SECURITY") at []) core (fresh 2 max_budget) ≡ Ok (columns, after 4 binary)
   unfolding lowering
   shows =
       rw (
-        column_is schema at (security tree) found (codes "SECURITY") [] [] true true (codes "S_SYMB") 0 (text_column (codes "S_SYMB")) refl refl,
-        heading_is schema at (security tree) found (codes "SECURITY") [] [] true true (e.Column None (codes "S_SYMB")) (codes "S_SYMB") (codes "S_SYMB") 0 (text_column (codes "S_SYMB")) refl refl refl,
-        column_is schema at (security tree) found (codes "SECURITY") [] [] true true (codes "S_NAME") 1 (text_column (codes "S_NAME")) refl refl,
-        heading_is schema at (security tree) found (codes "SECURITY") [] [] true true (e.Column None (codes "S_NAME")) (codes "S_NAME") (codes "S_NAME") 1 (text_column (codes "S_NAME")) refl refl refl,
-        column_is schema at (security tree) found (codes "SECURITY") [] [] true true (codes "S_EX_ID") 2 (text_column (codes "S_EX_ID")) refl refl,
-        heading_is schema at (security tree) found (codes "SECURITY") [] [] true true (e.Column None (codes "S_EX_ID")) (codes "S_EX_ID") (codes "S_EX_ID") 2 (text_column (codes "S_EX_ID")) refl refl refl,
-        column_is schema at (security tree) found (codes "SECURITY") [] [] true true (codes "S_SECTOR") 3 (text_column (codes "S_SECTOR")) refl refl,
-        heading_is schema at (security tree) found (codes "SECURITY") [] [] true true (e.Column None (codes "S_SECTOR")) (codes "S_SECTOR") (codes "S_SECTOR") 3 (text_column (codes "S_SECTOR")) refl refl refl,
+        column_is schema at (security_table tree) found (codes "SECURITY") [] [] true true (codes "S_SYMB") 0 (text_column (codes "S_SYMB")) refl refl,
+        heading_is schema at (security_table tree) found (codes "SECURITY") [] [] true true (e.Column None (codes "S_SYMB")) (codes "S_SYMB") (codes "S_SYMB") 0 (text_column (codes "S_SYMB")) refl refl refl,
+        column_is schema at (security_table tree) found (codes "SECURITY") [] [] true true (codes "S_NAME") 1 (text_column (codes "S_NAME")) refl refl,
+        heading_is schema at (security_table tree) found (codes "SECURITY") [] [] true true (e.Column None (codes "S_NAME")) (codes "S_NAME") (codes "S_NAME") 1 (text_column (codes "S_NAME")) refl refl refl,
+        column_is schema at (security_table tree) found (codes "SECURITY") [] [] true true (codes "S_EX_ID") 2 (text_column (codes "S_EX_ID")) refl refl,
+        heading_is schema at (security_table tree) found (codes "SECURITY") [] [] true true (e.Column None (codes "S_EX_ID")) (codes "S_EX_ID") (codes "S_EX_ID") 2 (text_column (codes "S_EX_ID")) refl refl refl,
+        column_is schema at (security_table tree) found (codes "SECURITY") [] [] true true (codes "S_SECTOR") 3 (text_column (codes "S_SECTOR")) refl refl,
+        heading_is schema at (security_table tree) found (codes "SECURITY") [] [] true true (e.Column None (codes "S_SECTOR")) (codes "S_SECTOR") (codes "S_SECTOR") 3 (text_column (codes "S_SECTOR")) refl refl refl,
       )
 
   matches : matching lower (outermost schema) (level_one (codes "SECURITY") at columns) core (after 4 binary)
@@ -118,7 +118,7 @@ module _ (schema : Schema) (at tree : ℕ) (h : IsTableAt schema (security tree)
   sorted : sorts lower (inside schema (level_one (codes "SECURITY") at columns) false) columns by (after 4 binary) ≡ Ok ((draft tree).order, after 5 binary)
   unfolding lowering
   sorted =
-      rw (column_is schema at (security tree) found (codes "SECURITY") columns [] false true (codes "S_SYMB") 0 (text_column (codes "S_SYMB")) refl refl)
+      rw (column_is schema at (security_table tree) found (codes "SECURITY") columns [] false true (codes "S_SYMB") 0 (text_column (codes "S_SYMB")) refl refl)
 
   meaning_is : meaning schema select ≡ Ok ((draft tree, names, Some Binary ∷ Some Binary ∷ Some Binary ∷ Some Binary ∷ []), [])
   unfolding everything

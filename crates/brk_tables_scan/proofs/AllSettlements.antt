@@ -18,7 +18,7 @@ use Rattle.brk_sql.proofs.Meant.{meant, reads_or}
 use Rattle.brk_sql.proofs.Pick.{selection}
 use Rattle.brk_sql.proofs.Scoped.{column_is, heading_is}
 use Rattle.brk_sql.proofs.Texts.{read}
-use Rattle.brk_tables_schema.specs.Shapes.{settlement}
+use Rattle.brk_tables_schema.specs.Shapes.{settlement_table}
 use Rattle.sqlite_ast.specs.declared.Shown.TheVariants.{One}
 use Rattle.sqlite_ast.specs.declared.Origin.TheVariants.{Table}
 use Rattle.sqlite_ast.specs.declared.Source.{Source, roll-Source}
@@ -92,22 +92,22 @@ names = codes "SE_T_ID" ∷ codes "SE_CASH_TYPE" ∷ codes "SE_CASH_DUE_DATE" �
 abbrev after : ℕ → Carried → State
 after spent last = record (fresh 2 max_budget) { budget = max_budget - spent; last = last }
 
-module _ (schema : Schema) (at tree : ℕ) (h : IsTableAt schema (settlement tree) at) where
-  abbrev found : slice_get schema.tables at ≡ Some (settlement tree)
+module _ (schema : Schema) (at tree : ℕ) (h : IsTableAt schema (settlement_table tree) at) where
+  abbrev found : slice_get schema.tables at ≡ Some (settlement_table tree)
   found = h.found
 
   shows : result lower (outermost schema) (level_one (codes "SETTLEMENT") at []) core (fresh 2 max_budget) ≡ Ok (columns, after 4 binary)
   unfolding lowering
   shows =
       rw (
-        column_is schema at (settlement tree) found (codes "SETTLEMENT") [] [] true true (codes "SE_T_ID") 0 (integer_column (codes "SE_T_ID")) refl refl,
-        heading_is schema at (settlement tree) found (codes "SETTLEMENT") [] [] true true (e.Column None (codes "SE_T_ID")) (codes "SE_T_ID") (codes "SE_T_ID") 0 (integer_column (codes "SE_T_ID")) refl refl refl,
-        column_is schema at (settlement tree) found (codes "SETTLEMENT") [] [] true true (codes "SE_CASH_TYPE") 1 (text_column (codes "SE_CASH_TYPE")) refl refl,
-        heading_is schema at (settlement tree) found (codes "SETTLEMENT") [] [] true true (e.Column None (codes "SE_CASH_TYPE")) (codes "SE_CASH_TYPE") (codes "SE_CASH_TYPE") 1 (text_column (codes "SE_CASH_TYPE")) refl refl refl,
-        column_is schema at (settlement tree) found (codes "SETTLEMENT") [] [] true true (codes "SE_CASH_DUE_DATE") 2 (integer_column (codes "SE_CASH_DUE_DATE")) refl refl,
-        heading_is schema at (settlement tree) found (codes "SETTLEMENT") [] [] true true (e.Column None (codes "SE_CASH_DUE_DATE")) (codes "SE_CASH_DUE_DATE") (codes "SE_CASH_DUE_DATE") 2 (integer_column (codes "SE_CASH_DUE_DATE")) refl refl refl,
-        column_is schema at (settlement tree) found (codes "SETTLEMENT") [] [] true true (codes "SE_AMT") 3 (integer_column (codes "SE_AMT")) refl refl,
-        heading_is schema at (settlement tree) found (codes "SETTLEMENT") [] [] true true (e.Column None (codes "SE_AMT")) (codes "SE_AMT") (codes "SE_AMT") 3 (integer_column (codes "SE_AMT")) refl refl refl,
+        column_is schema at (settlement_table tree) found (codes "SETTLEMENT") [] [] true true (codes "SE_T_ID") 0 (integer_column (codes "SE_T_ID")) refl refl,
+        heading_is schema at (settlement_table tree) found (codes "SETTLEMENT") [] [] true true (e.Column None (codes "SE_T_ID")) (codes "SE_T_ID") (codes "SE_T_ID") 0 (integer_column (codes "SE_T_ID")) refl refl refl,
+        column_is schema at (settlement_table tree) found (codes "SETTLEMENT") [] [] true true (codes "SE_CASH_TYPE") 1 (text_column (codes "SE_CASH_TYPE")) refl refl,
+        heading_is schema at (settlement_table tree) found (codes "SETTLEMENT") [] [] true true (e.Column None (codes "SE_CASH_TYPE")) (codes "SE_CASH_TYPE") (codes "SE_CASH_TYPE") 1 (text_column (codes "SE_CASH_TYPE")) refl refl refl,
+        column_is schema at (settlement_table tree) found (codes "SETTLEMENT") [] [] true true (codes "SE_CASH_DUE_DATE") 2 (integer_column (codes "SE_CASH_DUE_DATE")) refl refl,
+        heading_is schema at (settlement_table tree) found (codes "SETTLEMENT") [] [] true true (e.Column None (codes "SE_CASH_DUE_DATE")) (codes "SE_CASH_DUE_DATE") (codes "SE_CASH_DUE_DATE") 2 (integer_column (codes "SE_CASH_DUE_DATE")) refl refl refl,
+        column_is schema at (settlement_table tree) found (codes "SETTLEMENT") [] [] true true (codes "SE_AMT") 3 (integer_column (codes "SE_AMT")) refl refl,
+        heading_is schema at (settlement_table tree) found (codes "SETTLEMENT") [] [] true true (e.Column None (codes "SE_AMT")) (codes "SE_AMT") (codes "SE_AMT") 3 (integer_column (codes "SE_AMT")) refl refl refl,
       )
 
   matches : matching lower (outermost schema) (level_one (codes "SETTLEMENT") at columns) core (after 4 binary)
@@ -118,7 +118,7 @@ module _ (schema : Schema) (at tree : ℕ) (h : IsTableAt schema (settlement tre
   sorted : sorts lower (inside schema (level_one (codes "SETTLEMENT") at columns) false) columns by (after 4 binary) ≡ Ok ((draft tree).order, after 5 nothing)
   unfolding lowering
   sorted =
-      rw (column_is schema at (settlement tree) found (codes "SETTLEMENT") columns [] false true (codes "SE_T_ID") 0 (integer_column (codes "SE_T_ID")) refl refl)
+      rw (column_is schema at (settlement_table tree) found (codes "SETTLEMENT") columns [] false true (codes "SE_T_ID") 0 (integer_column (codes "SE_T_ID")) refl refl)
 
   meaning_is : meaning schema select ≡ Ok ((draft tree, names, None ∷ Some Binary ∷ Some Binary ∷ Some Binary ∷ []), [])
   unfolding everything

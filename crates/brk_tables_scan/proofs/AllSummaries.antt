@@ -18,7 +18,7 @@ use Rattle.brk_sql.proofs.Meant.{meant, reads_or}
 use Rattle.brk_sql.proofs.Pick.{selection}
 use Rattle.brk_sql.proofs.Scoped.{column_is, heading_is}
 use Rattle.brk_sql.proofs.Texts.{read}
-use Rattle.brk_tables_schema.specs.Shapes.{summary}
+use Rattle.brk_tables_schema.specs.Shapes.{summary_table}
 use Rattle.sqlite_ast.specs.declared.Shown.TheVariants.{One}
 use Rattle.sqlite_ast.specs.declared.Origin.TheVariants.{Table}
 use Rattle.sqlite_ast.specs.declared.Source.{Source, roll-Source}
@@ -92,20 +92,20 @@ names = codes "HS_CA_ID" ∷ codes "HS_S_SYMB" ∷ codes "HS_QTY" ∷ []
 abbrev after : ℕ → Carried → State
 after spent last = record (fresh 2 max_budget) { budget = max_budget - spent; last = last }
 
-module _ (schema : Schema) (at tree : ℕ) (h : IsTableAt schema (summary tree) at) where
-  abbrev found : slice_get schema.tables at ≡ Some (summary tree)
+module _ (schema : Schema) (at tree : ℕ) (h : IsTableAt schema (summary_table tree) at) where
+  abbrev found : slice_get schema.tables at ≡ Some (summary_table tree)
   found = h.found
 
   shows : result lower (outermost schema) (level_one (codes "HOLDING_SUMMARY") at []) core (fresh 2 max_budget) ≡ Ok (columns, after 3 binary)
   unfolding lowering
   shows =
       rw (
-        column_is schema at (summary tree) found (codes "HOLDING_SUMMARY") [] [] true true (codes "HS_CA_ID") 0 (integer_column (codes "HS_CA_ID")) refl refl,
-        heading_is schema at (summary tree) found (codes "HOLDING_SUMMARY") [] [] true true (e.Column None (codes "HS_CA_ID")) (codes "HS_CA_ID") (codes "HS_CA_ID") 0 (integer_column (codes "HS_CA_ID")) refl refl refl,
-        column_is schema at (summary tree) found (codes "HOLDING_SUMMARY") [] [] true true (codes "HS_S_SYMB") 1 (text_column (codes "HS_S_SYMB")) refl refl,
-        heading_is schema at (summary tree) found (codes "HOLDING_SUMMARY") [] [] true true (e.Column None (codes "HS_S_SYMB")) (codes "HS_S_SYMB") (codes "HS_S_SYMB") 1 (text_column (codes "HS_S_SYMB")) refl refl refl,
-        column_is schema at (summary tree) found (codes "HOLDING_SUMMARY") [] [] true true (codes "HS_QTY") 2 (integer_column (codes "HS_QTY")) refl refl,
-        heading_is schema at (summary tree) found (codes "HOLDING_SUMMARY") [] [] true true (e.Column None (codes "HS_QTY")) (codes "HS_QTY") (codes "HS_QTY") 2 (integer_column (codes "HS_QTY")) refl refl refl,
+        column_is schema at (summary_table tree) found (codes "HOLDING_SUMMARY") [] [] true true (codes "HS_CA_ID") 0 (integer_column (codes "HS_CA_ID")) refl refl,
+        heading_is schema at (summary_table tree) found (codes "HOLDING_SUMMARY") [] [] true true (e.Column None (codes "HS_CA_ID")) (codes "HS_CA_ID") (codes "HS_CA_ID") 0 (integer_column (codes "HS_CA_ID")) refl refl refl,
+        column_is schema at (summary_table tree) found (codes "HOLDING_SUMMARY") [] [] true true (codes "HS_S_SYMB") 1 (text_column (codes "HS_S_SYMB")) refl refl,
+        heading_is schema at (summary_table tree) found (codes "HOLDING_SUMMARY") [] [] true true (e.Column None (codes "HS_S_SYMB")) (codes "HS_S_SYMB") (codes "HS_S_SYMB") 1 (text_column (codes "HS_S_SYMB")) refl refl refl,
+        column_is schema at (summary_table tree) found (codes "HOLDING_SUMMARY") [] [] true true (codes "HS_QTY") 2 (integer_column (codes "HS_QTY")) refl refl,
+        heading_is schema at (summary_table tree) found (codes "HOLDING_SUMMARY") [] [] true true (e.Column None (codes "HS_QTY")) (codes "HS_QTY") (codes "HS_QTY") 2 (integer_column (codes "HS_QTY")) refl refl refl,
       )
 
   matches : matching lower (outermost schema) (level_one (codes "HOLDING_SUMMARY") at columns) core (after 3 binary)
@@ -117,8 +117,8 @@ module _ (schema : Schema) (at tree : ℕ) (h : IsTableAt schema (summary tree) 
   unfolding lowering
   sorted =
       rw (
-        column_is schema at (summary tree) found (codes "HOLDING_SUMMARY") columns [] false true (codes "HS_CA_ID") 0 (integer_column (codes "HS_CA_ID")) refl refl,
-        column_is schema at (summary tree) found (codes "HOLDING_SUMMARY") columns [] false true (codes "HS_S_SYMB") 1 (text_column (codes "HS_S_SYMB")) refl refl,
+        column_is schema at (summary_table tree) found (codes "HOLDING_SUMMARY") columns [] false true (codes "HS_CA_ID") 0 (integer_column (codes "HS_CA_ID")) refl refl,
+        column_is schema at (summary_table tree) found (codes "HOLDING_SUMMARY") columns [] false true (codes "HS_S_SYMB") 1 (text_column (codes "HS_S_SYMB")) refl refl,
       )
 
   meaning_is : meaning schema select ≡ Ok ((draft tree, names, Some Binary ∷ Some Binary ∷ Some Binary ∷ []), [])

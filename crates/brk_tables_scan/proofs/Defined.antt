@@ -13,14 +13,14 @@ use Rattle.sqlite.specs.Effect.{Database}
 use Rattle.brk_model.specs.Schemas.{Schema}
 use Rattle.brk_model.specs.Tables.{Tables}
 use Rattle.brk_sql.proofs.Order.{has_permuted}
-use Rattle.brk_sql.specs.Desk.{HasNoActionsAt, IsTableAt}
+use Rattle.brk_sql.specs.Desk.{HasNoWritingForeignKeysAt, IsTableAt}
 use Rattle.brk_sql.specs.Rows.{cells_in_column_order}
 use Rattle.brk_tables_schema.specs.Cells.{optional_as_value, natural_as_value}
-use Rattle.brk_tables_schema.specs.Desk.{Which, TheDesk, all_tables, has_table, table_name, placed, shape, tables_in_schema}
-use Rattle.brk_tables_schema.specs.Made.{HasRowsInSchema, IsTableOfSchema}
-use Rattle.brk_tables_schema.specs.Shapes.{desk_row}
-use Rattle.brk_tables_create.specs.Made.{tables_added_after}
-use Rattle.brk_tables_scan.specs.Schemas.{HasDesk, HasTableWithNames, SchemaNamesImplyDefinitions, HasDistinctRowids, HasOneDeskRow, table_names_of}
+use Rattle.brk_tables_schema.specs.Desk.{DeskTable, TheDesk, all_tables, schema_has_table, table_name, table_definition_has_tree, table_definition_at, tables_in_schema}
+use Rattle.brk_tables_schema.specs.Made.{HasDeskTablesInSchema, IsTableOfSchema}
+use Rattle.brk_tables_schema.specs.Shapes.{desk_row_table}
+use Rattle.brk_tables_create.specs.Made.{tables_of_later_schemas}
+use Rattle.brk_tables_scan.specs.Schemas.{HasDeskOfSchema, HasTableWithNames, NamedTablesMatchSchemaDefinitions, HasDistinctRowids, IsOneDeskRowOfSchema, table_and_column_names}
 use Rattle.brk_tables_scan.proofs.Listed.{names_alike}
 
 some_same : {X : Type 0} (x y : X) → Some x ≡ Some y → x ≡ y
@@ -39,28 +39,28 @@ one_row x (y ∷ z ∷ rows) p = absurd (let e : suc (suc (length rows)) ≡ suc
 
 -- ---- where a table stands
 
-module _ (desk : Schema) (t : Tables) (db : Database) (has : HasRowsInSchema desk t db) where
-  abbrev tree : Which → ℕ
+module _ (desk : Schema) (t : Tables) (db : Database) (has : HasDeskTablesInSchema desk t db) where
+  abbrev tree : DeskTable → ℕ
   tree = has.0
 
-  stands : (w : Which) → IsTableOfSchema desk w → IsTableAt db.schema (shape w (tree w)) (has.1.place w)
+  stands : (w : DeskTable) → IsTableOfSchema desk w → IsTableAt db.schema (table_definition_at w (tree w)) (has.1.place w)
   stands w of = has.1.stands w of
 
   -- whatever is found by its name is the desk's
-  found_table : (w : Which) → IsTableOfSchema desk w → (at : ℕ) (table : Table) → table_named db.schema (table_name w) ≡ Some at → slice_get db.schema.tables at ≡ Some table → table ≡ shape w (tree w)
+  found_table : (w : DeskTable) → IsTableOfSchema desk w → (at : ℕ) (table : Table) → table_named db.schema (table_name w) ≡ Some at → slice_get db.schema.tables at ≡ Some table → table ≡ table_definition_at w (tree w)
   found_table w of at table named found =
       let e : at ≡ has.1.place w = some_same at (has.1.place w) (sym named ∙ ap (λ n. table_named db.schema n.name) (names_alike w 0 (tree w)) ∙ (stands w of).named) in
-      some_same table (shape w (tree w)) (sym found ∙ ap (slice_get db.schema.tables) e ∙ (stands w of).found)
+      some_same table (table_definition_at w (tree w)) (sym found ∙ ap (slice_get db.schema.tables) e ∙ (stands w of).found)
 
-  at_its_tree : (w : Which) → IsTableOfSchema desk w → (at n : ℕ) → IsTableAt db.schema (shape w n) at → n ≡ tree w
+  at_its_tree : (w : DeskTable) → IsTableOfSchema desk w → (at n : ℕ) → IsTableAt db.schema (table_definition_at w n) at → n ≡ tree w
   at_its_tree w of at n s =
-      let e : shape w n ≡ shape w (tree w) = found_table w of at (shape w n) (ap (λ n. table_named db.schema n.name) (names_alike w 0 n) ∙ s.named) s.found in
-      sym (placed w n) ∙ ap (λ (table : Table). table.tree) e ∙ placed w (tree w)
+      let e : table_definition_at w n ≡ table_definition_at w (tree w) = found_table w of at (table_definition_at w n) (ap (λ n. table_named db.schema n.name) (names_alike w 0 n) ∙ s.named) s.found in
+      sym (table_definition_has_tree w n) ∙ ap (λ (table : Table). table.tree) e ∙ table_definition_has_tree w (tree w)
 
-  there : (w : Which) → IsTableOfSchema desk w → HasTableWithNames db.schema (table_names_of (shape w 0))
+  there : (w : DeskTable) → IsTableOfSchema desk w → HasTableWithNames db.schema (table_and_column_names (table_definition_at w 0))
   there w of = (
     has.1.place w,
-    shape w (tree w),
+    table_definition_at w (tree w),
     record {
       named = ap (λ n. table_named db.schema n.name) (names_alike w 0 (tree w)) ∙ (stands w of).named;
       found = (stands w of).found;
@@ -70,31 +70,31 @@ module _ (desk : Schema) (t : Tables) (db : Database) (has : HasRowsInSchema des
 
   -- ---- the row of DESK
 
-  desk_row_shown : map (cells_in_column_order (desk_row (tree TheDesk))) (db.trees (tree TheDesk)) ≡ (natural_as_value 1 ∷ natural_as_value desk.number ∷ optional_as_value t.last ∷ []) ∷ []
-  desk_row_shown = one_row (natural_as_value 1 ∷ natural_as_value desk.number ∷ optional_as_value t.last ∷ []) (map (cells_in_column_order (desk_row (tree TheDesk))) (db.trees (tree TheDesk))) (has.1.rows TheDesk refl).shown
+  desk_row_shown : map (cells_in_column_order (desk_row_table (tree TheDesk))) (db.trees (tree TheDesk)) ≡ (natural_as_value 1 ∷ natural_as_value desk.number ∷ optional_as_value t.last ∷ []) ∷ []
+  desk_row_shown = one_row (natural_as_value 1 ∷ natural_as_value desk.number ∷ optional_as_value t.last ∷ []) (map (cells_in_column_order (desk_row_table (tree TheDesk))) (db.trees (tree TheDesk))) (has.1.rows TheDesk refl).shown
 
-  the_row : (at n : ℕ) → IsTableAt db.schema (desk_row n) at → HasOneDeskRow desk (map (cells_in_column_order (desk_row n)) (db.trees n))
-  the_row at n s = (optional_as_value t.last, subst (λ k. map (cells_in_column_order (desk_row k)) (db.trees k) ≡ (natural_as_value 1 ∷ natural_as_value desk.number ∷ optional_as_value t.last ∷ []) ∷ []) (sym (at_its_tree TheDesk refl at n s)) desk_row_shown)
+  the_row : (at n : ℕ) → IsTableAt db.schema (desk_row_table n) at → IsOneDeskRowOfSchema desk (map (cells_in_column_order (desk_row_table n)) (db.trees n))
+  the_row at n s = (optional_as_value t.last, subst (λ k. map (cells_in_column_order (desk_row_table k)) (db.trees k) ≡ (natural_as_value 1 ∷ natural_as_value desk.number ∷ optional_as_value t.last ∷ []) ∷ []) (sym (at_its_tree TheDesk refl at n s)) desk_row_shown)
 
   not_not : (b : _) → not b ≡ true → b ≡ false
   not_not true h = absurd (let e = h in cc)
   not_not false h = refl
 
-  pub desk_is_there : HasDesk desk db
+  pub desk_is_there : HasDeskOfSchema desk db
   desk_is_there = record {
-    tables = all_from (λ w. HasTableWithNames db.schema (table_names_of (shape w 0))) (tables_in_schema desk) (λ w listed. there w (has_filtered (has_table desk) all_tables w listed).1);
-    later = all_from (λ w. table_named db.schema (table_name w) ≡ None) (tables_added_after desk) (λ w listed. (has.2 w (not_not (has_table desk w) (has_filtered (λ w. not (has_table desk w)) all_tables w listed).1)).0);
+    tables = all_from (λ w. HasTableWithNames db.schema (table_and_column_names (table_definition_at w 0))) (tables_in_schema desk) (λ w listed. there w (has_filtered (schema_has_table desk) all_tables w listed).1);
+    later = all_from (λ w. table_named db.schema (table_name w) ≡ None) (tables_of_later_schemas desk) (λ w listed. (has.2 w (not_not (schema_has_table desk w) (has_filtered (λ w. not (schema_has_table desk w)) all_tables w listed).1)).0);
     row = the_row;
   }
 
-  pub desk_is_defined : SchemaNamesImplyDefinitions desk db
+  pub desk_is_defined : NamedTablesMatchSchemaDefinitions desk db
   desk_is_defined _ = record {
     sound = has.1.sound;
     shaped = λ w of at table named found.
-        let e : table ≡ shape w (tree w) = found_table w of at table named found in
-        let n : tree w ≡ table.tree = sym (ap (λ (u : Table). u.tree) e ∙ placed w (tree w)) in
-        e ∙ ap (shape w) n;
+        let e : table ≡ table_definition_at w (tree w) = found_table w of at table named found in
+        let n : tree w ≡ table.tree = sym (ap (λ (u : Table). u.tree) e ∙ table_definition_has_tree w (tree w)) in
+        e ∙ ap (table_definition_at w) n;
     apart = λ v w a b i j n p q. has.1.apart v w a b (sym (at_its_tree v a i n p) ∙ at_its_tree w b j n q);
-    calm = λ w of at n s. subst (HasNoActionsAt db.schema) (sym (at_its_tree w of at n s)) (has.1.calm w of);
+    calm = λ w of at n s. subst (HasNoWritingForeignKeysAt db.schema) (sym (at_its_tree w of at n s)) (has.1.calm w of);
     keyed = λ w of at n s. let rows = has.1.rows w of in subst (λ k. HasDistinctRowids (db.trees k)) (sym (at_its_tree w of at n s)) (record { keyed = rows.keyed; apart = rows.apart });
   }

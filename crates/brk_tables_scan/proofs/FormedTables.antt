@@ -17,8 +17,8 @@ use Rattle.brk_model_theorems.specs.FormParts.{SatisfiesFormParts}
 use Rattle.brk_model_theorems.proofs.Conjunctions.{parts3, parts4, parts5, parts6, parts10}
 use Rattle.brk_model_theorems.proofs.FormParts.{form_parts}
 use Rattle.brk_tables_schema.specs.Cells.{flag_as_value, optional_as_value, desk_row_cells, kept_cells, broker_cells, customer_cells, account_cells, permission_cells, security_cells, last_trade_cells, charge_cells, band_cells, tax_rate_cells, customer_tax_cells, trade_cells, history_cells, request_cells, holding_cells, summary_cells, holding_history_cells, settlement_cells, cash_cells, move_cells, rule_cells}
-use Rattle.brk_tables_schema.specs.Desk.{Which, TheDesk, KeptRows, Brokers, Customers, Accounts, Permissions, Securities, LastTrades, Charges, Bands, TaxRates, CustomerTaxes, Trades, TradeHistory, Requests, Holdings, Summaries, HoldingHistory, Settlements, CashRows, CashMoves, SettleRules, desk_rows, rule_rows, encode, rows_in_schema}
-use Rattle.brk_tables_schema.specs.Formed.{passes_all_cell_checks, is_one_valid_desk_row, is_flag_cell, is_null_or_natural_cell, kept_column_cell_checks, broker_column_cell_checks, customer_column_cell_checks, account_column_cell_checks, permission_column_cell_checks, security_column_cell_checks, last_trade_column_cell_checks, charge_column_cell_checks, band_column_cell_checks, tax_rate_column_cell_checks, customer_tax_column_cell_checks, trade_column_cell_checks, history_column_cell_checks, request_column_cell_checks, holding_column_cell_checks, summary_column_cell_checks, holding_history_column_cell_checks, settlement_column_cell_checks, cash_column_cell_checks, move_column_cell_checks, is_at_most_one_valid_rule}
+use Rattle.brk_tables_schema.specs.Desk.{DeskTable, TheDesk, KeptRows, Brokers, Customers, Accounts, Permissions, Securities, LastTrades, Charges, Bands, TaxRates, CustomerTaxes, Trades, TradeHistory, Requests, Holdings, Summaries, HoldingHistory, Settlements, CashRows, CashMoves, SettleRules, desk_rows, rule_rows, encoded_row, rows_in_schema}
+use Rattle.brk_tables_schema.specs.Formed.{passes_all_cell_checks, has_one_valid_desk_row, is_flag_cell, is_null_or_natural_cell, kept_column_cell_checks, broker_column_cell_checks, customer_column_cell_checks, account_column_cell_checks, permission_column_cell_checks, security_column_cell_checks, last_trade_column_cell_checks, charge_column_cell_checks, band_column_cell_checks, tax_rate_column_cell_checks, customer_tax_column_cell_checks, trade_column_cell_checks, history_column_cell_checks, request_column_cell_checks, holding_column_cell_checks, summary_column_cell_checks, holding_history_column_cell_checks, settlement_column_cell_checks, cash_column_cell_checks, move_column_cell_checks, has_at_most_one_valid_rule_row}
 use Rattle.brk_tables_scan.specs.Raw.{RawSheets, raw_rows_of_table}
 use Rattle.brk_tables_scan.specs.Decoded.{are_raw_sheets_well_formed}
 use Rattle.brk_tables_scan.proofs.InForm.{both, each_formed, customer_id, broker_id, tax_id, account_id, trade_id, symbol_of, stamp_of, type_formed, status_formed, tax_status_formed, cash_word_formed, wider}
@@ -40,11 +40,11 @@ some_of : {X : Type 0} (o : Option X) (f : X → Bool) → option_map_or f o fal
 some_of None f h = absurd (let e = h in cc)
 some_of (Some x) f h = (x, refl, h)
 
-desk_formed : (schema : Schema) (last : Option ℕ) → option_map_or (λ last. nat_le last greatest_stamp) last true ≡ true → is_one_valid_desk_row schema (map desk_row_cells (desk_rows schema last)) ≡ true
+desk_formed : (schema : Schema) (last : Option ℕ) → option_map_or (λ last. nat_le last greatest_stamp) last true ≡ true → has_one_valid_desk_row schema (map desk_row_cells (desk_rows schema last)) ≡ true
 desk_formed schema None h = both refl (both (eq-eqb schema.number schema.number refl) refl)
 desk_formed schema (Some n) h = both refl (both (eq-eqb schema.number schema.number refl) (both h refl))
 
-rule_formed : (rule : Option ℕ) → option_map_or (λ day. nat_le day greatest_day) rule true ≡ true → is_at_most_one_valid_rule (map rule_cells (rule_rows rule)) ≡ true
+rule_formed : (rule : Option ℕ) → option_map_or (λ day. nat_le day greatest_day) rule true ≡ true → has_at_most_one_valid_rule_row (map rule_cells (rule_rows rule)) ≡ true
 rule_formed None h = refl
 rule_formed (Some day) h = both refl (both h refl)
 
@@ -131,12 +131,12 @@ module _ (schema : Schema) (narrow : schema.greatest_qty ≤ third_schema.greate
       let q = parts5 (is_cash_row_number r.id) (has_account t r.account) (option_map_or (has_cash_row_name_of_trade t r) r.trade (is_movement_name_and_amount r.name r.amount)) (is_at_most_last_stamp t r.stamp) (is_within_amount_limit r.amount) a.0 in
       both q.0 (both (account_id schema t p r.account q.1) (both (cash_of_formed r r.trade q.2) (both (stamp_of schema t p r.stamp q.3) (both q.4 (both a.1 refl)))))) t.moves (all_both (is_well_formed_move_row t) _ t.moves p.moves texts)
 
-pub tables_formed : (schema : Schema) → schema.greatest_qty ≤ third_schema.greatest_qty → (t : Tables) (raw : RawSheets) → ((w : Which) → raw_rows_of_table raw w ≡ map (encode w) (rows_in_schema schema w t)) → satisfies_form_condition schema t ≡ true → has_utf8_texts t ≡ true → are_raw_sheets_well_formed schema raw ≡ true
+pub tables_formed : (schema : Schema) → schema.greatest_qty ≤ third_schema.greatest_qty → (t : Tables) (raw : RawSheets) → ((w : DeskTable) → raw_rows_of_table raw w ≡ map (encoded_row w) (rows_in_schema schema w t)) → satisfies_form_condition schema t ≡ true → has_utf8_texts t ≡ true → are_raw_sheets_well_formed schema raw ≡ true
 tables_formed schema narrow t raw same form texts =
     let p = form_parts schema t form in
     let q = parts4 _ _ _ _ texts in
     both (both (both (both (both
-    (both (both (both (subst (λ rows. is_one_valid_desk_row schema rows ≡ true) (sym (same TheDesk)) (desk_formed schema t.last p.clock)) (subst (λ rows. list_all (passes_all_cell_checks kept_column_cell_checks) rows ≡ true) (sym (same KeptRows)) (kept_formed schema narrow t p q.0)))
+    (both (both (both (subst (λ rows. has_one_valid_desk_row schema rows ≡ true) (sym (same TheDesk)) (desk_formed schema t.last p.clock)) (subst (λ rows. list_all (passes_all_cell_checks kept_column_cell_checks) rows ≡ true) (sym (same KeptRows)) (kept_formed schema narrow t p q.0)))
     (subst (λ rows. list_all (passes_all_cell_checks broker_column_cell_checks) rows ≡ true) (sym (same Brokers)) (brokers_formed schema narrow t p))) (subst (λ rows. list_all (passes_all_cell_checks customer_column_cell_checks) rows ≡ true) (sym (same Customers)) (customers_formed schema narrow t p)))
     (both (both (both (subst (λ rows. list_all (passes_all_cell_checks account_column_cell_checks) rows ≡ true) (sym (same Accounts)) (accounts_formed schema narrow t p)) (subst (λ rows. list_all (passes_all_cell_checks permission_column_cell_checks) rows ≡ true) (sym (same Permissions)) (permissions_formed schema narrow t p)))
     (subst (λ rows. list_all (passes_all_cell_checks security_column_cell_checks) rows ≡ true) (sym (same Securities)) (securities_formed schema narrow t p))) (subst (λ rows. list_all (passes_all_cell_checks last_trade_column_cell_checks) rows ≡ true) (sym (same LastTrades)) (last_trades_formed schema narrow t p))))
@@ -146,4 +146,4 @@ tables_formed schema narrow t raw same form texts =
     (subst (λ rows. list_all (passes_all_cell_checks request_column_cell_checks) rows ≡ true) (sym (same Requests)) (requests_formed schema narrow t p))) (subst (λ rows. list_all (passes_all_cell_checks holding_column_cell_checks) rows ≡ true) (sym (same Holdings)) (holdings_formed schema narrow t p))))
     (both (both (both (subst (λ rows. list_all (passes_all_cell_checks summary_column_cell_checks) rows ≡ true) (sym (same Summaries)) (summaries_formed schema narrow t p)) (subst (λ rows. list_all (passes_all_cell_checks holding_history_column_cell_checks) rows ≡ true) (sym (same HoldingHistory)) (holding_history_formed schema narrow t p)))
     (subst (λ rows. list_all (passes_all_cell_checks settlement_column_cell_checks) rows ≡ true) (sym (same Settlements)) (settlements_formed schema narrow t p))) (subst (λ rows. list_all (passes_all_cell_checks cash_column_cell_checks) rows ≡ true) (sym (same CashRows)) (cash_formed schema narrow t p q.2))))
-    (both (subst (λ rows. list_all (passes_all_cell_checks move_column_cell_checks) rows ≡ true) (sym (same CashMoves)) (moves_formed schema narrow t p q.3)) (subst (λ rows. is_at_most_one_valid_rule rows ≡ true) (sym (same SettleRules)) (rule_formed t.rule p.rule)))
+    (both (subst (λ rows. list_all (passes_all_cell_checks move_column_cell_checks) rows ≡ true) (sym (same CashMoves)) (moves_formed schema narrow t p q.3)) (subst (λ rows. has_at_most_one_valid_rule_row rows ≡ true) (sym (same SettleRules)) (rule_formed t.rule p.rule)))

@@ -7,20 +7,20 @@ use Rattle.brk_money.specs.declared.fault.Fault.{Fault}
 use Rattle.brk_sql.specs.Model.{IsTransactionStep}
 use Rattle.brk_sql.proofs.Inside.{step_then, step_read}
 use Rattle.brk_model.specs.Schemas.{Schema}
-use Rattle.brk_tables_schema.specs.Desk.{Which, CashMoves, SettleRules}
+use Rattle.brk_tables_schema.specs.Desk.{DeskTable, CashMoves, SettleRules}
 use Rattle.brk_tables_scan.specs.Whole.{ShowsAllRows, ShowsRowsIfPresent}
-use Rattle.brk_tables_scan.specs.Raw.{ShowsFourTables, ShowsLaterTables, IsUnchangedAndOpen}
+use Rattle.brk_tables_scan.specs.Raw.{ShowsFourTables, ShowsLaterSchemaTables, IsUnchangedAndOpen}
 
-abbrev pub Shown : Which → Vec Row → State → State → Type 0
+abbrev pub Shown : DeskTable → Vec Row → State → State → Type 0
 Shown w rows a b = IsTrue a.is_open × (b.now ≡ a.now) × ShowsAllRows w rows.items a.now
 
 pub stays_then : (a b c : State) → IsUnchangedAndOpen a b → IsUnchangedAndOpen b c → IsUnchangedAndOpen a c
 stays_then a b c s t = (s.0, t.1 ∙ s.1)
 
-pub shown_before : (w : Which) (rows : List Row) (a b : State) → IsUnchangedAndOpen a b → ShowsAllRows w rows b.now → ShowsAllRows w rows a.now
+pub shown_before : (w : DeskTable) (rows : List Row) (a b : State) → IsUnchangedAndOpen a b → ShowsAllRows w rows b.now → ShowsAllRows w rows a.now
 shown_before w rows a b s = subst (ShowsAllRows w rows) s.1
 
-module _ (first second third fourth : Which) (a b c d e : State) (r s t u : Vec Row)
+module _ (first second third fourth : DeskTable) (a b c d e : State) (r s t u : Vec Row)
     (one : IsTransactionStep {V = Vec Row} {E = Fault} a b (Ok r) (λ rows x y. Shown first rows x y)) (two : IsTransactionStep {V = Vec Row} {E = Fault} b c (Ok s) (λ rows x y. Shown second rows x y))
     (three : IsTransactionStep {V = Vec Row} {E = Fault} c d (Ok t) (λ rows x y. Shown third rows x y)) (four : IsTransactionStep {V = Vec Row} {E = Fault} d e (Ok u) (λ rows x y. Shown fourth rows x y)) where
   pub shows_four : {V F : Type 0} (v : V) (made : V → State → State → Type 0) → (ShowsFourTables first second third fourth r.items s.items t.items u.items a e → made v a e) → IsTransactionStep {V = V} {E = F} a e (Ok v) made
@@ -36,14 +36,14 @@ module _ (first second third fourth : Which) (a b c d e : State) (r s t u : Vec 
       step_read a e u (Ok v) (λ rows x y. IsUnchangedAndOpen x y × ShowsAllRows first r.items x.now × ShowsAllRows second s.items x.now × ShowsAllRows third t.items x.now × ShowsAllRows fourth rows.items x.now)
       made (λ w is p. let same : v ≡ w = cc in subst (λ w. made w a e) same (makes (record { stays = p.0; one = p.1; two = p.2; three = p.3; four = p.4 }))) all
 
-abbrev pub ShownIfPresent : Schema → Which → Vec Row → State → State → Type 0
+abbrev pub ShownIfPresent : Schema → DeskTable → Vec Row → State → State → Type 0
 ShownIfPresent desk w rows a b = (b.now ≡ a.now) × ShowsRowsIfPresent desk w rows.items a.now
 
 module _ (desk : Schema) (a b c : State) (r s : Vec Row)
     (one : IsTransactionStep {V = Vec Row} {E = Fault} a b (Ok r) (λ rows x y. ShownIfPresent desk CashMoves rows x y)) (two : IsTransactionStep {V = Vec Row} {E = Fault} b c (Ok s) (λ rows x y. ShownIfPresent desk SettleRules rows x y)) where
-  pub shows_later : {V F : Type 0} (v : V) (made : V → State → State → Type 0) → (ShowsLaterTables desk (record { moves = r.items; rule = s.items }) a c → made v a c) → IsTransactionStep {V = V} {E = F} a c (Ok v) made
+  pub shows_later : {V F : Type 0} (v : V) (made : V → State → State → Type 0) → (ShowsLaterSchemaTables desk (record { moves = r.items; rule = s.items }) a c → made v a c) → IsTransactionStep {V = V} {E = F} a c (Ok v) made
   shows_later {V} {F} v made makes =
-      let both : Vec Row → State → State → Type 0 = λ rows x y. ShowsLaterTables desk (record { moves = r.items; rule = rows.items }) x y in
+      let both : Vec Row → State → State → Type 0 = λ rows x y. ShowsLaterSchemaTables desk (record { moves = r.items; rule = rows.items }) x y in
       let all = step_then a b c r (Ok s) (λ rows x y. ShownIfPresent desk CashMoves rows x y) (λ rows x y. ShownIfPresent desk SettleRules rows x y) both
       (λ rows p q. record { same = q.0 ∙ p.0; moves = p.1; rule = subst (ShowsRowsIfPresent desk SettleRules rows.items) p.0 q.1 }) one two in
       step_read a c s (Ok v) both made (λ w is p. let same : v ≡ w = cc in subst (λ w. made w a c) same (makes p)) all

@@ -11,11 +11,11 @@ use Rattle.sqlite_schema.specs.declared.schema.Table.{Table}
 use Rattle.sqlite_schema.specs.Names.{table_named}
 use Rattle.brk_sql.specs.Desk.{MatchesResultColumns}
 use Rattle.brk_model.specs.Schemas.{Schema as Desk}
-use Rattle.brk_tables_schema.specs.Desk.{Which, table_name, shape, tables_in_schema}
-use Rattle.brk_tables_create.specs.Made.{tables_added_after}
+use Rattle.brk_tables_schema.specs.Desk.{DeskTable, table_name, table_definition_at, tables_in_schema}
+use Rattle.brk_tables_create.specs.Made.{tables_of_later_schemas}
 use Rattle.brk_tables_create.specs.Present.{has_exact_table_names, has_table_named}
-use Rattle.brk_tables_scan.specs.Headings.{MatchesEachHeading, borrowed_heading, heading_of_table, select_all_text}
-use Rattle.brk_tables_scan.specs.Schemas.{HasTableWithNames, HasTablesOfSchema, LacksLaterTables, table_names_of}
+use Rattle.brk_tables_scan.specs.Headings.{MatchesEachHeading, heading_of_borrowed_texts, heading_of_table, select_all_text}
+use Rattle.brk_tables_scan.specs.Schemas.{HasTableWithNames, HasTablesOfSchema, LacksTablesOfLaterSchemas, table_and_column_names}
 use Rattle.brk_tables_scan.proofs.Stars.{columns_told}
 
 -- ---- one after another
@@ -25,20 +25,20 @@ Told = Bor (List ℕ) × Bor (List (Bor (List ℕ)))
 
 module _ (schema : Schema) (d : Told) where
   -- all before it, and not this one
-  pub wrong_at : (all : List Told) (i : ℕ) → i < length all → MatchesEachHeading (map borrowed_heading (take i all)) true schema → MatchesResultColumns (borrowed_heading (get_or all i d)).0 (borrowed_heading (get_or all i d)).1 false schema → MatchesEachHeading (map borrowed_heading all) false schema
+  pub wrong_at : (all : List Told) (i : ℕ) → i < length all → MatchesEachHeading (map heading_of_borrowed_texts (take i all)) true schema → MatchesResultColumns (heading_of_borrowed_texts (get_or all i d)).0 (heading_of_borrowed_texts (get_or all i d)).1 false schema → MatchesEachHeading (map heading_of_borrowed_texts all) false schema
   wrong_at [] i lt before this = absurd (omega (arith, lt))
   wrong_at (t ∷ all) zero lt before this = inl (this, refl)
   wrong_at (t ∷ all) (suc i) lt (inl (other, e)) this = absurd (let f = e in cc)
   wrong_at (t ∷ all) (suc i) lt (inr (one, before)) this = inr (one, wrong_at all i (omega (arith, lt)) before this)
 
-  next_at : (all : List Told) (i : ℕ) → i < length all → MatchesEachHeading (map borrowed_heading (take i all)) true schema → MatchesResultColumns (borrowed_heading (get_or all i d)).0 (borrowed_heading (get_or all i d)).1 true schema → MatchesEachHeading (map borrowed_heading (take (suc i) all)) true schema
+  next_at : (all : List Told) (i : ℕ) → i < length all → MatchesEachHeading (map heading_of_borrowed_texts (take i all)) true schema → MatchesResultColumns (heading_of_borrowed_texts (get_or all i d)).0 (heading_of_borrowed_texts (get_or all i d)).1 true schema → MatchesEachHeading (map heading_of_borrowed_texts (take (suc i) all)) true schema
   next_at [] i lt before this = absurd (omega (arith, lt))
   next_at (t ∷ all) zero lt before this = inr (this, refl)
   next_at (t ∷ all) (suc i) lt (inl (other, e)) this = absurd (let f = e in cc)
   next_at (t ∷ all) (suc i) lt (inr (one, before)) this = inr (one, next_at all i (omega (arith, lt)) before this)
 
   -- all before it, and this one
-  pub right_at : (all : List Told) (i : ℕ) → i < length all → MatchesEachHeading (map borrowed_heading (take i all)) true schema → MatchesResultColumns (borrowed_heading (get_or all i d)).0 (borrowed_heading (get_or all i d)).1 true schema → MatchesEachHeading (map borrowed_heading (take (i + 1) all)) true schema
+  pub right_at : (all : List Told) (i : ℕ) → i < length all → MatchesEachHeading (map heading_of_borrowed_texts (take i all)) true schema → MatchesResultColumns (heading_of_borrowed_texts (get_or all i d)).0 (heading_of_borrowed_texts (get_or all i d)).1 true schema → MatchesEachHeading (map heading_of_borrowed_texts (take (i + 1) all)) true schema
   right_at all i lt before this = rw (add-one i) (next_at all i lt before this)
 
 -- ---- of a desk
@@ -51,35 +51,35 @@ module _ (schema : Schema) where
   ]
 
   -- one that shows its columns has them
-  table_there : (w : Which) → has_table_named schema w ≡ true → MatchesResultColumns (select_all_text w) (table_names_of (shape w 0)).columns true schema → HasTableWithNames schema (table_names_of (shape w 0))
+  table_there : (w : DeskTable) → has_table_named schema w ≡ true → MatchesResultColumns (select_all_text w) (table_and_column_names (table_definition_at w 0)).columns true schema → HasTableWithNames schema (table_and_column_names (table_definition_at w 0))
   table_there w there shows = go (table_named schema (table_name w)) refl
     where
-      go : (r : Option ℕ) → table_named schema (table_name w) ≡ r → HasTableWithNames schema (table_names_of (shape w 0))
+      go : (r : Option ℕ) → table_named schema (table_name w) ≡ r → HasTableWithNames schema (table_and_column_names (table_definition_at w 0))
       go None none = absurd (let f = sym there ∙ ap is_some none in cc)
       go (Some at) named =
           let t = found_at (table_name w) at named in
           (at, t.0, record { named = named; found = t.1; columns = sym (columns_told w schema at t.0 named t.1 shows.0 shows.1) ∙ shows.2.0 refl })
 
   -- and one that has them shows them
-  columns_shown : (w : Which) → HasTableWithNames schema (table_names_of (shape w 0)) → MatchesResultColumns (select_all_text w) (table_names_of (shape w 0)).columns false schema → ⊥
+  columns_shown : (w : DeskTable) → HasTableWithNames schema (table_and_column_names (table_definition_at w 0)) → MatchesResultColumns (select_all_text w) (table_and_column_names (table_definition_at w 0)).columns false schema → ⊥
   columns_shown w has shows =
       let e : false ≡ true = shows.2.1 (columns_told w schema has.0 has.1 has.2.named has.2.found shows.0 shows.1 ∙ has.2.columns) in
       cc
 
-  told_by : (ws : List Which) → list_all (has_table_named schema) ws ≡ true → (has : Bool) → MatchesEachHeading (map heading_of_table ws) has schema → IsTrue has ↔ AllByRecursion (λ w. HasTableWithNames schema (table_names_of (shape w 0))) ws
+  told_by : (ws : List DeskTable) → list_all (has_table_named schema) ws ≡ true → (has : Bool) → MatchesEachHeading (map heading_of_table ws) has schema → IsTrue has ↔ AllByRecursion (λ w. HasTableWithNames schema (table_and_column_names (table_definition_at w 0))) ws
   told_by [] there has e = ((λ _. tt), (λ _. e))
-  told_by (w ∷ ws) there has (inl (wrong, e)) = ((λ sure. absurd (let f = sym e ∙ sure in cc)), (λ (all : AllByRecursion (λ w. HasTableWithNames schema (table_names_of (shape w 0))) (w ∷ ws)). absurd (columns_shown w all.0 wrong)))
+  told_by (w ∷ ws) there has (inl (wrong, e)) = ((λ sure. absurd (let f = sym e ∙ sure in cc)), (λ (all : AllByRecursion (λ w. HasTableWithNames schema (table_and_column_names (table_definition_at w 0))) (w ∷ ws)). absurd (columns_shown w all.0 wrong)))
   told_by (w ∷ ws) there has (inr (right, rest)) =
       let p = and_parts (has_table_named schema w) (list_all (has_table_named schema) ws) there in
       let more = told_by ws p.1 has rest in
-      ((λ sure. (table_there w p.0 right, more.0 sure)), (λ (all : AllByRecursion (λ w. HasTableWithNames schema (table_names_of (shape w 0))) (w ∷ ws)). more.1 all.1))
+      ((λ sure. (table_there w p.0 right, more.0 sure)), (λ (all : AllByRecursion (λ w. HasTableWithNames schema (table_and_column_names (table_definition_at w 0))) (w ∷ ws)). more.1 all.1))
 
   -- a name that no table has
   unnamed : (o : Option ℕ) → is_some o ≡ false → o ≡ None
   unnamed None h = refl
   unnamed (Some n) h = absurd (let e = h in cc)
 
-  none_named : (ws : List Which) → list_any (has_table_named schema) ws ≡ false → AllByRecursion (λ w. table_named schema (table_name w) ≡ None) ws
+  none_named : (ws : List DeskTable) → list_any (has_table_named schema) ws ≡ false → AllByRecursion (λ w. table_named schema (table_name w) ≡ None) ws
   none_named [] h = tt
   none_named (w ∷ ws) h = go (has_table_named schema w) refl h (λ off. none_named ws off)
     where
@@ -87,29 +87,29 @@ module _ (schema : Schema) where
       go true e h more = absurd (let f = h in cc)
       go false e h more = (unnamed (table_named schema (table_name w)) e, more h)
 
-  named_none : (ws : List Which) → AllByRecursion (λ w. table_named schema (table_name w) ≡ None) ws → list_any (has_table_named schema) ws ≡ false
+  named_none : (ws : List DeskTable) → AllByRecursion (λ w. table_named schema (table_name w) ≡ None) ws → list_any (has_table_named schema) ws ≡ false
   named_none [] all = refl
   named_none (w ∷ ws) all = rw (all.0) (named_none ws all.1)
 
   -- tables that are there have their names
-  all_named : (ws : List Which) → AllByRecursion (λ w. HasTableWithNames schema (table_names_of (shape w 0))) ws → list_all (has_table_named schema) ws ≡ true
+  all_named : (ws : List DeskTable) → AllByRecursion (λ w. HasTableWithNames schema (table_and_column_names (table_definition_at w 0))) ws → list_all (has_table_named schema) ws ≡ true
   all_named [] all = refl
   all_named (w ∷ ws) all = rw (all.0.2.named) (all_named ws all.1)
 
   module _ (desk : Desk) where
-    pub columns_tell : has_exact_table_names desk schema ≡ true → (has : Bool) → MatchesEachHeading (map heading_of_table (tables_in_schema desk)) has schema → IsTrue has ↔ HasTablesOfSchema desk schema × LacksLaterTables desk schema
+    pub columns_tell : has_exact_table_names desk schema ≡ true → (has : Bool) → MatchesEachHeading (map heading_of_table (tables_in_schema desk)) has schema → IsTrue has ↔ HasTablesOfSchema desk schema × LacksTablesOfLaterSchemas desk schema
     columns_tell there has heads =
-        let p = and_parts (list_all (has_table_named schema) (tables_in_schema desk)) (not (list_any (has_table_named schema) (tables_added_after desk))) there in
+        let p = and_parts (list_all (has_table_named schema) (tables_in_schema desk)) (not (list_any (has_table_named schema) (tables_of_later_schemas desk))) there in
         let told = told_by (tables_in_schema desk) p.0 has heads in
-        ((λ sure. (told.0 sure, none_named (tables_added_after desk) (not_not _ p.1))), (λ (both : HasTablesOfSchema desk schema × LacksLaterTables desk schema). told.1 both.0))
+        ((λ sure. (told.0 sure, none_named (tables_of_later_schemas desk) (not_not _ p.1))), (λ (both : HasTablesOfSchema desk schema × LacksTablesOfLaterSchemas desk schema). told.1 both.0))
       where
         not_not : (b : Bool) → not b ≡ true → b ≡ false
         not_not true h = absurd (let e = h in cc)
         not_not false h = refl
 
-    pub none_there : (has : Bool) → has_exact_table_names desk schema ≡ false → has ≡ false → IsTrue has ↔ HasTablesOfSchema desk schema × LacksLaterTables desk schema
+    pub none_there : (has : Bool) → has_exact_table_names desk schema ≡ false → has ≡ false → IsTrue has ↔ HasTablesOfSchema desk schema × LacksTablesOfLaterSchemas desk schema
     none_there has e other = (
       (λ sure. absurd (let f = sym other ∙ sure in cc)),
-      (λ (both : HasTablesOfSchema desk schema × LacksLaterTables desk schema).
-          absurd (let sure : has_exact_table_names desk schema ≡ true = rw (all_named (tables_in_schema desk) both.0, named_none (tables_added_after desk) both.1) refl in let f = sym sure ∙ e in cc)),
+      (λ (both : HasTablesOfSchema desk schema × LacksTablesOfLaterSchemas desk schema).
+          absurd (let sure : has_exact_table_names desk schema ≡ true = rw (all_named (tables_in_schema desk) both.0, named_none (tables_of_later_schemas desk) both.1) refl in let f = sym sure ∙ e in cc)),
     )

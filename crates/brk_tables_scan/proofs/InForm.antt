@@ -21,7 +21,7 @@ use Rattle.brk_model.specs.Schemas.{Schema, third_schema}
 use Rattle.brk_model.specs.Tables.{Tables}
 use Rattle.brk_model_theorems.specs.FormParts.{SatisfiesFormParts}
 use Rattle.brk_model_theorems.proofs.Conjunctions.{parts3, parts5, parts6, parts10}
-use Rattle.brk_tables_schema.specs.Formed.{passes_all_cell_checks, is_type_code, is_status_code, is_tax_status_number, is_cash_type_text}
+use Rattle.brk_tables_schema.specs.Formed.{passes_all_cell_checks, is_trade_type_code, is_status_code, is_tax_status_number, is_cash_type_text}
 
 pub both : {a b : Bool} → a ≡ true → b ≡ true → a && b ≡ true
 both {a} {b} p q = rw p q
@@ -88,7 +88,7 @@ wider schema narrow n h =
 
 -- ---- words
 
-pub type_formed : (kind : TradeType) → is_type_code (trade_type_code kind) ≡ true
+pub type_formed : (kind : TradeType) → is_trade_type_code (trade_type_code kind) ≡ true
 type_formed MarketBuy = refl
 type_formed MarketSell = refl
 type_formed StopLoss = refl

@@ -15,12 +15,12 @@ use Rattle.brk_changes.specs.declared.schema.Schema as known
 use Rattle.brk_changes.specs.declared.schema.Schema.TheVariants.{First, Second, Third}
 use Rattle.brk_changes.specs.Schemas.{abstract_schema}
 use Rattle.brk_changes.specs.declared.sheets.Sheets.{Sheets}
-use Rattle.brk_changes.specs.Sheets.{tables_in_sheets}
-use Rattle.brk_tables_schema.specs.Desk.{Which, all_tables, encode, has_table, rows_in_schema, shape, tables_in_schema, table_name}
-use Rattle.brk_tables_schema.specs.Made.{HasRowsInSchema, IsTableOfSchema}
+use Rattle.brk_changes.specs.Sheets.{abstract_sheets}
+use Rattle.brk_tables_schema.specs.Desk.{DeskTable, all_tables, encoded_row, schema_has_table, rows_in_schema, table_definition_at, tables_in_schema, table_name}
+use Rattle.brk_tables_schema.specs.Made.{HasDeskTablesInSchema, IsTableOfSchema}
 use Rattle.brk_tables_schema.proofs.Which.{all_listed}
-use Rattle.brk_tables_create.specs.Made.{tables_added_after}
-use Rattle.brk_tables_scan.specs.Schemas.{HasDesk, HasTableWithNames, SchemaNamesImplyDefinitions, HasDeskDefinitions, table_names_of}
+use Rattle.brk_tables_create.specs.Made.{tables_of_later_schemas}
+use Rattle.brk_tables_scan.specs.Schemas.{HasDeskOfSchema, HasTableWithNames, NamedTablesMatchSchemaDefinitions, HasDeskDefinitions, table_and_column_names}
 use Rattle.brk_tables_scan.specs.Whole.{ShowsRowsIfPresent}
 use Rattle.brk_tables_scan.specs.Raw.{RawSheets, raw_rows_of_table}
 use Rattle.brk_tables_scan.specs.Decoded.{DecodesSheets, are_raw_sheets_well_formed}
@@ -32,29 +32,29 @@ pub unshown : {X : Type 0} (f : X → Row) (xs : List X) → map f xs ≡ [] →
 unshown f [] e = refl
 unshown f (x ∷ xs) e = absurd (let g = e in cc)
 
-module _ (desk : Schema) (db : Database) (has : HasDesk desk db) (defined : SchemaNamesImplyDefinitions desk db) where
-  pub table_of : (w : Which) → IsTableOfSchema desk w → HasTableWithNames db.schema (table_names_of (shape w 0))
-  table_of w of = all_has (λ w. HasTableWithNames db.schema (table_names_of (shape w 0))) (tables_in_schema desk) w has.tables (has_kept (has_table desk) all_tables w (all_listed w) of)
+module _ (desk : Schema) (db : Database) (has : HasDeskOfSchema desk db) (defined : NamedTablesMatchSchemaDefinitions desk db) where
+  pub table_of : (w : DeskTable) → IsTableOfSchema desk w → HasTableWithNames db.schema (table_and_column_names (table_definition_at w 0))
+  table_of w of = all_has (λ w. HasTableWithNames db.schema (table_and_column_names (table_definition_at w 0))) (tables_in_schema desk) w has.tables (has_kept (schema_has_table desk) all_tables w (all_listed w) of)
 
   alike : HasDeskDefinitions desk db
   alike = defined has.tables
 
   -- where a table stands, if the schema has it
-  abbrev tree_if : (w : Which) (b : Bool) → has_table desk w ≡ b → ℕ
+  abbrev tree_if : (w : DeskTable) (b : Bool) → schema_has_table desk w ≡ b → ℕ
   tree_if w true of = (table_of w of).1.tree
   tree_if w false lacks = 0
 
-  abbrev place_if : (w : Which) (b : Bool) → has_table desk w ≡ b → ℕ
+  abbrev place_if : (w : DeskTable) (b : Bool) → schema_has_table desk w ≡ b → ℕ
   place_if w true of = (table_of w of).0
   place_if w false lacks = 0
 
-  abbrev pub tree : Which → ℕ
-  tree w = tree_if w (has_table desk w) refl
+  abbrev pub tree : DeskTable → ℕ
+  tree w = tree_if w (schema_has_table desk w) refl
 
-  abbrev pub place : Which → ℕ
-  place w = place_if w (has_table desk w) refl
+  abbrev pub place : DeskTable → ℕ
+  place w = place_if w (schema_has_table desk w) refl
 
-  stood : (w : Which) (b : Bool) (e : has_table desk w ≡ b) → b ≡ true → IsTableAt db.schema (shape w (tree_if w b e)) (place_if w b e)
+  stood : (w : DeskTable) (b : Bool) (e : schema_has_table desk w ≡ b) → b ≡ true → IsTableAt db.schema (table_definition_at w (tree_if w b e)) (place_if w b e)
   stood w true of sure =
       let t = table_of w of in
       record {
@@ -63,37 +63,37 @@ module _ (desk : Schema) (db : Database) (has : HasDesk desk db) (defined : Sche
       }
   stood w false lacks sure = absurd (let f = sure in cc)
 
-  pub stands : (w : Which) → IsTableOfSchema desk w → IsTableAt db.schema (shape w (tree w)) (place w)
-  stands w of = stood w (has_table desk w) refl of
+  pub stands : (w : DeskTable) → IsTableOfSchema desk w → IsTableAt db.schema (table_definition_at w (tree w)) (place w)
+  stands w of = stood w (schema_has_table desk w) refl of
 
   -- what was read is what the tables hold
-  pub rows_read : (raw : RawSheets) → ((w : Which) → ShowsRowsIfPresent desk w (raw_rows_of_table raw w) db) → (sheets : Sheets) → DecodesSheets desk sheets raw → HasRowsInSchema desk (tables_in_sheets sheets) db
+  pub rows_read : (raw : RawSheets) → ((w : DeskTable) → ShowsRowsIfPresent desk w (raw_rows_of_table raw w) db) → (sheets : Sheets) → DecodesSheets desk sheets raw → HasDeskTablesInSchema desk (abstract_sheets sheets) db
   rows_read raw shown sheets are = (
     tree,
     record {
       place = place;
       stands = stands;
-      apart = λ v w a b same. alike.apart v w a b (place v) (place w) (tree v) (stands v a) (subst (λ n. IsTableAt db.schema (shape w n) (place w)) (sym same) (stands w b));
+      apart = λ v w a b same. alike.apart v w a b (place v) (place w) (tree v) (stands v a) (subst (λ n. IsTableAt db.schema (table_definition_at w n) (place w)) (sym same) (stands w b));
       calm = λ w of. alike.calm w of (place w) (tree w) (stands w of);
       sound = alike.sound;
-      rows = λ w of. ((shown w).0 of (place w) (tree w) (stands w of)).held (rows_in_schema desk w (tables_in_sheets sheets)) alike.sound (alike.keyed w of (place w) (tree w) (stands w of)) (are w);
+      rows = λ w of. ((shown w).0 of (place w) (tree w) (stands w of)).table_holds_records (rows_in_schema desk w (abstract_sheets sheets)) alike.sound (alike.keyed w of (place w) (tree w) (stands w of)) (are w);
     },
     λ w lacks. (
-      all_has (λ w. table_named db.schema (table_name w) ≡ None) (tables_added_after desk) w has.later (has_kept (λ w. not (has_table desk w)) all_tables w (all_listed w) (ap not lacks)),
-      unshown (encode w) (rows_in_schema desk w (tables_in_sheets sheets)) (are w ∙ (shown w).1 lacks),
+      all_has (λ w. table_named db.schema (table_name w) ≡ None) (tables_of_later_schemas desk) w has.later (has_kept (λ w. not (schema_has_table desk w)) all_tables w (all_listed w) (ap not lacks)),
+      unshown (encoded_row w) (rows_in_schema desk w (abstract_sheets sheets)) (are w ∙ (shown w).1 lacks),
     ),
   )
 
 -- the rows of tables are those that are shown, also where the schema lacks the table
-rows_shown : (desk : Schema) (db : Database) (raw : RawSheets) → ((w : Which) → ShowsRowsIfPresent desk w (raw_rows_of_table raw w) db) → (t : Tables) → HasRowsInSchema desk t db → (w : Which) → raw_rows_of_table raw w ≡ map (encode w) (rows_in_schema desk w t)
-rows_shown desk db raw shown t h w = by_test (has_table desk w) refl
+rows_shown : (desk : Schema) (db : Database) (raw : RawSheets) → ((w : DeskTable) → ShowsRowsIfPresent desk w (raw_rows_of_table raw w) db) → (t : Tables) → HasDeskTablesInSchema desk t db → (w : DeskTable) → raw_rows_of_table raw w ≡ map (encoded_row w) (rows_in_schema desk w t)
+rows_shown desk db raw shown t h w = by_test (schema_has_table desk w) refl
   where
-    by_test : (b : Bool) → has_table desk w ≡ b → raw_rows_of_table raw w ≡ map (encode w) (rows_in_schema desk w t)
-    by_test true of = ((shown w).0 of (h.1.place w) (h.0 w) (h.1.stands w of)).told (rows_in_schema desk w t) (h.1.rows w of)
-    by_test false lacks = (shown w).1 lacks ∙ sym (ap (map (encode w)) (h.2 w lacks).1)
+    by_test : (b : Bool) → schema_has_table desk w ≡ b → raw_rows_of_table raw w ≡ map (encoded_row w) (rows_in_schema desk w t)
+    by_test true of = ((shown w).0 of (h.1.place w) (h.0 w) (h.1.stands w of)).rows_encode_records (rows_in_schema desk w t) (h.1.rows w of)
+    by_test false lacks = (shown w).1 lacks ∙ sym (ap (map (encoded_row w)) (h.2 w lacks).1)
 
 -- no tables in form have rows of which one has no form
-pub none_in_form : (desk : Schema) → desk.greatest_qty ≤ third_schema.greatest_qty → (db : Database) (raw : RawSheets) → ((w : Which) → ShowsRowsIfPresent desk w (raw_rows_of_table raw w) db) → are_raw_sheets_well_formed desk raw ≡ false → (t : Tables) → HasRowsInSchema desk t db → satisfies_form_condition desk t && has_utf8_texts t ≡ false
+pub none_in_form : (desk : Schema) → desk.greatest_qty ≤ third_schema.greatest_qty → (db : Database) (raw : RawSheets) → ((w : DeskTable) → ShowsRowsIfPresent desk w (raw_rows_of_table raw w) db) → are_raw_sheets_well_formed desk raw ≡ false → (t : Tables) → HasDeskTablesInSchema desk t db → satisfies_form_condition desk t && has_utf8_texts t ≡ false
 none_in_form desk narrow db raw shown unformed t h = elim (cases_Bool (satisfies_form_condition desk t && has_utf8_texts t)) [
   | inl e ↦
       let p = and_parts (satisfies_form_condition desk t) (has_utf8_texts t) e in

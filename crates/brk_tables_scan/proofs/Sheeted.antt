@@ -7,20 +7,20 @@ use Rattle.brk_changes.specs.Rows.{abstract_trade_row, abstract_history_row, abs
 use Rattle.brk_changes.specs.declared.sheets.Sheets.{Sheets}
 use Rattle.brk_tables_schema.specs.Cells.{kept_cells, broker_cells, customer_cells, account_cells, permission_cells, security_cells, last_trade_cells, charge_cells, band_cells, tax_rate_cells, customer_tax_cells, trade_cells, history_cells, request_cells, holding_cells, summary_cells, holding_history_cells, settlement_cells, cash_cells, move_cells}
 use Rattle.brk_tables_schema.specs.Desk.{TheDesk, KeptRows, Brokers, Customers, Accounts, Permissions, Securities, LastTrades, Charges, Bands, TaxRates, CustomerTaxes, Trades, TradeHistory, Requests, Holdings, Summaries, HoldingHistory, Settlements, CashRows, CashMoves, SettleRules}
-use Rattle.brk_tables_scan.specs.Decoded.{DecodesSheets, DecodesFirstTables, DecodesAccountTables, DecodesRateTables, DecodesTradeTables, DecodesLastTables, DecodesLaterTables}
+use Rattle.brk_tables_scan.specs.Decoded.{DecodesSheets, DecodesDeskAndCustomerTables, DecodesAccountAndSecurityTables, DecodesChargeAndRateTables, DecodesTradeAndHoldingTables, DecodesSummaryAndSettlementTables, DecodesLaterSchemaTables}
 use Rattle.brk_tables_scan.specs.Raw.{RawSheets}
-use Rattle.brk_tables_scan.specs.declared.all_tables.FirstSheets.{FirstSheets}
-use Rattle.brk_tables_scan.specs.declared.all_tables.AccountSheets.{AccountSheets}
-use Rattle.brk_tables_scan.specs.declared.all_tables.RateSheets.{RateSheets}
-use Rattle.brk_tables_scan.specs.declared.all_tables.TradeSheets.{TradeSheets}
-use Rattle.brk_tables_scan.specs.declared.all_tables.LastSheets.{LastSheets}
-use Rattle.brk_tables_scan.specs.declared.all_tables.LaterSheets.{LaterSheets}
+use Rattle.brk_tables_scan.specs.declared.all_tables.DeskAndCustomerSheets.{DeskAndCustomerSheets}
+use Rattle.brk_tables_scan.specs.declared.all_tables.AccountAndSecuritySheets.{AccountAndSecuritySheets}
+use Rattle.brk_tables_scan.specs.declared.all_tables.ChargeAndRateSheets.{ChargeAndRateSheets}
+use Rattle.brk_tables_scan.specs.declared.all_tables.TradeAndHoldingSheets.{TradeAndHoldingSheets}
+use Rattle.brk_tables_scan.specs.declared.all_tables.SummaryAndSettlementSheets.{SummaryAndSettlementSheets}
+use Rattle.brk_tables_scan.specs.declared.all_tables.LaterSchemaSheets.{LaterSchemaSheets}
 
-module _ (f : FirstSheets) (a : AccountSheets) (r : RateSheets) (t : TradeSheets) (l : LastSheets) (n : LaterSheets) where
+module _ (f : DeskAndCustomerSheets) (a : AccountAndSecuritySheets) (r : ChargeAndRateSheets) (t : TradeAndHoldingSheets) (l : SummaryAndSettlementSheets) (n : LaterSchemaSheets) where
   abbrev pub sheets : Sheets
   sheets = record { last = f.last; kept = f.kept; brokers = f.brokers; customers = f.customers; accounts = a.accounts; permissions = a.permissions; securities = a.securities; last_trades = a.last_trades; charges = r.charges; bands = r.bands; tax_rates = r.tax_rates; customer_taxes = r.customer_taxes; trades = t.trades; history = t.history; requests = t.requests; holdings = t.holdings; summaries = l.summaries; holding_history = l.holding_history; settlements = l.settlements; cash = l.cash; moves = n.moves; rule = n.rule }
 
-module _ (f : FirstSheets) (a : AccountSheets) (r : RateSheets) (t : TradeSheets) (l : LastSheets) (n : LaterSheets) (desk : Schema) (raw : RawSheets) (is_f : DecodesFirstTables desk f raw.first) (is_a : DecodesAccountTables a raw.accounts) (is_r : DecodesRateTables r raw.rates) (is_t : DecodesTradeTables t raw.trades) (is_l : DecodesLastTables l raw.last) (is_n : DecodesLaterTables n raw.later) where
+module _ (f : DeskAndCustomerSheets) (a : AccountAndSecuritySheets) (r : ChargeAndRateSheets) (t : TradeAndHoldingSheets) (l : SummaryAndSettlementSheets) (n : LaterSchemaSheets) (desk : Schema) (raw : RawSheets) (is_f : DecodesDeskAndCustomerTables desk f raw.first) (is_a : DecodesAccountAndSecurityTables a raw.accounts) (is_r : DecodesChargeAndRateTables r raw.rates) (is_t : DecodesTradeAndHoldingTables t raw.trades) (is_l : DecodesSummaryAndSettlementTables l raw.last) (is_n : DecodesLaterSchemaTables n raw.later) where
   pub are_sheets : DecodesSheets desk (sheets f a r t l n) raw
   are_sheets TheDesk = is_f.desk
   are_sheets KeptRows = map_twice kept_cells abstract_kept_row f.kept.items ∙ is_f.kept

@@ -5,22 +5,22 @@ use Rattle.sqlite.specs.State.{State}
 use Rattle.brk_model.specs.Schemas.{Schema}
 use Rattle.brk_ref.specs.Records.{abstract_kept_row, abstract_broker_row, abstract_customer, abstract_account_row, abstract_permission, abstract_security_row, abstract_last_trade_row, abstract_charge, abstract_band, abstract_tax_rate, abstract_customer_tax}
 use Rattle.brk_changes.specs.Rows.{abstract_trade_row, abstract_history_row, abstract_request_row, abstract_holding_row, abstract_summary_row, abstract_lot_change_row, abstract_settlement_row, abstract_cash_row, abstract_move_row}
-use Rattle.brk_changes.specs.Sheets.{tables_in_sheets}
+use Rattle.brk_changes.specs.Sheets.{abstract_sheets}
 use Rattle.brk_changes.specs.declared.sheets.Sheets.{Sheets}
 use Rattle.brk_tables_schema.specs.Cells.{desk_row_cells, kept_cells, broker_cells, customer_cells, account_cells, permission_cells, security_cells, last_trade_cells, charge_cells, band_cells, tax_rate_cells, customer_tax_cells, trade_cells, history_cells, request_cells, holding_cells, summary_cells, holding_history_cells, settlement_cells, cash_cells, move_cells, rule_cells}
-use Rattle.brk_tables_schema.specs.Desk.{Which, desk_rows, rule_rows, encode, rows_in_schema}
-use Rattle.brk_tables_schema.specs.Formed.{passes_all_cell_checks, is_one_valid_desk_row, kept_column_cell_checks, broker_column_cell_checks, customer_column_cell_checks, account_column_cell_checks, permission_column_cell_checks, security_column_cell_checks, last_trade_column_cell_checks, charge_column_cell_checks, band_column_cell_checks, tax_rate_column_cell_checks, customer_tax_column_cell_checks, trade_column_cell_checks, history_column_cell_checks, request_column_cell_checks, holding_column_cell_checks, summary_column_cell_checks, holding_history_column_cell_checks, settlement_column_cell_checks, cash_column_cell_checks, move_column_cell_checks, is_at_most_one_valid_rule}
+use Rattle.brk_tables_schema.specs.Desk.{DeskTable, desk_rows, rule_rows, encoded_row, rows_in_schema}
+use Rattle.brk_tables_schema.specs.Formed.{passes_all_cell_checks, has_one_valid_desk_row, kept_column_cell_checks, broker_column_cell_checks, customer_column_cell_checks, account_column_cell_checks, permission_column_cell_checks, security_column_cell_checks, last_trade_column_cell_checks, charge_column_cell_checks, band_column_cell_checks, tax_rate_column_cell_checks, customer_tax_column_cell_checks, trade_column_cell_checks, history_column_cell_checks, request_column_cell_checks, holding_column_cell_checks, summary_column_cell_checks, holding_history_column_cell_checks, settlement_column_cell_checks, cash_column_cell_checks, move_column_cell_checks, has_at_most_one_valid_rule_row}
 use Rattle.brk_tables_scan.specs.Whole.{ShowsRowsIfPresent}
-use Rattle.brk_tables_scan.specs.Raw.{FirstRows, AccountRows, RateRows, TradeRows, LastRows, LaterRows, RawSheets, raw_rows_of_table, IsUnchangedAndOpen, ShowsFirstTables, ShowsAccountTables, ShowsRateTables, ShowsTradeTables, ShowsLastTables, ShowsLaterTables}
-use Rattle.brk_tables_scan.specs.declared.all_tables.FirstSheets.{FirstSheets}
-use Rattle.brk_tables_scan.specs.declared.all_tables.AccountSheets.{AccountSheets}
-use Rattle.brk_tables_scan.specs.declared.all_tables.RateSheets.{RateSheets}
-use Rattle.brk_tables_scan.specs.declared.all_tables.TradeSheets.{TradeSheets}
-use Rattle.brk_tables_scan.specs.declared.all_tables.LastSheets.{LastSheets}
-use Rattle.brk_tables_scan.specs.declared.all_tables.LaterSheets.{LaterSheets}
+use Rattle.brk_tables_scan.specs.Raw.{DeskAndCustomerRows, AccountAndSecurityRows, ChargeAndRateRows, TradeAndHoldingRows, SummaryAndSettlementRows, LaterSchemaRows, RawSheets, raw_rows_of_table, IsUnchangedAndOpen, ShowsDeskAndCustomerTables, ShowsAccountAndSecurityTables, ShowsChargeAndRateTables, ShowsTradeAndHoldingTables, ShowsSummaryAndSettlementTables, ShowsLaterSchemaTables}
+use Rattle.brk_tables_scan.specs.declared.all_tables.DeskAndCustomerSheets.{DeskAndCustomerSheets}
+use Rattle.brk_tables_scan.specs.declared.all_tables.AccountAndSecuritySheets.{AccountAndSecuritySheets}
+use Rattle.brk_tables_scan.specs.declared.all_tables.ChargeAndRateSheets.{ChargeAndRateSheets}
+use Rattle.brk_tables_scan.specs.declared.all_tables.TradeAndHoldingSheets.{TradeAndHoldingSheets}
+use Rattle.brk_tables_scan.specs.declared.all_tables.SummaryAndSettlementSheets.{SummaryAndSettlementSheets}
+use Rattle.brk_tables_scan.specs.declared.all_tables.LaterSchemaSheets.{LaterSchemaSheets}
 
 -- The raw rows of DESK, KEPT, BROKER and CUSTOMER are, in order, the encodings of the typed rows.
-pub record DecodesFirstTables (schema : Schema) (sheets : FirstSheets) (raw : FirstRows) : Type 0 where
+pub record DecodesDeskAndCustomerTables (schema : Schema) (sheets : DeskAndCustomerSheets) (raw : DeskAndCustomerRows) : Type 0 where
   pub desk : map desk_row_cells (desk_rows schema sheets.last) ≡ raw.desk
   pub kept : map (λ r. kept_cells (abstract_kept_row r)) sheets.kept.items ≡ raw.kept
   pub brokers : map (λ r. broker_cells (abstract_broker_row r)) sheets.brokers.items ≡ raw.brokers
@@ -28,12 +28,12 @@ pub record DecodesFirstTables (schema : Schema) (sheets : FirstSheets) (raw : Fi
 
 -- True if each column of each raw row of DESK, KEPT, BROKER and CUSTOMER is well-formed. There is
 -- one row of DESK, with the number of the schema.
-abbrev pub are_first_well_formed : Schema → FirstRows → Bool
-are_first_well_formed desk raw = is_one_valid_desk_row desk raw.desk && list_all (passes_all_cell_checks kept_column_cell_checks) raw.kept && list_all (passes_all_cell_checks broker_column_cell_checks) raw.brokers && list_all (passes_all_cell_checks customer_column_cell_checks) raw.customers
+abbrev pub are_desk_and_customer_rows_well_formed : Schema → DeskAndCustomerRows → Bool
+are_desk_and_customer_rows_well_formed desk raw = has_one_valid_desk_row desk raw.desk && list_all (passes_all_cell_checks kept_column_cell_checks) raw.kept && list_all (passes_all_cell_checks broker_column_cell_checks) raw.brokers && list_all (passes_all_cell_checks customer_column_cell_checks) raw.customers
 
 -- The raw rows of CUSTOMER_ACCOUNT, ACCOUNT_PERMISSION, SECURITY and LAST_TRADE are, in order, the
 -- encodings of the typed rows.
-pub record DecodesAccountTables (sheets : AccountSheets) (raw : AccountRows) : Type 0 where
+pub record DecodesAccountAndSecurityTables (sheets : AccountAndSecuritySheets) (raw : AccountAndSecurityRows) : Type 0 where
   pub accounts : map (λ r. account_cells (abstract_account_row r)) sheets.accounts.items ≡ raw.accounts
   pub permissions : map (λ r. permission_cells (abstract_permission r)) sheets.permissions.items ≡ raw.permissions
   pub securities : map (λ r. security_cells (abstract_security_row r)) sheets.securities.items ≡ raw.securities
@@ -41,12 +41,12 @@ pub record DecodesAccountTables (sheets : AccountSheets) (raw : AccountRows) : T
 
 -- True if each column of each raw row of CUSTOMER_ACCOUNT, ACCOUNT_PERMISSION, SECURITY and
 -- LAST_TRADE is well-formed.
-abbrev pub are_accounts_well_formed : AccountRows → Bool
-are_accounts_well_formed raw = list_all (passes_all_cell_checks account_column_cell_checks) raw.accounts && list_all (passes_all_cell_checks permission_column_cell_checks) raw.permissions && list_all (passes_all_cell_checks security_column_cell_checks) raw.securities && list_all (passes_all_cell_checks last_trade_column_cell_checks) raw.last_trades
+abbrev pub are_account_and_security_rows_well_formed : AccountAndSecurityRows → Bool
+are_account_and_security_rows_well_formed raw = list_all (passes_all_cell_checks account_column_cell_checks) raw.accounts && list_all (passes_all_cell_checks permission_column_cell_checks) raw.permissions && list_all (passes_all_cell_checks security_column_cell_checks) raw.securities && list_all (passes_all_cell_checks last_trade_column_cell_checks) raw.last_trades
 
 -- The raw rows of CHARGE, COMMISSION_RATE, TAXRATE and CUSTOMER_TAXRATE are, in order, the
 -- encodings of the typed rows.
-pub record DecodesRateTables (sheets : RateSheets) (raw : RateRows) : Type 0 where
+pub record DecodesChargeAndRateTables (sheets : ChargeAndRateSheets) (raw : ChargeAndRateRows) : Type 0 where
   pub charges : map (λ r. charge_cells (abstract_charge r)) sheets.charges.items ≡ raw.charges
   pub bands : map (λ r. band_cells (abstract_band r)) sheets.bands.items ≡ raw.bands
   pub tax_rates : map (λ r. tax_rate_cells (abstract_tax_rate r)) sheets.tax_rates.items ≡ raw.tax_rates
@@ -54,12 +54,12 @@ pub record DecodesRateTables (sheets : RateSheets) (raw : RateRows) : Type 0 whe
 
 -- True if each column of each raw row of CHARGE, COMMISSION_RATE, TAXRATE and CUSTOMER_TAXRATE is
 -- well-formed.
-abbrev pub are_rates_well_formed : RateRows → Bool
-are_rates_well_formed raw = list_all (passes_all_cell_checks charge_column_cell_checks) raw.charges && list_all (passes_all_cell_checks band_column_cell_checks) raw.bands && list_all (passes_all_cell_checks tax_rate_column_cell_checks) raw.tax_rates && list_all (passes_all_cell_checks customer_tax_column_cell_checks) raw.customer_taxes
+abbrev pub are_charge_and_rate_rows_well_formed : ChargeAndRateRows → Bool
+are_charge_and_rate_rows_well_formed raw = list_all (passes_all_cell_checks charge_column_cell_checks) raw.charges && list_all (passes_all_cell_checks band_column_cell_checks) raw.bands && list_all (passes_all_cell_checks tax_rate_column_cell_checks) raw.tax_rates && list_all (passes_all_cell_checks customer_tax_column_cell_checks) raw.customer_taxes
 
 -- The raw rows of TRADE, TRADE_HISTORY, TRADE_REQUEST and HOLDING are, in order, the encodings of
 -- the typed rows.
-pub record DecodesTradeTables (sheets : TradeSheets) (raw : TradeRows) : Type 0 where
+pub record DecodesTradeAndHoldingTables (sheets : TradeAndHoldingSheets) (raw : TradeAndHoldingRows) : Type 0 where
   pub trades : map (λ r. trade_cells (abstract_trade_row r)) sheets.trades.items ≡ raw.trades
   pub history : map (λ r. history_cells (abstract_history_row r)) sheets.history.items ≡ raw.history
   pub requests : map (λ r. request_cells (abstract_request_row r)) sheets.requests.items ≡ raw.requests
@@ -67,12 +67,12 @@ pub record DecodesTradeTables (sheets : TradeSheets) (raw : TradeRows) : Type 0 
 
 -- True if each column of each raw row of TRADE, TRADE_HISTORY, TRADE_REQUEST and HOLDING is
 -- well-formed.
-abbrev pub are_trades_well_formed : TradeRows → Bool
-are_trades_well_formed raw = list_all (passes_all_cell_checks trade_column_cell_checks) raw.trades && list_all (passes_all_cell_checks history_column_cell_checks) raw.history && list_all (passes_all_cell_checks request_column_cell_checks) raw.requests && list_all (passes_all_cell_checks holding_column_cell_checks) raw.holdings
+abbrev pub are_trade_and_holding_rows_well_formed : TradeAndHoldingRows → Bool
+are_trade_and_holding_rows_well_formed raw = list_all (passes_all_cell_checks trade_column_cell_checks) raw.trades && list_all (passes_all_cell_checks history_column_cell_checks) raw.history && list_all (passes_all_cell_checks request_column_cell_checks) raw.requests && list_all (passes_all_cell_checks holding_column_cell_checks) raw.holdings
 
 -- The raw rows of HOLDING_SUMMARY, HOLDING_HISTORY, SETTLEMENT and CASH_TRANSACTION are, in order,
 -- the encodings of the typed rows.
-pub record DecodesLastTables (sheets : LastSheets) (raw : LastRows) : Type 0 where
+pub record DecodesSummaryAndSettlementTables (sheets : SummaryAndSettlementSheets) (raw : SummaryAndSettlementRows) : Type 0 where
   pub summaries : map (λ r. summary_cells (abstract_summary_row r)) sheets.summaries.items ≡ raw.summaries
   pub holding_history : map (λ r. holding_history_cells (abstract_lot_change_row r)) sheets.holding_history.items ≡ raw.holding_history
   pub settlements : map (λ r. settlement_cells (abstract_settlement_row r)) sheets.settlements.items ≡ raw.settlements
@@ -80,28 +80,28 @@ pub record DecodesLastTables (sheets : LastSheets) (raw : LastRows) : Type 0 whe
 
 -- True if each column of each raw row of HOLDING_SUMMARY, HOLDING_HISTORY, SETTLEMENT and
 -- CASH_TRANSACTION is well-formed.
-abbrev pub are_last_well_formed : LastRows → Bool
-are_last_well_formed raw = list_all (passes_all_cell_checks summary_column_cell_checks) raw.summaries && list_all (passes_all_cell_checks holding_history_column_cell_checks) raw.holding_history && list_all (passes_all_cell_checks settlement_column_cell_checks) raw.settlements && list_all (passes_all_cell_checks cash_column_cell_checks) raw.cash
+abbrev pub are_summary_and_settlement_rows_well_formed : SummaryAndSettlementRows → Bool
+are_summary_and_settlement_rows_well_formed raw = list_all (passes_all_cell_checks summary_column_cell_checks) raw.summaries && list_all (passes_all_cell_checks holding_history_column_cell_checks) raw.holding_history && list_all (passes_all_cell_checks settlement_column_cell_checks) raw.settlements && list_all (passes_all_cell_checks cash_column_cell_checks) raw.cash
 
 -- The raw rows of CASH_MOVE and SETTLE_RULE are, in order, the encodings of the typed rows.
-pub record DecodesLaterTables (sheets : LaterSheets) (raw : LaterRows) : Type 0 where
+pub record DecodesLaterSchemaTables (sheets : LaterSchemaSheets) (raw : LaterSchemaRows) : Type 0 where
   pub moves : map (λ r. move_cells (abstract_move_row r)) sheets.moves.items ≡ raw.moves
   pub rule : map rule_cells (rule_rows sheets.rule) ≡ raw.rule
 
 -- True if each column of each raw row of CASH_MOVE and SETTLE_RULE is well-formed. There is at most
 -- one row of SETTLE_RULE.
-abbrev pub are_later_well_formed : LaterRows → Bool
-are_later_well_formed raw = list_all (passes_all_cell_checks move_column_cell_checks) raw.moves && is_at_most_one_valid_rule raw.rule
+abbrev pub are_later_schema_rows_well_formed : LaterSchemaRows → Bool
+are_later_schema_rows_well_formed raw = list_all (passes_all_cell_checks move_column_cell_checks) raw.moves && has_at_most_one_valid_rule_row raw.rule
 
 -- True if each column of each raw row is well-formed, there is one row of DESK, with the number of
 -- the schema `desk`, and there is at most one row of SETTLE_RULE.
 abbrev pub are_raw_sheets_well_formed : Schema → RawSheets → Bool
-are_raw_sheets_well_formed desk raw = are_first_well_formed desk raw.first && are_accounts_well_formed raw.accounts && are_rates_well_formed raw.rates && are_trades_well_formed raw.trades && are_last_well_formed raw.last && are_later_well_formed raw.later
+are_raw_sheets_well_formed desk raw = are_desk_and_customer_rows_well_formed desk raw.first && are_account_and_security_rows_well_formed raw.accounts && are_charge_and_rate_rows_well_formed raw.rates && are_trade_and_holding_rows_well_formed raw.trades && are_summary_and_settlement_rows_well_formed raw.last && are_later_schema_rows_well_formed raw.later
 
 -- The raw rows of each table are, in order, the encodings of the typed rows `sheets`. The row of
 -- DESK has the number of the schema `desk`.
 abbrev pub DecodesSheets : Schema → Sheets → RawSheets → Type 0
-DecodesSheets desk sheets raw = (w : Which) → map (encode w) (rows_in_schema desk w (tables_in_sheets sheets)) ≡ raw_rows_of_table raw w
+DecodesSheets desk sheets raw = (w : DeskTable) → map (encoded_row w) (rows_in_schema desk w (abstract_sheets sheets)) ≡ raw_rows_of_table raw w
 
 -- A step of a decoding, which counts whether all raw rows so far are well-formed: `old` before the
 -- step and `new` after it.
@@ -116,50 +116,50 @@ pub record ContinuesDecoding (old new are_well_formed : Bool) (Decodes : Type 0)
 -- The reads show all rows of DESK, KEPT, BROKER and CUSTOMER, and change nothing. If the flag
 -- `new`, which was `old` before, is still true, the rows encode the typed rows `sheets`. Vacuous
 -- for a table that the database does not define as a desk does.
-pub record ReadsFirstTables (desk : Schema) (old new : Bool) (sheets : FirstSheets) (a b : State) : Type 0 where
-  pub raw : FirstRows
-  pub shown : ShowsFirstTables raw a b
-  pub decoded : ContinuesDecoding old new (are_first_well_formed desk raw) (DecodesFirstTables desk sheets raw)
+pub record ReadsDeskAndCustomerTables (desk : Schema) (old new : Bool) (sheets : DeskAndCustomerSheets) (a b : State) : Type 0 where
+  pub raw : DeskAndCustomerRows
+  pub shown : ShowsDeskAndCustomerTables raw a b
+  pub decoded : ContinuesDecoding old new (are_desk_and_customer_rows_well_formed desk raw) (DecodesDeskAndCustomerTables desk sheets raw)
 
 -- The reads show all rows of CUSTOMER_ACCOUNT, ACCOUNT_PERMISSION, SECURITY and LAST_TRADE, and
 -- change nothing. If the flag `new`, which was `old` before, is still true, the rows encode the
 -- typed rows `sheets`. Vacuous for a table that the database does not define as a desk does.
-pub record ReadsAccountTables (old new : Bool) (sheets : AccountSheets) (a b : State) : Type 0 where
-  pub raw : AccountRows
-  pub shown : ShowsAccountTables raw a b
-  pub decoded : ContinuesDecoding old new (are_accounts_well_formed raw) (DecodesAccountTables sheets raw)
+pub record ReadsAccountAndSecurityTables (old new : Bool) (sheets : AccountAndSecuritySheets) (a b : State) : Type 0 where
+  pub raw : AccountAndSecurityRows
+  pub shown : ShowsAccountAndSecurityTables raw a b
+  pub decoded : ContinuesDecoding old new (are_account_and_security_rows_well_formed raw) (DecodesAccountAndSecurityTables sheets raw)
 
 -- The reads show all rows of CHARGE, COMMISSION_RATE, TAXRATE and CUSTOMER_TAXRATE, and change
 -- nothing. If the flag `new`, which was `old` before, is still true, the rows encode the typed rows
 -- `sheets`. Vacuous for a table that the database does not define as a desk does.
-pub record ReadsRateTables (old new : Bool) (sheets : RateSheets) (a b : State) : Type 0 where
-  pub raw : RateRows
-  pub shown : ShowsRateTables raw a b
-  pub decoded : ContinuesDecoding old new (are_rates_well_formed raw) (DecodesRateTables sheets raw)
+pub record ReadsChargeAndRateTables (old new : Bool) (sheets : ChargeAndRateSheets) (a b : State) : Type 0 where
+  pub raw : ChargeAndRateRows
+  pub shown : ShowsChargeAndRateTables raw a b
+  pub decoded : ContinuesDecoding old new (are_charge_and_rate_rows_well_formed raw) (DecodesChargeAndRateTables sheets raw)
 
 -- The reads show all rows of TRADE, TRADE_HISTORY, TRADE_REQUEST and HOLDING, and change nothing.
 -- If the flag `new`, which was `old` before, is still true, the rows encode the typed rows
 -- `sheets`. Vacuous for a table that the database does not define as a desk does.
-pub record ReadsTradeTables (old new : Bool) (sheets : TradeSheets) (a b : State) : Type 0 where
-  pub raw : TradeRows
-  pub shown : ShowsTradeTables raw a b
-  pub decoded : ContinuesDecoding old new (are_trades_well_formed raw) (DecodesTradeTables sheets raw)
+pub record ReadsTradeAndHoldingTables (old new : Bool) (sheets : TradeAndHoldingSheets) (a b : State) : Type 0 where
+  pub raw : TradeAndHoldingRows
+  pub shown : ShowsTradeAndHoldingTables raw a b
+  pub decoded : ContinuesDecoding old new (are_trade_and_holding_rows_well_formed raw) (DecodesTradeAndHoldingTables sheets raw)
 
 -- The reads show all rows of HOLDING_SUMMARY, HOLDING_HISTORY, SETTLEMENT and CASH_TRANSACTION, and
 -- change nothing. If the flag `new`, which was `old` before, is still true, the rows encode the
 -- typed rows `sheets`. Vacuous for a table that the database does not define as a desk does.
-pub record ReadsLastTables (old new : Bool) (sheets : LastSheets) (a b : State) : Type 0 where
-  pub raw : LastRows
-  pub shown : ShowsLastTables raw a b
-  pub decoded : ContinuesDecoding old new (are_last_well_formed raw) (DecodesLastTables sheets raw)
+pub record ReadsSummaryAndSettlementTables (old new : Bool) (sheets : SummaryAndSettlementSheets) (a b : State) : Type 0 where
+  pub raw : SummaryAndSettlementRows
+  pub shown : ShowsSummaryAndSettlementTables raw a b
+  pub decoded : ContinuesDecoding old new (are_summary_and_settlement_rows_well_formed raw) (DecodesSummaryAndSettlementTables sheets raw)
 
 -- The reads show all rows of CASH_MOVE and SETTLE_RULE, and change nothing. If the flag `new`,
 -- which was `old` before, is still true, the rows encode the typed rows `sheets`. Vacuous for a
 -- table that the database does not define as a desk does.
-pub record ReadsLaterTables (desk : Schema) (old new : Bool) (sheets : LaterSheets) (a b : State) : Type 0 where
-  pub raw : LaterRows
-  pub shown : ShowsLaterTables desk raw a b
-  pub decoded : ContinuesDecoding old new (are_later_well_formed raw) (DecodesLaterTables sheets raw)
+pub record ReadsLaterSchemaTables (desk : Schema) (old new : Bool) (sheets : LaterSchemaSheets) (a b : State) : Type 0 where
+  pub raw : LaterSchemaRows
+  pub shown : ShowsLaterSchemaTables desk raw a b
+  pub decoded : ContinuesDecoding old new (are_later_schema_rows_well_formed raw) (DecodesLaterSchemaTables sheets raw)
 
 -- The reads show all rows of each table of the schema `desk`, and none of other tables. The database
 -- was open, and the reads changed nothing. If the flag `new`, which was `old` before, is still true,
@@ -168,5 +168,5 @@ pub record ReadsLaterTables (desk : Schema) (old new : Bool) (sheets : LaterShee
 pub record ReadsDeskTables (desk : Schema) (old new : Bool) (sheets : Sheets) (a b : State) : Type 0 where
   pub raw : RawSheets
   pub stays : IsUnchangedAndOpen a b
-  pub shown : (w : Which) → ShowsRowsIfPresent desk w (raw_rows_of_table raw w) a.now
+  pub shown : (w : DeskTable) → ShowsRowsIfPresent desk w (raw_rows_of_table raw w) a.now
   pub decoded : ContinuesDecoding old new (are_raw_sheets_well_formed desk raw) (DecodesSheets desk sheets raw)

@@ -3,24 +3,24 @@ use Rattle.std.specs.Prelude.{◌≡◌, ◌⊎◌, ℕ, List, [], ◌∷◌, �
 use Rattle.std.specs.Borrow.{Bor}
 use Rattle.sqlite_schema.specs.declared.schema.Schema.{Schema}
 use Rattle.brk_sql.specs.Desk.{MatchesResultColumns}
-use Rattle.brk_tables_schema.specs.Desk.{Which, table_name, shape}
-use Rattle.brk_tables_scan.specs.Schemas.{table_names_of}
+use Rattle.brk_tables_schema.specs.Desk.{DeskTable, table_name, table_definition_at}
+use Rattle.brk_tables_scan.specs.Schemas.{table_and_column_names}
 
 -- A statement and the column names that its result is to have.
 abbrev pub Heading : Type 0
 Heading = List ℕ × List (List ℕ)
 
 -- The heading of a borrowed statement and of borrowed column names.
-abbrev pub borrowed_heading : Bor (List ℕ) × Bor (List (Bor (List ℕ))) → Heading
-borrowed_heading told = (told.0.now, map (λ (name : Bor (List ℕ)). name.now) told.1.now)
+abbrev pub heading_of_borrowed_texts : Bor (List ℕ) × Bor (List (Bor (List ℕ))) → Heading
+heading_of_borrowed_texts told = (told.0.now, map (λ (name : Bor (List ℕ)). name.now) told.1.now)
 
 -- The text `SELECT * FROM` with the name of the table.
-abbrev pub select_all_text : Which → List ℕ
+abbrev pub select_all_text : DeskTable → List ℕ
 select_all_text w = codes "SELECT * FROM " ++ table_name w
 
 -- The statement that selects all columns of a table, and the names of these columns, in order.
-abbrev pub heading_of_table : Which → Heading
-heading_of_table w = (select_all_text w, (table_names_of (shape w 0)).columns)
+abbrev pub heading_of_table : DeskTable → Heading
+heading_of_table w = (select_all_text w, (table_and_column_names (table_definition_at w 0)).columns)
 
 -- If `has` is true, the result of each statement has exactly the column names of its heading, in
 -- order. If it is false, the result of some statement does not have them.

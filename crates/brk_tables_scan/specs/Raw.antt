@@ -2,58 +2,58 @@
 use Rattle.std.specs.Prelude.{◌≡◌, List, IsTrue}
 use Rattle.sqlite_value.specs.Order.{Row}
 use Rattle.sqlite.specs.State.{State}
-use Rattle.brk_tables_schema.specs.Desk.{Which, TheDesk, KeptRows, Brokers, Customers, Accounts, Permissions, Securities, LastTrades, Charges, Bands, TaxRates, CustomerTaxes, Trades, TradeHistory, Requests, Holdings, Summaries, HoldingHistory, Settlements, CashRows, CashMoves, SettleRules}
+use Rattle.brk_tables_schema.specs.Desk.{DeskTable, TheDesk, KeptRows, Brokers, Customers, Accounts, Permissions, Securities, LastTrades, Charges, Bands, TaxRates, CustomerTaxes, Trades, TradeHistory, Requests, Holdings, Summaries, HoldingHistory, Settlements, CashRows, CashMoves, SettleRules}
 use Rattle.brk_model.specs.Schemas.{Schema}
 use Rattle.brk_tables_scan.specs.Whole.{ShowsAllRows, ShowsRowsIfPresent}
 
 -- The raw rows of DESK, KEPT, BROKER and CUSTOMER.
-pub record FirstRows : Type 0 where
+pub record DeskAndCustomerRows : Type 0 where
   pub desk : List Row
   pub kept : List Row
   pub brokers : List Row
   pub customers : List Row
 
 -- The raw rows of CUSTOMER_ACCOUNT, ACCOUNT_PERMISSION, SECURITY and LAST_TRADE.
-pub record AccountRows : Type 0 where
+pub record AccountAndSecurityRows : Type 0 where
   pub accounts : List Row
   pub permissions : List Row
   pub securities : List Row
   pub last_trades : List Row
 
 -- The raw rows of CHARGE, COMMISSION_RATE, TAXRATE and CUSTOMER_TAXRATE.
-pub record RateRows : Type 0 where
+pub record ChargeAndRateRows : Type 0 where
   pub charges : List Row
   pub bands : List Row
   pub tax_rates : List Row
   pub customer_taxes : List Row
 
 -- The raw rows of TRADE, TRADE_HISTORY, TRADE_REQUEST and HOLDING.
-pub record TradeRows : Type 0 where
+pub record TradeAndHoldingRows : Type 0 where
   pub trades : List Row
   pub history : List Row
   pub requests : List Row
   pub holdings : List Row
 
 -- The raw rows of HOLDING_SUMMARY, HOLDING_HISTORY, SETTLEMENT and CASH_TRANSACTION.
-pub record LastRows : Type 0 where
+pub record SummaryAndSettlementRows : Type 0 where
   pub summaries : List Row
   pub holding_history : List Row
   pub settlements : List Row
   pub cash : List Row
 
 -- The raw rows of CASH_MOVE and SETTLE_RULE.
-pub record LaterRows : Type 0 where
+pub record LaterSchemaRows : Type 0 where
   pub moves : List Row
   pub rule : List Row
 
 -- The raw rows of all tables.
 pub record RawSheets : Type 0 where
-  pub first : FirstRows
-  pub accounts : AccountRows
-  pub rates : RateRows
-  pub trades : TradeRows
-  pub last : LastRows
-  pub later : LaterRows
+  pub first : DeskAndCustomerRows
+  pub accounts : AccountAndSecurityRows
+  pub rates : ChargeAndRateRows
+  pub trades : TradeAndHoldingRows
+  pub last : SummaryAndSettlementRows
+  pub later : LaterSchemaRows
 
 -- The database was open, and its contents are unchanged.
 abbrev pub IsUnchangedAndOpen : State → State → Type 0
@@ -61,7 +61,7 @@ IsUnchangedAndOpen old new = IsTrue old.is_open × (new.now ≡ old.now)
 
 -- The lists are all rows of these four tables, sorted by key, and the reads changed nothing.
 -- Vacuous for a table that the database does not define as a desk does.
-pub record ShowsFourTables (first second third fourth : Which) (a b c d : List Row) (old new : State) : Type 0 where
+pub record ShowsFourTables (first second third fourth : DeskTable) (a b c d : List Row) (old new : State) : Type 0 where
   pub stays : IsUnchangedAndOpen old new
   pub one : ShowsAllRows first a old.now
   pub two : ShowsAllRows second b old.now
@@ -70,42 +70,42 @@ pub record ShowsFourTables (first second third fourth : Which) (a b c d : List R
 
 -- The raw rows are all rows of DESK, KEPT, BROKER and CUSTOMER, sorted by key, and the reads
 -- changed nothing. Vacuous for a table that the database does not define as a desk does.
-abbrev pub ShowsFirstTables : FirstRows → State → State → Type 0
-ShowsFirstTables raw = ShowsFourTables TheDesk KeptRows Brokers Customers raw.desk raw.kept raw.brokers raw.customers
+abbrev pub ShowsDeskAndCustomerTables : DeskAndCustomerRows → State → State → Type 0
+ShowsDeskAndCustomerTables raw = ShowsFourTables TheDesk KeptRows Brokers Customers raw.desk raw.kept raw.brokers raw.customers
 
 -- The raw rows are all rows of CUSTOMER_ACCOUNT, ACCOUNT_PERMISSION, SECURITY and LAST_TRADE,
 -- sorted by key, and the reads changed nothing. Vacuous for a table that the database does not
 -- define as a desk does.
-abbrev pub ShowsAccountTables : AccountRows → State → State → Type 0
-ShowsAccountTables raw = ShowsFourTables Accounts Permissions Securities LastTrades raw.accounts raw.permissions raw.securities raw.last_trades
+abbrev pub ShowsAccountAndSecurityTables : AccountAndSecurityRows → State → State → Type 0
+ShowsAccountAndSecurityTables raw = ShowsFourTables Accounts Permissions Securities LastTrades raw.accounts raw.permissions raw.securities raw.last_trades
 
 -- The raw rows are all rows of CHARGE, COMMISSION_RATE, TAXRATE and CUSTOMER_TAXRATE, sorted by
 -- key, and the reads changed nothing. Vacuous for a table that the database does not define as a
 -- desk does.
-abbrev pub ShowsRateTables : RateRows → State → State → Type 0
-ShowsRateTables raw = ShowsFourTables Charges Bands TaxRates CustomerTaxes raw.charges raw.bands raw.tax_rates raw.customer_taxes
+abbrev pub ShowsChargeAndRateTables : ChargeAndRateRows → State → State → Type 0
+ShowsChargeAndRateTables raw = ShowsFourTables Charges Bands TaxRates CustomerTaxes raw.charges raw.bands raw.tax_rates raw.customer_taxes
 
 -- The raw rows are all rows of TRADE, TRADE_HISTORY, TRADE_REQUEST and HOLDING, sorted by key, and
 -- the reads changed nothing. Vacuous for a table that the database does not define as a desk does.
-abbrev pub ShowsTradeTables : TradeRows → State → State → Type 0
-ShowsTradeTables raw = ShowsFourTables Trades TradeHistory Requests Holdings raw.trades raw.history raw.requests raw.holdings
+abbrev pub ShowsTradeAndHoldingTables : TradeAndHoldingRows → State → State → Type 0
+ShowsTradeAndHoldingTables raw = ShowsFourTables Trades TradeHistory Requests Holdings raw.trades raw.history raw.requests raw.holdings
 
 -- The raw rows are all rows of HOLDING_SUMMARY, HOLDING_HISTORY, SETTLEMENT and CASH_TRANSACTION,
 -- sorted by key, and the reads changed nothing. Vacuous for a table that the database does not
 -- define as a desk does.
-abbrev pub ShowsLastTables : LastRows → State → State → Type 0
-ShowsLastTables raw = ShowsFourTables Summaries HoldingHistory Settlements CashRows raw.summaries raw.holding_history raw.settlements raw.cash
+abbrev pub ShowsSummaryAndSettlementTables : SummaryAndSettlementRows → State → State → Type 0
+ShowsSummaryAndSettlementTables raw = ShowsFourTables Summaries HoldingHistory Settlements CashRows raw.summaries raw.holding_history raw.settlements raw.cash
 
 -- The raw rows are all rows of CASH_MOVE and of SETTLE_RULE, sorted by key, or none of a table that
 -- the schema `desk` does not have. The reads changed nothing. Vacuous for a table that the database
 -- does not define as a desk does.
-pub record ShowsLaterTables (desk : Schema) (raw : LaterRows) (old new : State) : Type 0 where
+pub record ShowsLaterSchemaTables (desk : Schema) (raw : LaterSchemaRows) (old new : State) : Type 0 where
   pub same : new.now ≡ old.now
   pub moves : ShowsRowsIfPresent desk CashMoves raw.moves old.now
   pub rule : ShowsRowsIfPresent desk SettleRules raw.rule old.now
 
 -- The raw rows of one table.
-abbrev pub raw_rows_of_table : RawSheets → Which → List Row
+abbrev pub raw_rows_of_table : RawSheets → DeskTable → List Row
 raw_rows_of_table raw TheDesk = raw.first.desk
 raw_rows_of_table raw KeptRows = raw.first.kept
 raw_rows_of_table raw Brokers = raw.first.brokers

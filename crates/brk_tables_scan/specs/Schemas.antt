@@ -13,65 +13,65 @@ use Rattle.sqlite.specs.Effect.{Database, IsDatabase}
 use Rattle.brk_model.specs.Schemas.{Schema}
 use Rattle.brk_changes.specs.declared.schema.Schema as known
 use Rattle.brk_changes.specs.Schemas.{abstract_schema}
-use Rattle.brk_sql.specs.Rows.{cells_in_column_order, same_rowid}
-use Rattle.brk_sql.specs.Desk.{IsTableAt, HasNoActionsAt}
+use Rattle.brk_sql.specs.Rows.{cells_in_column_order, has_same_rowid}
+use Rattle.brk_sql.specs.Desk.{IsTableAt, HasNoWritingForeignKeysAt}
 use Rattle.brk_tables_schema.specs.Cells.{natural_as_value}
-use Rattle.brk_tables_schema.specs.Shapes.{desk_row}
-use Rattle.brk_tables_schema.specs.Desk.{Which, table_name, shape, tables_in_schema}
+use Rattle.brk_tables_schema.specs.Shapes.{desk_row_table}
+use Rattle.brk_tables_schema.specs.Desk.{DeskTable, table_name, table_definition_at, tables_in_schema}
 use Rattle.brk_tables_schema.specs.Made.{IsTableOfSchema}
-use Rattle.brk_tables_create.specs.Made.{tables_added_after}
+use Rattle.brk_tables_create.specs.Made.{tables_of_later_schemas}
 
 -- The name of a table and the names of its columns, in order.
-pub record TableNames : Type 0 where
+pub record TableAndColumnNames : Type 0 where
   pub name : List ℕ
   pub columns : List (List ℕ)
 
 -- The name of a table and the names of its columns, in order.
-abbrev pub table_names_of : Table → TableNames
-table_names_of table = record { name = table.name; columns = map (λ c. c.name) table.columns }
+abbrev pub table_and_column_names : Table → TableAndColumnNames
+table_and_column_names table = record { name = table.name; columns = map (λ c. c.name) table.columns }
 
 -- The table is at the position `at` of the database's schema, and has this name and exactly these
 -- columns, in order.
-pub record IsTableOf (schema : database.Schema) (names : TableNames) (at : ℕ) (table : Table) : Type 0 where
+pub record IsTableWithNames (schema : database.Schema) (names : TableAndColumnNames) (at : ℕ) (table : Table) : Type 0 where
   pub named : table_named schema names.name ≡ Some at
   pub found : slice_get schema.tables at ≡ Some table
   pub columns : map (λ c. c.name) table.columns ≡ names.columns
 
 -- The schema of the database has a table with this name and exactly these columns, in order.
-abbrev pub HasTableWithNames : database.Schema → TableNames → Type 0
-HasTableWithNames schema names = (at : ℕ) × (table : Table) × IsTableOf schema names at table
+abbrev pub HasTableWithNames : database.Schema → TableAndColumnNames → Type 0
+HasTableWithNames schema names = (at : ℕ) × (table : Table) × IsTableWithNames schema names at table
 
 -- For each table that a desk has in the schema `desk`, a table of its name and with exactly its
 -- columns, in order, exists in the database.
 abbrev pub HasTablesOfSchema : Schema → database.Schema → Type 0
-HasTablesOfSchema desk schema = AllByRecursion (λ w. HasTableWithNames schema (table_names_of (shape w 0))) (tables_in_schema desk)
+HasTablesOfSchema desk schema = AllByRecursion (λ w. HasTableWithNames schema (table_and_column_names (table_definition_at w 0))) (tables_in_schema desk)
 
 -- The database has no table with the name of one that `desk` does not have and a later schema adds.
-abbrev pub LacksLaterTables : Schema → database.Schema → Type 0
-LacksLaterTables desk schema = AllByRecursion (λ w. table_named schema (table_name w) ≡ None) (tables_added_after desk)
+abbrev pub LacksTablesOfLaterSchemas : Schema → database.Schema → Type 0
+LacksTablesOfLaterSchemas desk schema = AllByRecursion (λ w. table_named schema (table_name w) ≡ None) (tables_of_later_schemas desk)
 
 -- The row has exactly the three values of a row of DESK: the id 1, the number of the schema, and
 -- any value as the stamp.
-abbrev pub IsDeskRowOf : Schema → Row → Type 0
-IsDeskRowOf desk row = (last : Value) × (row ≡ natural_as_value 1 ∷ natural_as_value desk.number ∷ last ∷ [])
+abbrev pub IsDeskRowOfSchema : Schema → Row → Type 0
+IsDeskRowOfSchema desk row = (last : Value) × (row ≡ natural_as_value 1 ∷ natural_as_value desk.number ∷ last ∷ [])
 
 -- The rows are exactly one, with the three values of a row of DESK: the id 1, the number of the
 -- schema, and any value as the stamp.
-abbrev pub HasOneDeskRow : Schema → List Row → Type 0
-HasOneDeskRow desk rows = (last : Value) × (rows ≡ (natural_as_value 1 ∷ natural_as_value desk.number ∷ last ∷ []) ∷ [])
+abbrev pub IsOneDeskRowOfSchema : Schema → List Row → Type 0
+IsOneDeskRowOfSchema desk rows = (last : Value) × (rows ≡ (natural_as_value 1 ∷ natural_as_value desk.number ∷ last ∷ []) ∷ [])
 
 -- The database has a desk of the schema `desk`: each table of the schema, by its name and with
 -- exactly its columns; no table that a later schema adds; and exactly one row of DESK, with the
 -- number of the schema.
-pub record HasDesk (desk : Schema) (db : Database) : Type 0 where
+pub record HasDeskOfSchema (desk : Schema) (db : Database) : Type 0 where
   pub tables : HasTablesOfSchema desk db.schema
-  pub later : LacksLaterTables desk db.schema
-  pub row : (at tree : ℕ) → IsTableAt db.schema (desk_row tree) at → HasOneDeskRow desk (map (cells_in_column_order (desk_row tree)) (db.trees tree))
+  pub later : LacksTablesOfLaterSchemas desk db.schema
+  pub row : (at tree : ℕ) → IsTableAt db.schema (desk_row_table tree) at → IsOneDeskRowOfSchema desk (map (cells_in_column_order (desk_row_table tree)) (db.trees tree))
 
 -- The rowids of the rows are distinct integers.
 pub record HasDistinctRowids (rows : List Row) : Type 0 where
   pub keyed : AllByRecursion (λ r. IsTrue (is_int (rowid r))) rows
-  pub apart : IsDistinct same_rowid rows
+  pub apart : IsDistinct has_same_rowid rows
 
 -- The tables of a desk in this database are defined as a desk defines them, in what the names of
 -- tables and columns do not determine: types, keys, foreign keys, rowids, and that no foreign key
@@ -79,21 +79,21 @@ pub record HasDistinctRowids (rows : List Row) : Type 0 where
 pub record HasDeskDefinitions (desk : Schema) (db : Database) : Type 0 where
   pub sound : IsDatabase db
   -- The column types, keys and foreign keys equal those of the desk's table.
-  pub shaped : (w : Which) → IsTableOfSchema desk w → (at : ℕ) (table : Table) → table_named db.schema (table_name w) ≡ Some at → slice_get db.schema.tables at ≡ Some table → table ≡ shape w table.tree
+  pub shaped : (w : DeskTable) → IsTableOfSchema desk w → (at : ℕ) (table : Table) → table_named db.schema (table_name w) ≡ Some at → slice_get db.schema.tables at ≡ Some table → table ≡ table_definition_at w table.tree
   -- No two of them share a tree.
-  pub apart : (v w : Which) → IsTableOfSchema desk v → IsTableOfSchema desk w → (i j tree : ℕ) → IsTableAt db.schema (shape v tree) i → IsTableAt db.schema (shape w tree) j → v ≡ w
+  pub apart : (v w : DeskTable) → IsTableOfSchema desk v → IsTableOfSchema desk w → (i j tree : ℕ) → IsTableAt db.schema (table_definition_at v tree) i → IsTableAt db.schema (table_definition_at w tree) j → v ≡ w
   -- No foreign key of any table at their trees writes rows.
-  pub calm : (w : Which) → IsTableOfSchema desk w → (at tree : ℕ) → IsTableAt db.schema (shape w tree) at → HasNoActionsAt db.schema tree
-  pub keyed : (w : Which) → IsTableOfSchema desk w → (at tree : ℕ) → IsTableAt db.schema (shape w tree) at → HasDistinctRowids (db.trees tree)
+  pub calm : (w : DeskTable) → IsTableOfSchema desk w → (at tree : ℕ) → IsTableAt db.schema (table_definition_at w tree) at → HasNoWritingForeignKeysAt db.schema tree
+  pub keyed : (w : DeskTable) → IsTableOfSchema desk w → (at tree : ℕ) → IsTableAt db.schema (table_definition_at w tree) at → HasDistinctRowids (db.trees tree)
 
 -- If each table of a desk in the schema `desk` exists in the database by its name and its columns,
 -- these tables are defined as a desk defines them (`HasDeskDefinitions`). Vacuous if a table or a
 -- column of them is missing, or if there is one column more.
-abbrev pub SchemaNamesImplyDefinitions : Schema → Database → Type 0
-SchemaNamesImplyDefinitions desk db = HasTablesOfSchema desk db.schema → HasDeskDefinitions desk db
+abbrev pub NamedTablesMatchSchemaDefinitions : Schema → Database → Type 0
+NamedTablesMatchSchemaDefinitions desk db = HasTablesOfSchema desk db.schema → HasDeskDefinitions desk db
 
 -- For each schema: if the tables of a desk exist by their names and columns, they are defined as a
 -- desk defines them. It is the premise on a database that another program may have created; an
 -- empty one satisfies it.
-abbrev pub DeskNamesImplyDefinitions : Database → Type 0
-DeskNamesImplyDefinitions db = (schema : known.Schema) → SchemaNamesImplyDefinitions (abstract_schema schema) db
+abbrev pub NamedTablesMatchDeskDefinitions : Database → Type 0
+NamedTablesMatchDeskDefinitions db = (schema : known.Schema) → NamedTablesMatchSchemaDefinitions (abstract_schema schema) db

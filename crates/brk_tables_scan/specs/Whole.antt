@@ -10,51 +10,51 @@ use Rattle.brk_model.specs.Schemas.{Schema}
 use Rattle.brk_model.specs.Tables.{Tables}
 use Rattle.brk_model.specs.Form.{satisfies_form_condition, has_utf8_texts}
 use Rattle.brk_changes.specs.declared.sheets.Sheets.{Sheets}
-use Rattle.brk_changes.specs.Sheets.{tables_in_sheets}
+use Rattle.brk_changes.specs.Sheets.{abstract_sheets}
 use Rattle.brk_sql.specs.Rows.{cells_in_column_order, TreeHoldsRecords}
 use Rattle.brk_sql.specs.Desk.{IsTableAt}
 use Rattle.brk_sql.specs.Model.{IsConnectionStep}
-use Rattle.brk_tables_schema.specs.Desk.{Which, Item, shape, encode, order, has_table}
-use Rattle.brk_tables_schema.specs.Made.{HasRowsInSchema, IsTableOfSchema}
+use Rattle.brk_tables_schema.specs.Desk.{DeskTable, RecordOfTable, table_definition_at, encoded_row, ordering_by_primary_key, schema_has_table}
+use Rattle.brk_tables_schema.specs.Made.{HasDeskTablesInSchema, IsTableOfSchema}
 use Rattle.brk_tables_scan.specs.Schemas.{HasDistinctRowids}
 
 -- The rows are all rows at the tree `tree` of the table `w`, each as often as it occurs there. If
 -- the table contains records, the rows are their encodings, in the order of the key. Conversely, if
 -- the rows are the encodings of records and the rowids are distinct, the table contains these
 -- records.
-pub record AreTableRows (w : Which) (rows : List Row) (db : Database) (tree : ℕ) : Type 0 where
+pub record AreTableRows (w : DeskTable) (rows : List Row) (db : Database) (tree : ℕ) : Type 0 where
   -- The rows are all rows of the tree, each as often as it occurs there.
-  pub all : IsPermutation (map (cells_in_column_order (shape w tree)) (db.trees tree)) rows
+  pub all : IsPermutation (map (cells_in_column_order (table_definition_at w tree)) (db.trees tree)) rows
   -- If the table contains records, the rows are their encodings, in order.
-  pub told : (xs : List (Item w)) → TreeHoldsRecords (shape w tree) (encode w) (order w) xs (db.trees tree) → rows ≡ map (encode w) xs
+  pub rows_encode_records : (xs : List (RecordOfTable w)) → TreeHoldsRecords (table_definition_at w tree) (encoded_row w) (ordering_by_primary_key w) xs (db.trees tree) → rows ≡ map (encoded_row w) xs
   -- If the rows are the encodings of records, the table contains these records.
-  pub held : (xs : List (Item w)) → IsDatabase db → HasDistinctRowids (db.trees tree) → map (encode w) xs ≡ rows → TreeHoldsRecords (shape w tree) (encode w) (order w) xs (db.trees tree)
+  pub table_holds_records : (xs : List (RecordOfTable w)) → IsDatabase db → HasDistinctRowids (db.trees tree) → map (encoded_row w) xs ≡ rows → TreeHoldsRecords (table_definition_at w tree) (encoded_row w) (ordering_by_primary_key w) xs (db.trees tree)
 
 -- The rows are all rows of the table `w`, sorted by key (`AreTableRows`). Vacuous if no table of
 -- the database is defined as a desk defines `w`.
-abbrev pub ShowsAllRows : Which → List Row → Database → Type 0
-ShowsAllRows w rows db = (at tree : ℕ) → IsTableAt db.schema (shape w tree) at → AreTableRows w rows db tree
+abbrev pub ShowsAllRows : DeskTable → List Row → Database → Type 0
+ShowsAllRows w rows db = (at tree : ℕ) → IsTableAt db.schema (table_definition_at w tree) at → AreTableRows w rows db tree
 
 -- If the call succeeds, it changes nothing and returns all rows of the table `w`, sorted by key
 -- (`ShowsAllRows`). Nothing is said of the rows if the disk assumption fails, outside a
 -- transaction, or if no table of the database is defined as a desk defines `w`.
-abbrev pub ReadsAllRows : {S E : Type 0} → Ghosts S → Transaction S → Transaction S → Result (Vec Row) E → Which → Type 0
+abbrev pub ReadsAllRows : {S E : Type 0} → Ghosts S → Transaction S → Transaction S → Result (Vec Row) E → DeskTable → Type 0
 ReadsAllRows g old new result w = IsConnectionStep g old new result (λ rows a b. IsTrue a.is_open × (b.now ≡ a.now) × ShowsAllRows w rows.items a.now)
 
 -- The rows are all rows of the table `w`, sorted by key, if the schema has this table
 -- (`ShowsAllRows`, vacuous if the database does not define it so), and there are none otherwise.
-abbrev pub ShowsRowsIfPresent : Schema → Which → List Row → Database → Type 0
-ShowsRowsIfPresent desk w rows db = (IsTableOfSchema desk w → ShowsAllRows w rows db) × (has_table desk w ≡ false → rows ≡ [])
+abbrev pub ShowsRowsIfPresent : Schema → DeskTable → List Row → Database → Type 0
+ShowsRowsIfPresent desk w rows db = (IsTableOfSchema desk w → ShowsAllRows w rows db) × (schema_has_table desk w ≡ false → rows ≡ [])
 
 -- If the call succeeds, it changes nothing and returns all rows of the table `w`, or none if the
 -- schema does not have this table (`ShowsRowsIfPresent`). Nothing is said of the rows if the disk
 -- assumption fails, or outside a transaction.
-abbrev pub ReadsRowsIfPresent : {S E : Type 0} → Ghosts S → Transaction S → Transaction S → Result (Vec Row) E → Schema → Which → Type 0
+abbrev pub ReadsRowsIfPresent : {S E : Type 0} → Ghosts S → Transaction S → Transaction S → Result (Vec Row) E → Schema → DeskTable → Type 0
 ReadsRowsIfPresent g old new result desk w = IsConnectionStep g old new result (λ rows a b. (b.now ≡ a.now) × ShowsRowsIfPresent desk w rows.items a.now)
 
 -- The database contains the tables of the schema with the typed rows `sheets`. For `None`: if the
 -- database contains the tables of the schema with some rows, a row of them is malformed or a text
 -- is not UTF-8. The case `None` is vacuous if it does not contain them.
 abbrev pub AreSheetsOfDatabase : Schema → Database → Option Sheets → Type 0
-AreSheetsOfDatabase desk db (Some sheets) = HasRowsInSchema desk (tables_in_sheets sheets) db
-AreSheetsOfDatabase desk db None = (t : Tables) → HasRowsInSchema desk t db → satisfies_form_condition desk t && has_utf8_texts t ≡ false
+AreSheetsOfDatabase desk db (Some sheets) = HasDeskTablesInSchema desk (abstract_sheets sheets) db
+AreSheetsOfDatabase desk db None = (t : Tables) → HasDeskTablesInSchema desk t db → satisfies_form_condition desk t && has_utf8_texts t ≡ false

@@ -5,13 +5,13 @@ ghost use Rattle.std.specs.Prelude.{◌≡◌, IfErr};
 ghost use Rattle.brk_model.specs.Run.{IsCallFault};
 ghost use Rattle.brk_changes.specs.Schemas.{abstract_schema};
 ghost use Rattle.brk_sql.specs.Model.{IsConnectionStep};
-ghost use Rattle.brk_tables_scan.specs.Decoded.{ReadsFirstTables, ReadsAccountTables, ReadsRateTables, ReadsTradeTables, ReadsLastTables, ReadsLaterTables, ReadsDeskTables};
+ghost use Rattle.brk_tables_scan.specs.Decoded.{ReadsDeskAndCustomerTables, ReadsAccountAndSecurityTables, ReadsChargeAndRateTables, ReadsTradeAndHoldingTables, ReadsSummaryAndSettlementTables, ReadsLaterSchemaTables, ReadsDeskTables};
 
 use crate::decoder::Decoder;
 use crate::rows::{
-    account_rows, band_rows, broker_rows, cash_rows, charge_rows, customer_rows, customer_tax_rows,
+    account_rows, band_rows, broker_rows, cash_transaction_rows, charge_rows, customer_rows, customer_tax_rows,
     desk_rows, history_rows, holding_history_rows, holding_rows, kept_rows, last_trade_rows,
-    move_rows_in, permission_rows, request_rows, rule_rows_in, security_rows, settlement_rows,
+    cash_move_rows_in_schema, permission_rows, request_rows, settle_rule_rows_in_schema, security_rows, settlement_rows,
     summary_rows, tax_rate_rows, trade_rows,
 };
 use brk_changes::{
@@ -28,7 +28,7 @@ use std::alloc::Global;
 
 /// The typed rows of DESK, KEPT, BROKER and CUSTOMER.
 #[derive(Drop)]
-pub struct FirstSheets {
+pub struct DeskAndCustomerSheets {
     last: Option<Stamp>,
     kept: Vec<Kept>,
     brokers: Vec<BrokerRow>,
@@ -37,21 +37,21 @@ pub struct FirstSheets {
 
 // Reads and decodes all rows of DESK, KEPT, BROKER and CUSTOMER. Fails with `Memory` or `Store`
 // only.
-fn read_first_tables<S: Alter>(
+fn read_desk_and_customer_tables<S: Alter>(
     tx: &mut Transaction<'_, S>,
     alloc: Global,
     schema: Schema,
     decoder: &mut Decoder,
-) -> Result<FirstSheets, Fault>
+) -> Result<DeskAndCustomerSheets, Fault>
     ensures same_reference { tx.new.conn.ghost_name ≡ tx.old.conn.ghost_name }
-    ensures step { IsConnectionStep S.Store tx.old tx.new result (λ sheets. ReadsFirstTables (abstract_schema schema) decoder.old.are_well_formed decoder.new.are_well_formed sheets) }
+    ensures step { IsConnectionStep S.Store tx.old tx.new result (λ sheets. ReadsDeskAndCustomerTables (abstract_schema schema) decoder.old.are_well_formed decoder.new.are_well_formed sheets) }
     ensures fault { IfErr result IsCallFault }
 {
     let last = decoder.decode_last_stamp(schema, desk_rows(tx)?)?;
     let kept = decoder.decode(alloc, kept_rows(tx)?)?;
     let brokers = decoder.decode(alloc, broker_rows(tx)?)?;
     let customers = decoder.decode(alloc, customer_rows(tx)?)?;
-    Ok(FirstSheets {
+    Ok(DeskAndCustomerSheets {
         last,
         kept,
         brokers,
@@ -61,7 +61,7 @@ fn read_first_tables<S: Alter>(
 
 /// The typed rows of CUSTOMER_ACCOUNT, ACCOUNT_PERMISSION, SECURITY and LAST_TRADE.
 #[derive(Drop)]
-pub struct AccountSheets {
+pub struct AccountAndSecuritySheets {
     accounts: Vec<AccountRow>,
     permissions: Vec<Permission>,
     securities: Vec<Security>,
@@ -70,20 +70,20 @@ pub struct AccountSheets {
 
 // Reads and decodes all rows of CUSTOMER_ACCOUNT, ACCOUNT_PERMISSION, SECURITY and LAST_TRADE.
 // Fails with `Memory` or `Store` only.
-fn read_accounts<S: Alter>(
+fn read_account_and_security_tables<S: Alter>(
     tx: &mut Transaction<'_, S>,
     alloc: Global,
     decoder: &mut Decoder,
-) -> Result<AccountSheets, Fault>
+) -> Result<AccountAndSecuritySheets, Fault>
     ensures same_reference { tx.new.conn.ghost_name ≡ tx.old.conn.ghost_name }
-    ensures step { IsConnectionStep S.Store tx.old tx.new result (λ sheets. ReadsAccountTables decoder.old.are_well_formed decoder.new.are_well_formed sheets) }
+    ensures step { IsConnectionStep S.Store tx.old tx.new result (λ sheets. ReadsAccountAndSecurityTables decoder.old.are_well_formed decoder.new.are_well_formed sheets) }
     ensures fault { IfErr result IsCallFault }
 {
     let accounts = decoder.decode(alloc, account_rows(tx)?)?;
     let permissions = decoder.decode(alloc, permission_rows(tx)?)?;
     let securities = decoder.decode(alloc, security_rows(tx)?)?;
     let last_trades = decoder.decode(alloc, last_trade_rows(tx)?)?;
-    Ok(AccountSheets {
+    Ok(AccountAndSecuritySheets {
         accounts,
         permissions,
         securities,
@@ -93,7 +93,7 @@ fn read_accounts<S: Alter>(
 
 /// The typed rows of CHARGE, COMMISSION_RATE, TAXRATE and CUSTOMER_TAXRATE.
 #[derive(Drop)]
-pub struct RateSheets {
+pub struct ChargeAndRateSheets {
     charges: Vec<Charge>,
     bands: Vec<Band>,
     tax_rates: Vec<Tax>,
@@ -102,20 +102,20 @@ pub struct RateSheets {
 
 // Reads and decodes all rows of CHARGE, COMMISSION_RATE, TAXRATE and CUSTOMER_TAXRATE. Fails with
 // `Memory` or `Store` only.
-fn read_rates<S: Alter>(
+fn read_charge_and_rate_tables<S: Alter>(
     tx: &mut Transaction<'_, S>,
     alloc: Global,
     decoder: &mut Decoder,
-) -> Result<RateSheets, Fault>
+) -> Result<ChargeAndRateSheets, Fault>
     ensures same_reference { tx.new.conn.ghost_name ≡ tx.old.conn.ghost_name }
-    ensures step { IsConnectionStep S.Store tx.old tx.new result (λ sheets. ReadsRateTables decoder.old.are_well_formed decoder.new.are_well_formed sheets) }
+    ensures step { IsConnectionStep S.Store tx.old tx.new result (λ sheets. ReadsChargeAndRateTables decoder.old.are_well_formed decoder.new.are_well_formed sheets) }
     ensures fault { IfErr result IsCallFault }
 {
     let charges = decoder.decode(alloc, charge_rows(tx)?)?;
     let bands = decoder.decode(alloc, band_rows(tx)?)?;
     let tax_rates = decoder.decode(alloc, tax_rate_rows(tx)?)?;
     let customer_taxes = decoder.decode(alloc, customer_tax_rows(tx)?)?;
-    Ok(RateSheets {
+    Ok(ChargeAndRateSheets {
         charges,
         bands,
         tax_rates,
@@ -125,7 +125,7 @@ fn read_rates<S: Alter>(
 
 /// The typed rows of TRADE, TRADE_HISTORY, TRADE_REQUEST and HOLDING.
 #[derive(Drop)]
-pub struct TradeSheets {
+pub struct TradeAndHoldingSheets {
     trades: Vec<TradeRow>,
     history: Vec<HistoryRow>,
     requests: Vec<RequestRow>,
@@ -134,20 +134,20 @@ pub struct TradeSheets {
 
 // Reads and decodes all rows of TRADE, TRADE_HISTORY, TRADE_REQUEST and HOLDING. Fails with
 // `Memory` or `Store` only.
-fn read_trades<S: Alter>(
+fn read_trade_and_holding_tables<S: Alter>(
     tx: &mut Transaction<'_, S>,
     alloc: Global,
     decoder: &mut Decoder,
-) -> Result<TradeSheets, Fault>
+) -> Result<TradeAndHoldingSheets, Fault>
     ensures same_reference { tx.new.conn.ghost_name ≡ tx.old.conn.ghost_name }
-    ensures step { IsConnectionStep S.Store tx.old tx.new result (λ sheets. ReadsTradeTables decoder.old.are_well_formed decoder.new.are_well_formed sheets) }
+    ensures step { IsConnectionStep S.Store tx.old tx.new result (λ sheets. ReadsTradeAndHoldingTables decoder.old.are_well_formed decoder.new.are_well_formed sheets) }
     ensures fault { IfErr result IsCallFault }
 {
     let trades = decoder.decode(alloc, trade_rows(tx)?)?;
     let history = decoder.decode(alloc, history_rows(tx)?)?;
     let requests = decoder.decode(alloc, request_rows(tx)?)?;
     let holdings = decoder.decode(alloc, holding_rows(tx)?)?;
-    Ok(TradeSheets {
+    Ok(TradeAndHoldingSheets {
         trades,
         history,
         requests,
@@ -157,7 +157,7 @@ fn read_trades<S: Alter>(
 
 /// The typed rows of HOLDING_SUMMARY, HOLDING_HISTORY, SETTLEMENT and CASH_TRANSACTION.
 #[derive(Drop)]
-pub struct LastSheets {
+pub struct SummaryAndSettlementSheets {
     summaries: Vec<SummaryRow>,
     holding_history: Vec<LotChange>,
     settlements: Vec<SettlementRow>,
@@ -166,20 +166,20 @@ pub struct LastSheets {
 
 // Reads and decodes all rows of HOLDING_SUMMARY, HOLDING_HISTORY, SETTLEMENT and CASH_TRANSACTION.
 // Fails with `Memory` or `Store` only.
-fn read_last_tables<S: Alter>(
+fn read_summary_and_settlement_tables<S: Alter>(
     tx: &mut Transaction<'_, S>,
     alloc: Global,
     decoder: &mut Decoder,
-) -> Result<LastSheets, Fault>
+) -> Result<SummaryAndSettlementSheets, Fault>
     ensures same_reference { tx.new.conn.ghost_name ≡ tx.old.conn.ghost_name }
-    ensures step { IsConnectionStep S.Store tx.old tx.new result (λ sheets. ReadsLastTables decoder.old.are_well_formed decoder.new.are_well_formed sheets) }
+    ensures step { IsConnectionStep S.Store tx.old tx.new result (λ sheets. ReadsSummaryAndSettlementTables decoder.old.are_well_formed decoder.new.are_well_formed sheets) }
     ensures fault { IfErr result IsCallFault }
 {
     let summaries = decoder.decode(alloc, summary_rows(tx)?)?;
     let holding_history = decoder.decode(alloc, holding_history_rows(tx)?)?;
     let settlements = decoder.decode(alloc, settlement_rows(tx)?)?;
-    let cash = decoder.decode(alloc, cash_rows(tx)?)?;
-    Ok(LastSheets {
+    let cash = decoder.decode(alloc, cash_transaction_rows(tx)?)?;
+    Ok(SummaryAndSettlementSheets {
         summaries,
         holding_history,
         settlements,
@@ -189,25 +189,25 @@ fn read_last_tables<S: Alter>(
 
 /// The typed rows of CASH_MOVE and SETTLE_RULE.
 #[derive(Drop)]
-pub struct LaterSheets {
+pub struct LaterSchemaSheets {
     moves: Vec<MoveRow>,
     rule: Option<Day>,
 }
 
 // Reads and decodes all rows of CASH_MOVE and SETTLE_RULE. Fails with `Memory` or `Store` only.
-fn read_later_tables<S: Alter>(
+fn read_later_schema_tables<S: Alter>(
     tx: &mut Transaction<'_, S>,
     alloc: Global,
     schema: Schema,
     decoder: &mut Decoder,
-) -> Result<LaterSheets, Fault>
+) -> Result<LaterSchemaSheets, Fault>
     ensures same_reference { tx.new.conn.ghost_name ≡ tx.old.conn.ghost_name }
-    ensures step { IsConnectionStep S.Store tx.old tx.new result (λ sheets. ReadsLaterTables (abstract_schema schema) decoder.old.are_well_formed decoder.new.are_well_formed sheets) }
+    ensures step { IsConnectionStep S.Store tx.old tx.new result (λ sheets. ReadsLaterSchemaTables (abstract_schema schema) decoder.old.are_well_formed decoder.new.are_well_formed sheets) }
     ensures fault { IfErr result IsCallFault }
 {
-    let moves = decoder.decode(alloc, move_rows_in(tx, alloc, schema)?)?;
-    let rule = decoder.decode_settlement_day(rule_rows_in(tx, alloc, schema)?)?;
-    Ok(LaterSheets { moves, rule })
+    let moves = decoder.decode(alloc, cash_move_rows_in_schema(tx, alloc, schema)?)?;
+    let rule = decoder.decode_settlement_day(settle_rule_rows_in_schema(tx, alloc, schema)?)?;
+    Ok(LaterSchemaSheets { moves, rule })
 }
 
 /// Reads and decodes all rows of the tables of `schema`, each list sorted by key. A table that it
@@ -222,12 +222,12 @@ pub(crate) fn read_all_tables<S: Alter>(
     ensures step { IsConnectionStep S.Store tx.old tx.new result (λ sheets. ReadsDeskTables (abstract_schema schema) decoder.old.are_well_formed decoder.new.are_well_formed sheets) }
     ensures fault { IfErr result IsCallFault }
 {
-    let first = read_first_tables(tx, alloc, schema, decoder)?;
-    let accounts = read_accounts(tx, alloc, decoder)?;
-    let rates = read_rates(tx, alloc, decoder)?;
-    let trades = read_trades(tx, alloc, decoder)?;
-    let last = read_last_tables(tx, alloc, decoder)?;
-    let later = read_later_tables(tx, alloc, schema, decoder)?;
+    let first = read_desk_and_customer_tables(tx, alloc, schema, decoder)?;
+    let accounts = read_account_and_security_tables(tx, alloc, decoder)?;
+    let rates = read_charge_and_rate_tables(tx, alloc, decoder)?;
+    let trades = read_trade_and_holding_tables(tx, alloc, decoder)?;
+    let last = read_summary_and_settlement_tables(tx, alloc, decoder)?;
+    let later = read_later_schema_tables(tx, alloc, schema, decoder)?;
     Ok(Sheets {
         last: first.last,
         kept: first.kept,

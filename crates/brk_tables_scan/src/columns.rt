@@ -3,15 +3,15 @@
 ghost use Rattle.std.specs.Prelude.{◌≡◌, ◌↔◌, map, Err, OnErr, IsTrue};
 ghost use Rattle.brk_money.specs.declared.fault.Fault.TheVariants.{Store};
 ghost use Rattle.brk_sql.specs.Model.{IsConnectionStep};
-ghost use Rattle.brk_tables_scan.specs.Headings.{MatchesEachHeading, borrowed_heading, heading_of_table};
+ghost use Rattle.brk_tables_scan.specs.Headings.{MatchesEachHeading, heading_of_borrowed_texts, heading_of_table};
 ghost use Rattle.brk_changes.specs.Schemas.{abstract_schema};
 ghost use Rattle.brk_tables_schema.specs.Desk.{tables_in_schema};
-ghost use Rattle.brk_tables_scan.specs.Schemas.{HasTablesOfSchema, LacksLaterTables};
+ghost use Rattle.brk_tables_scan.specs.Schemas.{HasTablesOfSchema, LacksTablesOfLaterSchemas};
 
 use crate::column_names::{IN_FIRST, IN_SECOND, IN_THIRD};
 use brk_changes::Schema;
 use brk_money::Fault;
-use brk_tables_create::has_tables_of;
+use brk_tables_create::has_exact_tables_by_name;
 use brk_tables_schema::calls::statement_has_columns;
 use sqlite::{Alter, Transaction};
 
@@ -22,7 +22,7 @@ fn each_heading_matches<S: Alter>(
     headings: &[(&str, &[&str])],
 ) -> Result<bool, Fault>
     ensures same_reference { tx.new.conn.ghost_name ≡ tx.old.conn.ghost_name }
-    ensures step { IsConnectionStep S.Store tx.old tx.new result (λ has a b. (b.now ≡ a.now) × MatchesEachHeading (map borrowed_heading headings.now) has a.now.schema) }
+    ensures step { IsConnectionStep S.Store tx.old tx.new result (λ has a b. (b.now ≡ a.now) × MatchesEachHeading (map heading_of_borrowed_texts headings.now) has a.now.schema) }
     ensures fault { OnErr result (result ≡ Err Store) }
 {
     for (text, names) in headings {
@@ -49,15 +49,15 @@ fn tables_have_columns<S: Alter>(tx: &mut Transaction<'_, S>, schema: Schema) ->
 
 /// Returns true if each table of `schema` exists with exactly its columns, in order, and none that
 /// a later schema adds. Assumes nothing of the tables that exist. Fails with `Store` only.
-pub fn has_exact_tables<S: Alter>(
+pub fn has_exact_tables_and_columns<S: Alter>(
     tx: &mut Transaction<'_, S>,
     schema: Schema,
 ) -> Result<bool, Fault>
     ensures same_reference { tx.new.conn.ghost_name ≡ tx.old.conn.ghost_name }
-    ensures step { IsConnectionStep S.Store tx.old tx.new result (λ has a b. IsTrue a.is_open × (b.now ≡ a.now) × (IsTrue has ↔ HasTablesOfSchema (abstract_schema schema) a.now.schema × LacksLaterTables (abstract_schema schema) a.now.schema)) }
+    ensures step { IsConnectionStep S.Store tx.old tx.new result (λ has a b. IsTrue a.is_open × (b.now ≡ a.now) × (IsTrue has ↔ HasTablesOfSchema (abstract_schema schema) a.now.schema × LacksTablesOfLaterSchemas (abstract_schema schema) a.now.schema)) }
     ensures fault { OnErr result (result ≡ Err Store) }
 {
-    if !has_tables_of(tx, schema)? {
+    if !has_exact_tables_by_name(tx, schema)? {
         return Ok(false);
     }
     tables_have_columns(tx, schema)

@@ -6,15 +6,15 @@ ghost use Rattle.brk_money.specs.declared.fault.Fault.TheVariants.{Memory};
 ghost use Rattle.brk_changes.specs.Schemas.{abstract_schema};
 ghost use Rattle.brk_tables_schema.specs.Cells.{desk_row_cells, rule_cells};
 ghost use Rattle.brk_tables_schema.specs.Desk.{desk_rows, rule_rows};
-ghost use Rattle.brk_tables_schema.specs.Formed.{is_at_most_one_valid_rule, is_one_valid_desk_row, passes_all_cell_checks};
+ghost use Rattle.brk_tables_schema.specs.Formed.{has_at_most_one_valid_rule_row, has_one_valid_desk_row, passes_all_cell_checks};
 ghost use Rattle.brk_tables_scan.specs.Decoded.{ContinuesDecoding};
 
 use brk_changes::Schema;
 use brk_money::{Day, Fault, Stamp};
 use brk_tables_schema::DecodeError;
-use brk_tables_schema::desk_row::last_stamp_in_rows;
+use brk_tables_schema::desk_row::last_stamp_in_desk_rows;
 use brk_tables_schema::record::{Record, decode_records};
-use brk_tables_schema::rule_row::day_in_rows;
+use brk_tables_schema::rule_row::settlement_day_in_rule_rows;
 use sqlite::Row;
 use std::alloc::Global;
 
@@ -64,10 +64,10 @@ impl Decoder {
         schema: Schema,
         rows: Vec<Row>,
     ) -> Result<Option<Stamp>, Fault>
-        ensures decoding { IfOk result (λ last. ContinuesDecoding self.old.are_well_formed self.new.are_well_formed (is_one_valid_desk_row (abstract_schema schema) rows.items) (map desk_row_cells (desk_rows (abstract_schema schema) last) ≡ rows.items)) }
+        ensures decoding { IfOk result (λ last. ContinuesDecoding self.old.are_well_formed self.new.are_well_formed (has_one_valid_desk_row (abstract_schema schema) rows.items) (map desk_row_cells (desk_rows (abstract_schema schema) last) ≡ rows.items)) }
         ensures fault { OnErr result (result ≡ Err Memory) }
     {
-        match last_stamp_in_rows(schema, &rows) {
+        match last_stamp_in_desk_rows(schema, &rows) {
             Ok(last) => Ok(last),
             Err(DecodeError::Form) => {
                 self.are_well_formed = false;
@@ -81,10 +81,10 @@ impl Decoder {
     /// are two rows or a malformed one, sets `are_well_formed` to false and returns `None`. Fails
     /// with `Memory` only.
     pub(crate) fn decode_settlement_day(&mut self, rows: Vec<Row>) -> Result<Option<Day>, Fault>
-        ensures decoding { IfOk result (λ day. ContinuesDecoding self.old.are_well_formed self.new.are_well_formed (is_at_most_one_valid_rule rows.items) (map rule_cells (rule_rows day) ≡ rows.items)) }
+        ensures decoding { IfOk result (λ day. ContinuesDecoding self.old.are_well_formed self.new.are_well_formed (has_at_most_one_valid_rule_row rows.items) (map rule_cells (rule_rows day) ≡ rows.items)) }
         ensures fault { OnErr result (result ≡ Err Memory) }
     {
-        match day_in_rows(&rows) {
+        match settlement_day_in_rule_rows(&rows) {
             Ok(day) => Ok(day),
             Err(DecodeError::Form) => {
                 self.are_well_formed = false;

@@ -260,7 +260,7 @@ pub fn settlement_rows<S: Alter>(tx: &mut Transaction<'_, S>) -> Result<Vec<Row>
 }
 
 /// Returns all rows of CASH_TRANSACTION, sorted by key, ascending. Fails with `Store` only.
-pub fn cash_rows<S: Alter>(tx: &mut Transaction<'_, S>) -> Result<Vec<Row>, Fault>
+pub fn cash_transaction_rows<S: Alter>(tx: &mut Transaction<'_, S>) -> Result<Vec<Row>, Fault>
     ensures same_reference { tx.new.conn.ghost_name ≡ tx.old.conn.ghost_name }
     ensures step { ReadsAllRows S.Store tx.old tx.new result CashRows }
     ensures fault { OnErr result (result ≡ Err Store) }
@@ -273,7 +273,7 @@ pub fn cash_rows<S: Alter>(tx: &mut Transaction<'_, S>) -> Result<Vec<Row>, Faul
 }
 
 // Returns all rows of CASH_MOVE, sorted by key, ascending. Fails with `Store` only.
-fn move_rows<S: Alter>(tx: &mut Transaction<'_, S>) -> Result<Vec<Row>, Fault>
+fn cash_move_rows<S: Alter>(tx: &mut Transaction<'_, S>) -> Result<Vec<Row>, Fault>
     ensures same_reference { tx.new.conn.ghost_name ≡ tx.old.conn.ghost_name }
     ensures step { ReadsAllRows S.Store tx.old tx.new result CashMoves }
     ensures fault { OnErr result (result ≡ Err Store) }
@@ -286,7 +286,7 @@ fn move_rows<S: Alter>(tx: &mut Transaction<'_, S>) -> Result<Vec<Row>, Fault>
 }
 
 // Returns all rows of SETTLE_RULE, sorted by key, ascending. Fails with `Store` only.
-fn rule_rows<S: Alter>(tx: &mut Transaction<'_, S>) -> Result<Vec<Row>, Fault>
+fn settle_rule_rows<S: Alter>(tx: &mut Transaction<'_, S>) -> Result<Vec<Row>, Fault>
     ensures same_reference { tx.new.conn.ghost_name ≡ tx.old.conn.ghost_name }
     ensures step { ReadsAllRows S.Store tx.old tx.new result SettleRules }
     ensures fault { OnErr result (result ≡ Err Store) }
@@ -300,7 +300,7 @@ fn rule_rows<S: Alter>(tx: &mut Transaction<'_, S>) -> Result<Vec<Row>, Fault>
 
 /// Returns all rows of CASH_MOVE, sorted by key, or no rows if `schema` lacks the table. Fails
 /// with `Store` only.
-pub fn move_rows_in<S: Alter>(
+pub fn cash_move_rows_in_schema<S: Alter>(
     tx: &mut Transaction<'_, S>,
     alloc: Global,
     schema: Schema,
@@ -309,15 +309,15 @@ pub fn move_rows_in<S: Alter>(
     ensures step { ReadsRowsIfPresent S.Store tx.old tx.new result (abstract_schema schema) CashMoves }
     ensures fault { OnErr result (result ≡ Err Store) }
 {
-    if !schema.has_moves() {
+    if !schema.has_cash_move_table() {
         return Ok(Vec::new(alloc));
     }
-    move_rows(tx)
+    cash_move_rows(tx)
 }
 
 /// Returns all rows of SETTLE_RULE, sorted by key, or no rows if `schema` lacks the table. Fails
 /// with `Store` only.
-pub fn rule_rows_in<S: Alter>(
+pub fn settle_rule_rows_in_schema<S: Alter>(
     tx: &mut Transaction<'_, S>,
     alloc: Global,
     schema: Schema,
@@ -326,8 +326,8 @@ pub fn rule_rows_in<S: Alter>(
     ensures step { ReadsRowsIfPresent S.Store tx.old tx.new result (abstract_schema schema) SettleRules }
     ensures fault { OnErr result (result ≡ Err Store) }
 {
-    if !schema.has_rule() {
+    if !schema.has_settle_rule_table() {
         return Ok(Vec::new(alloc));
     }
-    rule_rows(tx)
+    settle_rule_rows(tx)
 }

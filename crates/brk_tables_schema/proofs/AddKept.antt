@@ -10,7 +10,7 @@ use Rattle.sqlite_tied.specs.Compute.{everything}
 use Rattle.brk_sql.specs.Desk.{IsTableAt}
 use Rattle.brk_sql.proofs.Meant.{meant, inserts}
 use Rattle.brk_sql.proofs.Texts.{read}
-use Rattle.brk_tables_schema.specs.Shapes.{kept}
+use Rattle.brk_tables_schema.specs.Shapes.{kept_table}
 
 abbrev pub statement : List ℕ
 statement = codes "INSERT INTO KEPT (K_BATCH, K_N, K_ROW, K_LINE) VALUES (?1, ?2, ?3, ?4)"
@@ -18,6 +18,6 @@ statement = codes "INSERT INTO KEPT (K_BATCH, K_N, K_ROW, K_LINE) VALUES (?1, ?2
 abbrev pub terms : List Term
 terms = lit Null ∷ col 0 0 ∷ col 0 1 ∷ col 0 2 ∷ col 0 3 ∷ []
 
-pub understood_as : (schema : Schema) (at tree : ℕ) → IsTableAt schema (kept tree) at → compiled schema statement ≡ Ok (meant (read statement) [] (Insert at (Values terms 5)))
+pub understood_as : (schema : Schema) (at tree : ℕ) → IsTableAt schema (kept_table tree) at → compiled schema statement ≡ Ok (meant (read statement) [] (Insert at (Values terms 5)))
 unfolding everything
-understood_as schema at tree h = inserts schema statement (read statement) refl refl (codes "KEPT") at (kept tree) h.named h.found _ _ _ refl refl
+understood_as schema at tree h = inserts schema statement (read statement) refl refl (codes "KEPT") at (kept_table tree) h.named h.found _ _ _ refl refl

@@ -18,7 +18,7 @@ use Rattle.brk_sql.proofs.Meant.{meant, reads_or}
 use Rattle.brk_sql.proofs.Pick.{selection}
 use Rattle.brk_sql.proofs.Scoped.{column_is, heading_is}
 use Rattle.brk_sql.proofs.Texts.{read}
-use Rattle.brk_tables_schema.specs.Shapes.{desk_row}
+use Rattle.brk_tables_schema.specs.Shapes.{desk_row_table}
 use Rattle.sqlite_ast.specs.declared.Shown.TheVariants.{One}
 use Rattle.sqlite_ast.specs.declared.Origin.TheVariants.{Table}
 use Rattle.sqlite_ast.specs.declared.Source.{Source, roll-Source}
@@ -92,20 +92,20 @@ names = codes "D_ID" ∷ codes "D_SCHEMA" ∷ codes "D_LAST" ∷ []
 abbrev after : ℕ → Carried → State
 after spent last = record (fresh 2 max_budget) { budget = max_budget - spent; last = last }
 
-module _ (schema : Schema) (at tree : ℕ) (h : IsTableAt schema (desk_row tree) at) where
-  abbrev found : slice_get schema.tables at ≡ Some (desk_row tree)
+module _ (schema : Schema) (at tree : ℕ) (h : IsTableAt schema (desk_row_table tree) at) where
+  abbrev found : slice_get schema.tables at ≡ Some (desk_row_table tree)
   found = h.found
 
   shows : result lower (outermost schema) (level_one (codes "DESK") at []) core (fresh 2 max_budget) ≡ Ok (columns, after 3 binary)
   unfolding lowering
   shows =
       rw (
-        column_is schema at (desk_row tree) found (codes "DESK") [] [] true true (codes "D_ID") 0 (integer_column (codes "D_ID")) refl refl,
-        heading_is schema at (desk_row tree) found (codes "DESK") [] [] true true (e.Column None (codes "D_ID")) (codes "D_ID") (codes "D_ID") 0 (integer_column (codes "D_ID")) refl refl refl,
-        column_is schema at (desk_row tree) found (codes "DESK") [] [] true true (codes "D_SCHEMA") 1 (integer_column (codes "D_SCHEMA")) refl refl,
-        heading_is schema at (desk_row tree) found (codes "DESK") [] [] true true (e.Column None (codes "D_SCHEMA")) (codes "D_SCHEMA") (codes "D_SCHEMA") 1 (integer_column (codes "D_SCHEMA")) refl refl refl,
-        column_is schema at (desk_row tree) found (codes "DESK") [] [] true true (codes "D_LAST") 2 (nullable_integer_column (codes "D_LAST")) refl refl,
-        heading_is schema at (desk_row tree) found (codes "DESK") [] [] true true (e.Column None (codes "D_LAST")) (codes "D_LAST") (codes "D_LAST") 2 (nullable_integer_column (codes "D_LAST")) refl refl refl,
+        column_is schema at (desk_row_table tree) found (codes "DESK") [] [] true true (codes "D_ID") 0 (integer_column (codes "D_ID")) refl refl,
+        heading_is schema at (desk_row_table tree) found (codes "DESK") [] [] true true (e.Column None (codes "D_ID")) (codes "D_ID") (codes "D_ID") 0 (integer_column (codes "D_ID")) refl refl refl,
+        column_is schema at (desk_row_table tree) found (codes "DESK") [] [] true true (codes "D_SCHEMA") 1 (integer_column (codes "D_SCHEMA")) refl refl,
+        heading_is schema at (desk_row_table tree) found (codes "DESK") [] [] true true (e.Column None (codes "D_SCHEMA")) (codes "D_SCHEMA") (codes "D_SCHEMA") 1 (integer_column (codes "D_SCHEMA")) refl refl refl,
+        column_is schema at (desk_row_table tree) found (codes "DESK") [] [] true true (codes "D_LAST") 2 (nullable_integer_column (codes "D_LAST")) refl refl,
+        heading_is schema at (desk_row_table tree) found (codes "DESK") [] [] true true (e.Column None (codes "D_LAST")) (codes "D_LAST") (codes "D_LAST") 2 (nullable_integer_column (codes "D_LAST")) refl refl refl,
       )
 
   matches : matching lower (outermost schema) (level_one (codes "DESK") at columns) core (after 3 binary)
@@ -116,7 +116,7 @@ module _ (schema : Schema) (at tree : ℕ) (h : IsTableAt schema (desk_row tree)
   sorted : sorts lower (inside schema (level_one (codes "DESK") at columns) false) columns by (after 3 binary) ≡ Ok ((draft tree).order, after 4 nothing)
   unfolding lowering
   sorted =
-      rw (column_is schema at (desk_row tree) found (codes "DESK") columns [] false true (codes "D_ID") 0 (integer_column (codes "D_ID")) refl refl)
+      rw (column_is schema at (desk_row_table tree) found (codes "DESK") columns [] false true (codes "D_ID") 0 (integer_column (codes "D_ID")) refl refl)
 
   meaning_is : meaning schema select ≡ Ok ((draft tree, names, None ∷ Some Binary ∷ Some Binary ∷ []), [])
   unfolding everything

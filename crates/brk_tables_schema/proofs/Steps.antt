@@ -16,7 +16,7 @@ use Rattle.brk_sql.proofs.Values.{cast_int, cast_null, cast_whole}
 use Rattle.brk_sql.proofs.Writes.{Place, updates_as}
 use Rattle.brk_sql.proofs.Looks.{tells_rising}
 use Rattle.brk_tables_schema.specs.Cells.{DeskRow, natural_as_value, desk_row_cells}
-use Rattle.brk_tables_schema.specs.Desk.{Which, TheDesk, Item, desk, desk_rows, rule_rows, desk_key, key, order, list}
+use Rattle.brk_tables_schema.specs.Desk.{DeskTable, TheDesk, RecordOfTable, desk_tables, desk_rows, rule_rows, desk_key, primary_key_of_record, ordering_by_primary_key, rows_of_table}
 use Rattle.brk_changes.specs.Changes.{tables_with_last_stamp}
 use Rattle.brk_tables_schema.proofs.Order.{inserted, key_total}
 use Rattle.brk_tables_schema.proofs.Tests.{same_number}
@@ -28,10 +28,10 @@ use Rattle.brk_tables_schema.proofs.DeskRows
 -- ---- changes
 
 -- a row is put where its key goes
-pub added : (w : Which) (place : Place desk w) (x : Item w) (old new : Database) → ChangesTablesBy desk (λ t. place.put (insert_sorted (order w) x (list w t)) t) old new → ChangesTablesBy desk (λ t. place.put (insert_row_by_key (key w) x (list w t)) t) old new
-added w place x old new turns = λ t tree h. let turned = turns t tree h in (subst (λ xs. HasTables desk (place.put xs t) tree new) (sym (inserted (key w) x (list w t))) turned.0, turned.1)
+pub added : (w : DeskTable) (place : Place desk_tables w) (x : RecordOfTable w) (old new : Database) → ChangesTablesBy desk_tables (λ t. place.put (insert_sorted (ordering_by_primary_key w) x (rows_of_table w t)) t) old new → ChangesTablesBy desk_tables (λ t. place.put (insert_row_by_key (primary_key_of_record w) x (rows_of_table w t)) t) old new
+added w place x old new turns = λ t tree h. let turned = turns t tree h in (subst (λ xs. HasTables desk_tables (place.put xs t) tree new) (sym (inserted (primary_key_of_record w) x (rows_of_table w t))) turned.0, turned.1)
 
-pub sets_last : (old new : State) (stamp : ℕ) → ExecutesStatement SetLast.statement (natural_as_value stamp ∷ natural_as_value 1 ∷ []) old new → ChangesTablesBy desk (tables_with_last_stamp stamp) old.now new.now
+pub sets_last : (old new : State) (stamp : ℕ) → ExecutesStatement SetLast.statement (natural_as_value stamp ∷ natural_as_value 1 ∷ []) old new → ChangesTablesBy desk_tables (tables_with_last_stamp stamp) old.now new.now
 sets_last old new stamp ran = λ t tree h.
     let turned = updates_as wide TheDesk the_desk SetLast.statement (natural_as_value stamp ∷ natural_as_value 1 ∷ []) (read SetLast.statement) SetLast.terms SetLast.project (λ (r : DeskRow). r.id == 1)
     (λ tree r x e. let a : column r 0 ≡ natural_as_value x.id = cc in rw (a, same_number x.id 1) (and_true _)) (λ r. refl) SetLast.understood_as
@@ -42,14 +42,14 @@ sets_last old new stamp ran = λ t tree h.
     (wide_of third_schema t) tree (widened third_schema tree old.now t h) in
     (narrowed third_schema tree new.now (desk_rows third_schema (Some stamp)) (rule_rows t.rule) t (tables_with_last_stamp stamp t) refl refl (λ w other _. others w other t) turned.0, turned.1)
   where
-    others : (w : Which) → w ≢ TheDesk → (t : Tables) → list w (tables_with_last_stamp stamp t) ≡ list w t
+    others : (w : DeskTable) → w ≢ TheDesk → (t : Tables) → rows_of_table w (tables_with_last_stamp stamp t) ≡ rows_of_table w t
     others TheDesk other t = absurd (other refl)
     others w other t = refl
 
 -- ---- reads
 
-pub tells_last : (old new : State) (rows : List Row) → Shown DeskRows.statement [] old new rows → TablesSatisfy desk (λ t. rows ≡ map desk_row_cells (desk_rows third_schema t.last)) old.now
+pub tells_last : (old new : State) (rows : List Row) → Shown DeskRows.statement [] old new rows → TablesSatisfy desk_tables (λ t. rows ≡ map desk_row_cells (desk_rows third_schema t.last)) old.now
 tells_last old new rows shown = λ t tree h.
-    tells_rising desk TheDesk DeskRows.statement [] (read DeskRows.statement) DeskRows.terms DeskRows.project DeskRows.order DeskRows.paging DeskRows.names DeskRows.understood_as
-    (λ _. true) (λ tree r x e. refl) desk_row_cells (λ tree r x e. e) (order TheDesk) (key_total desk_key)
+    tells_rising desk_tables TheDesk DeskRows.statement [] (read DeskRows.statement) DeskRows.terms DeskRows.project DeskRows.order DeskRows.paging DeskRows.names DeskRows.understood_as
+    (λ _. true) (λ tree r x e. refl) desk_row_cells (λ tree r x e. e) (ordering_by_primary_key TheDesk) (key_total desk_key)
     (λ tree a b x y e f. let p : column a 0 ≡ natural_as_value x.id = cc in let q : column b 0 ≡ natural_as_value y.id = cc in rw (p, q) refl) old new rows shown (λ x y. refl) t tree h

@@ -11,9 +11,9 @@ use Rattle.sqlite_sql.specs.Ops.{binary}
 use Rattle.brk_model.specs.Keys.{KeyPart, number, word, kept_key, permission_key, security_key, last_trade_key, charge_key, band_key, customer_tax_key}
 use Rattle.brk_sql.proofs.Values.{equal_ints, equal_texts}
 use Rattle.brk_sql.proofs.Writes.{IsUniqueKey}
-use Rattle.brk_tables_schema.specs.Shapes.{kept, permission, security, last_trade, charge, band, customer_tax}
+use Rattle.brk_tables_schema.specs.Shapes.{kept_table, permission_table, security_table, last_trade_table, charge_table, band_table, customer_tax_table}
 use Rattle.brk_tables_schema.specs.Cells.{kept_cells, permission_cells, security_cells, last_trade_cells, charge_cells, band_cells, customer_tax_cells}
-use Rattle.brk_tables_schema.specs.Desk.{KeptRows, Permissions, Securities, LastTrades, Charges, Bands, CustomerTaxes, order}
+use Rattle.brk_tables_schema.specs.Desk.{KeptRows, Permissions, Securities, LastTrades, Charges, Bands, CustomerTaxes, ordering_by_primary_key}
 use Rattle.brk_tables_schema.specs.Order.{key_part_value, key_values}
 
 same_part : (j k : KeyPart) → equal Binary (key_part_value j) (key_part_value k) ≡ is_eq (value_cmp (key_part_value j) (key_part_value k))
@@ -43,23 +43,23 @@ same_key (j ∷ js) (k ∷ ks) (p ∷ places) r s e f =
     let d : map (column s) places ≡ key_values ks = cc in
     rw (a, b, same_part j k) (eq_then (value_cmp (key_part_value j) (key_part_value k)) _ ∙ ap (λ rest. is_eq (value_cmp (key_part_value j) (key_part_value k)) && rest) (same_key js ks places r s c d))
 
-pub kept_keyed : IsUniqueKey kept kept_cells (order KeptRows)
+pub kept_keyed : IsUniqueKey kept_table kept_cells (ordering_by_primary_key KeptRows)
 kept_keyed = record { key = 1 ∷ 2 ∷ []; first = λ tree. refl; tied = λ tree r s x y e f. same_key (kept_key x) (kept_key y) (1 ∷ 2 ∷ []) r s (ap (take 2) e) (ap (take 2) f) }
 
-pub permission_keyed : IsUniqueKey permission permission_cells (order Permissions)
+pub permission_keyed : IsUniqueKey permission_table permission_cells (ordering_by_primary_key Permissions)
 permission_keyed = record { key = 1 ∷ 2 ∷ []; first = λ tree. refl; tied = λ tree r s x y e f. same_key (permission_key x) (permission_key y) (1 ∷ 2 ∷ []) r s (ap (take 2) e) (ap (take 2) f) }
 
-pub security_keyed : IsUniqueKey security security_cells (order Securities)
+pub security_keyed : IsUniqueKey security_table security_cells (ordering_by_primary_key Securities)
 security_keyed = record { key = 1 ∷ []; first = λ tree. refl; tied = λ tree r s x y e f. same_key (security_key x) (security_key y) (1 ∷ []) r s (ap (take 1) e) (ap (take 1) f) }
 
-pub last_trade_keyed : IsUniqueKey last_trade last_trade_cells (order LastTrades)
+pub last_trade_keyed : IsUniqueKey last_trade_table last_trade_cells (ordering_by_primary_key LastTrades)
 last_trade_keyed = record { key = 1 ∷ []; first = λ tree. refl; tied = λ tree r s x y e f. same_key (last_trade_key x) (last_trade_key y) (1 ∷ []) r s (ap (take 1) e) (ap (take 1) f) }
 
-pub charge_keyed : IsUniqueKey charge charge_cells (order Charges)
+pub charge_keyed : IsUniqueKey charge_table charge_cells (ordering_by_primary_key Charges)
 charge_keyed = record { key = 1 ∷ 2 ∷ []; first = λ tree. refl; tied = λ tree r s x y e f. same_key (charge_key x) (charge_key y) (1 ∷ 2 ∷ []) r s (ap (take 2) e) (ap (take 2) f) }
 
-pub band_keyed : IsUniqueKey band band_cells (order Bands)
+pub band_keyed : IsUniqueKey band_table band_cells (ordering_by_primary_key Bands)
 band_keyed = record { key = 1 ∷ 2 ∷ 3 ∷ 4 ∷ []; first = λ tree. refl; tied = λ tree r s x y e f. same_key (band_key x) (band_key y) (1 ∷ 2 ∷ 3 ∷ 4 ∷ []) r s (ap (take 4) e) (ap (take 4) f) }
 
-pub customer_tax_keyed : IsUniqueKey customer_tax customer_tax_cells (order CustomerTaxes)
+pub customer_tax_keyed : IsUniqueKey customer_tax_table customer_tax_cells (ordering_by_primary_key CustomerTaxes)
 customer_tax_keyed = record { key = 1 ∷ 2 ∷ []; first = λ tree. refl; tied = λ tree r s x y e f. same_key (customer_tax_key x) (customer_tax_key y) (1 ∷ 2 ∷ []) r s (ap (take 2) e) (ap (take 2) f) }

@@ -7,35 +7,35 @@ use Rattle.brk_model.specs.Records.{Customer, Permission, Charge, Band, TaxRate,
 use Rattle.brk_model.specs.Schemas.{Schema, third_schema}
 use Rattle.brk_model.specs.Tables.{Tables, BrokerRow, AccountRow, SecurityRow, LastTradeRow, TradeRow, HistoryRow, RequestRow, HoldingRow, SummaryRow, HoldingHistoryRow, SettlementRow, CashRow, MoveRow}
 use Rattle.brk_model.specs.Keys.{KeyPart, number, kept_key, broker_key, customer_key, account_key, permission_key, security_key, last_trade_key, charge_key, band_key, tax_rate_key, customer_tax_key, trade_key, history_key, request_key, holding_key, summary_key, holding_history_key, settlement_key, cash_key, move_key}
-use Rattle.brk_sql.specs.Desk.{Desk}
-use Rattle.brk_tables_schema.specs.Shapes.{desk_row, kept, broker, customer, account, permission, security, last_trade, charge, band, tax_rate, customer_tax, trade, history, request, holding, summary, holding_history, settlement, cash, move, rule}
+use Rattle.brk_sql.specs.Desk.{ProgramTables}
+use Rattle.brk_tables_schema.specs.Shapes.{desk_row_table, kept_table, broker_table, customer_table, account_table, permission_table, security_table, last_trade_table, charge_table, band_table, tax_rate_table, customer_tax_table, trade_table, history_table, request_table, holding_table, summary_table, holding_history_table, settlement_table, cash_table, move_table, rule_table}
 use Rattle.brk_tables_schema.specs.Cells.{DeskRow, RuleRow, desk_row_cells, kept_cells, broker_cells, customer_cells, account_cells, permission_cells, security_cells, last_trade_cells, charge_cells, band_cells, tax_rate_cells, customer_tax_cells, trade_cells, history_cells, request_cells, holding_cells, summary_cells, holding_history_cells, settlement_cells, cash_cells, move_cells, rule_cells}
 use Rattle.brk_tables_schema.specs.Order.{ordering_by_key}
 
 -- The tables of a desk, by name. `table_name` is the SQL name of each.
-pub data Which : Type 0 where
-  TheDesk : Which
-  KeptRows : Which
-  Brokers : Which
-  Customers : Which
-  Accounts : Which
-  Permissions : Which
-  Securities : Which
-  LastTrades : Which
-  Charges : Which
-  Bands : Which
-  TaxRates : Which
-  CustomerTaxes : Which
-  Trades : Which
-  TradeHistory : Which
-  Requests : Which
-  Holdings : Which
-  Summaries : Which
-  HoldingHistory : Which
-  Settlements : Which
-  CashRows : Which
-  CashMoves : Which
-  SettleRules : Which
+pub data DeskTable : Type 0 where
+  TheDesk : DeskTable
+  KeptRows : DeskTable
+  Brokers : DeskTable
+  Customers : DeskTable
+  Accounts : DeskTable
+  Permissions : DeskTable
+  Securities : DeskTable
+  LastTrades : DeskTable
+  Charges : DeskTable
+  Bands : DeskTable
+  TaxRates : DeskTable
+  CustomerTaxes : DeskTable
+  Trades : DeskTable
+  TradeHistory : DeskTable
+  Requests : DeskTable
+  Holdings : DeskTable
+  Summaries : DeskTable
+  HoldingHistory : DeskTable
+  Settlements : DeskTable
+  CashRows : DeskTable
+  CashMoves : DeskTable
+  SettleRules : DeskTable
 
 -- The single row of DESK in a schema, with the stamp `last` of the last command, or without one.
 abbrev pub desk_rows : Schema → Option ℕ → List DeskRow
@@ -55,143 +55,143 @@ abbrev pub rule_key : RuleRow → List KeyPart
 rule_key r = number r.id ∷ []
 
 -- True if the schema has the table.
-abbrev pub has_table : Schema → Which → Bool
-has_table schema CashMoves = schema.has_moves
-has_table schema SettleRules = schema.has_rule
-has_table schema w = true
+abbrev pub schema_has_table : Schema → DeskTable → Bool
+schema_has_table schema CashMoves = schema.has_cash_move_table
+schema_has_table schema SettleRules = schema.has_settle_rule_table
+schema_has_table schema w = true
 
 -- The definition of a table with its rows at a tree: its name, columns, keys and foreign keys.
-abbrev pub shape : Which → ℕ → Table
-shape TheDesk = desk_row
-shape KeptRows = kept
-shape Brokers = broker
-shape Customers = customer
-shape Accounts = account
-shape Permissions = permission
-shape Securities = security
-shape LastTrades = last_trade
-shape Charges = charge
-shape Bands = band
-shape TaxRates = tax_rate
-shape CustomerTaxes = customer_tax
-shape Trades = trade
-shape TradeHistory = history
-shape Requests = request
-shape Holdings = holding
-shape Summaries = summary
-shape HoldingHistory = holding_history
-shape Settlements = settlement
-shape CashRows = cash
-shape CashMoves = move
-shape SettleRules = rule
+abbrev pub table_definition_at : DeskTable → ℕ → Table
+table_definition_at TheDesk = desk_row_table
+table_definition_at KeptRows = kept_table
+table_definition_at Brokers = broker_table
+table_definition_at Customers = customer_table
+table_definition_at Accounts = account_table
+table_definition_at Permissions = permission_table
+table_definition_at Securities = security_table
+table_definition_at LastTrades = last_trade_table
+table_definition_at Charges = charge_table
+table_definition_at Bands = band_table
+table_definition_at TaxRates = tax_rate_table
+table_definition_at CustomerTaxes = customer_tax_table
+table_definition_at Trades = trade_table
+table_definition_at TradeHistory = history_table
+table_definition_at Requests = request_table
+table_definition_at Holdings = holding_table
+table_definition_at Summaries = summary_table
+table_definition_at HoldingHistory = holding_history_table
+table_definition_at Settlements = settlement_table
+table_definition_at CashRows = cash_table
+table_definition_at CashMoves = move_table
+table_definition_at SettleRules = rule_table
 
 -- The definition of a table with its rows at the tree `tree` has this tree.
-abbrev pub placed : (w : Which) (tree : ℕ) → (shape w tree).tree ≡ tree
-placed TheDesk tree = refl
-placed KeptRows tree = refl
-placed Brokers tree = refl
-placed Customers tree = refl
-placed Accounts tree = refl
-placed Permissions tree = refl
-placed Securities tree = refl
-placed LastTrades tree = refl
-placed Charges tree = refl
-placed Bands tree = refl
-placed TaxRates tree = refl
-placed CustomerTaxes tree = refl
-placed Trades tree = refl
-placed TradeHistory tree = refl
-placed Requests tree = refl
-placed Holdings tree = refl
-placed Summaries tree = refl
-placed HoldingHistory tree = refl
-placed Settlements tree = refl
-placed CashRows tree = refl
-placed CashMoves tree = refl
-placed SettleRules tree = refl
+abbrev pub table_definition_has_tree : (w : DeskTable) (tree : ℕ) → (table_definition_at w tree).tree ≡ tree
+table_definition_has_tree TheDesk tree = refl
+table_definition_has_tree KeptRows tree = refl
+table_definition_has_tree Brokers tree = refl
+table_definition_has_tree Customers tree = refl
+table_definition_has_tree Accounts tree = refl
+table_definition_has_tree Permissions tree = refl
+table_definition_has_tree Securities tree = refl
+table_definition_has_tree LastTrades tree = refl
+table_definition_has_tree Charges tree = refl
+table_definition_has_tree Bands tree = refl
+table_definition_has_tree TaxRates tree = refl
+table_definition_has_tree CustomerTaxes tree = refl
+table_definition_has_tree Trades tree = refl
+table_definition_has_tree TradeHistory tree = refl
+table_definition_has_tree Requests tree = refl
+table_definition_has_tree Holdings tree = refl
+table_definition_has_tree Summaries tree = refl
+table_definition_has_tree HoldingHistory tree = refl
+table_definition_has_tree Settlements tree = refl
+table_definition_has_tree CashRows tree = refl
+table_definition_has_tree CashMoves tree = refl
+table_definition_has_tree SettleRules tree = refl
 
 -- The type of the records of a table.
-abbrev pub Item : Which → Type 0
-Item TheDesk = DeskRow
-Item KeptRows = Kept
-Item Brokers = BrokerRow
-Item Customers = Customer
-Item Accounts = AccountRow
-Item Permissions = Permission
-Item Securities = SecurityRow
-Item LastTrades = LastTradeRow
-Item Charges = Charge
-Item Bands = Band
-Item TaxRates = TaxRate
-Item CustomerTaxes = CustomerTax
-Item Trades = TradeRow
-Item TradeHistory = HistoryRow
-Item Requests = RequestRow
-Item Holdings = HoldingRow
-Item Summaries = SummaryRow
-Item HoldingHistory = HoldingHistoryRow
-Item Settlements = SettlementRow
-Item CashRows = CashRow
-Item CashMoves = MoveRow
-Item SettleRules = RuleRow
+abbrev pub RecordOfTable : DeskTable → Type 0
+RecordOfTable TheDesk = DeskRow
+RecordOfTable KeptRows = Kept
+RecordOfTable Brokers = BrokerRow
+RecordOfTable Customers = Customer
+RecordOfTable Accounts = AccountRow
+RecordOfTable Permissions = Permission
+RecordOfTable Securities = SecurityRow
+RecordOfTable LastTrades = LastTradeRow
+RecordOfTable Charges = Charge
+RecordOfTable Bands = Band
+RecordOfTable TaxRates = TaxRate
+RecordOfTable CustomerTaxes = CustomerTax
+RecordOfTable Trades = TradeRow
+RecordOfTable TradeHistory = HistoryRow
+RecordOfTable Requests = RequestRow
+RecordOfTable Holdings = HoldingRow
+RecordOfTable Summaries = SummaryRow
+RecordOfTable HoldingHistory = HoldingHistoryRow
+RecordOfTable Settlements = SettlementRow
+RecordOfTable CashRows = CashRow
+RecordOfTable CashMoves = MoveRow
+RecordOfTable SettleRules = RuleRow
 
 -- The SQL row that encodes a record of a table: its values in the order of the columns.
-abbrev pub encode : (w : Which) → Item w → Row
-encode TheDesk = desk_row_cells
-encode KeptRows = kept_cells
-encode Brokers = broker_cells
-encode Customers = customer_cells
-encode Accounts = account_cells
-encode Permissions = permission_cells
-encode Securities = security_cells
-encode LastTrades = last_trade_cells
-encode Charges = charge_cells
-encode Bands = band_cells
-encode TaxRates = tax_rate_cells
-encode CustomerTaxes = customer_tax_cells
-encode Trades = trade_cells
-encode TradeHistory = history_cells
-encode Requests = request_cells
-encode Holdings = holding_cells
-encode Summaries = summary_cells
-encode HoldingHistory = holding_history_cells
-encode Settlements = settlement_cells
-encode CashRows = cash_cells
-encode CashMoves = move_cells
-encode SettleRules = rule_cells
+abbrev pub encoded_row : (w : DeskTable) → RecordOfTable w → Row
+encoded_row TheDesk = desk_row_cells
+encoded_row KeptRows = kept_cells
+encoded_row Brokers = broker_cells
+encoded_row Customers = customer_cells
+encoded_row Accounts = account_cells
+encoded_row Permissions = permission_cells
+encoded_row Securities = security_cells
+encoded_row LastTrades = last_trade_cells
+encoded_row Charges = charge_cells
+encoded_row Bands = band_cells
+encoded_row TaxRates = tax_rate_cells
+encoded_row CustomerTaxes = customer_tax_cells
+encoded_row Trades = trade_cells
+encoded_row TradeHistory = history_cells
+encoded_row Requests = request_cells
+encoded_row Holdings = holding_cells
+encoded_row Summaries = summary_cells
+encoded_row HoldingHistory = holding_history_cells
+encoded_row Settlements = settlement_cells
+encoded_row CashRows = cash_cells
+encoded_row CashMoves = move_cells
+encoded_row SettleRules = rule_cells
 
 -- The primary key of a record of a table.
-abbrev pub key : (w : Which) → Item w → List KeyPart
-key TheDesk = desk_key
-key KeptRows = kept_key
-key Brokers = broker_key
-key Customers = customer_key
-key Accounts = account_key
-key Permissions = permission_key
-key Securities = security_key
-key LastTrades = last_trade_key
-key Charges = charge_key
-key Bands = band_key
-key TaxRates = tax_rate_key
-key CustomerTaxes = customer_tax_key
-key Trades = trade_key
-key TradeHistory = history_key
-key Requests = request_key
-key Holdings = holding_key
-key Summaries = summary_key
-key HoldingHistory = holding_history_key
-key Settlements = settlement_key
-key CashRows = cash_key
-key CashMoves = move_key
-key SettleRules = rule_key
+abbrev pub primary_key_of_record : (w : DeskTable) → RecordOfTable w → List KeyPart
+primary_key_of_record TheDesk = desk_key
+primary_key_of_record KeptRows = kept_key
+primary_key_of_record Brokers = broker_key
+primary_key_of_record Customers = customer_key
+primary_key_of_record Accounts = account_key
+primary_key_of_record Permissions = permission_key
+primary_key_of_record Securities = security_key
+primary_key_of_record LastTrades = last_trade_key
+primary_key_of_record Charges = charge_key
+primary_key_of_record Bands = band_key
+primary_key_of_record TaxRates = tax_rate_key
+primary_key_of_record CustomerTaxes = customer_tax_key
+primary_key_of_record Trades = trade_key
+primary_key_of_record TradeHistory = history_key
+primary_key_of_record Requests = request_key
+primary_key_of_record Holdings = holding_key
+primary_key_of_record Summaries = summary_key
+primary_key_of_record HoldingHistory = holding_history_key
+primary_key_of_record Settlements = settlement_key
+primary_key_of_record CashRows = cash_key
+primary_key_of_record CashMoves = move_key
+primary_key_of_record SettleRules = rule_key
 
 -- Compares two records of a table by their primary keys.
-abbrev pub order : (w : Which) → Item w → Item w → Ordering
-order w = ordering_by_key (key w)
+abbrev pub ordering_by_primary_key : (w : DeskTable) → RecordOfTable w → RecordOfTable w → Ordering
+ordering_by_primary_key w = ordering_by_key (primary_key_of_record w)
 
 -- The records of the table `w` of a desk with the tables `t`. Only the record of DESK depends on
 -- the schema.
-abbrev pub rows_in_schema : Schema → (w : Which) → Tables → List (Item w)
+abbrev pub rows_in_schema : Schema → (w : DeskTable) → Tables → List (RecordOfTable w)
 rows_in_schema schema TheDesk t = desk_rows schema t.last
 rows_in_schema schema KeptRows t = t.kept
 rows_in_schema schema Brokers t = t.brokers
@@ -216,28 +216,28 @@ rows_in_schema schema CashMoves t = t.moves
 rows_in_schema schema SettleRules t = rule_rows t.rule
 
 -- The records of the table `w` of a desk in schema 3 with the tables `t`.
-abbrev pub list : (w : Which) → Tables → List (Item w)
-list = rows_in_schema third_schema
+abbrev pub rows_of_table : (w : DeskTable) → Tables → List (RecordOfTable w)
+rows_of_table = rows_in_schema third_schema
 
 -- All tables of a desk, with the number of the given schema in the row of DESK.
-abbrev pub desk_of_schema : Schema → Desk Which Tables
-desk_of_schema schema = record { shape = shape; placed = placed; Item = Item; encode = encode; order = order; list = rows_in_schema schema }
+abbrev pub desk_tables_of_schema : Schema → ProgramTables DeskTable Tables
+desk_tables_of_schema schema = record { shape = table_definition_at; placed = table_definition_has_tree; Item = RecordOfTable; encode = encoded_row; order = ordering_by_primary_key; list = rows_in_schema schema }
 
 -- All tables of a desk in schema 3.
-abbrev pub desk : Desk Which Tables
-desk = desk_of_schema third_schema
+abbrev pub desk_tables : ProgramTables DeskTable Tables
+desk_tables = desk_tables_of_schema third_schema
 
 -- The list of all tables of a desk: the tables of schema 3.
-abbrev pub all_tables : List Which
+abbrev pub all_tables : List DeskTable
 all_tables = TheDesk ∷ KeptRows ∷ Brokers ∷ Customers ∷ Accounts ∷ Permissions ∷ Securities ∷ LastTrades ∷ Charges ∷ Bands ∷ TaxRates ∷ CustomerTaxes ∷ Trades ∷ TradeHistory ∷ Requests ∷ Holdings ∷ Summaries ∷ HoldingHistory ∷ Settlements ∷ CashRows ∷ CashMoves ∷ SettleRules ∷ []
 
 -- The list of the tables that a schema has.
-abbrev pub tables_in_schema : Schema → List Which
-tables_in_schema schema = filter (has_table schema) all_tables
+abbrev pub tables_in_schema : Schema → List DeskTable
+tables_in_schema schema = filter (schema_has_table schema) all_tables
 
 -- The SQL name of a table.
-abbrev pub table_name : Which → List ℕ
-table_name w = (shape w 0).name
+abbrev pub table_name : DeskTable → List ℕ
+table_name w = (table_definition_at w 0).name
 
 -- The SQL names of all tables.
 abbrev pub all_table_names : List (List ℕ)

@@ -55,8 +55,8 @@ abbrev pub is_utf8_cell : Value → Bool
 is_utf8_cell = is_text_cell is_utf8
 
 -- True if the text is the code of some trade type.
-abbrev pub is_type_code : List ℕ → Bool
-is_type_code s = is_some (trade_type_with_code s)
+abbrev pub is_trade_type_code : List ℕ → Bool
+is_trade_type_code s = is_some (trade_type_with_code s)
 
 -- The list of all statuses of a trade.
 abbrev pub all_statuses : List Status
@@ -83,8 +83,8 @@ abbrev pub is_id_cell : Value → Bool
 is_id_cell = is_natural_cell is_id
 
 -- True if the value is an INTEGER within the limits of the number of a cash row.
-abbrev pub is_move_id_cell : Value → Bool
-is_move_id_cell = is_natural_cell is_cash_row_number
+abbrev pub is_cash_row_number_cell : Value → Bool
+is_cash_row_number_cell = is_natural_cell is_cash_row_number
 
 -- True if the value is a TEXT in the format of a name.
 abbrev pub is_name_cell : Value → Bool
@@ -103,8 +103,8 @@ abbrev pub is_exchange_cell : Value → Bool
 is_exchange_cell = is_text_cell is_exchange
 
 -- True if the value is a TEXT that is the code of a trade type.
-abbrev pub is_type_cell : Value → Bool
-is_type_cell = is_text_cell is_type_code
+abbrev pub is_trade_type_cell : Value → Bool
+is_trade_type_cell = is_text_cell is_trade_type_code
 
 -- True if the value is a TEXT that is the code of a status.
 abbrev pub is_status_cell : Value → Bool
@@ -132,8 +132,8 @@ abbrev pub is_amount_cell : Value → Bool
 is_amount_cell = is_natural_cell (λ n. nat_le n greatest_amount)
 
 -- True if the value is an INTEGER of at least 0 and at most the greatest commission rate.
-abbrev pub is_rate_cell : Value → Bool
-is_rate_cell = is_natural_cell (λ n. nat_le n greatest_commission_rate)
+abbrev pub is_commission_rate_cell : Value → Bool
+is_commission_rate_cell = is_natural_cell (λ n. nat_le n greatest_commission_rate)
 
 -- True if the value is an INTEGER of at least 0 and at most the greatest tax rate.
 abbrev pub is_tax_rate_cell : Value → Bool
@@ -168,9 +168,9 @@ abbrev pub desk_column_cell_checks : Schema → List (Value → Bool)
 desk_column_cell_checks schema = is_natural_cell (λ n. n == 1) ∷ is_natural_cell (λ n. n == schema.number) ∷ is_null_or_stamp_cell ∷ []
 
 -- True if there is exactly one row of DESK, and it passes the checks of the schema.
-abbrev pub is_one_valid_desk_row : Schema → List Row → Bool
-is_one_valid_desk_row schema (row ∷ []) = passes_all_cell_checks (desk_column_cell_checks schema) row
-is_one_valid_desk_row schema _ = false
+abbrev pub has_one_valid_desk_row : Schema → List Row → Bool
+has_one_valid_desk_row schema (row ∷ []) = passes_all_cell_checks (desk_column_cell_checks schema) row
+has_one_valid_desk_row schema _ = false
 
 -- The checks of the columns of KEPT.
 abbrev pub kept_column_cell_checks : List (Value → Bool)
@@ -202,11 +202,11 @@ last_trade_column_cell_checks = is_symbol_cell ∷ is_stamp_cell ∷ is_price_ce
 
 -- The checks of the columns of CHARGE.
 abbrev pub charge_column_cell_checks : List (Value → Bool)
-charge_column_cell_checks = is_type_cell ∷ is_tier_cell ∷ is_charge_cell ∷ []
+charge_column_cell_checks = is_trade_type_cell ∷ is_tier_cell ∷ is_charge_cell ∷ []
 
 -- The checks of the columns of COMMISSION_RATE.
 abbrev pub band_column_cell_checks : List (Value → Bool)
-band_column_cell_checks = is_tier_cell ∷ is_type_cell ∷ is_exchange_cell ∷ is_quantity_cell ∷ is_quantity_cell ∷ is_rate_cell ∷ []
+band_column_cell_checks = is_tier_cell ∷ is_trade_type_cell ∷ is_exchange_cell ∷ is_quantity_cell ∷ is_quantity_cell ∷ is_commission_rate_cell ∷ []
 
 -- The checks of the columns of TAXRATE.
 abbrev pub tax_rate_column_cell_checks : List (Value → Bool)
@@ -219,7 +219,7 @@ customer_tax_column_cell_checks = is_id_cell ∷ is_id_cell ∷ []
 -- The checks of the columns of TRADE.
 abbrev pub trade_column_cell_checks : List (Value → Bool)
 trade_column_cell_checks =
-    is_id_cell ∷ is_stamp_cell ∷ is_status_cell ∷ is_type_cell ∷ is_flag_cell ∷ is_symbol_cell ∷ is_quantity_cell ∷ is_price_cell ∷ is_id_cell ∷ is_utf8_cell ∷ is_null_or_natural_cell is_price ∷ is_charge_cell
+    is_id_cell ∷ is_stamp_cell ∷ is_status_cell ∷ is_trade_type_cell ∷ is_flag_cell ∷ is_symbol_cell ∷ is_quantity_cell ∷ is_price_cell ∷ is_id_cell ∷ is_utf8_cell ∷ is_null_or_natural_cell is_price ∷ is_charge_cell
     ∷ is_amount_cell ∷ is_amount_cell ∷ is_flag_cell ∷ []
 
 -- The checks of the columns of TRADE_HISTORY.
@@ -228,7 +228,7 @@ history_column_cell_checks = is_id_cell ∷ is_status_cell ∷ is_stamp_cell ∷
 
 -- The checks of the columns of TRADE_REQUEST.
 abbrev pub request_column_cell_checks : List (Value → Bool)
-request_column_cell_checks = is_id_cell ∷ is_type_cell ∷ is_symbol_cell ∷ is_quantity_cell ∷ is_price_cell ∷ is_id_cell ∷ []
+request_column_cell_checks = is_id_cell ∷ is_trade_type_cell ∷ is_symbol_cell ∷ is_quantity_cell ∷ is_price_cell ∷ is_id_cell ∷ []
 
 -- The checks of the columns of HOLDING.
 abbrev pub holding_column_cell_checks : List (Value → Bool)
@@ -252,14 +252,14 @@ cash_column_cell_checks = is_id_cell ∷ is_stamp_cell ∷ is_cents_cell ∷ is_
 
 -- The checks of the columns of CASH_MOVE.
 abbrev pub move_column_cell_checks : List (Value → Bool)
-move_column_cell_checks = is_move_id_cell ∷ is_id_cell ∷ is_null_or_natural_cell is_id ∷ is_stamp_cell ∷ is_cents_cell ∷ is_utf8_cell ∷ []
+move_column_cell_checks = is_cash_row_number_cell ∷ is_id_cell ∷ is_null_or_natural_cell is_id ∷ is_stamp_cell ∷ is_cents_cell ∷ is_utf8_cell ∷ []
 
 -- The checks of the columns of SETTLE_RULE.
 abbrev pub rule_column_cell_checks : List (Value → Bool)
 rule_column_cell_checks = is_natural_cell (λ n. n == 1) ∷ is_day_cell ∷ []
 
 -- True if there is no row of SETTLE_RULE, or exactly one, which passes its checks.
-abbrev pub is_at_most_one_valid_rule : List Row → Bool
-is_at_most_one_valid_rule [] = true
-is_at_most_one_valid_rule (row ∷ []) = passes_all_cell_checks rule_column_cell_checks row
-is_at_most_one_valid_rule _ = false
+abbrev pub has_at_most_one_valid_rule_row : List Row → Bool
+has_at_most_one_valid_rule_row [] = true
+has_at_most_one_valid_rule_row (row ∷ []) = passes_all_cell_checks rule_column_cell_checks row
+has_at_most_one_valid_rule_row _ = false

@@ -7,7 +7,7 @@ ghost use Rattle.sqlite.specs.Listing.{understood};
 ghost use Rattle.sqlite.specs.Values.{bound};
 ghost use Rattle.sqlite_resolve.specs.declared.compiled.Compiled.{Compiled};
 ghost use Rattle.sqlite_schema.specs.declared.schema.Schema.{Schema};
-ghost use Rattle.brk_sql.specs.Desk.{MatchesResultColumns, MatchesCompilation};
+ghost use Rattle.brk_sql.specs.Desk.{MatchesResultColumns, IsCompilationOutcome};
 ghost use Rattle.brk_sql.specs.Model.{ExecutesStatement, SelectsRows, IsConnectionStep};
 
 use brk_money::Fault;
@@ -36,7 +36,7 @@ pub fn select_rows<S: Alter>(
     text: &str,
     params: &[ValueRef<'_>],
 ) -> Result<Vec<Row>, Fault>
-    requires plain { (schema : Schema) (c : Compiled) → understood schema text.now ≡ Ok c → c.returning ≡ None }
+    requires no_returning_clause { (schema : Schema) (c : Compiled) → understood schema text.now ≡ Ok c → c.returning ≡ None }
     ensures same_reference { tx.new.conn.ghost_name ≡ tx.old.conn.ghost_name }
     ensures step { IsConnectionStep S.Store tx.old tx.new result (λ rows. SelectsRows text.now (bound params.now) rows.items) }
     ensures fault { OnErr result (result ≡ Err Store) }
@@ -51,7 +51,7 @@ pub fn select_rows<S: Alter>(
 /// database is unchanged. Fails with `Store` only.
 pub fn statement_compiles<S: Alter>(tx: &mut Transaction<'_, S>, text: &str) -> Result<bool, Fault>
     ensures same_reference { tx.new.conn.ghost_name ≡ tx.old.conn.ghost_name }
-    ensures step { IsConnectionStep S.Store tx.old tx.new result (λ has a b. IsTrue a.is_open × (b.now ≡ a.now) × MatchesCompilation text.now has a.now.schema) }
+    ensures step { IsConnectionStep S.Store tx.old tx.new result (λ has a b. IsTrue a.is_open × (b.now ≡ a.now) × IsCompilationOutcome text.now has a.now.schema) }
     ensures fault { OnErr result (result ≡ Err Store) }
 {
     match brk_sql::statement_compiles(tx, text) {

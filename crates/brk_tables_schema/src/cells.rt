@@ -7,10 +7,10 @@ ghost use Rattle.brk_money.specs.Kinds.{trade_status_code, tax_status_number, tr
 ghost use Rattle.brk_changes.specs.Rows.{cash_type_text};
 ghost use Rattle.brk_model.specs.Form.{is_id, is_price};
 ghost use Rattle.brk_tables_schema.specs.Cells.{flag_as_value, optional_as_value};
-ghost use Rattle.brk_tables_schema.specs.Formed.{is_cents_cell, is_charge_cell, is_day_cell, is_flag_cell, is_id_cell, is_cash_type_text, is_status_code, is_tax_status_number, is_null_or_stamp_cell, is_null_or_natural_cell, is_move_id_cell, is_natural_cell, is_integer_cell, is_price_cell, is_quantity_cell, is_rate_cell, is_stamp_cell, is_status_cell, is_amount_cell, is_tax_rate_cell, is_tax_status_cell, is_utf8_cell, is_tier_cell, is_type_cell, is_text_cell};
+ghost use Rattle.brk_tables_schema.specs.Formed.{is_cents_cell, is_charge_cell, is_day_cell, is_flag_cell, is_id_cell, is_cash_type_text, is_status_code, is_tax_status_number, is_null_or_stamp_cell, is_null_or_natural_cell, is_cash_row_number_cell, is_natural_cell, is_integer_cell, is_price_cell, is_quantity_cell, is_commission_rate_cell, is_stamp_cell, is_status_cell, is_amount_cell, is_tax_rate_cell, is_tax_status_cell, is_utf8_cell, is_tier_cell, is_trade_type_cell, is_text_cell};
 ghost use Rattle.brk_tables_schema.specs.declared.decode_error.DecodeError.TheVariants.{Form as Formless};
 
-use crate::decode_error::{DecodeError, decode_error_by};
+use crate::decode_error::{DecodeError, decode_error_of_read_error};
 use brk_changes::{Amount, CashType};
 use brk_money::{
     Cents, Day, Id, MoveId, Price, Qty, Rate, Stamp, Status, TaxRate, TaxStatus, TradeType,
@@ -35,19 +35,19 @@ pub fn check_column_count(row: &Row, count: usize) -> Result<(), DecodeError>
 
 // Reads a column as the type `T`. Fails with `Form` only if the column is missing or malformed, or
 // with `Memory`.
-fn read_value<T: FromSql>(row: &Row, at: usize) -> Result<T, DecodeError>
+fn read_column<T: FromSql>(row: &Row, at: usize) -> Result<T, DecodeError>
     ensures value { IfOk result (T.FromSql.reads_as (column row.now at)) }
     ensures form { result ≡ Err Formless → at < length row.now → ¬ T.FromSql.is_readable (column row.now at) }
 {
     match row.get(at) {
         Ok(value) => Ok(value),
-        Err(error) => Err(decode_error_by(error)),
+        Err(error) => Err(decode_error_of_read_error(error)),
     }
 }
 
 // Reads the bytes of a text. Fails with `Form` only if the column is missing or malformed, or with
 // `Memory`.
-fn read_bytes(row: &Row, at: usize) -> Result<&[u8], DecodeError>
+fn text_bytes_in_column(row: &Row, at: usize) -> Result<&[u8], DecodeError>
     ensures value { IfOk result (λ bytes. column row.now at ≡ Text bytes.now) }
     ensures form { result ≡ Err Formless → at < length row.now → is_text_cell (λ _. true) (column row.now at) ≡ false }
 {
@@ -59,84 +59,84 @@ fn read_bytes(row: &Row, at: usize) -> Result<&[u8], DecodeError>
 
 /// Reads an integer. Fails with `Form` only if the column is missing or malformed, or with
 /// `Memory`.
-pub fn number_in(row: &Row, at: usize) -> Result<i64, DecodeError>
+pub fn integer_in_column(row: &Row, at: usize) -> Result<i64, DecodeError>
     ensures value { IfOk result (λ number. column row.now at ≡ Int number) }
     ensures form { result ≡ Err Formless → at < length row.now → is_integer_cell (column row.now at) ≡ false }
 {
-    read_value(row, at)
+    read_column(row, at)
 }
 
 /// Reads an integer that is not below 0. Fails with `Form` only if the column is missing or
 /// malformed, or with `Memory`.
-pub fn natural_in(row: &Row, at: usize) -> Result<u64, DecodeError>
+pub fn natural_in_column(row: &Row, at: usize) -> Result<u64, DecodeError>
     ensures value { IfOk result (λ number. column row.now at ≡ Int (pos number)) }
     ensures form { result ≡ Err Formless → at < length row.now → is_natural_cell (λ _. true) (column row.now at) ≡ false }
 {
-    read_value(row, at)
+    read_column(row, at)
 }
 
 /// Reads an integer that is not below 0 and fits 32 bits. Fails with `Form` only if the column is
 /// missing or malformed, or with `Memory`.
-pub fn small_in(row: &Row, at: usize) -> Result<u32, DecodeError>
+pub fn u32_in_column(row: &Row, at: usize) -> Result<u32, DecodeError>
     ensures value { IfOk result (λ number. column row.now at ≡ Int (pos number)) }
     ensures form { result ≡ Err Formless → at < length row.now → is_natural_cell (λ n. nat_lt n (2 ^ 32)) (column row.now at) ≡ false }
 {
-    read_value(row, at)
+    read_column(row, at)
 }
 
 /// Reads a text of UTF-8. Fails with `Form` only if the column is missing or malformed, or with
 /// `Memory`.
 #[tactic(auto, using(crate::proofs::Unformed::no_text))]
-pub fn text_in(row: &Row, at: usize) -> Result<String, DecodeError>
+pub fn text_in_column(row: &Row, at: usize) -> Result<String, DecodeError>
     ensures value { IfOk result (λ text. column row.now at ≡ Text (string_bytes text)) }
     ensures form { result ≡ Err Formless → at < length row.now → is_utf8_cell (column row.now at) ≡ false }
 {
-    read_value(row, at)
+    read_column(row, at)
 }
 
 /// Reads a text of the format `F`. Fails with `Form` only if the column is missing or malformed, or
 /// with `Memory`.
 #[tactic(auto, using(crate::proofs::Unformed::no_formed_text))]
-pub fn formed_text_in<F: Form>(row: &Row, at: usize) -> Result<FormedText<F>, DecodeError>
+pub fn formatted_text_in_column<F: Form>(row: &Row, at: usize) -> Result<FormedText<F>, DecodeError>
     ensures value { IfOk result (λ text. column row.now at ≡ Text text) }
     ensures form { result ≡ Err Formless → at < length row.now → is_text_cell F.form (column row.now at) ≡ false }
 {
-    FormedText::new(text_in(row, at)?).ok_or(DecodeError::Form)
+    FormedText::new(text_in_column(row, at)?).ok_or(DecodeError::Form)
 }
 
 /// Reads the number of a row of a batch. Fails with `Form` only if the column is missing or
 /// malformed, or with `Memory`.
-pub fn row_number_in(row: &Row, at: usize) -> Result<RowNumber, DecodeError>
+pub fn row_number_in_column(row: &Row, at: usize) -> Result<RowNumber, DecodeError>
     ensures value { IfOk result (λ number. column row.now at ≡ Int (pos number)) }
     ensures form { result ≡ Err Formless → at < length row.now → is_id_cell (column row.now at) ≡ false }
 {
-    RowNumber::new(natural_in(row, at)?).ok_or(DecodeError::Form)
+    RowNumber::new(natural_in_column(row, at)?).ok_or(DecodeError::Form)
 }
 
 /// Reads an id. Fails with `Form` only if the column is missing or malformed, or with `Memory`.
-pub fn id_in(row: &Row, at: usize) -> Result<Id, DecodeError>
+pub fn id_in_column(row: &Row, at: usize) -> Result<Id, DecodeError>
     ensures value { IfOk result (λ id. column row.now at ≡ Int (pos id)) }
     ensures form { result ≡ Err Formless → at < length row.now → is_id_cell (column row.now at) ≡ false }
 {
-    Id::new(natural_in(row, at)?).ok_or(DecodeError::Form)
+    Id::new(natural_in_column(row, at)?).ok_or(DecodeError::Form)
 }
 
 /// Reads the id of a cash row. Fails with `Form` only if the column is missing or malformed, or
 /// with `Memory`.
-pub fn move_id_in(row: &Row, at: usize) -> Result<MoveId, DecodeError>
+pub fn cash_row_id_in_column(row: &Row, at: usize) -> Result<MoveId, DecodeError>
     ensures value { IfOk result (λ id. column row.now at ≡ Int (pos id)) }
-    ensures form { result ≡ Err Formless → at < length row.now → is_move_id_cell (column row.now at) ≡ false }
+    ensures form { result ≡ Err Formless → at < length row.now → is_cash_row_number_cell (column row.now at) ≡ false }
 {
-    MoveId::new(natural_in(row, at)?).ok_or(DecodeError::Form)
+    MoveId::new(natural_in_column(row, at)?).ok_or(DecodeError::Form)
 }
 
 /// Reads an id, or `None` if the column is null. Fails with `Form` only if the column is missing or
 /// malformed, or with `Memory`.
-pub fn maybe_id_in(row: &Row, at: usize) -> Result<Option<Id>, DecodeError>
+pub fn optional_id_in_column(row: &Row, at: usize) -> Result<Option<Id>, DecodeError>
     ensures value { IfOk result (λ id. column row.now at ≡ optional_as_value id) }
     ensures form { result ≡ Err Formless → at < length row.now → is_null_or_natural_cell is_id (column row.now at) ≡ false }
 {
-    let number: Option<u64> = read_value(row, at)?;
+    let number: Option<u64> = read_column(row, at)?;
     let Some(number) = number else {
         return Ok(None);
     };
@@ -144,105 +144,105 @@ pub fn maybe_id_in(row: &Row, at: usize) -> Result<Option<Id>, DecodeError>
 }
 
 /// Reads a tier. Fails with `Form` only if the column is missing or malformed, or with `Memory`.
-pub fn tier_in(row: &Row, at: usize) -> Result<Tier, DecodeError>
+pub fn tier_in_column(row: &Row, at: usize) -> Result<Tier, DecodeError>
     ensures value { IfOk result (λ tier. column row.now at ≡ Int (pos tier)) }
     ensures form { result ≡ Err Formless → at < length row.now → is_tier_cell (column row.now at) ≡ false }
 {
-    Tier::new(natural_in(row, at)?).ok_or(DecodeError::Form)
+    Tier::new(natural_in_column(row, at)?).ok_or(DecodeError::Form)
 }
 
 /// Reads an amount of cents that is not below 0. Fails with `Form` only if the column is missing or
 /// malformed, or with `Memory`.
-pub fn amount_in(row: &Row, at: usize) -> Result<Amount, DecodeError>
+pub fn amount_in_column(row: &Row, at: usize) -> Result<Amount, DecodeError>
     ensures value { IfOk result (λ amount. column row.now at ≡ Int (pos amount)) }
     ensures form { result ≡ Err Formless → at < length row.now → is_amount_cell (column row.now at) ≡ false }
 {
-    Amount::new(natural_in(row, at)?).ok_or(DecodeError::Form)
+    Amount::new(natural_in_column(row, at)?).ok_or(DecodeError::Form)
 }
 
 /// Reads a volume. Fails with `Form` only if the column is missing or malformed, or with `Memory`.
-pub fn volume_in(row: &Row, at: usize) -> Result<Volume, DecodeError>
+pub fn volume_in_column(row: &Row, at: usize) -> Result<Volume, DecodeError>
     ensures value { IfOk result (λ volume. column row.now at ≡ Int (pos volume)) }
     ensures form { result ≡ Err Formless → at < length row.now → is_amount_cell (column row.now at) ≡ false }
 {
-    Volume::new(natural_in(row, at)?).ok_or(DecodeError::Form)
+    Volume::new(natural_in_column(row, at)?).ok_or(DecodeError::Form)
 }
 
 /// Reads a quantity. Fails with `Form` only if the column is missing or malformed, or with
 /// `Memory`.
-pub fn qty_in(row: &Row, at: usize) -> Result<Qty, DecodeError>
+pub fn quantity_in_column(row: &Row, at: usize) -> Result<Qty, DecodeError>
     ensures value { IfOk result (λ qty. column row.now at ≡ Int (pos qty)) }
     ensures form { result ≡ Err Formless → at < length row.now → is_quantity_cell (column row.now at) ≡ false }
 {
-    Qty::new(small_in(row, at)?).ok_or(DecodeError::Form)
+    Qty::new(u32_in_column(row, at)?).ok_or(DecodeError::Form)
 }
 
 /// Reads a price. Fails with `Form` only if the column is missing or malformed, or with `Memory`.
-pub fn price_in(row: &Row, at: usize) -> Result<Price, DecodeError>
+pub fn price_in_column(row: &Row, at: usize) -> Result<Price, DecodeError>
     ensures value { IfOk result (λ price. column row.now at ≡ Int (pos price)) }
     ensures form { result ≡ Err Formless → at < length row.now → is_price_cell (column row.now at) ≡ false }
 {
-    Price::new(small_in(row, at)?).ok_or(DecodeError::Form)
+    Price::new(u32_in_column(row, at)?).ok_or(DecodeError::Form)
 }
 
 /// Reads a commission rate. Fails with `Form` only if the column is missing or malformed, or with
 /// `Memory`.
-pub fn rate_in(row: &Row, at: usize) -> Result<Rate, DecodeError>
+pub fn commission_rate_in_column(row: &Row, at: usize) -> Result<Rate, DecodeError>
     ensures value { IfOk result (λ rate. column row.now at ≡ Int (pos rate)) }
-    ensures form { result ≡ Err Formless → at < length row.now → is_rate_cell (column row.now at) ≡ false }
+    ensures form { result ≡ Err Formless → at < length row.now → is_commission_rate_cell (column row.now at) ≡ false }
 {
-    Rate::new(small_in(row, at)?).ok_or(DecodeError::Form)
+    Rate::new(u32_in_column(row, at)?).ok_or(DecodeError::Form)
 }
 
 /// Reads a tax rate. Fails with `Form` only if the column is missing or malformed, or with
 /// `Memory`.
-pub fn tax_rate_in(row: &Row, at: usize) -> Result<TaxRate, DecodeError>
+pub fn tax_rate_in_column(row: &Row, at: usize) -> Result<TaxRate, DecodeError>
     ensures value { IfOk result (λ rate. column row.now at ≡ Int (pos rate)) }
     ensures form { result ≡ Err Formless → at < length row.now → is_tax_rate_cell (column row.now at) ≡ false }
 {
-    TaxRate::new(small_in(row, at)?).ok_or(DecodeError::Form)
+    TaxRate::new(u32_in_column(row, at)?).ok_or(DecodeError::Form)
 }
 
 /// Reads a charge. Fails with `Form` only if the column is missing or malformed, or with `Memory`.
-pub fn charge_amount_in(row: &Row, at: usize) -> Result<ChargeAmount, DecodeError>
+pub fn charge_amount_in_column(row: &Row, at: usize) -> Result<ChargeAmount, DecodeError>
     ensures value { IfOk result (λ amount. column row.now at ≡ Int (pos amount)) }
     ensures form { result ≡ Err Formless → at < length row.now → is_charge_cell (column row.now at) ≡ false }
 {
-    ChargeAmount::new(small_in(row, at)?).ok_or(DecodeError::Form)
+    ChargeAmount::new(u32_in_column(row, at)?).ok_or(DecodeError::Form)
 }
 
 /// Reads an amount of cents, of either sign. Fails with `Form` only if the column is missing or
 /// malformed, or with `Memory`.
-pub fn cents_in(row: &Row, at: usize) -> Result<Cents, DecodeError>
+pub fn cents_in_column(row: &Row, at: usize) -> Result<Cents, DecodeError>
     ensures value { IfOk result (λ cents. column row.now at ≡ Int cents) }
     ensures form { result ≡ Err Formless → at < length row.now → is_cents_cell (column row.now at) ≡ false }
 {
-    Cents::new(number_in(row, at)?).ok_or(DecodeError::Form)
+    Cents::new(integer_in_column(row, at)?).ok_or(DecodeError::Form)
 }
 
 /// Reads a stamp. Fails with `Form` only if the column is missing or malformed, or with `Memory`.
-pub fn stamp_in(row: &Row, at: usize) -> Result<Stamp, DecodeError>
+pub fn stamp_in_column(row: &Row, at: usize) -> Result<Stamp, DecodeError>
     ensures value { IfOk result (λ stamp. column row.now at ≡ Int (pos stamp)) }
     ensures form { result ≡ Err Formless → at < length row.now → is_stamp_cell (column row.now at) ≡ false }
 {
-    Stamp::new(number_in(row, at)?).ok_or(DecodeError::Form)
+    Stamp::new(integer_in_column(row, at)?).ok_or(DecodeError::Form)
 }
 
 /// Reads a day. Fails with `Form` only if the column is missing or malformed, or with `Memory`.
-pub fn day_in(row: &Row, at: usize) -> Result<Day, DecodeError>
+pub fn day_in_column(row: &Row, at: usize) -> Result<Day, DecodeError>
     ensures value { IfOk result (λ day. column row.now at ≡ Int (pos day)) }
     ensures form { result ≡ Err Formless → at < length row.now → is_day_cell (column row.now at) ≡ false }
 {
-    Day::new(read_value(row, at)?).ok_or(DecodeError::Form)
+    Day::new(read_column(row, at)?).ok_or(DecodeError::Form)
 }
 
 /// Reads a stamp, or `None` if the column is null. Fails with `Form` only if the column is missing
 /// or malformed, or with `Memory`.
-pub fn maybe_stamp_in(row: &Row, at: usize) -> Result<Option<Stamp>, DecodeError>
+pub fn optional_stamp_in_column(row: &Row, at: usize) -> Result<Option<Stamp>, DecodeError>
     ensures value { IfOk result (λ stamp. column row.now at ≡ optional_as_value stamp) }
     ensures form { result ≡ Err Formless → at < length row.now → is_null_or_stamp_cell (column row.now at) ≡ false }
 {
-    let millis: Option<i64> = read_value(row, at)?;
+    let millis: Option<i64> = read_column(row, at)?;
     let Some(millis) = millis else {
         return Ok(None);
     };
@@ -251,11 +251,11 @@ pub fn maybe_stamp_in(row: &Row, at: usize) -> Result<Option<Stamp>, DecodeError
 
 /// Reads a price, or `None` if the column is null. Fails with `Form` only if the column is missing
 /// or malformed, or with `Memory`.
-pub fn maybe_price_in(row: &Row, at: usize) -> Result<Option<Price>, DecodeError>
+pub fn optional_price_in_column(row: &Row, at: usize) -> Result<Option<Price>, DecodeError>
     ensures value { IfOk result (λ price. column row.now at ≡ optional_as_value price) }
     ensures form { result ≡ Err Formless → at < length row.now → is_null_or_natural_cell is_price (column row.now at) ≡ false }
 {
-    let cents: Option<u32> = read_value(row, at)?;
+    let cents: Option<u32> = read_column(row, at)?;
     let Some(cents) = cents else {
         return Ok(None);
     };
@@ -264,20 +264,20 @@ pub fn maybe_price_in(row: &Row, at: usize) -> Result<Option<Price>, DecodeError
 
 /// Reads a tax status by its number. Fails with `Form` only if the column is missing or malformed,
 /// or with `Memory`.
-pub fn tax_status_in(row: &Row, at: usize) -> Result<TaxStatus, DecodeError>
+pub fn tax_status_in_column(row: &Row, at: usize) -> Result<TaxStatus, DecodeError>
     ensures value { IfOk result (λ tax_status. column row.now at ≡ Int (pos (tax_status_number tax_status))) }
     ensures form { result ≡ Err Formless → at < length row.now → is_tax_status_cell (column row.now at) ≡ false }
 {
-    TaxStatus::from_number(natural_in(row, at)?).ok_or(DecodeError::Form)
+    TaxStatus::from_number(natural_in_column(row, at)?).ok_or(DecodeError::Form)
 }
 
 /// Reads a flag: 1 as true and 0 as false. Fails with `Form` only if the column is missing or
 /// malformed, or with `Memory`.
-pub fn flag_in(row: &Row, at: usize) -> Result<bool, DecodeError>
+pub fn flag_in_column(row: &Row, at: usize) -> Result<bool, DecodeError>
     ensures value { IfOk result (λ is. column row.now at ≡ flag_as_value is) }
     ensures form { result ≡ Err Formless → at < length row.now → is_flag_cell (column row.now at) ≡ false }
 {
-    match natural_in(row, at)? {
+    match natural_in_column(row, at)? {
         0 => Ok(false),
         1 => Ok(true),
         _ => Err(DecodeError::Form),
@@ -286,11 +286,11 @@ pub fn flag_in(row: &Row, at: usize) -> Result<bool, DecodeError>
 
 /// Reads a trade type by its code. Fails with `Form` only if the column is missing or malformed, or
 /// with `Memory`.
-pub fn type_in(row: &Row, at: usize) -> Result<TradeType, DecodeError>
+pub fn trade_type_in_column(row: &Row, at: usize) -> Result<TradeType, DecodeError>
     ensures value { IfOk result (λ kind. column row.now at ≡ Text (trade_type_code kind)) }
-    ensures form { result ≡ Err Formless → at < length row.now → is_type_cell (column row.now at) ≡ false }
+    ensures form { result ≡ Err Formless → at < length row.now → is_trade_type_cell (column row.now at) ≡ false }
 {
-    parse_trade_type(read_bytes(row, at)?).ok_or(DecodeError::Form)
+    parse_trade_type(text_bytes_in_column(row, at)?).ok_or(DecodeError::Form)
 }
 
 // Returns true if the bytes are the code of the status.
@@ -324,11 +324,11 @@ fn parse_status(bytes: &[u8]) -> Option<Status>
 
 /// Reads a status by its code. Fails with `Form` only if the column is missing or malformed, or
 /// with `Memory`.
-pub fn status_in(row: &Row, at: usize) -> Result<Status, DecodeError>
+pub fn status_in_column(row: &Row, at: usize) -> Result<Status, DecodeError>
     ensures value { IfOk result (λ status. column row.now at ≡ Text (trade_status_code status)) }
     ensures form { result ≡ Err Formless → at < length row.now → is_status_cell (column row.now at) ≡ false }
 {
-    parse_status(read_bytes(row, at)?).ok_or(DecodeError::Form)
+    parse_status(text_bytes_in_column(row, at)?).ok_or(DecodeError::Form)
 }
 
 // Returns true if the bytes are the text of the cash type.
@@ -359,9 +359,9 @@ fn parse_cash_type(bytes: &[u8]) -> Option<CashType>
 
 /// Reads a cash type by its text. Fails with `Form` only if the column is missing or malformed, or
 /// with `Memory`.
-pub fn cash_type_in(row: &Row, at: usize) -> Result<CashType, DecodeError>
+pub fn cash_type_in_column(row: &Row, at: usize) -> Result<CashType, DecodeError>
     ensures value { IfOk result (λ kind. column row.now at ≡ Text (cash_type_text kind)) }
     ensures form { result ≡ Err Formless → at < length row.now → is_text_cell is_cash_type_text (column row.now at) ≡ false }
 {
-    parse_cash_type(read_bytes(row, at)?).ok_or(DecodeError::Form)
+    parse_cash_type(text_bytes_in_column(row, at)?).ok_or(DecodeError::Form)
 }

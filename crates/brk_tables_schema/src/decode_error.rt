@@ -49,7 +49,7 @@ impl From<DecodeError> for Fault {
 
 /// Returns the reason why a row cannot be decoded after an error of a read: `Form` only if the
 /// error was not out of memory.
-pub(crate) fn decode_error_by(error: Error) -> DecodeError
+pub(crate) fn decode_error_of_read_error(error: Error) -> DecodeError
     ensures { result ≡ DecodeError.Form → error ≢ Error.SqliteFailure ErrorCode.OutOfMemory }
 {
     match error {

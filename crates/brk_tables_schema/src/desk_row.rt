@@ -6,14 +6,14 @@ ghost use Rattle.brk_changes.specs.Changes.{tables_with_last_stamp};
 ghost use Rattle.brk_changes.specs.Schemas.{abstract_schema};
 ghost use Rattle.brk_tables_schema.specs.Cells.{desk_row_cells};
 ghost use Rattle.brk_tables_schema.specs.Desk.{desk_rows};
-ghost use Rattle.brk_tables_schema.specs.Formed.{passes_all_cell_checks, desk_column_cell_checks, is_one_valid_desk_row};
+ghost use Rattle.brk_tables_schema.specs.Formed.{passes_all_cell_checks, desk_column_cell_checks, has_one_valid_desk_row};
 ghost use Rattle.brk_tables_schema.specs.declared.decode_error.DecodeError.TheVariants.{Form as Formless};
 ghost use Rattle.brk_tables_schema.specs.Statements.{ReadsDeskTables, WritesDeskTables};
 
 use crate::calls::{execute_statement, select_rows};
-use crate::cells::{check_column_count, maybe_stamp_in, natural_in};
+use crate::cells::{check_column_count, optional_stamp_in_column, natural_in_column};
 use crate::decode_error::DecodeError;
-use crate::values::{number_value, stamp_value};
+use crate::values::{integer_as_parameter, stamp_as_parameter};
 use brk_changes::Schema;
 use brk_money::{Fault, Stamp};
 use sqlite::{Alter, Row, Transaction};
@@ -27,42 +27,42 @@ pub fn set_last_stamp<S: Alter>(tx: &mut Transaction<'_, S>, stamp: Stamp) -> Re
     execute_statement(
         tx,
         "UPDATE DESK SET D_LAST = ?1 WHERE D_ID = ?2",
-        &[stamp_value(stamp), number_value(1)],
+        &[stamp_as_parameter(stamp), integer_as_parameter(1)],
     )
 }
 
 // Decodes the stamp of the last accepted command from a row of DESK in a schema. Fails with `Form`
 // only if the row is malformed, or with `Memory`.
-fn last_stamp_of_row(schema: Schema, row: &Row) -> Result<Option<Stamp>, DecodeError>
+fn last_stamp_in_desk_row(schema: Schema, row: &Row) -> Result<Option<Stamp>, DecodeError>
     ensures value { IfOk result (λ last. map desk_row_cells (desk_rows (abstract_schema schema) last) ≡ row.now ∷ []) }
     ensures form { result ≡ Err Formless → passes_all_cell_checks (desk_column_cell_checks (abstract_schema schema)) row.now ≡ false }
 {
     check_column_count(row, 3)?;
-    if natural_in(row, 0)? != 1 || natural_in(row, 1)? != u64::from(schema.number()) {
+    if natural_in_column(row, 0)? != 1 || natural_in_column(row, 1)? != u64::from(schema.number()) {
         return Err(DecodeError::Form);
     }
-    maybe_stamp_in(row, 2)
+    optional_stamp_in_column(row, 2)
 }
 
 /// Decodes the stamp of the last accepted command from the rows of DESK in a schema. Fails with
 /// `Form` only if there is not exactly one well-formed row, or with `Memory`.
-pub fn last_stamp_in_rows(schema: Schema, rows: &[Row]) -> Result<Option<Stamp>, DecodeError>
+pub fn last_stamp_in_desk_rows(schema: Schema, rows: &[Row]) -> Result<Option<Stamp>, DecodeError>
     ensures value { IfOk result (λ last. map desk_row_cells (desk_rows (abstract_schema schema) last) ≡ rows.now) }
-    ensures form { result ≡ Err Formless → is_one_valid_desk_row (abstract_schema schema) rows.now ≡ false }
+    ensures form { result ≡ Err Formless → has_one_valid_desk_row (abstract_schema schema) rows.now ≡ false }
 {
     match rows {
-        [row] => last_stamp_of_row(schema, row),
+        [row] => last_stamp_in_desk_row(schema, row),
         _ => Err(DecodeError::Form),
     }
 }
 
 // Decodes the stamp of the last accepted command from the one row of DESK in schema 3. Fails with
 // `Store` only.
-fn last_stamp_in_third_rows(rows: &[Row]) -> Result<Option<Stamp>, Fault>
+fn last_stamp_in_third_schema_rows(rows: &[Row]) -> Result<Option<Stamp>, Fault>
     ensures value { IfOk result (λ last. map desk_row_cells (desk_rows third_schema last) ≡ rows.now) }
     ensures fault { OnErr result (result ≡ Err Store) }
 {
-    Ok(last_stamp_in_rows(Schema::Third, rows)?)
+    Ok(last_stamp_in_desk_rows(Schema::Third, rows)?)
 }
 
 /// Returns the stamp of the last accepted command (D_LAST), or `None` if none is stored. Changes
@@ -77,5 +77,5 @@ pub fn last_stamp<S: Alter>(tx: &mut Transaction<'_, S>) -> Result<Option<Stamp>
         "SELECT D_ID, D_SCHEMA, D_LAST FROM DESK ORDER BY D_ID",
         &[],
     )?;
-    last_stamp_in_third_rows(&rows)
+    last_stamp_in_third_schema_rows(&rows)
 }

@@ -8,10 +8,10 @@ ghost use Rattle.brk_tables_schema.specs.Formed.{kept_column_cell_checks};
 ghost use Rattle.brk_tables_schema.specs.Statements.{ReadsFirstMatch, WritesDeskTables};
 
 use crate::calls::{execute_statement, select_rows};
-use crate::cells::{check_column_count, formed_text_in, row_number_in, text_in};
+use crate::cells::{check_column_count, formatted_text_in_column, row_number_in_column, text_in_column};
 use crate::decode_error::DecodeError;
 use crate::record::{Record, decode_first_row};
-use crate::values::{row_number_value, text_value};
+use crate::values::{row_number_as_parameter, text_as_parameter};
 use brk_money::Fault;
 use brk_ref::{Kept, Key};
 use sqlite::{Alter, Row, Transaction};
@@ -27,10 +27,10 @@ pub fn add_kept_row<S: Alter>(tx: &mut Transaction<'_, S>, kept: &Kept) -> Resul
         tx,
         "INSERT INTO KEPT (K_BATCH, K_N, K_ROW, K_LINE) VALUES (?1, ?2, ?3, ?4)",
         &[
-            text_value(kept.key.batch.as_str()),
-            row_number_value(kept.key.row),
-            text_value(kept.row_text.as_str()),
-            text_value(kept.line.as_str()),
+            text_as_parameter(kept.key.batch.as_str()),
+            row_number_as_parameter(kept.key.row),
+            text_as_parameter(kept.row_text.as_str()),
+            text_as_parameter(kept.line.as_str()),
         ],
     )
 }
@@ -43,20 +43,20 @@ impl Record for Kept {
     fn from_row(row: &Row) -> Result<Kept, DecodeError> {
         check_column_count(row, 4)?;
         let key = Key {
-            batch: formed_text_in(row, 0)?,
-            row: row_number_in(row, 1)?,
+            batch: formatted_text_in_column(row, 0)?,
+            row: row_number_in_column(row, 1)?,
         };
         Ok(Kept {
             key,
-            row_text: text_in(row, 2)?,
-            line: text_in(row, 3)?,
+            row_text: text_in_column(row, 2)?,
+            line: text_in_column(row, 3)?,
         })
     }
 }
 
 /// Returns the row of KEPT under this key, or `None` if there is none. Changes nothing. Fails with
 /// `Store` only.
-pub fn kept_by_key<S: Alter>(tx: &mut Transaction<'_, S>, key: &Key) -> Result<Option<Kept>, Fault>
+pub fn kept_row_by_key<S: Alter>(tx: &mut Transaction<'_, S>, key: &Key) -> Result<Option<Kept>, Fault>
     ensures same_reference { tx.new.conn.ghost_name ≡ tx.old.conn.ghost_name }
     ensures step { ReadsFirstMatch S.Store tx.old tx.new result KeptRows abstract_kept_row (λ k. bytes_eq k.key.batch key.now.batch && (k.key.row == key.now.row)) }
     ensures fault { OnErr result (result ≡ Err Store) }
@@ -64,7 +64,7 @@ pub fn kept_by_key<S: Alter>(tx: &mut Transaction<'_, S>, key: &Key) -> Result<O
     let rows = select_rows(
         tx,
         "SELECT K_BATCH, K_N, K_ROW, K_LINE FROM KEPT WHERE K_BATCH = ?1 AND K_N = ?2 ORDER BY K_BATCH, K_N",
-        &[text_value(key.batch.as_str()), row_number_value(key.row)],
+        &[text_as_parameter(key.batch.as_str()), row_number_as_parameter(key.row)],
     )?;
     decode_first_row(&rows)
 }

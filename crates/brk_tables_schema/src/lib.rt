@@ -18,4 +18,4 @@ pub mod values;
 
 pub use decode_error::DecodeError;
 pub use desk_row::{last_stamp, set_last_stamp};
-pub use kept::{add_kept_row, kept_by_key};
+pub use kept::{add_kept_row, kept_row_by_key};

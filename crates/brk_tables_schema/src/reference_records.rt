@@ -5,8 +5,8 @@ ghost use Rattle.brk_tables_schema.specs.Cells.{account_cells, band_cells, broke
 ghost use Rattle.brk_tables_schema.specs.Formed.{account_column_cell_checks, band_column_cell_checks, broker_column_cell_checks, charge_column_cell_checks, customer_column_cell_checks, customer_tax_column_cell_checks, permission_column_cell_checks, security_column_cell_checks, tax_rate_column_cell_checks};
 
 use crate::cells::{
-    cents_in, charge_amount_in, check_column_count, formed_text_in, id_in, natural_in, number_in,
-    qty_in, rate_in, tax_rate_in, tax_status_in, tier_in, type_in,
+    cents_in_column, charge_amount_in_column, check_column_count, formatted_text_in_column, id_in_column, natural_in_column, integer_in_column,
+    quantity_in_column, commission_rate_in_column, tax_rate_in_column, tax_status_in_column, tier_in_column, trade_type_in_column,
 };
 use crate::decode_error::DecodeError;
 use crate::record::Record;
@@ -25,14 +25,14 @@ impl Record for AccountRow {
         check_column_count(row, 7)?;
         Ok(AccountRow {
             account: Account {
-                id: id_in(row, 0)?,
-                customer: id_in(row, 1)?,
-                broker: id_in(row, 2)?,
-                name: formed_text_in(row, 3)?,
-                tax_status: tax_status_in(row, 4)?,
-                opening: cents_in(row, 5)?,
+                id: id_in_column(row, 0)?,
+                customer: id_in_column(row, 1)?,
+                broker: id_in_column(row, 2)?,
+                name: formatted_text_in_column(row, 3)?,
+                tax_status: tax_status_in_column(row, 4)?,
+                opening: cents_in_column(row, 5)?,
             },
-            balance: cents_in(row, 6)?,
+            balance: cents_in_column(row, 6)?,
         })
     }
 }
@@ -45,12 +45,12 @@ impl Record for Band {
     fn from_row(row: &Row) -> Result<Band, DecodeError> {
         check_column_count(row, 6)?;
         Ok(Band {
-            tier: tier_in(row, 0)?,
-            kind: type_in(row, 1)?,
-            exchange: formed_text_in(row, 2)?,
-            from_qty: qty_in(row, 3)?,
-            to_qty: qty_in(row, 4)?,
-            rate: rate_in(row, 5)?,
+            tier: tier_in_column(row, 0)?,
+            kind: trade_type_in_column(row, 1)?,
+            exchange: formatted_text_in_column(row, 2)?,
+            from_qty: quantity_in_column(row, 3)?,
+            to_qty: quantity_in_column(row, 4)?,
+            rate: commission_rate_in_column(row, 5)?,
         })
     }
 }
@@ -64,11 +64,11 @@ impl Record for BrokerRow {
         check_column_count(row, 4)?;
         Ok(BrokerRow {
             broker: Broker {
-                id: id_in(row, 0)?,
-                name: formed_text_in(row, 1)?,
+                id: id_in_column(row, 0)?,
+                name: formatted_text_in_column(row, 1)?,
             },
-            trades: number_in(row, 2)?,
-            commissions: natural_in(row, 3)?,
+            trades: integer_in_column(row, 2)?,
+            commissions: natural_in_column(row, 3)?,
         })
     }
 }
@@ -81,9 +81,9 @@ impl Record for Charge {
     fn from_row(row: &Row) -> Result<Charge, DecodeError> {
         check_column_count(row, 3)?;
         Ok(Charge {
-            kind: type_in(row, 0)?,
-            tier: tier_in(row, 1)?,
-            amount: charge_amount_in(row, 2)?,
+            kind: trade_type_in_column(row, 0)?,
+            tier: tier_in_column(row, 1)?,
+            amount: charge_amount_in_column(row, 2)?,
         })
     }
 }
@@ -96,11 +96,11 @@ impl Record for Customer {
     fn from_row(row: &Row) -> Result<Customer, DecodeError> {
         check_column_count(row, 5)?;
         Ok(Customer {
-            id: id_in(row, 0)?,
-            tier: tier_in(row, 1)?,
-            tax_id: formed_text_in(row, 2)?,
-            last_name: formed_text_in(row, 3)?,
-            first_name: formed_text_in(row, 4)?,
+            id: id_in_column(row, 0)?,
+            tier: tier_in_column(row, 1)?,
+            tax_id: formatted_text_in_column(row, 2)?,
+            last_name: formatted_text_in_column(row, 3)?,
+            first_name: formatted_text_in_column(row, 4)?,
         })
     }
 }
@@ -113,11 +113,11 @@ impl Record for Permission {
     fn from_row(row: &Row) -> Result<Permission, DecodeError> {
         check_column_count(row, 5)?;
         Ok(Permission {
-            account: id_in(row, 0)?,
-            tax_id: formed_text_in(row, 1)?,
-            acl: formed_text_in(row, 2)?,
-            last_name: formed_text_in(row, 3)?,
-            first_name: formed_text_in(row, 4)?,
+            account: id_in_column(row, 0)?,
+            tax_id: formatted_text_in_column(row, 1)?,
+            acl: formatted_text_in_column(row, 2)?,
+            last_name: formatted_text_in_column(row, 3)?,
+            first_name: formatted_text_in_column(row, 4)?,
         })
     }
 }
@@ -130,10 +130,10 @@ impl Record for Security {
     fn from_row(row: &Row) -> Result<Security, DecodeError> {
         check_column_count(row, 4)?;
         Ok(Security {
-            symbol: formed_text_in(row, 0)?,
-            name: formed_text_in(row, 1)?,
-            exchange: formed_text_in(row, 2)?,
-            sector: formed_text_in(row, 3)?,
+            symbol: formatted_text_in_column(row, 0)?,
+            name: formatted_text_in_column(row, 1)?,
+            exchange: formatted_text_in_column(row, 2)?,
+            sector: formatted_text_in_column(row, 3)?,
         })
     }
 }
@@ -146,9 +146,9 @@ impl Record for Tax {
     fn from_row(row: &Row) -> Result<Tax, DecodeError> {
         check_column_count(row, 3)?;
         Ok(Tax {
-            id: id_in(row, 0)?,
-            name: formed_text_in(row, 1)?,
-            rate: tax_rate_in(row, 2)?,
+            id: id_in_column(row, 0)?,
+            name: formatted_text_in_column(row, 1)?,
+            rate: tax_rate_in_column(row, 2)?,
         })
     }
 }
@@ -161,8 +161,8 @@ impl Record for CustomerTax {
     fn from_row(row: &Row) -> Result<CustomerTax, DecodeError> {
         check_column_count(row, 2)?;
         Ok(CustomerTax {
-            customer: id_in(row, 0)?,
-            tax: id_in(row, 1)?,
+            customer: id_in_column(row, 0)?,
+            tax: id_in_column(row, 1)?,
         })
     }
 }

@@ -3,36 +3,36 @@
 ghost use Rattle.std.specs.Prelude.{◌≡◌, ◌∷◌, [], Err, IfOk, Some, false, map};
 ghost use Rattle.brk_tables_schema.specs.Cells.{rule_cells};
 ghost use Rattle.brk_tables_schema.specs.Desk.{rule_rows};
-ghost use Rattle.brk_tables_schema.specs.Formed.{passes_all_cell_checks, is_at_most_one_valid_rule, rule_column_cell_checks};
+ghost use Rattle.brk_tables_schema.specs.Formed.{passes_all_cell_checks, has_at_most_one_valid_rule_row, rule_column_cell_checks};
 ghost use Rattle.brk_tables_schema.specs.declared.decode_error.DecodeError.TheVariants.{Form as Formless};
 
-use crate::cells::{check_column_count, day_in, natural_in};
+use crate::cells::{check_column_count, day_in_column, natural_in_column};
 use crate::decode_error::DecodeError;
 use brk_money::Day;
 use sqlite::Row;
 
 // Decodes the settlement day from a row of SETTLE_RULE. Fails with `Form` only if the row is
 // malformed, or with `Memory`.
-fn day_of_row(row: &Row) -> Result<Day, DecodeError>
+fn settlement_day_in_rule_row(row: &Row) -> Result<Day, DecodeError>
     ensures value { IfOk result (λ day. map rule_cells (rule_rows (Some day)) ≡ row.now ∷ []) }
     ensures form { result ≡ Err Formless → passes_all_cell_checks rule_column_cell_checks row.now ≡ false }
 {
     check_column_count(row, 2)?;
-    if natural_in(row, 0)? != 1 {
+    if natural_in_column(row, 0)? != 1 {
         return Err(DecodeError::Form);
     }
-    day_in(row, 1)
+    day_in_column(row, 1)
 }
 
 /// Decodes the settlement day from the rows of SETTLE_RULE, or returns `None` if there is no row.
 /// Fails with `Form` only if there are two rows or a malformed one, or with `Memory`.
-pub fn day_in_rows(rows: &[Row]) -> Result<Option<Day>, DecodeError>
+pub fn settlement_day_in_rule_rows(rows: &[Row]) -> Result<Option<Day>, DecodeError>
     ensures value { IfOk result (λ day. map rule_cells (rule_rows day) ≡ rows.now) }
-    ensures form { result ≡ Err Formless → is_at_most_one_valid_rule rows.now ≡ false }
+    ensures form { result ≡ Err Formless → has_at_most_one_valid_rule_row rows.now ≡ false }
 {
     match rows {
         [] => Ok(None),
-        [row] => Ok(Some(day_of_row(row)?)),
+        [row] => Ok(Some(settlement_day_in_rule_row(row)?)),
         _ => Err(DecodeError::Form),
     }
 }

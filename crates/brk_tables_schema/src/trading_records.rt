@@ -7,9 +7,9 @@ ghost use Rattle.brk_tables_schema.specs.Cells.{cash_cells, history_cells, holdi
 ghost use Rattle.brk_tables_schema.specs.Formed.{cash_column_cell_checks, history_column_cell_checks, holding_column_cell_checks, holding_history_column_cell_checks, is_id_cell, last_trade_column_cell_checks, move_column_cell_checks, request_column_cell_checks, settlement_column_cell_checks, summary_column_cell_checks, trade_column_cell_checks};
 
 use crate::cells::{
-    amount_in, cash_type_in, cents_in, charge_amount_in, check_column_count, day_in, flag_in,
-    formed_text_in, id_in, maybe_id_in, maybe_price_in, move_id_in, number_in, price_in, qty_in,
-    stamp_in, status_in, text_in, type_in, volume_in,
+    amount_in_column, cash_type_in_column, cents_in_column, charge_amount_in_column, check_column_count, day_in_column, flag_in_column,
+    formatted_text_in_column, id_in_column, optional_id_in_column, optional_price_in_column, cash_row_id_in_column, integer_in_column, price_in_column, quantity_in_column,
+    stamp_in_column, status_in_column, text_in_column, trade_type_in_column, volume_in_column,
 };
 use crate::decode_error::DecodeError;
 use crate::record::Record;
@@ -29,12 +29,12 @@ impl Record for HoldingRow {
     fn from_row(row: &Row) -> Result<HoldingRow, DecodeError> {
         check_column_count(row, 6)?;
         Ok(HoldingRow {
-            trade: id_in(row, 0)?,
-            account: id_in(row, 1)?,
-            symbol: formed_text_in(row, 2)?,
-            stamp: stamp_in(row, 3)?,
-            price: price_in(row, 4)?,
-            qty: number_in(row, 5)?,
+            trade: id_in_column(row, 0)?,
+            account: id_in_column(row, 1)?,
+            symbol: formatted_text_in_column(row, 2)?,
+            stamp: stamp_in_column(row, 3)?,
+            price: price_in_column(row, 4)?,
+            qty: integer_in_column(row, 5)?,
         })
     }
 }
@@ -47,9 +47,9 @@ impl Record for SummaryRow {
     fn from_row(row: &Row) -> Result<SummaryRow, DecodeError> {
         check_column_count(row, 3)?;
         Ok(SummaryRow {
-            account: id_in(row, 0)?,
-            symbol: formed_text_in(row, 1)?,
-            qty: number_in(row, 2)?,
+            account: id_in_column(row, 0)?,
+            symbol: formatted_text_in_column(row, 1)?,
+            qty: integer_in_column(row, 2)?,
         })
     }
 }
@@ -62,10 +62,10 @@ impl Record for LastTrade {
     fn from_row(row: &Row) -> Result<LastTrade, DecodeError> {
         check_column_count(row, 4)?;
         Ok(LastTrade {
-            symbol: formed_text_in(row, 0)?,
-            stamp: stamp_in(row, 1)?,
-            price: price_in(row, 2)?,
-            volume: volume_in(row, 3)?,
+            symbol: formatted_text_in_column(row, 0)?,
+            stamp: stamp_in_column(row, 1)?,
+            price: price_in_column(row, 2)?,
+            volume: volume_in_column(row, 3)?,
         })
     }
 }
@@ -78,12 +78,12 @@ impl Record for RequestRow {
     fn from_row(row: &Row) -> Result<RequestRow, DecodeError> {
         check_column_count(row, 6)?;
         Ok(RequestRow {
-            trade: id_in(row, 0)?,
-            kind: type_in(row, 1)?,
-            symbol: formed_text_in(row, 2)?,
-            qty: qty_in(row, 3)?,
-            bid: price_in(row, 4)?,
-            broker: id_in(row, 5)?,
+            trade: id_in_column(row, 0)?,
+            kind: trade_type_in_column(row, 1)?,
+            symbol: formatted_text_in_column(row, 2)?,
+            qty: quantity_in_column(row, 3)?,
+            bid: price_in_column(row, 4)?,
+            broker: id_in_column(row, 5)?,
         })
     }
 }
@@ -96,21 +96,21 @@ impl Record for TradeRow {
     fn from_row(row: &Row) -> Result<TradeRow, DecodeError> {
         check_column_count(row, 15)?;
         Ok(TradeRow {
-            id: id_in(row, 0)?,
-            stamp: stamp_in(row, 1)?,
-            status: status_in(row, 2)?,
-            kind: type_in(row, 3)?,
-            is_cash: flag_in(row, 4)?,
-            symbol: formed_text_in(row, 5)?,
-            qty: qty_in(row, 6)?,
-            bid: price_in(row, 7)?,
-            account: id_in(row, 8)?,
-            executor: text_in(row, 9)?,
-            price: maybe_price_in(row, 10)?,
-            charge: charge_amount_in(row, 11)?,
-            commission: amount_in(row, 12)?,
-            tax: amount_in(row, 13)?,
-            is_lifo: flag_in(row, 14)?,
+            id: id_in_column(row, 0)?,
+            stamp: stamp_in_column(row, 1)?,
+            status: status_in_column(row, 2)?,
+            kind: trade_type_in_column(row, 3)?,
+            is_cash: flag_in_column(row, 4)?,
+            symbol: formatted_text_in_column(row, 5)?,
+            qty: quantity_in_column(row, 6)?,
+            bid: price_in_column(row, 7)?,
+            account: id_in_column(row, 8)?,
+            executor: text_in_column(row, 9)?,
+            price: optional_price_in_column(row, 10)?,
+            charge: charge_amount_in_column(row, 11)?,
+            commission: amount_in_column(row, 12)?,
+            tax: amount_in_column(row, 13)?,
+            is_lifo: flag_in_column(row, 14)?,
         })
     }
 }
@@ -123,9 +123,9 @@ impl Record for HistoryRow {
     fn from_row(row: &Row) -> Result<HistoryRow, DecodeError> {
         check_column_count(row, 3)?;
         Ok(HistoryRow {
-            trade: id_in(row, 0)?,
-            status: status_in(row, 1)?,
-            stamp: stamp_in(row, 2)?,
+            trade: id_in_column(row, 0)?,
+            status: status_in_column(row, 1)?,
+            stamp: stamp_in_column(row, 2)?,
         })
     }
 }
@@ -138,10 +138,10 @@ impl Record for LotChange {
     fn from_row(row: &Row) -> Result<LotChange, DecodeError> {
         check_column_count(row, 4)?;
         Ok(LotChange {
-            lot: id_in(row, 0)?,
-            trade: id_in(row, 1)?,
-            before: number_in(row, 2)?,
-            after: number_in(row, 3)?,
+            lot: id_in_column(row, 0)?,
+            trade: id_in_column(row, 1)?,
+            before: integer_in_column(row, 2)?,
+            after: integer_in_column(row, 3)?,
         })
     }
 }
@@ -154,10 +154,10 @@ impl Record for SettlementRow {
     fn from_row(row: &Row) -> Result<SettlementRow, DecodeError> {
         check_column_count(row, 4)?;
         Ok(SettlementRow {
-            trade: id_in(row, 0)?,
-            cash_type: cash_type_in(row, 1)?,
-            due_day: day_in(row, 2)?,
-            amount: cents_in(row, 3)?,
+            trade: id_in_column(row, 0)?,
+            cash_type: cash_type_in_column(row, 1)?,
+            due_day: day_in_column(row, 2)?,
+            amount: cents_in_column(row, 3)?,
         })
     }
 }
@@ -170,10 +170,10 @@ impl Record for CashRow {
     fn from_row(row: &Row) -> Result<CashRow, DecodeError> {
         check_column_count(row, 4)?;
         Ok(CashRow {
-            trade: id_in(row, 0)?,
-            stamp: stamp_in(row, 1)?,
-            amount: cents_in(row, 2)?,
-            name: text_in(row, 3)?,
+            trade: id_in_column(row, 0)?,
+            stamp: stamp_in_column(row, 1)?,
+            amount: cents_in_column(row, 2)?,
+            name: text_in_column(row, 3)?,
         })
     }
 }
@@ -186,12 +186,12 @@ impl Record for MoveRow {
     fn from_row(row: &Row) -> Result<MoveRow, DecodeError> {
         check_column_count(row, 6)?;
         Ok(MoveRow {
-            id: move_id_in(row, 0)?,
-            account: id_in(row, 1)?,
-            trade: maybe_id_in(row, 2)?,
-            stamp: stamp_in(row, 3)?,
-            amount: cents_in(row, 4)?,
-            name: text_in(row, 5)?,
+            id: cash_row_id_in_column(row, 0)?,
+            account: id_in_column(row, 1)?,
+            trade: optional_id_in_column(row, 2)?,
+            stamp: stamp_in_column(row, 3)?,
+            amount: cents_in_column(row, 4)?,
+            name: text_in_column(row, 5)?,
         })
     }
 }
@@ -203,6 +203,6 @@ impl Record for Id {
 
     fn from_row(row: &Row) -> Result<Id, DecodeError> {
         check_column_count(row, 1)?;
-        id_in(row, 0)
+        id_in_column(row, 0)
     }
 }

@@ -15,28 +15,28 @@ use brk_ref::{ChargeAmount, RowNumber, Tier, Volume};
 use sqlite_value::value::ValueRef;
 
 /// Converts an integer to a statement parameter, an INTEGER.
-pub fn number_value<'a>(number: i64) -> ValueRef<'a>
+pub fn integer_as_parameter<'a>(number: i64) -> ValueRef<'a>
     ensures { owned result ≡ Int number }
 {
     ValueRef::Int(number)
 }
 
 /// Converts an id to a statement parameter, an INTEGER.
-pub fn id_value<'a>(id: Id) -> ValueRef<'a>
+pub fn id_as_parameter<'a>(id: Id) -> ValueRef<'a>
     ensures { owned result ≡ Int (pos id) }
 {
     ValueRef::Int(id.get() as i64)
 }
 
 /// Converts the id of a cash row to a statement parameter, an INTEGER.
-pub fn move_id_value<'a>(id: MoveId) -> ValueRef<'a>
+pub fn cash_row_id_as_parameter<'a>(id: MoveId) -> ValueRef<'a>
     ensures { owned result ≡ Int (pos id) }
 {
     ValueRef::Int(id.get() as i64)
 }
 
 /// Converts an id to a statement parameter, an INTEGER, and `None` to NULL.
-pub fn maybe_id_value<'a>(id: Option<Id>) -> ValueRef<'a>
+pub fn optional_id_as_parameter<'a>(id: Option<Id>) -> ValueRef<'a>
     ensures { owned result ≡ optional_as_value id }
 {
     match id {
@@ -46,105 +46,105 @@ pub fn maybe_id_value<'a>(id: Option<Id>) -> ValueRef<'a>
 }
 
 /// Converts the number of a row of a batch to a statement parameter, an INTEGER.
-pub fn row_number_value<'a>(number: RowNumber) -> ValueRef<'a>
+pub fn row_number_as_parameter<'a>(number: RowNumber) -> ValueRef<'a>
     ensures { owned result ≡ Int (pos number) }
 {
     ValueRef::Int(number.get() as i64)
 }
 
 /// Converts a tier to a statement parameter, an INTEGER.
-pub fn tier_value<'a>(tier: Tier) -> ValueRef<'a>
+pub fn tier_as_parameter<'a>(tier: Tier) -> ValueRef<'a>
     ensures { owned result ≡ Int (pos tier) }
 {
     ValueRef::Int(tier.get() as i64)
 }
 
 /// Converts a tax status to a statement parameter, an INTEGER: its number.
-pub fn tax_status_value<'a>(tax_status: TaxStatus) -> ValueRef<'a>
+pub fn tax_status_as_parameter<'a>(tax_status: TaxStatus) -> ValueRef<'a>
     ensures { owned result ≡ Int (pos (tax_status_number tax_status)) }
 {
     ValueRef::Int(tax_status.number() as i64)
 }
 
 /// Converts an amount of cents of either sign to a statement parameter, an INTEGER.
-pub fn cents_value<'a>(cents: Cents) -> ValueRef<'a>
+pub fn cents_as_parameter<'a>(cents: Cents) -> ValueRef<'a>
     ensures { owned result ≡ Int cents }
 {
     ValueRef::Int(cents.get())
 }
 
 /// Converts a stamp to a statement parameter, an INTEGER.
-pub fn stamp_value<'a>(stamp: Stamp) -> ValueRef<'a>
+pub fn stamp_as_parameter<'a>(stamp: Stamp) -> ValueRef<'a>
     ensures { owned result ≡ Int (pos stamp) }
 {
     ValueRef::Int(stamp.get())
 }
 
 /// Converts a price to a statement parameter, an INTEGER.
-pub fn price_value<'a>(price: Price) -> ValueRef<'a>
+pub fn price_as_parameter<'a>(price: Price) -> ValueRef<'a>
     ensures { owned result ≡ Int (pos price) }
 {
     ValueRef::Int(price.get() as i64)
 }
 
 /// Converts a quantity to a statement parameter, an INTEGER.
-pub fn qty_value<'a>(qty: Qty) -> ValueRef<'a>
+pub fn quantity_as_parameter<'a>(qty: Qty) -> ValueRef<'a>
     ensures { owned result ≡ Int (pos qty) }
 {
     ValueRef::Int(qty.get() as i64)
 }
 
 /// Converts a commission rate to a statement parameter, an INTEGER.
-pub fn rate_value<'a>(rate: Rate) -> ValueRef<'a>
+pub fn commission_rate_as_parameter<'a>(rate: Rate) -> ValueRef<'a>
     ensures { owned result ≡ Int (pos rate) }
 {
     ValueRef::Int(rate.get() as i64)
 }
 
 /// Converts a tax rate to a statement parameter, an INTEGER.
-pub fn tax_rate_value<'a>(rate: TaxRate) -> ValueRef<'a>
+pub fn tax_rate_as_parameter<'a>(rate: TaxRate) -> ValueRef<'a>
     ensures { owned result ≡ Int (pos rate) }
 {
     ValueRef::Int(rate.get() as i64)
 }
 
 /// Converts an amount of cents that is not below 0 to a statement parameter, an INTEGER.
-pub fn amount_value<'a>(amount: Amount) -> ValueRef<'a>
+pub fn amount_as_parameter<'a>(amount: Amount) -> ValueRef<'a>
     ensures { owned result ≡ Int (pos amount) }
 {
     ValueRef::Int(amount.get() as i64)
 }
 
 /// Converts a charge to a statement parameter, an INTEGER.
-pub fn charge_amount_value<'a>(charge: ChargeAmount) -> ValueRef<'a>
+pub fn charge_amount_as_parameter<'a>(charge: ChargeAmount) -> ValueRef<'a>
     ensures { owned result ≡ Int (pos charge) }
 {
     ValueRef::Int(charge.get() as i64)
 }
 
 /// Converts a volume to a statement parameter, an INTEGER.
-pub fn volume_value<'a>(volume: Volume) -> ValueRef<'a>
+pub fn volume_as_parameter<'a>(volume: Volume) -> ValueRef<'a>
     ensures { owned result ≡ Int (pos volume) }
 {
     ValueRef::Int(volume.get() as i64)
 }
 
 /// Converts a trade type to a statement parameter, a TEXT: its code.
-pub fn type_value<'a>(kind: TradeType) -> ValueRef<'a>
+pub fn trade_type_as_parameter<'a>(kind: TradeType) -> ValueRef<'a>
     ensures { owned result ≡ Text (trade_type_code kind) }
 {
     ValueRef::Text(kind.code().as_bytes())
 }
 
 /// Converts a text to a statement parameter, a TEXT.
-pub fn text_value(text: &str) -> ValueRef<'_>
+pub fn text_as_parameter(text: &str) -> ValueRef<'_>
     ensures { owned result ≡ Text text.now }
 {
     ValueRef::Text(text.as_bytes())
 }
 
 /// Converts a flag to a statement parameter, an INTEGER: 1 for true and 0 for false.
-pub fn flag_value<'a>(is: bool) -> ValueRef<'a>
+pub fn flag_as_parameter<'a>(is: bool) -> ValueRef<'a>
     ensures { owned result ≡ flag_as_value is }
 {
     if is {
@@ -155,7 +155,7 @@ pub fn flag_value<'a>(is: bool) -> ValueRef<'a>
 }
 
 /// Converts a price to a statement parameter, an INTEGER, and `None` to NULL.
-pub fn maybe_price_value<'a>(price: Option<Price>) -> ValueRef<'a>
+pub fn optional_price_as_parameter<'a>(price: Option<Price>) -> ValueRef<'a>
     ensures { owned result ≡ optional_as_value price }
 {
     match price {
@@ -165,21 +165,21 @@ pub fn maybe_price_value<'a>(price: Option<Price>) -> ValueRef<'a>
 }
 
 /// Converts a status to a statement parameter, a TEXT: its code.
-pub fn status_value<'a>(status: Status) -> ValueRef<'a>
+pub fn status_as_parameter<'a>(status: Status) -> ValueRef<'a>
     ensures { owned result ≡ Text (trade_status_code status) }
 {
     ValueRef::Text(status.code().as_bytes())
 }
 
 /// Converts a cash type to a statement parameter, a TEXT: its text.
-pub fn cash_type_value<'a>(cash_type: CashType) -> ValueRef<'a>
+pub fn cash_type_as_parameter<'a>(cash_type: CashType) -> ValueRef<'a>
     ensures { owned result ≡ Text (cash_type_text cash_type) }
 {
     ValueRef::Text(cash_type.word().as_bytes())
 }
 
 /// Converts a day to a statement parameter, an INTEGER.
-pub fn day_value<'a>(day: Day) -> ValueRef<'a>
+pub fn day_as_parameter<'a>(day: Day) -> ValueRef<'a>
     ensures { owned result ≡ Int (pos day) }
 {
     ValueRef::Int(day.get() as i64)

@@ -10,7 +10,7 @@ use Rattle.sqlite_tied.specs.Compute.{everything}
 use Rattle.brk_sql.specs.Desk.{IsTableAt}
 use Rattle.brk_sql.proofs.Meant.{meant, inserts}
 use Rattle.brk_sql.proofs.Texts.{read}
-use Rattle.brk_tables_schema.specs.Shapes.{request}
+use Rattle.brk_tables_schema.specs.Shapes.{request_table}
 
 abbrev pub statement : List ℕ
 statement = codes "INSERT INTO TRADE_REQUEST (TR_T_ID, TR_TT_ID, TR_S_SYMB, TR_QTY, TR_BID_PRICE, TR_B_ID) VALUES (?1, ?2, ?3, ?4, ?5, ?6)"
@@ -18,6 +18,6 @@ statement = codes "INSERT INTO TRADE_REQUEST (TR_T_ID, TR_TT_ID, TR_S_SYMB, TR_Q
 abbrev pub terms : List Term
 terms = col 0 0 ∷ lit Null ∷ col 0 1 ∷ col 0 2 ∷ col 0 3 ∷ col 0 4 ∷ col 0 5 ∷ []
 
-pub understood_as : (schema : Schema) (at tree : ℕ) → IsTableAt schema (request tree) at → compiled schema statement ≡ Ok (meant (read statement) [] (Insert at (Values terms 7)))
+pub understood_as : (schema : Schema) (at tree : ℕ) → IsTableAt schema (request_table tree) at → compiled schema statement ≡ Ok (meant (read statement) [] (Insert at (Values terms 7)))
 unfolding everything
-understood_as schema at tree h = inserts schema statement (read statement) refl refl (codes "TRADE_REQUEST") at (request tree) h.named h.found _ _ _ refl refl
+understood_as schema at tree h = inserts schema statement (read statement) refl refl (codes "TRADE_REQUEST") at (request_table tree) h.named h.found _ _ _ refl refl

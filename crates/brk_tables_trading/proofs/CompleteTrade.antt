@@ -23,7 +23,7 @@ use Rattle.brk_sql.proofs.Meant.{meant, updates_or}
 use Rattle.brk_sql.proofs.Pick.{selection, whole_page}
 use Rattle.brk_sql.proofs.Scoped.{column_is}
 use Rattle.brk_sql.proofs.Texts.{read}
-use Rattle.brk_tables_schema.specs.Shapes.{trade}
+use Rattle.brk_tables_schema.specs.Shapes.{trade_table}
 
 abbrev pub statement : List ℕ
 statement = codes "UPDATE TRADE SET T_ST_ID = ?1, T_DTS = ?2, T_TRADE_PRICE = ?3, T_COMM = ?4, T_TAX = ?5 WHERE T_ID = ?6"
@@ -43,11 +43,11 @@ project = col 1 0 ∷ col 1 0 ∷ lit Null ∷ col 0 1 ∷ col 0 0 ∷ col 1 4 �
 abbrev pub draft : ℕ → Draft
 draft tree = simple (Inner tree ∷ []) terms project
 
-draft_is : (schema : Schema) (at tree : ℕ) → slice_get schema.tables at ≡ Some (trade tree) → updated schema at (trade tree) sets (Some test) ≡ Ok (draft tree)
+draft_is : (schema : Schema) (at tree : ℕ) → slice_get schema.tables at ≡ Some (trade_table tree) → updated schema at (trade_table tree) sets (Some test) ≡ Ok (draft tree)
 unfolding lowering
-draft_is schema at tree found = rw (column_is schema at (trade tree) found (codes "TRADE") [] [] false true (codes "T_ID") 0 (integer_column (codes "T_ID")) refl refl)
+draft_is schema at tree found = rw (column_is schema at (trade_table tree) found (codes "TRADE") [] [] false true (codes "T_ID") 0 (integer_column (codes "T_ID")) refl refl)
 
-pub understood_as : (schema : Schema) (at tree : ℕ) → IsTableAt schema (trade tree) at
+pub understood_as : (schema : Schema) (at tree : ℕ) → IsTableAt schema (trade_table tree) at
     → (compiled schema statement ≡ Ok (meant (read statement) [] (Update at (record { lets = []; body = selection tree terms project [] whole_page })))) ⊎ (compiled schema statement ≡ Err Mismatch)
 unfolding everything
-understood_as schema at tree h = updates_or schema statement (read statement) refl refl (codes "TRADE") at (trade tree) h.named h.found sets (Some test) (draft tree) refl (draft_is schema at tree h.found)
+understood_as schema at tree h = updates_or schema statement (read statement) refl refl (codes "TRADE") at (trade_table tree) h.named h.found sets (Some test) (draft tree) refl (draft_is schema at tree h.found)

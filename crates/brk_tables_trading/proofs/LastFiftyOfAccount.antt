@@ -21,7 +21,7 @@ use Rattle.brk_sql.proofs.Meant.{meant, reads_or}
 use Rattle.brk_sql.proofs.Pick.{selection}
 use Rattle.brk_sql.proofs.Scoped.{column_is, heading_is}
 use Rattle.brk_sql.proofs.Texts.{read}
-use Rattle.brk_tables_schema.specs.Shapes.{trade}
+use Rattle.brk_tables_schema.specs.Shapes.{trade_table}
 use Rattle.sqlite_ast.specs.declared.Shown.TheVariants.{One}
 use Rattle.sqlite_ast.specs.declared.Origin.TheVariants.{Table}
 use Rattle.sqlite_ast.specs.declared.Source.{Source, roll-Source}
@@ -95,57 +95,57 @@ names = codes "T_ID" ∷ codes "T_DTS" ∷ codes "T_ST_ID" ∷ codes "T_TT_ID" �
 abbrev after : ℕ → Carried → State
 after spent last = record (fresh 2 max_budget) { budget = max_budget - spent; last = last }
 
-module _ (schema : Schema) (at tree : ℕ) (h : IsTableAt schema (trade tree) at) where
-  abbrev found : slice_get schema.tables at ≡ Some (trade tree)
+module _ (schema : Schema) (at tree : ℕ) (h : IsTableAt schema (trade_table tree) at) where
+  abbrev found : slice_get schema.tables at ≡ Some (trade_table tree)
   found = h.found
 
   shows : result lower (outermost schema) (level_one (codes "TRADE") at []) core (fresh 2 max_budget) ≡ Ok (columns, after 15 binary)
   unfolding lowering
   shows =
       rw (
-        column_is schema at (trade tree) found (codes "TRADE") [] [] true true (codes "T_ID") 0 (integer_column (codes "T_ID")) refl refl,
-        heading_is schema at (trade tree) found (codes "TRADE") [] [] true true (e.Column None (codes "T_ID")) (codes "T_ID") (codes "T_ID") 0 (integer_column (codes "T_ID")) refl refl refl,
-        column_is schema at (trade tree) found (codes "TRADE") [] [] true true (codes "T_DTS") 1 (integer_column (codes "T_DTS")) refl refl,
-        heading_is schema at (trade tree) found (codes "TRADE") [] [] true true (e.Column None (codes "T_DTS")) (codes "T_DTS") (codes "T_DTS") 1 (integer_column (codes "T_DTS")) refl refl refl,
-        column_is schema at (trade tree) found (codes "TRADE") [] [] true true (codes "T_ST_ID") 2 (text_column (codes "T_ST_ID")) refl refl,
-        heading_is schema at (trade tree) found (codes "TRADE") [] [] true true (e.Column None (codes "T_ST_ID")) (codes "T_ST_ID") (codes "T_ST_ID") 2 (text_column (codes "T_ST_ID")) refl refl refl,
-        column_is schema at (trade tree) found (codes "TRADE") [] [] true true (codes "T_TT_ID") 3 (text_column (codes "T_TT_ID")) refl refl,
-        heading_is schema at (trade tree) found (codes "TRADE") [] [] true true (e.Column None (codes "T_TT_ID")) (codes "T_TT_ID") (codes "T_TT_ID") 3 (text_column (codes "T_TT_ID")) refl refl refl,
-        column_is schema at (trade tree) found (codes "TRADE") [] [] true true (codes "T_IS_CASH") 4 (integer_column (codes "T_IS_CASH")) refl refl,
-        heading_is schema at (trade tree) found (codes "TRADE") [] [] true true (e.Column None (codes "T_IS_CASH")) (codes "T_IS_CASH") (codes "T_IS_CASH") 4 (integer_column (codes "T_IS_CASH")) refl refl refl,
-        column_is schema at (trade tree) found (codes "TRADE") [] [] true true (codes "T_S_SYMB") 5 (text_column (codes "T_S_SYMB")) refl refl,
-        heading_is schema at (trade tree) found (codes "TRADE") [] [] true true (e.Column None (codes "T_S_SYMB")) (codes "T_S_SYMB") (codes "T_S_SYMB") 5 (text_column (codes "T_S_SYMB")) refl refl refl,
-        column_is schema at (trade tree) found (codes "TRADE") [] [] true true (codes "T_QTY") 6 (integer_column (codes "T_QTY")) refl refl,
-        heading_is schema at (trade tree) found (codes "TRADE") [] [] true true (e.Column None (codes "T_QTY")) (codes "T_QTY") (codes "T_QTY") 6 (integer_column (codes "T_QTY")) refl refl refl,
-        column_is schema at (trade tree) found (codes "TRADE") [] [] true true (codes "T_BID_PRICE") 7 (integer_column (codes "T_BID_PRICE")) refl refl,
-        heading_is schema at (trade tree) found (codes "TRADE") [] [] true true (e.Column None (codes "T_BID_PRICE")) (codes "T_BID_PRICE") (codes "T_BID_PRICE") 7 (integer_column (codes "T_BID_PRICE")) refl refl refl,
-        column_is schema at (trade tree) found (codes "TRADE") [] [] true true (codes "T_CA_ID") 8 (integer_column (codes "T_CA_ID")) refl refl,
-        heading_is schema at (trade tree) found (codes "TRADE") [] [] true true (e.Column None (codes "T_CA_ID")) (codes "T_CA_ID") (codes "T_CA_ID") 8 (integer_column (codes "T_CA_ID")) refl refl refl,
-        column_is schema at (trade tree) found (codes "TRADE") [] [] true true (codes "T_EXEC_NAME") 9 (text_column (codes "T_EXEC_NAME")) refl refl,
-        heading_is schema at (trade tree) found (codes "TRADE") [] [] true true (e.Column None (codes "T_EXEC_NAME")) (codes "T_EXEC_NAME") (codes "T_EXEC_NAME") 9 (text_column (codes "T_EXEC_NAME")) refl refl refl,
-        column_is schema at (trade tree) found (codes "TRADE") [] [] true true (codes "T_TRADE_PRICE") 10 (nullable_integer_column (codes "T_TRADE_PRICE")) refl refl,
-        heading_is schema at (trade tree) found (codes "TRADE") [] [] true true (e.Column None (codes "T_TRADE_PRICE")) (codes "T_TRADE_PRICE") (codes "T_TRADE_PRICE") 10 (nullable_integer_column (codes "T_TRADE_PRICE")) refl refl refl,
-        column_is schema at (trade tree) found (codes "TRADE") [] [] true true (codes "T_CHRG") 11 (integer_column (codes "T_CHRG")) refl refl,
-        heading_is schema at (trade tree) found (codes "TRADE") [] [] true true (e.Column None (codes "T_CHRG")) (codes "T_CHRG") (codes "T_CHRG") 11 (integer_column (codes "T_CHRG")) refl refl refl,
-        column_is schema at (trade tree) found (codes "TRADE") [] [] true true (codes "T_COMM") 12 (integer_column (codes "T_COMM")) refl refl,
-        heading_is schema at (trade tree) found (codes "TRADE") [] [] true true (e.Column None (codes "T_COMM")) (codes "T_COMM") (codes "T_COMM") 12 (integer_column (codes "T_COMM")) refl refl refl,
-        column_is schema at (trade tree) found (codes "TRADE") [] [] true true (codes "T_TAX") 13 (integer_column (codes "T_TAX")) refl refl,
-        heading_is schema at (trade tree) found (codes "TRADE") [] [] true true (e.Column None (codes "T_TAX")) (codes "T_TAX") (codes "T_TAX") 13 (integer_column (codes "T_TAX")) refl refl refl,
-        column_is schema at (trade tree) found (codes "TRADE") [] [] true true (codes "T_LIFO") 14 (integer_column (codes "T_LIFO")) refl refl,
-        heading_is schema at (trade tree) found (codes "TRADE") [] [] true true (e.Column None (codes "T_LIFO")) (codes "T_LIFO") (codes "T_LIFO") 14 (integer_column (codes "T_LIFO")) refl refl refl,
+        column_is schema at (trade_table tree) found (codes "TRADE") [] [] true true (codes "T_ID") 0 (integer_column (codes "T_ID")) refl refl,
+        heading_is schema at (trade_table tree) found (codes "TRADE") [] [] true true (e.Column None (codes "T_ID")) (codes "T_ID") (codes "T_ID") 0 (integer_column (codes "T_ID")) refl refl refl,
+        column_is schema at (trade_table tree) found (codes "TRADE") [] [] true true (codes "T_DTS") 1 (integer_column (codes "T_DTS")) refl refl,
+        heading_is schema at (trade_table tree) found (codes "TRADE") [] [] true true (e.Column None (codes "T_DTS")) (codes "T_DTS") (codes "T_DTS") 1 (integer_column (codes "T_DTS")) refl refl refl,
+        column_is schema at (trade_table tree) found (codes "TRADE") [] [] true true (codes "T_ST_ID") 2 (text_column (codes "T_ST_ID")) refl refl,
+        heading_is schema at (trade_table tree) found (codes "TRADE") [] [] true true (e.Column None (codes "T_ST_ID")) (codes "T_ST_ID") (codes "T_ST_ID") 2 (text_column (codes "T_ST_ID")) refl refl refl,
+        column_is schema at (trade_table tree) found (codes "TRADE") [] [] true true (codes "T_TT_ID") 3 (text_column (codes "T_TT_ID")) refl refl,
+        heading_is schema at (trade_table tree) found (codes "TRADE") [] [] true true (e.Column None (codes "T_TT_ID")) (codes "T_TT_ID") (codes "T_TT_ID") 3 (text_column (codes "T_TT_ID")) refl refl refl,
+        column_is schema at (trade_table tree) found (codes "TRADE") [] [] true true (codes "T_IS_CASH") 4 (integer_column (codes "T_IS_CASH")) refl refl,
+        heading_is schema at (trade_table tree) found (codes "TRADE") [] [] true true (e.Column None (codes "T_IS_CASH")) (codes "T_IS_CASH") (codes "T_IS_CASH") 4 (integer_column (codes "T_IS_CASH")) refl refl refl,
+        column_is schema at (trade_table tree) found (codes "TRADE") [] [] true true (codes "T_S_SYMB") 5 (text_column (codes "T_S_SYMB")) refl refl,
+        heading_is schema at (trade_table tree) found (codes "TRADE") [] [] true true (e.Column None (codes "T_S_SYMB")) (codes "T_S_SYMB") (codes "T_S_SYMB") 5 (text_column (codes "T_S_SYMB")) refl refl refl,
+        column_is schema at (trade_table tree) found (codes "TRADE") [] [] true true (codes "T_QTY") 6 (integer_column (codes "T_QTY")) refl refl,
+        heading_is schema at (trade_table tree) found (codes "TRADE") [] [] true true (e.Column None (codes "T_QTY")) (codes "T_QTY") (codes "T_QTY") 6 (integer_column (codes "T_QTY")) refl refl refl,
+        column_is schema at (trade_table tree) found (codes "TRADE") [] [] true true (codes "T_BID_PRICE") 7 (integer_column (codes "T_BID_PRICE")) refl refl,
+        heading_is schema at (trade_table tree) found (codes "TRADE") [] [] true true (e.Column None (codes "T_BID_PRICE")) (codes "T_BID_PRICE") (codes "T_BID_PRICE") 7 (integer_column (codes "T_BID_PRICE")) refl refl refl,
+        column_is schema at (trade_table tree) found (codes "TRADE") [] [] true true (codes "T_CA_ID") 8 (integer_column (codes "T_CA_ID")) refl refl,
+        heading_is schema at (trade_table tree) found (codes "TRADE") [] [] true true (e.Column None (codes "T_CA_ID")) (codes "T_CA_ID") (codes "T_CA_ID") 8 (integer_column (codes "T_CA_ID")) refl refl refl,
+        column_is schema at (trade_table tree) found (codes "TRADE") [] [] true true (codes "T_EXEC_NAME") 9 (text_column (codes "T_EXEC_NAME")) refl refl,
+        heading_is schema at (trade_table tree) found (codes "TRADE") [] [] true true (e.Column None (codes "T_EXEC_NAME")) (codes "T_EXEC_NAME") (codes "T_EXEC_NAME") 9 (text_column (codes "T_EXEC_NAME")) refl refl refl,
+        column_is schema at (trade_table tree) found (codes "TRADE") [] [] true true (codes "T_TRADE_PRICE") 10 (nullable_integer_column (codes "T_TRADE_PRICE")) refl refl,
+        heading_is schema at (trade_table tree) found (codes "TRADE") [] [] true true (e.Column None (codes "T_TRADE_PRICE")) (codes "T_TRADE_PRICE") (codes "T_TRADE_PRICE") 10 (nullable_integer_column (codes "T_TRADE_PRICE")) refl refl refl,
+        column_is schema at (trade_table tree) found (codes "TRADE") [] [] true true (codes "T_CHRG") 11 (integer_column (codes "T_CHRG")) refl refl,
+        heading_is schema at (trade_table tree) found (codes "TRADE") [] [] true true (e.Column None (codes "T_CHRG")) (codes "T_CHRG") (codes "T_CHRG") 11 (integer_column (codes "T_CHRG")) refl refl refl,
+        column_is schema at (trade_table tree) found (codes "TRADE") [] [] true true (codes "T_COMM") 12 (integer_column (codes "T_COMM")) refl refl,
+        heading_is schema at (trade_table tree) found (codes "TRADE") [] [] true true (e.Column None (codes "T_COMM")) (codes "T_COMM") (codes "T_COMM") 12 (integer_column (codes "T_COMM")) refl refl refl,
+        column_is schema at (trade_table tree) found (codes "TRADE") [] [] true true (codes "T_TAX") 13 (integer_column (codes "T_TAX")) refl refl,
+        heading_is schema at (trade_table tree) found (codes "TRADE") [] [] true true (e.Column None (codes "T_TAX")) (codes "T_TAX") (codes "T_TAX") 13 (integer_column (codes "T_TAX")) refl refl refl,
+        column_is schema at (trade_table tree) found (codes "TRADE") [] [] true true (codes "T_LIFO") 14 (integer_column (codes "T_LIFO")) refl refl,
+        heading_is schema at (trade_table tree) found (codes "TRADE") [] [] true true (e.Column None (codes "T_LIFO")) (codes "T_LIFO") (codes "T_LIFO") 14 (integer_column (codes "T_LIFO")) refl refl refl,
       )
 
   matches : matching lower (outermost schema) (level_one (codes "TRADE") at columns) core (after 15 binary)
       ≡ Ok (record { steps = Inner tree ∷ []; filter = terms }, after 18 nothing)
   unfolding lowering
-  matches = rw (found, column_is schema at (trade tree) found (codes "TRADE") columns [] false true (codes "T_CA_ID") 8 (integer_column (codes "T_CA_ID")) refl refl, found)
+  matches = rw (found, column_is schema at (trade_table tree) found (codes "TRADE") columns [] false true (codes "T_CA_ID") 8 (integer_column (codes "T_CA_ID")) refl refl, found)
 
   sorted : sorts lower (inside schema (level_one (codes "TRADE") at columns) false) columns by (after 18 nothing) ≡ Ok ((draft tree).order, after 20 nothing)
   unfolding lowering
   sorted =
       rw (
-        column_is schema at (trade tree) found (codes "TRADE") columns [] false true (codes "T_DTS") 1 (integer_column (codes "T_DTS")) refl refl,
-        column_is schema at (trade tree) found (codes "TRADE") columns [] false true (codes "T_ID") 0 (integer_column (codes "T_ID")) refl refl,
+        column_is schema at (trade_table tree) found (codes "TRADE") columns [] false true (codes "T_DTS") 1 (integer_column (codes "T_DTS")) refl refl,
+        column_is schema at (trade_table tree) found (codes "TRADE") columns [] false true (codes "T_ID") 0 (integer_column (codes "T_ID")) refl refl,
       )
 
   meaning_is : meaning schema select ≡ Ok ((draft tree, names, None ∷ Some Binary ∷ Some Binary ∷ Some Binary ∷ Some Binary ∷ Some Binary ∷ Some Binary ∷ Some Binary ∷ Some Binary ∷ Some Binary ∷ Some Binary ∷ Some Binary ∷ Some Binary ∷ Some Binary ∷ Some Binary ∷ []), [])

@@ -18,7 +18,7 @@ use Rattle.brk_sql.proofs.Meant.{meant, reads_or}
 use Rattle.brk_sql.proofs.Pick.{selection}
 use Rattle.brk_sql.proofs.Scoped.{column_is, heading_is}
 use Rattle.brk_sql.proofs.Texts.{read}
-use Rattle.brk_tables_schema.specs.Shapes.{trade}
+use Rattle.brk_tables_schema.specs.Shapes.{trade_table}
 use Rattle.sqlite_ast.specs.declared.Shown.TheVariants.{One}
 use Rattle.sqlite_ast.specs.declared.Origin.TheVariants.{Table}
 use Rattle.sqlite_ast.specs.declared.Source.{Source, roll-Source}
@@ -92,16 +92,16 @@ names = codes "T_ID" ∷ []
 abbrev after : ℕ → Carried → State
 after spent last = record (fresh 2 max_budget) { budget = max_budget - spent; last = last }
 
-module _ (schema : Schema) (at tree : ℕ) (h : IsTableAt schema (trade tree) at) where
-  abbrev found : slice_get schema.tables at ≡ Some (trade tree)
+module _ (schema : Schema) (at tree : ℕ) (h : IsTableAt schema (trade_table tree) at) where
+  abbrev found : slice_get schema.tables at ≡ Some (trade_table tree)
   found = h.found
 
   shows : result lower (outermost schema) (level_one (codes "TRADE") at []) core (fresh 2 max_budget) ≡ Ok (columns, after 1 nothing)
   unfolding lowering
   shows =
       rw (
-        column_is schema at (trade tree) found (codes "TRADE") [] [] true true (codes "T_ID") 0 (integer_column (codes "T_ID")) refl refl,
-        heading_is schema at (trade tree) found (codes "TRADE") [] [] true true (e.Column None (codes "T_ID")) (codes "T_ID") (codes "T_ID") 0 (integer_column (codes "T_ID")) refl refl refl,
+        column_is schema at (trade_table tree) found (codes "TRADE") [] [] true true (codes "T_ID") 0 (integer_column (codes "T_ID")) refl refl,
+        heading_is schema at (trade_table tree) found (codes "TRADE") [] [] true true (e.Column None (codes "T_ID")) (codes "T_ID") (codes "T_ID") 0 (integer_column (codes "T_ID")) refl refl refl,
       )
 
   matches : matching lower (outermost schema) (level_one (codes "TRADE") at columns) core (after 1 nothing)
@@ -112,7 +112,7 @@ module _ (schema : Schema) (at tree : ℕ) (h : IsTableAt schema (trade tree) at
   sorted : sorts lower (inside schema (level_one (codes "TRADE") at columns) false) columns by (after 1 nothing) ≡ Ok ((draft tree).order, after 2 nothing)
   unfolding lowering
   sorted =
-      rw (column_is schema at (trade tree) found (codes "TRADE") columns [] false true (codes "T_ID") 0 (integer_column (codes "T_ID")) refl refl)
+      rw (column_is schema at (trade_table tree) found (codes "TRADE") columns [] false true (codes "T_ID") 0 (integer_column (codes "T_ID")) refl refl)
 
   meaning_is : meaning schema select ≡ Ok ((draft tree, names, None ∷ []), [])
   unfolding everything

@@ -21,7 +21,7 @@ use Rattle.brk_sql.proofs.Meant.{meant, deletes_or}
 use Rattle.brk_sql.proofs.Pick.{selection, whole_page}
 use Rattle.brk_sql.proofs.Scoped.{column_is}
 use Rattle.brk_sql.proofs.Texts.{read}
-use Rattle.brk_tables_schema.specs.Shapes.{holding}
+use Rattle.brk_tables_schema.specs.Shapes.{holding_table}
 
 abbrev pub statement : List ℕ
 statement = codes "DELETE FROM HOLDING WHERE H_T_ID = ?1"
@@ -38,11 +38,11 @@ project = col 1 0 ∷ []
 abbrev pub draft : ℕ → Draft
 draft tree = simple (Inner tree ∷ []) terms project
 
-draft_is : (schema : Schema) (at tree : ℕ) → slice_get schema.tables at ≡ Some (holding tree) → deleted schema at (holding tree) test ≡ Ok (draft tree)
+draft_is : (schema : Schema) (at tree : ℕ) → slice_get schema.tables at ≡ Some (holding_table tree) → deleted schema at (holding_table tree) test ≡ Ok (draft tree)
 unfolding lowering
-draft_is schema at tree found = rw (column_is schema at (holding tree) found (codes "HOLDING") [] [] false true (codes "H_T_ID") 0 (integer_column (codes "H_T_ID")) refl refl)
+draft_is schema at tree found = rw (column_is schema at (holding_table tree) found (codes "HOLDING") [] [] false true (codes "H_T_ID") 0 (integer_column (codes "H_T_ID")) refl refl)
 
-pub understood_as : (schema : Schema) (at tree : ℕ) → IsTableAt schema (holding tree) at
+pub understood_as : (schema : Schema) (at tree : ℕ) → IsTableAt schema (holding_table tree) at
     → (compiled schema statement ≡ Ok (meant (read statement) [] (Delete at (record { lets = []; body = selection tree terms project [] whole_page })))) ⊎ (compiled schema statement ≡ Err Mismatch)
 unfolding everything
-understood_as schema at tree h = deletes_or schema statement (read statement) refl refl (codes "HOLDING") at (holding tree) h.named h.found test (draft tree) refl (draft_is schema at tree h.found)
+understood_as schema at tree h = deletes_or schema statement (read statement) refl refl (codes "HOLDING") at (holding_table tree) h.named h.found test (draft tree) refl (draft_is schema at tree h.found)

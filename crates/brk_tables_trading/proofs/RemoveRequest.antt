@@ -21,7 +21,7 @@ use Rattle.brk_sql.proofs.Meant.{meant, deletes_or}
 use Rattle.brk_sql.proofs.Pick.{selection, whole_page}
 use Rattle.brk_sql.proofs.Scoped.{column_is}
 use Rattle.brk_sql.proofs.Texts.{read}
-use Rattle.brk_tables_schema.specs.Shapes.{request}
+use Rattle.brk_tables_schema.specs.Shapes.{request_table}
 
 abbrev pub statement : List ℕ
 statement = codes "DELETE FROM TRADE_REQUEST WHERE TR_T_ID = ?1"
@@ -38,11 +38,11 @@ project = col 1 0 ∷ []
 abbrev pub draft : ℕ → Draft
 draft tree = simple (Inner tree ∷ []) terms project
 
-draft_is : (schema : Schema) (at tree : ℕ) → slice_get schema.tables at ≡ Some (request tree) → deleted schema at (request tree) test ≡ Ok (draft tree)
+draft_is : (schema : Schema) (at tree : ℕ) → slice_get schema.tables at ≡ Some (request_table tree) → deleted schema at (request_table tree) test ≡ Ok (draft tree)
 unfolding lowering
-draft_is schema at tree found = rw (column_is schema at (request tree) found (codes "TRADE_REQUEST") [] [] false true (codes "TR_T_ID") 0 (integer_column (codes "TR_T_ID")) refl refl)
+draft_is schema at tree found = rw (column_is schema at (request_table tree) found (codes "TRADE_REQUEST") [] [] false true (codes "TR_T_ID") 0 (integer_column (codes "TR_T_ID")) refl refl)
 
-pub understood_as : (schema : Schema) (at tree : ℕ) → IsTableAt schema (request tree) at
+pub understood_as : (schema : Schema) (at tree : ℕ) → IsTableAt schema (request_table tree) at
     → (compiled schema statement ≡ Ok (meant (read statement) [] (Delete at (record { lets = []; body = selection tree terms project [] whole_page })))) ⊎ (compiled schema statement ≡ Err Mismatch)
 unfolding everything
-understood_as schema at tree h = deletes_or schema statement (read statement) refl refl (codes "TRADE_REQUEST") at (request tree) h.named h.found test (draft tree) refl (draft_is schema at tree h.found)
+understood_as schema at tree h = deletes_or schema statement (read statement) refl refl (codes "TRADE_REQUEST") at (request_table tree) h.named h.found test (draft tree) refl (draft_is schema at tree h.found)

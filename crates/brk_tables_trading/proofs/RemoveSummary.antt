@@ -21,7 +21,7 @@ use Rattle.brk_sql.proofs.Meant.{meant, deletes_or}
 use Rattle.brk_sql.proofs.Pick.{selection, whole_page}
 use Rattle.brk_sql.proofs.Scoped.{column_is}
 use Rattle.brk_sql.proofs.Texts.{read}
-use Rattle.brk_tables_schema.specs.Shapes.{summary}
+use Rattle.brk_tables_schema.specs.Shapes.{summary_table}
 
 abbrev pub statement : List ℕ
 statement = codes "DELETE FROM HOLDING_SUMMARY WHERE HS_CA_ID = ?1 AND HS_S_SYMB = ?2"
@@ -38,11 +38,11 @@ project = col 1 0 ∷ []
 abbrev pub draft : ℕ → Draft
 draft tree = simple (Inner tree ∷ []) terms project
 
-draft_is : (schema : Schema) (at tree : ℕ) → slice_get schema.tables at ≡ Some (summary tree) → deleted schema at (summary tree) test ≡ Ok (draft tree)
+draft_is : (schema : Schema) (at tree : ℕ) → slice_get schema.tables at ≡ Some (summary_table tree) → deleted schema at (summary_table tree) test ≡ Ok (draft tree)
 unfolding lowering
-draft_is schema at tree found = rw (column_is schema at (summary tree) found (codes "HOLDING_SUMMARY") [] [] false true (codes "HS_CA_ID") 0 (integer_column (codes "HS_CA_ID")) refl refl, found, column_is schema at (summary tree) found (codes "HOLDING_SUMMARY") [] [] false true (codes "HS_S_SYMB") 1 (text_column (codes "HS_S_SYMB")) refl refl, found)
+draft_is schema at tree found = rw (column_is schema at (summary_table tree) found (codes "HOLDING_SUMMARY") [] [] false true (codes "HS_CA_ID") 0 (integer_column (codes "HS_CA_ID")) refl refl, found, column_is schema at (summary_table tree) found (codes "HOLDING_SUMMARY") [] [] false true (codes "HS_S_SYMB") 1 (text_column (codes "HS_S_SYMB")) refl refl, found)
 
-pub understood_as : (schema : Schema) (at tree : ℕ) → IsTableAt schema (summary tree) at
+pub understood_as : (schema : Schema) (at tree : ℕ) → IsTableAt schema (summary_table tree) at
     → (compiled schema statement ≡ Ok (meant (read statement) [] (Delete at (record { lets = []; body = selection tree terms project [] whole_page })))) ⊎ (compiled schema statement ≡ Err Mismatch)
 unfolding everything
-understood_as schema at tree h = deletes_or schema statement (read statement) refl refl (codes "HOLDING_SUMMARY") at (summary tree) h.named h.found test (draft tree) refl (draft_is schema at tree h.found)
+understood_as schema at tree h = deletes_or schema statement (read statement) refl refl (codes "HOLDING_SUMMARY") at (summary_table tree) h.named h.found test (draft tree) refl (draft_is schema at tree h.found)

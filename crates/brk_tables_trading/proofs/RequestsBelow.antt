@@ -21,7 +21,7 @@ use Rattle.brk_sql.proofs.Meant.{meant, reads_or}
 use Rattle.brk_sql.proofs.Pick.{selection}
 use Rattle.brk_sql.proofs.Scoped.{column_is, heading_is}
 use Rattle.brk_sql.proofs.Texts.{read}
-use Rattle.brk_tables_schema.specs.Shapes.{request}
+use Rattle.brk_tables_schema.specs.Shapes.{request_table}
 use Rattle.sqlite_ast.specs.declared.Shown.TheVariants.{One}
 use Rattle.sqlite_ast.specs.declared.Origin.TheVariants.{Table}
 use Rattle.sqlite_ast.specs.declared.Source.{Source, roll-Source}
@@ -95,37 +95,37 @@ names = codes "TR_T_ID" ∷ codes "TR_TT_ID" ∷ codes "TR_S_SYMB" ∷ codes "TR
 abbrev after : ℕ → Carried → State
 after spent last = record (fresh 2 max_budget) { budget = max_budget - spent; last = last }
 
-module _ (schema : Schema) (at tree : ℕ) (h : IsTableAt schema (request tree) at) where
-  abbrev found : slice_get schema.tables at ≡ Some (request tree)
+module _ (schema : Schema) (at tree : ℕ) (h : IsTableAt schema (request_table tree) at) where
+  abbrev found : slice_get schema.tables at ≡ Some (request_table tree)
   found = h.found
 
   shows : result lower (outermost schema) (level_one (codes "TRADE_REQUEST") at []) core (fresh 2 max_budget) ≡ Ok (columns, after 6 binary)
   unfolding lowering
   shows =
       rw (
-        column_is schema at (request tree) found (codes "TRADE_REQUEST") [] [] true true (codes "TR_T_ID") 0 (integer_column (codes "TR_T_ID")) refl refl,
-        heading_is schema at (request tree) found (codes "TRADE_REQUEST") [] [] true true (e.Column None (codes "TR_T_ID")) (codes "TR_T_ID") (codes "TR_T_ID") 0 (integer_column (codes "TR_T_ID")) refl refl refl,
-        column_is schema at (request tree) found (codes "TRADE_REQUEST") [] [] true true (codes "TR_TT_ID") 1 (text_column (codes "TR_TT_ID")) refl refl,
-        heading_is schema at (request tree) found (codes "TRADE_REQUEST") [] [] true true (e.Column None (codes "TR_TT_ID")) (codes "TR_TT_ID") (codes "TR_TT_ID") 1 (text_column (codes "TR_TT_ID")) refl refl refl,
-        column_is schema at (request tree) found (codes "TRADE_REQUEST") [] [] true true (codes "TR_S_SYMB") 2 (text_column (codes "TR_S_SYMB")) refl refl,
-        heading_is schema at (request tree) found (codes "TRADE_REQUEST") [] [] true true (e.Column None (codes "TR_S_SYMB")) (codes "TR_S_SYMB") (codes "TR_S_SYMB") 2 (text_column (codes "TR_S_SYMB")) refl refl refl,
-        column_is schema at (request tree) found (codes "TRADE_REQUEST") [] [] true true (codes "TR_QTY") 3 (integer_column (codes "TR_QTY")) refl refl,
-        heading_is schema at (request tree) found (codes "TRADE_REQUEST") [] [] true true (e.Column None (codes "TR_QTY")) (codes "TR_QTY") (codes "TR_QTY") 3 (integer_column (codes "TR_QTY")) refl refl refl,
-        column_is schema at (request tree) found (codes "TRADE_REQUEST") [] [] true true (codes "TR_BID_PRICE") 4 (integer_column (codes "TR_BID_PRICE")) refl refl,
-        heading_is schema at (request tree) found (codes "TRADE_REQUEST") [] [] true true (e.Column None (codes "TR_BID_PRICE")) (codes "TR_BID_PRICE") (codes "TR_BID_PRICE") 4 (integer_column (codes "TR_BID_PRICE")) refl refl refl,
-        column_is schema at (request tree) found (codes "TRADE_REQUEST") [] [] true true (codes "TR_B_ID") 5 (integer_column (codes "TR_B_ID")) refl refl,
-        heading_is schema at (request tree) found (codes "TRADE_REQUEST") [] [] true true (e.Column None (codes "TR_B_ID")) (codes "TR_B_ID") (codes "TR_B_ID") 5 (integer_column (codes "TR_B_ID")) refl refl refl,
+        column_is schema at (request_table tree) found (codes "TRADE_REQUEST") [] [] true true (codes "TR_T_ID") 0 (integer_column (codes "TR_T_ID")) refl refl,
+        heading_is schema at (request_table tree) found (codes "TRADE_REQUEST") [] [] true true (e.Column None (codes "TR_T_ID")) (codes "TR_T_ID") (codes "TR_T_ID") 0 (integer_column (codes "TR_T_ID")) refl refl refl,
+        column_is schema at (request_table tree) found (codes "TRADE_REQUEST") [] [] true true (codes "TR_TT_ID") 1 (text_column (codes "TR_TT_ID")) refl refl,
+        heading_is schema at (request_table tree) found (codes "TRADE_REQUEST") [] [] true true (e.Column None (codes "TR_TT_ID")) (codes "TR_TT_ID") (codes "TR_TT_ID") 1 (text_column (codes "TR_TT_ID")) refl refl refl,
+        column_is schema at (request_table tree) found (codes "TRADE_REQUEST") [] [] true true (codes "TR_S_SYMB") 2 (text_column (codes "TR_S_SYMB")) refl refl,
+        heading_is schema at (request_table tree) found (codes "TRADE_REQUEST") [] [] true true (e.Column None (codes "TR_S_SYMB")) (codes "TR_S_SYMB") (codes "TR_S_SYMB") 2 (text_column (codes "TR_S_SYMB")) refl refl refl,
+        column_is schema at (request_table tree) found (codes "TRADE_REQUEST") [] [] true true (codes "TR_QTY") 3 (integer_column (codes "TR_QTY")) refl refl,
+        heading_is schema at (request_table tree) found (codes "TRADE_REQUEST") [] [] true true (e.Column None (codes "TR_QTY")) (codes "TR_QTY") (codes "TR_QTY") 3 (integer_column (codes "TR_QTY")) refl refl refl,
+        column_is schema at (request_table tree) found (codes "TRADE_REQUEST") [] [] true true (codes "TR_BID_PRICE") 4 (integer_column (codes "TR_BID_PRICE")) refl refl,
+        heading_is schema at (request_table tree) found (codes "TRADE_REQUEST") [] [] true true (e.Column None (codes "TR_BID_PRICE")) (codes "TR_BID_PRICE") (codes "TR_BID_PRICE") 4 (integer_column (codes "TR_BID_PRICE")) refl refl refl,
+        column_is schema at (request_table tree) found (codes "TRADE_REQUEST") [] [] true true (codes "TR_B_ID") 5 (integer_column (codes "TR_B_ID")) refl refl,
+        heading_is schema at (request_table tree) found (codes "TRADE_REQUEST") [] [] true true (e.Column None (codes "TR_B_ID")) (codes "TR_B_ID") (codes "TR_B_ID") 5 (integer_column (codes "TR_B_ID")) refl refl refl,
       )
 
   matches : matching lower (outermost schema) (level_one (codes "TRADE_REQUEST") at columns) core (after 6 binary)
       ≡ Ok (record { steps = Inner tree ∷ []; filter = terms }, after 17 nothing)
   unfolding lowering
-  matches = rw (found, column_is schema at (request tree) found (codes "TRADE_REQUEST") columns [] false true (codes "TR_S_SYMB") 2 (text_column (codes "TR_S_SYMB")) refl refl, found, column_is schema at (request tree) found (codes "TRADE_REQUEST") columns [] false true (codes "TR_TT_ID") 1 (text_column (codes "TR_TT_ID")) refl refl, found, column_is schema at (request tree) found (codes "TRADE_REQUEST") columns [] false true (codes "TR_BID_PRICE") 4 (integer_column (codes "TR_BID_PRICE")) refl refl, found)
+  matches = rw (found, column_is schema at (request_table tree) found (codes "TRADE_REQUEST") columns [] false true (codes "TR_S_SYMB") 2 (text_column (codes "TR_S_SYMB")) refl refl, found, column_is schema at (request_table tree) found (codes "TRADE_REQUEST") columns [] false true (codes "TR_TT_ID") 1 (text_column (codes "TR_TT_ID")) refl refl, found, column_is schema at (request_table tree) found (codes "TRADE_REQUEST") columns [] false true (codes "TR_BID_PRICE") 4 (integer_column (codes "TR_BID_PRICE")) refl refl, found)
 
   sorted : sorts lower (inside schema (level_one (codes "TRADE_REQUEST") at columns) false) columns by (after 17 nothing) ≡ Ok ((draft tree).order, after 18 nothing)
   unfolding lowering
   sorted =
-      rw (column_is schema at (request tree) found (codes "TRADE_REQUEST") columns [] false true (codes "TR_T_ID") 0 (integer_column (codes "TR_T_ID")) refl refl)
+      rw (column_is schema at (request_table tree) found (codes "TRADE_REQUEST") columns [] false true (codes "TR_T_ID") 0 (integer_column (codes "TR_T_ID")) refl refl)
 
   meaning_is : meaning schema select ≡ Ok ((draft tree, names, None ∷ Some Binary ∷ Some Binary ∷ Some Binary ∷ Some Binary ∷ Some Binary ∷ []), [])
   unfolding everything

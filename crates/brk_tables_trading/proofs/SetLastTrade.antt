@@ -22,7 +22,7 @@ use Rattle.brk_sql.proofs.Meant.{meant, updates_or}
 use Rattle.brk_sql.proofs.Pick.{selection, whole_page}
 use Rattle.brk_sql.proofs.Scoped.{column_is}
 use Rattle.brk_sql.proofs.Texts.{read}
-use Rattle.brk_tables_schema.specs.Shapes.{last_trade}
+use Rattle.brk_tables_schema.specs.Shapes.{last_trade_table}
 
 abbrev pub statement : List ℕ
 statement = codes "UPDATE LAST_TRADE SET LT_DTS = ?1, LT_PRICE = ?2, LT_VOL = ?3 WHERE LT_S_SYMB = ?4"
@@ -42,11 +42,11 @@ project = col 1 0 ∷ col 1 0 ∷ col 1 1 ∷ col 0 0 ∷ col 0 1 ∷ col 0 2 �
 abbrev pub draft : ℕ → Draft
 draft tree = simple (Inner tree ∷ []) terms project
 
-draft_is : (schema : Schema) (at tree : ℕ) → slice_get schema.tables at ≡ Some (last_trade tree) → updated schema at (last_trade tree) sets (Some test) ≡ Ok (draft tree)
+draft_is : (schema : Schema) (at tree : ℕ) → slice_get schema.tables at ≡ Some (last_trade_table tree) → updated schema at (last_trade_table tree) sets (Some test) ≡ Ok (draft tree)
 unfolding lowering
-draft_is schema at tree found = rw (column_is schema at (last_trade tree) found (codes "LAST_TRADE") [] [] false true (codes "LT_S_SYMB") 0 (text_column (codes "LT_S_SYMB")) refl refl, found)
+draft_is schema at tree found = rw (column_is schema at (last_trade_table tree) found (codes "LAST_TRADE") [] [] false true (codes "LT_S_SYMB") 0 (text_column (codes "LT_S_SYMB")) refl refl, found)
 
-pub understood_as : (schema : Schema) (at tree : ℕ) → IsTableAt schema (last_trade tree) at
+pub understood_as : (schema : Schema) (at tree : ℕ) → IsTableAt schema (last_trade_table tree) at
     → (compiled schema statement ≡ Ok (meant (read statement) [] (Update at (record { lets = []; body = selection tree terms project [] whole_page })))) ⊎ (compiled schema statement ≡ Err Mismatch)
 unfolding everything
-understood_as schema at tree h = updates_or schema statement (read statement) refl refl (codes "LAST_TRADE") at (last_trade tree) h.named h.found sets (Some test) (draft tree) refl (draft_is schema at tree h.found)
+understood_as schema at tree h = updates_or schema statement (read statement) refl refl (codes "LAST_TRADE") at (last_trade_table tree) h.named h.found sets (Some test) (draft tree) refl (draft_is schema at tree h.found)

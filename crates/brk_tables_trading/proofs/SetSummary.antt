@@ -22,7 +22,7 @@ use Rattle.brk_sql.proofs.Meant.{meant, updates_or}
 use Rattle.brk_sql.proofs.Pick.{selection, whole_page}
 use Rattle.brk_sql.proofs.Scoped.{column_is}
 use Rattle.brk_sql.proofs.Texts.{read}
-use Rattle.brk_tables_schema.specs.Shapes.{summary}
+use Rattle.brk_tables_schema.specs.Shapes.{summary_table}
 
 abbrev pub statement : List ℕ
 statement = codes "UPDATE HOLDING_SUMMARY SET HS_QTY = ?1 WHERE HS_CA_ID = ?2 AND HS_S_SYMB = ?3"
@@ -42,11 +42,11 @@ project = col 1 0 ∷ col 1 0 ∷ col 1 1 ∷ col 1 2 ∷ col 0 0 ∷ []
 abbrev pub draft : ℕ → Draft
 draft tree = simple (Inner tree ∷ []) terms project
 
-draft_is : (schema : Schema) (at tree : ℕ) → slice_get schema.tables at ≡ Some (summary tree) → updated schema at (summary tree) sets (Some test) ≡ Ok (draft tree)
+draft_is : (schema : Schema) (at tree : ℕ) → slice_get schema.tables at ≡ Some (summary_table tree) → updated schema at (summary_table tree) sets (Some test) ≡ Ok (draft tree)
 unfolding lowering
-draft_is schema at tree found = rw (column_is schema at (summary tree) found (codes "HOLDING_SUMMARY") [] [] false true (codes "HS_CA_ID") 0 (integer_column (codes "HS_CA_ID")) refl refl, found, column_is schema at (summary tree) found (codes "HOLDING_SUMMARY") [] [] false true (codes "HS_S_SYMB") 1 (text_column (codes "HS_S_SYMB")) refl refl, found)
+draft_is schema at tree found = rw (column_is schema at (summary_table tree) found (codes "HOLDING_SUMMARY") [] [] false true (codes "HS_CA_ID") 0 (integer_column (codes "HS_CA_ID")) refl refl, found, column_is schema at (summary_table tree) found (codes "HOLDING_SUMMARY") [] [] false true (codes "HS_S_SYMB") 1 (text_column (codes "HS_S_SYMB")) refl refl, found)
 
-pub understood_as : (schema : Schema) (at tree : ℕ) → IsTableAt schema (summary tree) at
+pub understood_as : (schema : Schema) (at tree : ℕ) → IsTableAt schema (summary_table tree) at
     → (compiled schema statement ≡ Ok (meant (read statement) [] (Update at (record { lets = []; body = selection tree terms project [] whole_page })))) ⊎ (compiled schema statement ≡ Err Mismatch)
 unfolding everything
-understood_as schema at tree h = updates_or schema statement (read statement) refl refl (codes "HOLDING_SUMMARY") at (summary tree) h.named h.found sets (Some test) (draft tree) refl (draft_is schema at tree h.found)
+understood_as schema at tree h = updates_or schema statement (read statement) refl refl (codes "HOLDING_SUMMARY") at (summary_table tree) h.named h.found sets (Some test) (draft tree) refl (draft_is schema at tree h.found)

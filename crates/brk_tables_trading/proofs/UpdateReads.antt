@@ -23,13 +23,13 @@ use Rattle.brk_sql.proofs.Decode.{text_in}
 use Rattle.brk_sql.proofs.Looks.{tells_rising, tells_sorted}
 use Rattle.brk_sql.proofs.Texts.{read}
 use Rattle.brk_tables_schema.specs.Cells.{natural_as_value, flag_as_value, trade_cells, settlement_cells}
-use Rattle.brk_tables_schema.specs.Desk.{Trades, Settlements, desk, order}
+use Rattle.brk_tables_schema.specs.Desk.{Trades, Settlements, desk_tables, ordering_by_primary_key}
 use Rattle.brk_tables_schema.specs.Order.{ordering_by_key}
 use Rattle.brk_tables_schema.proofs.Back.{number_in}
 use Rattle.brk_tables_schema.proofs.Compared.{at_least, at_most}
 use Rattle.brk_tables_schema.proofs.Order.{key_total, inserted}
 use Rattle.brk_tables_schema.proofs.Tests.{same_number, same_text}
-use Rattle.brk_changes.specs.Chosen.{completed_cash_trades_of_symbol, completed_trades_of_account}
+use Rattle.brk_changes.specs.Chosen.{first_twenty_completed_cash_trade_rows_of_symbol, first_twenty_completed_trade_rows_of_account}
 use Rattle.brk_tables_trading.proofs.CompletedCashOfSymbol
 use Rattle.brk_tables_trading.proofs.CompletedOfAccount
 use Rattle.brk_tables_trading.proofs.SettlementByTrade
@@ -76,10 +76,10 @@ and_assoc false b c = refl
 
 pub tells_completed_of_account : (old new : State) (account first last : ℕ) (rows : List Row)
     → Shown CompletedOfAccount.statement (Words (trade_status_code Completed) ∷ natural_as_value account ∷ natural_as_value first ∷ natural_as_value last ∷ []) old new rows
-    → TablesSatisfy desk (λ t. rows ≡ map trade_cells (completed_trades_of_account account first last t)) old.now
+    → TablesSatisfy desk_tables (λ t. rows ≡ map trade_cells (first_twenty_completed_trade_rows_of_account account first last t)) old.now
 tells_completed_of_account old new account first last rows shown = λ t tree h.
     let test : TradeRow → Bool = λ r. is_same_trade_status r.status Completed && ((r.account == account) && row_stamp_is_between first last r) in
-    tells_sorted desk Trades CompletedOfAccount.statement (Words (trade_status_code Completed) ∷ natural_as_value account ∷ natural_as_value first ∷ natural_as_value last ∷ []) (read CompletedOfAccount.statement)
+    tells_sorted desk_tables Trades CompletedOfAccount.statement (Words (trade_status_code Completed) ∷ natural_as_value account ∷ natural_as_value first ∷ natural_as_value last ∷ []) (read CompletedOfAccount.statement)
     CompletedOfAccount.terms CompletedOfAccount.project CompletedOfAccount.order CompletedOfAccount.paging CompletedOfAccount.names CompletedOfAccount.understood_as
     test
     (λ tree r x e.
@@ -101,10 +101,10 @@ tells_completed_of_account old new account first last rows shown = λ t tree h.
 
 pub tells_completed_cash_of_symbol : (old new : State) (symbol : List ℕ) (first last : ℕ) (rows : List Row)
     → Shown CompletedCashOfSymbol.statement (Words (trade_status_code Completed) ∷ flag_as_value true ∷ Words symbol ∷ natural_as_value first ∷ natural_as_value last ∷ []) old new rows
-    → TablesSatisfy desk (λ t. rows ≡ map trade_cells (completed_cash_trades_of_symbol symbol first last t)) old.now
+    → TablesSatisfy desk_tables (λ t. rows ≡ map trade_cells (first_twenty_completed_cash_trade_rows_of_symbol symbol first last t)) old.now
 tells_completed_cash_of_symbol old new symbol first last rows shown = λ t tree h.
     let test : TradeRow → Bool = λ r. is_same_trade_status r.status Completed && ((r.is_cash && bytes_eq r.symbol symbol) && row_stamp_is_between first last r) in
-    tells_sorted desk Trades CompletedCashOfSymbol.statement (Words (trade_status_code Completed) ∷ flag_as_value true ∷ Words symbol ∷ natural_as_value first ∷ natural_as_value last ∷ []) (read CompletedCashOfSymbol.statement)
+    tells_sorted desk_tables Trades CompletedCashOfSymbol.statement (Words (trade_status_code Completed) ∷ flag_as_value true ∷ Words symbol ∷ natural_as_value first ∷ natural_as_value last ∷ []) (read CompletedCashOfSymbol.statement)
     CompletedCashOfSymbol.terms CompletedCashOfSymbol.project CompletedCashOfSymbol.order CompletedCashOfSymbol.paging CompletedCashOfSymbol.names CompletedCashOfSymbol.understood_as
     test
     (λ tree r x e.
@@ -129,8 +129,8 @@ tells_completed_cash_of_symbol old new symbol first last rows shown = λ t tree 
 -- ---- what tells the words of a trade
 
 pub tells_settlement : (old new : State) (trade : ℕ) (rows : List Row) → Shown SettlementByTrade.statement (natural_as_value trade ∷ []) old new rows
-    → TablesSatisfy desk (λ t. rows ≡ map settlement_cells (filter (λ r. r.trade == trade) t.settlements)) old.now
+    → TablesSatisfy desk_tables (λ t. rows ≡ map settlement_cells (filter (λ r. r.trade == trade) t.settlements)) old.now
 tells_settlement old new trade rows shown =
-    tells_rising desk Settlements SettlementByTrade.statement (natural_as_value trade ∷ []) (read SettlementByTrade.statement) SettlementByTrade.terms SettlementByTrade.project SettlementByTrade.order SettlementByTrade.paging SettlementByTrade.names SettlementByTrade.understood_as
-    (λ (r : SettlementRow). r.trade == trade) (λ tree r x e. let a : column r 0 ≡ natural_as_value x.trade = cc in rw (a, same_number x.trade trade) (and_true _)) settlement_cells (λ tree r x e. e) (order Settlements) (key_total settlement_key)
+    tells_rising desk_tables Settlements SettlementByTrade.statement (natural_as_value trade ∷ []) (read SettlementByTrade.statement) SettlementByTrade.terms SettlementByTrade.project SettlementByTrade.order SettlementByTrade.paging SettlementByTrade.names SettlementByTrade.understood_as
+    (λ (r : SettlementRow). r.trade == trade) (λ tree r x e. let a : column r 0 ≡ natural_as_value x.trade = cc in rw (a, same_number x.trade trade) (and_true _)) settlement_cells (λ tree r x e. e) (ordering_by_primary_key Settlements) (key_total settlement_key)
     (λ tree a b x y e f. let p : column a 0 ≡ natural_as_value x.trade = cc in let q : column b 0 ≡ natural_as_value y.trade = cc in rw (p, q) refl) old new rows shown (λ x y. refl)

@@ -2,16 +2,16 @@
 use Rattle.std.specs.Prelude.{ℕ, ◌==◌, ◌&&◌, List, bytes_eq, drop, filter, take}
 use Rattle.brk_money.specs.Spelling.{Text}
 use Rattle.brk_model.specs.Tables.{Tables, HoldingRow}
-use Rattle.brk_changes.specs.Rows.{oldest_lots_first}
+use Rattle.brk_changes.specs.Rows.{lots_oldest_first}
 
 -- The number of rows of a page: 16. The last page may have fewer.
 abbrev pub page_size : ℕ
 page_size = 16
 
 -- The elements of a list after the first `skipped`, at most `page_size` of them.
-abbrev pub page_after : {X : Type 0} → ℕ → List X → List X
-page_after skipped xs = take page_size (drop skipped xs)
+abbrev pub page_after_skipped : {X : Type 0} → ℕ → List X → List X
+page_after_skipped skipped xs = take page_size (drop skipped xs)
 
 -- The rows of the lots of `account` in the security `symbol`, sorted by age, the oldest first.
 abbrev pub position_lots_by_age : ℕ → Text → Tables → List HoldingRow
-position_lots_by_age account symbol t = oldest_lots_first (filter (λ r. (r.account == account) && bytes_eq r.symbol symbol) t.holdings)
+position_lots_by_age account symbol t = lots_oldest_first (filter (λ r. (r.account == account) && bytes_eq r.symbol symbol) t.holdings)

@@ -5,11 +5,11 @@ ghost use Rattle.brk_tables_schema.specs.Statements.{WritesDeskTables};
 
 use brk_money::{Cents, Fault, Id};
 use brk_tables_schema::calls::execute_statement;
-use brk_tables_schema::values::{cents_value, id_value};
+use brk_tables_schema::values::{cents_as_parameter, id_as_parameter};
 use sqlite::{Alter, Transaction};
 
 /// Sets the balance of an account. Fails with `Store` only.
-pub fn set_balance<S: Alter>(
+pub fn set_account_balance<S: Alter>(
     tx: &mut Transaction<'_, S>,
     account: Id,
     balance: Cents,
@@ -21,6 +21,6 @@ pub fn set_balance<S: Alter>(
     execute_statement(
         tx,
         "UPDATE CUSTOMER_ACCOUNT SET CA_BAL = ?1 WHERE CA_ID = ?2",
-        &[cents_value(balance), id_value(account)],
+        &[cents_as_parameter(balance), id_as_parameter(account)],
     )
 }

@@ -6,12 +6,12 @@ ghost use Rattle.brk_tables_schema.specs.Statements.{WritesDeskTables};
 use brk_changes::Amount;
 use brk_money::{Fault, Id};
 use brk_tables_schema::calls::execute_statement;
-use brk_tables_schema::values::{amount_value, id_value, number_value};
+use brk_tables_schema::values::{amount_as_parameter, id_as_parameter, integer_as_parameter};
 use sqlite::{Alter, Transaction};
 
 /// Sets a broker's totals: the number of its completed trades and the sum of their commissions.
 /// Fails with `Store` only.
-pub fn set_broker_numbers<S: Alter>(
+pub fn set_broker_totals<S: Alter>(
     tx: &mut Transaction<'_, S>,
     broker: Id,
     trades: i64,
@@ -25,9 +25,9 @@ pub fn set_broker_numbers<S: Alter>(
         tx,
         "UPDATE BROKER SET B_NUM_TRADES = ?1, B_COMM_TOTAL = ?2 WHERE B_ID = ?3",
         &[
-            number_value(trades),
-            amount_value(commissions),
-            id_value(broker),
+            integer_as_parameter(trades),
+            amount_as_parameter(commissions),
+            id_as_parameter(broker),
         ],
     )
 }

@@ -7,12 +7,12 @@ ghost use Rattle.brk_tables_schema.specs.Statements.{WritesDeskTables};
 use brk_changes::HistoryRow;
 use brk_money::Fault;
 use brk_tables_schema::calls::execute_statement;
-use brk_tables_schema::values::{id_value, stamp_value, status_value};
+use brk_tables_schema::values::{id_as_parameter, stamp_as_parameter, status_as_parameter};
 use sqlite::{Alter, Transaction};
 
 /// Inserts a row of TRADE_HISTORY: a status that a trade reached, and its stamp. Fails with `Store`
 /// only, also if the trade has the status.
-pub fn add_trade_history<S: Alter>(
+pub fn add_trade_history_row<S: Alter>(
     tx: &mut Transaction<'_, S>,
     mark: &HistoryRow,
 ) -> Result<(), Fault>
@@ -24,9 +24,9 @@ pub fn add_trade_history<S: Alter>(
         tx,
         "INSERT INTO TRADE_HISTORY (TH_T_ID, TH_ST_ID, TH_DTS) VALUES (?1, ?2, ?3)",
         &[
-            id_value(mark.trade),
-            status_value(mark.status),
-            stamp_value(mark.stamp),
+            id_as_parameter(mark.trade),
+            status_as_parameter(mark.status),
+            stamp_as_parameter(mark.stamp),
         ],
     )
 }

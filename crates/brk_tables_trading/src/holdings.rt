@@ -8,20 +8,20 @@ ghost use Rattle.brk_model.specs.Run.{IsCallFault};
 ghost use Rattle.brk_changes.specs.Rows.{abstract_holding_row, abstract_summary_row};
 ghost use Rattle.brk_tables_schema.specs.Desk.{Summaries};
 ghost use Rattle.brk_tables_schema.specs.Statements.{ReadsFirstMatch, ReadsMatchingRows, ReadsDeskTables};
-ghost use Rattle.brk_tables_trading.specs.Pages.{position_lots_by_age, page_after};
+ghost use Rattle.brk_tables_trading.specs.Pages.{position_lots_by_age, page_after_skipped};
 
 use brk_changes::{HoldingRow, SummaryRow};
 use brk_money::{Fault, Id};
 use brk_ref::Symbol;
 use brk_tables_schema::calls::select_rows;
 use brk_tables_schema::record::{decode_first_row, decode_rows};
-use brk_tables_schema::values::{id_value, text_value};
+use brk_tables_schema::values::{id_as_parameter, text_as_parameter};
 use sqlite::{Alter, Transaction};
 use sqlite_value::value::ValueRef;
 use std::alloc::Global;
 
 // Converts the number of rows to skip to a statement parameter, an INTEGER.
-fn skip_value<'a>(skipped: u32) -> ValueRef<'a>
+fn skipped_rows_as_parameter<'a>(skipped: u32) -> ValueRef<'a>
     ensures { owned result ≡ Int (pos skipped) }
 {
     ValueRef::Int(skipped as i64)
@@ -30,7 +30,7 @@ fn skip_value<'a>(skipped: u32) -> ValueRef<'a>
 /// Returns a page of the lots of an account in a security: at most 16 lots after the first
 /// `skipped`, sorted by stamp of opening and then by trade, the oldest first. Changes nothing.
 /// Fails with `Memory` or `Store`.
-pub fn oldest_lots<S: Alter>(
+pub fn page_of_lots_oldest_first<S: Alter>(
     tx: &mut Transaction<'_, S>,
     alloc: Global,
     account: Id,
@@ -38,16 +38,16 @@ pub fn oldest_lots<S: Alter>(
     skipped: u32,
 ) -> Result<Vec<HoldingRow>, Fault>
     ensures same_reference { tx.new.conn.ghost_name ≡ tx.old.conn.ghost_name }
-    ensures step { ReadsDeskTables S.Store tx.old tx.new result (λ all t. map abstract_holding_row all.items ≡ page_after skipped (position_lots_by_age account symbol.now t)) }
+    ensures step { ReadsDeskTables S.Store tx.old tx.new result (λ all t. map abstract_holding_row all.items ≡ page_after_skipped skipped (position_lots_by_age account symbol.now t)) }
     ensures fault { IfErr result IsCallFault }
 {
     let rows = select_rows(
         tx,
         "SELECT H_T_ID, H_CA_ID, H_S_SYMB, H_DTS, H_PRICE, H_QTY FROM HOLDING WHERE H_CA_ID = ?1 AND H_S_SYMB = ?2 ORDER BY H_DTS, H_T_ID LIMIT 16 OFFSET ?3",
         &[
-            id_value(account),
-            text_value(symbol.as_str()),
-            skip_value(skipped),
+            id_as_parameter(account),
+            text_as_parameter(symbol.as_str()),
+            skipped_rows_as_parameter(skipped),
         ],
     )?;
     decode_rows(alloc, &rows)
@@ -56,7 +56,7 @@ pub fn oldest_lots<S: Alter>(
 /// Returns a page of the lots of an account in a security: at most 16 lots after the first
 /// `skipped`, sorted by stamp of opening and then by trade, the newest first. Changes nothing.
 /// Fails with `Memory` or `Store`.
-pub fn newest_lots<S: Alter>(
+pub fn page_of_lots_newest_first<S: Alter>(
     tx: &mut Transaction<'_, S>,
     alloc: Global,
     account: Id,
@@ -64,16 +64,16 @@ pub fn newest_lots<S: Alter>(
     skipped: u32,
 ) -> Result<Vec<HoldingRow>, Fault>
     ensures same_reference { tx.new.conn.ghost_name ≡ tx.old.conn.ghost_name }
-    ensures step { ReadsDeskTables S.Store tx.old tx.new result (λ all t. map abstract_holding_row all.items ≡ page_after skipped (reverse (position_lots_by_age account symbol.now t))) }
+    ensures step { ReadsDeskTables S.Store tx.old tx.new result (λ all t. map abstract_holding_row all.items ≡ page_after_skipped skipped (reverse (position_lots_by_age account symbol.now t))) }
     ensures fault { IfErr result IsCallFault }
 {
     let rows = select_rows(
         tx,
         "SELECT H_T_ID, H_CA_ID, H_S_SYMB, H_DTS, H_PRICE, H_QTY FROM HOLDING WHERE H_CA_ID = ?1 AND H_S_SYMB = ?2 ORDER BY H_DTS DESC, H_T_ID DESC LIMIT 16 OFFSET ?3",
         &[
-            id_value(account),
-            text_value(symbol.as_str()),
-            skip_value(skipped),
+            id_as_parameter(account),
+            text_as_parameter(symbol.as_str()),
+            skipped_rows_as_parameter(skipped),
         ],
     )?;
     decode_rows(alloc, &rows)
@@ -81,7 +81,7 @@ pub fn newest_lots<S: Alter>(
 
 /// Returns the holding summaries of an account, sorted by symbol, ascending. Changes nothing. Fails
 /// with `Memory` or `Store` only.
-pub fn summaries_of<S: Alter>(
+pub fn holding_summaries_of_account<S: Alter>(
     tx: &mut Transaction<'_, S>,
     alloc: Global,
     account: Id,
@@ -93,14 +93,14 @@ pub fn summaries_of<S: Alter>(
     let rows = select_rows(
         tx,
         "SELECT HS_CA_ID, HS_S_SYMB, HS_QTY FROM HOLDING_SUMMARY WHERE HS_CA_ID = ?1 ORDER BY HS_CA_ID, HS_S_SYMB",
-        &[id_value(account)],
+        &[id_as_parameter(account)],
     )?;
     decode_rows(alloc, &rows)
 }
 
 /// Returns the holding summary of an account in a security, or `None` if there is none. Changes
 /// nothing. Fails with `Store` only.
-pub fn summary_of<S: Alter>(
+pub fn holding_summary_by_account_and_symbol<S: Alter>(
     tx: &mut Transaction<'_, S>,
     account: Id,
     symbol: &Symbol,
@@ -112,7 +112,7 @@ pub fn summary_of<S: Alter>(
     let rows = select_rows(
         tx,
         "SELECT HS_CA_ID, HS_S_SYMB, HS_QTY FROM HOLDING_SUMMARY WHERE HS_CA_ID = ?1 AND HS_S_SYMB = ?2 ORDER BY HS_CA_ID, HS_S_SYMB",
-        &[id_value(account), text_value(symbol.as_str())],
+        &[id_as_parameter(account), text_as_parameter(symbol.as_str())],
     )?;
     decode_first_row(&rows)
 }

@@ -9,7 +9,7 @@ use brk_money::Fault;
 use brk_ref::{LastTrade, Symbol};
 use brk_tables_schema::calls::{execute_statement, select_rows};
 use brk_tables_schema::record::decode_first_row;
-use brk_tables_schema::values::{price_value, stamp_value, text_value, volume_value};
+use brk_tables_schema::values::{price_as_parameter, stamp_as_parameter, text_as_parameter, volume_as_parameter};
 use sqlite::{Alter, Transaction};
 
 /// Sets the last trade of a security that has one. Fails with `Store` only.
@@ -25,10 +25,10 @@ pub fn set_last_trade<S: Alter>(
         tx,
         "UPDATE LAST_TRADE SET LT_DTS = ?1, LT_PRICE = ?2, LT_VOL = ?3 WHERE LT_S_SYMB = ?4",
         &[
-            stamp_value(last_trade.stamp),
-            price_value(last_trade.price),
-            volume_value(last_trade.volume),
-            text_value(last_trade.symbol.as_str()),
+            stamp_as_parameter(last_trade.stamp),
+            price_as_parameter(last_trade.price),
+            volume_as_parameter(last_trade.volume),
+            text_as_parameter(last_trade.symbol.as_str()),
         ],
     )
 }
@@ -46,7 +46,7 @@ pub fn last_trade_by_symbol<S: Alter>(
     let rows = select_rows(
         tx,
         "SELECT LT_S_SYMB, LT_DTS, LT_PRICE, LT_VOL FROM LAST_TRADE WHERE LT_S_SYMB = ?1 ORDER BY LT_S_SYMB",
-        &[text_value(symbol.as_str())],
+        &[text_as_parameter(symbol.as_str())],
     )?;
     decode_first_row(&rows)
 }

@@ -12,7 +12,7 @@ use brk_changes::{HistoryRow, TradeRow};
 use brk_money::{Fault, Id};
 use brk_tables_schema::calls::select_rows;
 use brk_tables_schema::record::decode_rows;
-use brk_tables_schema::values::id_value;
+use brk_tables_schema::values::id_as_parameter;
 use sqlite::{Alter, Transaction};
 use std::alloc::Global;
 
@@ -30,7 +30,7 @@ pub fn last_ten_trades_of_account<S: Alter>(
     let rows = select_rows(
         tx,
         "SELECT T_ID, T_DTS, T_ST_ID, T_TT_ID, T_IS_CASH, T_S_SYMB, T_QTY, T_BID_PRICE, T_CA_ID, T_EXEC_NAME, T_TRADE_PRICE, T_CHRG, T_COMM, T_TAX, T_LIFO FROM TRADE WHERE T_CA_ID = ?1 ORDER BY T_DTS DESC, T_ID DESC LIMIT 10",
-        &[id_value(account)],
+        &[id_as_parameter(account)],
     )?;
     decode_rows(alloc, &rows)
 }
@@ -49,7 +49,7 @@ pub fn last_fifty_trades_of_account<S: Alter>(
     let rows = select_rows(
         tx,
         "SELECT T_ID, T_DTS, T_ST_ID, T_TT_ID, T_IS_CASH, T_S_SYMB, T_QTY, T_BID_PRICE, T_CA_ID, T_EXEC_NAME, T_TRADE_PRICE, T_CHRG, T_COMM, T_TAX, T_LIFO FROM TRADE WHERE T_CA_ID = ?1 ORDER BY T_DTS DESC, T_ID DESC LIMIT 50",
-        &[id_value(account)],
+        &[id_as_parameter(account)],
     )?;
     decode_rows(alloc, &rows)
 }
@@ -68,7 +68,7 @@ pub fn history_of_trade<S: Alter>(
     let rows = select_rows(
         tx,
         "SELECT TH_T_ID, TH_ST_ID, TH_DTS FROM TRADE_HISTORY WHERE TH_T_ID = ?1 ORDER BY TH_T_ID, TH_ST_ID",
-        &[id_value(trade)],
+        &[id_as_parameter(trade)],
     )?;
     decode_rows(alloc, &rows)
 }

@@ -9,7 +9,7 @@ ghost use Rattle.brk_tables_schema.specs.Statements.{WritesDeskTables};
 use brk_changes::{HoldingRow, LotChange};
 use brk_money::{Fault, Id};
 use brk_tables_schema::calls::execute_statement;
-use brk_tables_schema::values::{id_value, number_value, price_value, stamp_value, text_value};
+use brk_tables_schema::values::{id_as_parameter, integer_as_parameter, price_as_parameter, stamp_as_parameter, text_as_parameter};
 use sqlite::{Alter, Transaction};
 
 /// Inserts the lot that a trade opened. Fails with `Store` only, also if the trade has one.
@@ -22,12 +22,12 @@ pub fn add_lot<S: Alter>(tx: &mut Transaction<'_, S>, lot: &HoldingRow) -> Resul
         tx,
         "INSERT INTO HOLDING (H_T_ID, H_CA_ID, H_S_SYMB, H_DTS, H_PRICE, H_QTY) VALUES (?1, ?2, ?3, ?4, ?5, ?6)",
         &[
-            id_value(lot.trade),
-            id_value(lot.account),
-            text_value(lot.symbol.as_str()),
-            stamp_value(lot.stamp),
-            price_value(lot.price),
-            number_value(lot.qty),
+            id_as_parameter(lot.trade),
+            id_as_parameter(lot.account),
+            text_as_parameter(lot.symbol.as_str()),
+            stamp_as_parameter(lot.stamp),
+            price_as_parameter(lot.price),
+            integer_as_parameter(lot.qty),
         ],
     )
 }
@@ -45,7 +45,7 @@ pub fn set_lot_quantity<S: Alter>(
     execute_statement(
         tx,
         "UPDATE HOLDING SET H_QTY = ?1 WHERE H_T_ID = ?2",
-        &[number_value(qty), id_value(trade)],
+        &[integer_as_parameter(qty), id_as_parameter(trade)],
     )
 }
 
@@ -58,7 +58,7 @@ pub fn remove_lot<S: Alter>(tx: &mut Transaction<'_, S>, trade: Id) -> Result<()
     execute_statement(
         tx,
         "DELETE FROM HOLDING WHERE H_T_ID = ?1",
-        &[id_value(trade)],
+        &[id_as_parameter(trade)],
     )
 }
 
@@ -76,10 +76,10 @@ pub fn add_lot_change<S: Alter>(
         tx,
         "INSERT INTO HOLDING_HISTORY (HH_H_T_ID, HH_T_ID, HH_BEFORE_QTY, HH_AFTER_QTY) VALUES (?1, ?2, ?3, ?4)",
         &[
-            id_value(change.lot),
-            id_value(change.trade),
-            number_value(change.before),
-            number_value(change.after),
+            id_as_parameter(change.lot),
+            id_as_parameter(change.trade),
+            integer_as_parameter(change.before),
+            integer_as_parameter(change.after),
         ],
     )
 }

@@ -12,7 +12,7 @@ use brk_money::{Fault, Id, Price, TradeType};
 use brk_ref::Symbol;
 use brk_tables_schema::calls::{execute_statement, select_rows};
 use brk_tables_schema::record::decode_rows;
-use brk_tables_schema::values::{id_value, price_value, qty_value, text_value, type_value};
+use brk_tables_schema::values::{id_as_parameter, price_as_parameter, quantity_as_parameter, text_as_parameter, trade_type_as_parameter};
 use sqlite::{Alter, Transaction};
 use std::alloc::Global;
 
@@ -26,12 +26,12 @@ pub fn add_request<S: Alter>(tx: &mut Transaction<'_, S>, request: &RequestRow) 
         tx,
         "INSERT INTO TRADE_REQUEST (TR_T_ID, TR_TT_ID, TR_S_SYMB, TR_QTY, TR_BID_PRICE, TR_B_ID) VALUES (?1, ?2, ?3, ?4, ?5, ?6)",
         &[
-            id_value(request.trade),
-            type_value(request.kind),
-            text_value(request.symbol.as_str()),
-            qty_value(request.qty),
-            price_value(request.bid),
-            id_value(request.broker),
+            id_as_parameter(request.trade),
+            trade_type_as_parameter(request.kind),
+            text_as_parameter(request.symbol.as_str()),
+            quantity_as_parameter(request.qty),
+            price_as_parameter(request.bid),
+            id_as_parameter(request.broker),
         ],
     )
 }
@@ -45,13 +45,13 @@ pub fn remove_request<S: Alter>(tx: &mut Transaction<'_, S>, trade: Id) -> Resul
     execute_statement(
         tx,
         "DELETE FROM TRADE_REQUEST WHERE TR_T_ID = ?1",
-        &[id_value(trade)],
+        &[id_as_parameter(trade)],
     )
 }
 
 /// Returns the requests of a symbol and a type whose bid is at least `price`, sorted by trade,
 /// ascending. Changes nothing. Fails with `Memory` or `Store`.
-pub fn requests_at_or_above<S: Alter>(
+pub fn requests_with_bid_at_least<S: Alter>(
     tx: &mut Transaction<'_, S>,
     alloc: Global,
     symbol: &Symbol,
@@ -66,9 +66,9 @@ pub fn requests_at_or_above<S: Alter>(
         tx,
         "SELECT TR_T_ID, TR_TT_ID, TR_S_SYMB, TR_QTY, TR_BID_PRICE, TR_B_ID FROM TRADE_REQUEST WHERE TR_S_SYMB = ?1 AND TR_TT_ID = ?2 AND TR_BID_PRICE >= ?3 ORDER BY TR_T_ID",
         &[
-            text_value(symbol.as_str()),
-            type_value(kind),
-            price_value(price),
+            text_as_parameter(symbol.as_str()),
+            trade_type_as_parameter(kind),
+            price_as_parameter(price),
         ],
     )?;
     decode_rows(alloc, &rows)
@@ -76,7 +76,7 @@ pub fn requests_at_or_above<S: Alter>(
 
 /// Returns the requests of a symbol and a type whose bid is at most `price`, sorted by trade,
 /// ascending. Changes nothing. Fails with `Memory` or `Store`.
-pub fn requests_at_or_below<S: Alter>(
+pub fn requests_with_bid_at_most<S: Alter>(
     tx: &mut Transaction<'_, S>,
     alloc: Global,
     symbol: &Symbol,
@@ -91,9 +91,9 @@ pub fn requests_at_or_below<S: Alter>(
         tx,
         "SELECT TR_T_ID, TR_TT_ID, TR_S_SYMB, TR_QTY, TR_BID_PRICE, TR_B_ID FROM TRADE_REQUEST WHERE TR_S_SYMB = ?1 AND TR_TT_ID = ?2 AND TR_BID_PRICE <= ?3 ORDER BY TR_T_ID",
         &[
-            text_value(symbol.as_str()),
-            type_value(kind),
-            price_value(price),
+            text_as_parameter(symbol.as_str()),
+            trade_type_as_parameter(kind),
+            price_as_parameter(price),
         ],
     )?;
     decode_rows(alloc, &rows)

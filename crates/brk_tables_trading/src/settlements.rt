@@ -9,7 +9,7 @@ ghost use Rattle.brk_tables_schema.specs.Statements.{WritesDeskTables};
 use brk_changes::SettlementRow;
 use brk_money::Fault;
 use brk_tables_schema::calls::execute_statement;
-use brk_tables_schema::values::{cash_type_value, cents_value, day_value, id_value};
+use brk_tables_schema::values::{cash_type_as_parameter, cents_as_parameter, day_as_parameter, id_as_parameter};
 use sqlite::{Alter, Transaction};
 
 /// Inserts the settlement of a trade. Fails with `Store` only, also if the trade has one.
@@ -25,10 +25,10 @@ pub fn add_settlement<S: Alter>(
         tx,
         "INSERT INTO SETTLEMENT (SE_T_ID, SE_CASH_TYPE, SE_CASH_DUE_DATE, SE_AMT) VALUES (?1, ?2, ?3, ?4)",
         &[
-            id_value(settlement.trade),
-            cash_type_value(settlement.cash_type),
-            day_value(settlement.due_day),
-            cents_value(settlement.amount),
+            id_as_parameter(settlement.trade),
+            cash_type_as_parameter(settlement.cash_type),
+            day_as_parameter(settlement.due_day),
+            cents_as_parameter(settlement.amount),
         ],
     )
 }

@@ -10,12 +10,12 @@ use brk_changes::SummaryRow;
 use brk_money::{Fault, Id};
 use brk_ref::Symbol;
 use brk_tables_schema::calls::execute_statement;
-use brk_tables_schema::values::{id_value, number_value, text_value};
+use brk_tables_schema::values::{id_as_parameter, integer_as_parameter, text_as_parameter};
 use sqlite::{Alter, Transaction};
 
 /// Inserts the holding summary of an account in a security. Fails with `Store` only, also if there
 /// is one.
-pub fn add_summary<S: Alter>(tx: &mut Transaction<'_, S>, summary: &SummaryRow) -> Result<(), Fault>
+pub fn add_holding_summary<S: Alter>(tx: &mut Transaction<'_, S>, summary: &SummaryRow) -> Result<(), Fault>
     ensures same_reference { tx.new.conn.ghost_name ≡ tx.old.conn.ghost_name }
     ensures step { WritesDeskTables S.Store tx.old tx.new result (tables_with_summary (abstract_summary_row summary.now)) }
     ensures fault { OnErr result (result ≡ Err Store) }
@@ -24,16 +24,16 @@ pub fn add_summary<S: Alter>(tx: &mut Transaction<'_, S>, summary: &SummaryRow) 
         tx,
         "INSERT INTO HOLDING_SUMMARY (HS_CA_ID, HS_S_SYMB, HS_QTY) VALUES (?1, ?2, ?3)",
         &[
-            id_value(summary.account),
-            text_value(summary.symbol.as_str()),
-            number_value(summary.qty),
+            id_as_parameter(summary.account),
+            text_as_parameter(summary.symbol.as_str()),
+            integer_as_parameter(summary.qty),
         ],
     )
 }
 
 /// Sets the number of shares in the holding summary of an account in a security. Fails with `Store`
 /// only.
-pub fn set_summary<S: Alter>(tx: &mut Transaction<'_, S>, summary: &SummaryRow) -> Result<(), Fault>
+pub fn set_holding_summary_quantity<S: Alter>(tx: &mut Transaction<'_, S>, summary: &SummaryRow) -> Result<(), Fault>
     ensures same_reference { tx.new.conn.ghost_name ≡ tx.old.conn.ghost_name }
     ensures step { WritesDeskTables S.Store tx.old tx.new result (tables_with_summary_quantity (abstract_summary_row summary.now)) }
     ensures fault { OnErr result (result ≡ Err Store) }
@@ -42,15 +42,15 @@ pub fn set_summary<S: Alter>(tx: &mut Transaction<'_, S>, summary: &SummaryRow) 
         tx,
         "UPDATE HOLDING_SUMMARY SET HS_QTY = ?1 WHERE HS_CA_ID = ?2 AND HS_S_SYMB = ?3",
         &[
-            number_value(summary.qty),
-            id_value(summary.account),
-            text_value(summary.symbol.as_str()),
+            integer_as_parameter(summary.qty),
+            id_as_parameter(summary.account),
+            text_as_parameter(summary.symbol.as_str()),
         ],
     )
 }
 
 /// Deletes the holding summary of an account in a security. Fails with `Store` only.
-pub fn remove_summary<S: Alter>(
+pub fn remove_holding_summary<S: Alter>(
     tx: &mut Transaction<'_, S>,
     account: Id,
     symbol: &Symbol,
@@ -62,6 +62,6 @@ pub fn remove_summary<S: Alter>(
     execute_statement(
         tx,
         "DELETE FROM HOLDING_SUMMARY WHERE HS_CA_ID = ?1 AND HS_S_SYMB = ?2",
-        &[id_value(account), text_value(symbol.as_str())],
+        &[id_as_parameter(account), text_as_parameter(symbol.as_str())],
     )
 }

@@ -13,8 +13,8 @@ use brk_money::{Fault, Id, Price, Stamp, Status};
 use brk_tables_schema::calls::{execute_statement, select_rows};
 use brk_tables_schema::record::{decode_first_row, decode_rows};
 use brk_tables_schema::values::{
-    amount_value, charge_amount_value, flag_value, id_value, maybe_price_value, price_value,
-    qty_value, stamp_value, status_value, text_value, type_value,
+    amount_as_parameter, charge_amount_as_parameter, flag_as_parameter, id_as_parameter, optional_price_as_parameter, price_as_parameter,
+    quantity_as_parameter, stamp_as_parameter, status_as_parameter, text_as_parameter, trade_type_as_parameter,
 };
 use sqlite::{Alter, Transaction};
 use std::alloc::Global;
@@ -29,27 +29,27 @@ pub fn add_trade<S: Alter>(tx: &mut Transaction<'_, S>, trade: &TradeRow) -> Res
         tx,
         "INSERT INTO TRADE (T_ID, T_DTS, T_ST_ID, T_TT_ID, T_IS_CASH, T_S_SYMB, T_QTY, T_BID_PRICE, T_CA_ID, T_EXEC_NAME, T_TRADE_PRICE, T_CHRG, T_COMM, T_TAX, T_LIFO) VALUES (?1, ?2, ?3, ?4, ?5, ?6, ?7, ?8, ?9, ?10, ?11, ?12, ?13, ?14, ?15)",
         &[
-            id_value(trade.id),
-            stamp_value(trade.stamp),
-            status_value(trade.status),
-            type_value(trade.kind),
-            flag_value(trade.is_cash),
-            text_value(trade.symbol.as_str()),
-            qty_value(trade.qty),
-            price_value(trade.bid),
-            id_value(trade.account),
-            text_value(trade.executor.as_str()),
-            maybe_price_value(trade.price),
-            charge_amount_value(trade.charge),
-            amount_value(trade.commission),
-            amount_value(trade.tax),
-            flag_value(trade.is_lifo),
+            id_as_parameter(trade.id),
+            stamp_as_parameter(trade.stamp),
+            status_as_parameter(trade.status),
+            trade_type_as_parameter(trade.kind),
+            flag_as_parameter(trade.is_cash),
+            text_as_parameter(trade.symbol.as_str()),
+            quantity_as_parameter(trade.qty),
+            price_as_parameter(trade.bid),
+            id_as_parameter(trade.account),
+            text_as_parameter(trade.executor.as_str()),
+            optional_price_as_parameter(trade.price),
+            charge_amount_as_parameter(trade.charge),
+            amount_as_parameter(trade.commission),
+            amount_as_parameter(trade.tax),
+            flag_as_parameter(trade.is_lifo),
         ],
     )
 }
 
 /// Sets the status of a trade and the stamp at which the trade reached it. Fails with `Store` only.
-pub fn set_status<S: Alter>(
+pub fn set_trade_status<S: Alter>(
     tx: &mut Transaction<'_, S>,
     id: Id,
     status: Status,
@@ -62,7 +62,7 @@ pub fn set_status<S: Alter>(
     execute_statement(
         tx,
         "UPDATE TRADE SET T_ST_ID = ?1, T_DTS = ?2 WHERE T_ID = ?3",
-        &[status_value(status), stamp_value(stamp), id_value(id)],
+        &[status_as_parameter(status), stamp_as_parameter(stamp), id_as_parameter(id)],
     )
 }
 
@@ -84,12 +84,12 @@ pub fn complete_trade<S: Alter>(
         tx,
         "UPDATE TRADE SET T_ST_ID = ?1, T_DTS = ?2, T_TRADE_PRICE = ?3, T_COMM = ?4, T_TAX = ?5 WHERE T_ID = ?6",
         &[
-            status_value(Status::Completed),
-            stamp_value(stamp),
-            price_value(price),
-            amount_value(commission),
-            amount_value(tax),
-            id_value(trade),
+            status_as_parameter(Status::Completed),
+            stamp_as_parameter(stamp),
+            price_as_parameter(price),
+            amount_as_parameter(commission),
+            amount_as_parameter(tax),
+            id_as_parameter(trade),
         ],
     )
 }
@@ -104,14 +104,14 @@ pub fn trade_by_id<S: Alter>(tx: &mut Transaction<'_, S>, id: Id) -> Result<Opti
     let rows = select_rows(
         tx,
         "SELECT T_ID, T_DTS, T_ST_ID, T_TT_ID, T_IS_CASH, T_S_SYMB, T_QTY, T_BID_PRICE, T_CA_ID, T_EXEC_NAME, T_TRADE_PRICE, T_CHRG, T_COMM, T_TAX, T_LIFO FROM TRADE WHERE T_ID = ?1 ORDER BY T_ID",
-        &[id_value(id)],
+        &[id_as_parameter(id)],
     )?;
     decode_first_row(&rows)
 }
 
 /// Returns the greatest id of a trade, or `None` if there is no trade. Changes nothing. Fails with
 /// `Store` only.
-pub fn last_trade_id<S: Alter>(tx: &mut Transaction<'_, S>) -> Result<Option<Id>, Fault>
+pub fn greatest_trade_id<S: Alter>(tx: &mut Transaction<'_, S>) -> Result<Option<Id>, Fault>
     ensures same_reference { tx.new.conn.ghost_name ≡ tx.old.conn.ghost_name }
     ensures step { ReadsDeskTables S.Store tx.old tx.new result (λ o t. o ≡ option_map (λ r. r.id) (slice_get (reverse t.trades) 0)) }
     ensures fault { OnErr result (result ≡ Err Store) }
@@ -133,7 +133,7 @@ pub fn submitted_trades<S: Alter>(
     let rows = select_rows(
         tx,
         "SELECT T_ID, T_DTS, T_ST_ID, T_TT_ID, T_IS_CASH, T_S_SYMB, T_QTY, T_BID_PRICE, T_CA_ID, T_EXEC_NAME, T_TRADE_PRICE, T_CHRG, T_COMM, T_TAX, T_LIFO FROM TRADE WHERE T_ST_ID = ?1 ORDER BY T_ID",
-        &[status_value(Status::Submitted)],
+        &[status_as_parameter(Status::Submitted)],
     )?;
     decode_rows(alloc, &rows)
 }

@@ -15,14 +15,14 @@ use brk_ref::Symbol;
 use brk_tables_schema::calls::{execute_statement, select_rows};
 use brk_tables_schema::record::{decode_first_row, decode_rows};
 use brk_tables_schema::values::{
-    cash_type_value, flag_value, id_value, stamp_value, status_value, text_value,
+    cash_type_as_parameter, flag_as_parameter, id_as_parameter, stamp_as_parameter, status_as_parameter, text_as_parameter,
 };
 use sqlite::{Alter, Transaction};
 use std::alloc::Global;
 
 /// Returns the first twenty trades of an account that were completed between two stamps, both
 /// included, the oldest first. Changes nothing. Fails with `Memory` or `Store`.
-pub fn completed_of_account<S: Alter>(
+pub fn first_twenty_completed_trades_of_account<S: Alter>(
     tx: &mut Transaction<'_, S>,
     alloc: Global,
     account: Id,
@@ -30,17 +30,17 @@ pub fn completed_of_account<S: Alter>(
     last: Stamp,
 ) -> Result<Vec<TradeRow>, Fault>
     ensures same_reference { tx.new.conn.ghost_name ≡ tx.old.conn.ghost_name }
-    ensures step { ReadsDeskTables S.Store tx.old tx.new result (λ all t. map abstract_trade_row all.items ≡ chosen.completed_trades_of_account account first last t) }
+    ensures step { ReadsDeskTables S.Store tx.old tx.new result (λ all t. map abstract_trade_row all.items ≡ chosen.first_twenty_completed_trade_rows_of_account account first last t) }
     ensures fault { IfErr result IsCallFault }
 {
     let rows = select_rows(
         tx,
         "SELECT T_ID, T_DTS, T_ST_ID, T_TT_ID, T_IS_CASH, T_S_SYMB, T_QTY, T_BID_PRICE, T_CA_ID, T_EXEC_NAME, T_TRADE_PRICE, T_CHRG, T_COMM, T_TAX, T_LIFO FROM TRADE WHERE T_ST_ID = ?1 AND T_CA_ID = ?2 AND T_DTS >= ?3 AND T_DTS <= ?4 ORDER BY T_DTS, T_ID LIMIT 20",
         &[
-            status_value(Status::Completed),
-            id_value(account),
-            stamp_value(first),
-            stamp_value(last),
+            status_as_parameter(Status::Completed),
+            id_as_parameter(account),
+            stamp_as_parameter(first),
+            stamp_as_parameter(last),
         ],
     )?;
     decode_rows(alloc, &rows)
@@ -48,7 +48,7 @@ pub fn completed_of_account<S: Alter>(
 
 /// Returns the first twenty cash trades of a symbol that were completed between two stamps, both
 /// included, the oldest first. Changes nothing. Fails with `Memory` or `Store`.
-pub fn completed_cash_of_symbol<S: Alter>(
+pub fn first_twenty_completed_cash_trades_of_symbol<S: Alter>(
     tx: &mut Transaction<'_, S>,
     alloc: Global,
     symbol: &Symbol,
@@ -56,18 +56,18 @@ pub fn completed_cash_of_symbol<S: Alter>(
     last: Stamp,
 ) -> Result<Vec<TradeRow>, Fault>
     ensures same_reference { tx.new.conn.ghost_name ≡ tx.old.conn.ghost_name }
-    ensures step { ReadsDeskTables S.Store tx.old tx.new result (λ all t. map abstract_trade_row all.items ≡ chosen.completed_cash_trades_of_symbol symbol.now first last t) }
+    ensures step { ReadsDeskTables S.Store tx.old tx.new result (λ all t. map abstract_trade_row all.items ≡ chosen.first_twenty_completed_cash_trade_rows_of_symbol symbol.now first last t) }
     ensures fault { IfErr result IsCallFault }
 {
     let rows = select_rows(
         tx,
         "SELECT T_ID, T_DTS, T_ST_ID, T_TT_ID, T_IS_CASH, T_S_SYMB, T_QTY, T_BID_PRICE, T_CA_ID, T_EXEC_NAME, T_TRADE_PRICE, T_CHRG, T_COMM, T_TAX, T_LIFO FROM TRADE WHERE T_ST_ID = ?1 AND T_IS_CASH = ?2 AND T_S_SYMB = ?3 AND T_DTS >= ?4 AND T_DTS <= ?5 ORDER BY T_DTS, T_ID LIMIT 20",
         &[
-            status_value(Status::Completed),
-            flag_value(true),
-            text_value(symbol.as_str()),
-            stamp_value(first),
-            stamp_value(last),
+            status_as_parameter(Status::Completed),
+            flag_as_parameter(true),
+            text_as_parameter(symbol.as_str()),
+            stamp_as_parameter(first),
+            stamp_as_parameter(last),
         ],
     )?;
     decode_rows(alloc, &rows)
@@ -86,7 +86,7 @@ pub fn settlement_by_trade<S: Alter>(
     let rows = select_rows(
         tx,
         "SELECT SE_T_ID, SE_CASH_TYPE, SE_CASH_DUE_DATE, SE_AMT FROM SETTLEMENT WHERE SE_T_ID = ?1 ORDER BY SE_T_ID",
-        &[id_value(trade)],
+        &[id_as_parameter(trade)],
     )?;
     decode_first_row(&rows)
 }
@@ -104,7 +104,7 @@ pub fn set_executor<S: Alter>(
     execute_statement(
         tx,
         "UPDATE TRADE SET T_EXEC_NAME = ?1 WHERE T_ID = ?2",
-        &[text_value(executor), id_value(trade)],
+        &[text_as_parameter(executor), id_as_parameter(trade)],
     )
 }
 
@@ -121,6 +121,6 @@ pub fn set_cash_type<S: Alter>(
     execute_statement(
         tx,
         "UPDATE SETTLEMENT SET SE_CASH_TYPE = ?1 WHERE SE_T_ID = ?2",
-        &[cash_type_value(cash_type), id_value(trade)],
+        &[cash_type_as_parameter(cash_type), id_as_parameter(trade)],
     )
 }

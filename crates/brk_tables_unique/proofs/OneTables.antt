@@ -19,8 +19,8 @@ use Rattle.brk_changes.specs.Schemas.{abstract_schema}
 use Rattle.brk_sql.specs.Desk.{IsTableAt}
 use Rattle.brk_sql.specs.Rows.{TreeHoldsRecords, IsStrictlyAscending, cells_in_column_order}
 use Rattle.brk_sql.proofs.Order.{has_permuted}
-use Rattle.brk_tables_schema.specs.Desk.{Item, Which, encode, key, order, placed, shape, TheDesk, rows_in_schema, has_table}
-use Rattle.brk_tables_schema.specs.Made.{HasRows, HasRowsInSchema, IsTableOfSchema}
+use Rattle.brk_tables_schema.specs.Desk.{RecordOfTable, DeskTable, encoded_row, primary_key_of_record, ordering_by_primary_key, table_definition_has_tree, table_definition_at, TheDesk, rows_in_schema, schema_has_table}
+use Rattle.brk_tables_schema.specs.Made.{HasDeskTables, HasDeskTablesInSchema, IsTableOfSchema}
 use Rattle.brk_tables_schema.proofs.Order.{key_total}
 use Rattle.brk_tables_unique.proofs.Decode.{decode, decodes, named_alike}
 use Rattle.brk_tables_unique.proofs.SameTables.{same_tables}
@@ -88,33 +88,33 @@ module _ {X : Type 0} (cmp : X → X → Ordering) (total : IsTotalOrder cmp) wh
 
 -- ---- one table
 
-held_alike : (w : Which) (table : Table) (xs ys : List (Item w)) (rows : List Row) → TreeHoldsRecords table (encode w) (order w) xs rows → TreeHoldsRecords table (encode w) (order w) ys rows → xs ≡ ys
+held_alike : (w : DeskTable) (table : Table) (xs ys : List (RecordOfTable w)) (rows : List Row) → TreeHoldsRecords table (encoded_row w) (ordering_by_primary_key w) xs rows → TreeHoldsRecords table (encoded_row w) (ordering_by_primary_key w) ys rows → xs ≡ ys
 held_alike w table xs ys rows h k =
     let cellsOf : List Row = map (cells_in_column_order table) rows in
-    let p : IsPermutation (map (encode w) xs) (map (encode w) ys) =
-    IsPermutation-trans (map (encode w) xs) cellsOf (map (encode w) ys) h.shown (IsPermutation-sym (map (encode w) ys) cellsOf k.shown) in
-    let q = IsPermutation-map (decode w) (map (encode w) xs) (map (encode w) ys) p in
-    let r : IsPermutation xs (map (decode w) (map (encode w) ys)) = subst (λ l. IsPermutation l (map (decode w) (map (encode w) ys))) (map_back (encode w) (decode w) (decodes w) xs) q in
-    permuted (order w) (key_total (key w)) xs ys (subst (IsPermutation xs) (map_back (encode w) (decode w) (decodes w) ys) r) h.rising k.rising
+    let p : IsPermutation (map (encoded_row w) xs) (map (encoded_row w) ys) =
+    IsPermutation-trans (map (encoded_row w) xs) cellsOf (map (encoded_row w) ys) h.shown (IsPermutation-sym (map (encoded_row w) ys) cellsOf k.shown) in
+    let q = IsPermutation-map (decode w) (map (encoded_row w) xs) (map (encoded_row w) ys) p in
+    let r : IsPermutation xs (map (decode w) (map (encoded_row w) ys)) = subst (λ l. IsPermutation l (map (decode w) (map (encoded_row w) ys))) (map_back (encoded_row w) (decode w) (decodes w) xs) q in
+    permuted (ordering_by_primary_key w) (key_total (primary_key_of_record w)) xs ys (subst (IsPermutation xs) (map_back (encoded_row w) (decode w) (decodes w) ys) r) h.rising k.rising
 
 some_same : {X : Type 0} (x y : X) → Some x ≡ Some y → x ≡ y
 some_same x y e = cc
 
 -- a table stands at one tree
-tree_alike : (w : Which) (db : Database) (m n at by : ℕ) → IsTableAt db.schema (shape w m) at → IsTableAt db.schema (shape w n) by → m ≡ n
+tree_alike : (w : DeskTable) (db : Database) (m n at by : ℕ) → IsTableAt db.schema (table_definition_at w m) at → IsTableAt db.schema (table_definition_at w n) by → m ≡ n
 tree_alike w db m n at by h k =
     let e : at ≡ by = some_same at by (sym h.named ∙ ap (λ name. table_named db.schema name) (named_alike w m n) ∙ k.named) in
-    let f : shape w m ≡ shape w n = some_same (shape w m) (shape w n) (sym h.found ∙ ap (slice_get db.schema.tables) e ∙ k.found) in
-    sym (placed w m) ∙ ap (λ (t : Table). t.tree) f ∙ placed w n
+    let f : table_definition_at w m ≡ table_definition_at w n = some_same (table_definition_at w m) (table_definition_at w n) (sym h.found ∙ ap (slice_get db.schema.tables) e ∙ k.found) in
+    sym (table_definition_has_tree w m) ∙ ap (λ (t : Table). t.tree) f ∙ table_definition_has_tree w n
 
 -- a table of a desk, in whichever schemas, shows one list
-alike : (w : Which) (s r : Schema) (t u : Tables) (db : Database) (m n at by : ℕ) → IsTableAt db.schema (shape w m) at → IsTableAt db.schema (shape w n) by → TreeHoldsRecords (shape w m) (encode w) (order w) (rows_in_schema s w t) (db.trees m)
-    → TreeHoldsRecords (shape w n) (encode w) (order w) (rows_in_schema r w u) (db.trees n) → rows_in_schema s w t ≡ rows_in_schema r w u
+alike : (w : DeskTable) (s r : Schema) (t u : Tables) (db : Database) (m n at by : ℕ) → IsTableAt db.schema (table_definition_at w m) at → IsTableAt db.schema (table_definition_at w n) by → TreeHoldsRecords (table_definition_at w m) (encoded_row w) (ordering_by_primary_key w) (rows_in_schema s w t) (db.trees m)
+    → TreeHoldsRecords (table_definition_at w n) (encoded_row w) (ordering_by_primary_key w) (rows_in_schema r w u) (db.trees n) → rows_in_schema s w t ≡ rows_in_schema r w u
 alike w s r t u db m n at by h k some more =
     let e : m ≡ n = tree_alike w db m n at by h k in
-    held_alike w (shape w m) (rows_in_schema s w t) (rows_in_schema r w u) (db.trees m) some (subst (λ (q : ℕ). TreeHoldsRecords (shape w q) (encode w) (order w) (rows_in_schema r w u) (db.trees q)) (sym e) more)
+    held_alike w (table_definition_at w m) (rows_in_schema s w t) (rows_in_schema r w u) (db.trees m) some (subst (λ (q : ℕ). TreeHoldsRecords (table_definition_at w q) (encoded_row w) (ordering_by_primary_key w) (rows_in_schema r w u) (db.trees q)) (sym e) more)
 
-pub one_tables : (t u : Tables) → (db : Database) → HasRows t db → HasRows u db → t ≡ u
+pub one_tables : (t u : Tables) → (db : Database) → HasDeskTables t db → HasDeskTables u db → t ≡ u
 one_tables t u db h k =
     same_tables third_schema t u (λ w. alike w third_schema third_schema t u db (h.0 w) (k.0 w) (h.1.place w) (k.1.place w) (h.1.stands w) (k.1.stands w) (h.1.rows w) (k.1.rows w))
 
@@ -125,14 +125,14 @@ by_case true f g = f refl
 by_case false f g = g refl
 
 -- where both schemas have a table
-both_alike : (w : Which) (s r : Schema) (t u : Tables) (db : Database) → HasRowsInSchema s t db → HasRowsInSchema r u db → IsTableOfSchema s w → IsTableOfSchema r w → rows_in_schema s w t ≡ rows_in_schema r w u
+both_alike : (w : DeskTable) (s r : Schema) (t u : Tables) (db : Database) → HasDeskTablesInSchema s t db → HasDeskTablesInSchema r u db → IsTableOfSchema s w → IsTableOfSchema r w → rows_in_schema s w t ≡ rows_in_schema r w u
 both_alike w s r t u db h k a b = alike w s r t u db (h.0 w) (k.0 w) (h.1.place w) (k.1.place w) (h.1.stands w a) (k.1.stands w b) (h.1.rows w a) (k.1.rows w b)
 
-one_of_schema : (s : Schema) (t u : Tables) (db : Database) → HasRowsInSchema s t db → HasRowsInSchema s u db → t ≡ u
+one_of_schema : (s : Schema) (t u : Tables) (db : Database) → HasDeskTablesInSchema s t db → HasDeskTablesInSchema s u db → t ≡ u
 one_of_schema s t u db h k = same_tables s t u each
   where
-    each : (w : Which) → rows_in_schema s w t ≡ rows_in_schema s w u
-    each w = by_case (has_table s w) (λ there. both_alike w s s t u db h k there there) (λ none. (h.2 w none).1 ∙ sym (k.2 w none).1)
+    each : (w : DeskTable) → rows_in_schema s w t ≡ rows_in_schema s w u
+    each w = by_case (schema_has_table s w) (λ there. both_alike w s s t u db h k there there) (λ none. (h.2 w none).1 ∙ sym (k.2 w none).1)
 
 -- the number tells the schema
 same_schema : (a b : known.Schema) → (abstract_schema a).number ≡ (abstract_schema b).number → a ≡ b
@@ -146,7 +146,7 @@ same_schema Third First e = absurd (let f : 3 ≡ 1 = e in cc)
 same_schema Third Second e = absurd (let f : 3 ≡ 2 = e in cc)
 same_schema Third Third e = refl
 
-pub one_schema : (a b : known.Schema) → (t u : Tables) → (db : Database) → HasRowsInSchema (abstract_schema a) t db → HasRowsInSchema (abstract_schema b) u db → (a ≡ b) × (t ≡ u)
+pub one_schema : (a b : known.Schema) → (t u : Tables) → (db : Database) → HasDeskTablesInSchema (abstract_schema a) t db → HasDeskTablesInSchema (abstract_schema b) u db → (a ≡ b) × (t ≡ u)
 one_schema a b t u db h k =
     let e : a ≡ b = same_schema a b (number_alike (abstract_schema a) (abstract_schema b) t u (both_alike TheDesk (abstract_schema a) (abstract_schema b) t u db h k refl refl)) in
-    (e, one_of_schema (abstract_schema a) t u db h (subst (λ (c : known.Schema). HasRowsInSchema (abstract_schema c) u db) (sym e) k))
+    (e, one_of_schema (abstract_schema a) t u db h (subst (λ (c : known.Schema). HasDeskTablesInSchema (abstract_schema c) u db) (sym e) k))

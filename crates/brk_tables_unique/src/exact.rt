@@ -5,15 +5,15 @@ ghost use Rattle.sqlite.specs.Effect.{Database};
 ghost use Rattle.brk_model.specs.Tables.{Tables};
 ghost use Rattle.brk_changes.specs.declared.schema.Schema.{Schema};
 ghost use Rattle.brk_changes.specs.Schemas.{abstract_schema};
-ghost use Rattle.brk_tables_schema.specs.Made.{HasRows, HasRowsInSchema};
+ghost use Rattle.brk_tables_schema.specs.Made.{HasDeskTables, HasDeskTablesInSchema};
 
 /// Proves that the rows of a database encode at most one set of tables of a desk.
 pub fn database_rows_determine_tables()
-    ensures { (t u : Tables) → (db : Database) → HasRows t db → HasRows u db → t ≡ u }
+    ensures { (t u : Tables) → (db : Database) → HasDeskTables t db → HasDeskTables u db → t ≡ u }
 {}
 
 /// Proves that the rows of a database encode the tables of a desk in at most one schema, and at
 /// most one set of them.
 pub fn database_rows_determine_schema()
-    ensures { (a b : Schema) → (t u : Tables) → (db : Database) → HasRowsInSchema (abstract_schema a) t db → HasRowsInSchema (abstract_schema b) u db → (a ≡ b) × (t ≡ u) }
+    ensures { (a b : Schema) → (t u : Tables) → (db : Database) → HasDeskTablesInSchema (abstract_schema a) t db → HasDeskTablesInSchema (abstract_schema b) u db → (a ≡ b) × (t ≡ u) }
 {}

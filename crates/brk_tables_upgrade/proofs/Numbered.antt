@@ -8,18 +8,18 @@ use Rattle.brk_model.specs.Derived.{Posting, postings_sorted_by_stamp}
 use Rattle.brk_model.specs.Keys.{insert_row_by_key, is_row_key_less, move_key}
 use Rattle.brk_model.specs.Upgraded.{tables_after_upgrade}
 use Rattle.brk_model.specs.Tables.{Tables, CashRow, MoveRow, move_row, numbered_move_rows}
-use Rattle.brk_tables_upgrade.specs.Upgrade.{cash_by_stamp, with_cash_numbered_from, with_all_cash_numbered, with_numbered_cash_row}
+use Rattle.brk_tables_upgrade.specs.Upgrade.{cash_transactions_by_stamp, tables_with_cash_rows_numbered_from, tables_with_all_cash_rows_numbered, tables_with_numbered_cash_row}
 use Rattle.brk_tables_upgrade.proofs.Sorting.{posted_in_turn}
 
 -- ---- one more of a list
 
 module _ (d : CashRow) where
-  next_from : (n : ℕ) (cs : List CashRow) (i : ℕ) → i < length cs → (t : Tables) → with_cash_numbered_from n (take (suc i) cs) t ≡ with_numbered_cash_row (n + i) (get_or cs i d) (with_cash_numbered_from n (take i cs) t)
+  next_from : (n : ℕ) (cs : List CashRow) (i : ℕ) → i < length cs → (t : Tables) → tables_with_cash_rows_numbered_from n (take (suc i) cs) t ≡ tables_with_numbered_cash_row (n + i) (get_or cs i d) (tables_with_cash_rows_numbered_from n (take i cs) t)
   next_from n [] i lt t = absurd (omega (arith, lt))
-  next_from n (c ∷ cs) zero lt t = let e : n ≡ n + zero = omega arith in ap (λ k. with_numbered_cash_row k c t) e
-  next_from n (c ∷ cs) (suc i) lt t = let e : n + 1 + i ≡ n + suc i = omega arith in next_from (n + 1) cs i (omega (arith, lt)) (with_numbered_cash_row n c t) ∙ ap (λ k. with_numbered_cash_row k (get_or cs i d) (with_cash_numbered_from (n + 1) (take i cs) (with_numbered_cash_row n c t))) e
+  next_from n (c ∷ cs) zero lt t = let e : n ≡ n + zero = omega arith in ap (λ k. tables_with_numbered_cash_row k c t) e
+  next_from n (c ∷ cs) (suc i) lt t = let e : n + 1 + i ≡ n + suc i = omega arith in next_from (n + 1) cs i (omega (arith, lt)) (tables_with_numbered_cash_row n c t) ∙ ap (λ k. tables_with_numbered_cash_row k (get_or cs i d) (tables_with_cash_rows_numbered_from (n + 1) (take i cs) (tables_with_numbered_cash_row n c t))) e
 
-  pub one_more : (cs : List CashRow) (i : ℕ) → i < length cs → (t : Tables) → with_cash_numbered_from 1 (take (i + 1) cs) t ≡ with_numbered_cash_row (1 + i) (get_or cs i d) (with_cash_numbered_from 1 (take i cs) t)
+  pub one_more : (cs : List CashRow) (i : ℕ) → i < length cs → (t : Tables) → tables_with_cash_rows_numbered_from 1 (take (i + 1) cs) t ≡ tables_with_numbered_cash_row (1 + i) (get_or cs i d) (tables_with_cash_rows_numbered_from 1 (take i cs) t)
   one_more cs i lt t = rw (add-one i) (next_from 1 cs i lt t)
 
 -- ---- a number that is above the others goes last
@@ -43,24 +43,24 @@ higher n (r ∷ rows) low p = (lt-ltb r.id (n + 1) (omega (arith, Rattle.std.pro
 -- ---- all of them
 
 -- rows that are added one after another
-added : (n : ℕ) (cs : List CashRow) (t : Tables) → above_all n t.moves → with_cash_numbered_from n cs t ≡ record t { moves = t.moves ++ numbered_move_rows n (map (posting_of_cash_row t) cs) }
+added : (n : ℕ) (cs : List CashRow) (t : Tables) → above_all n t.moves → tables_with_cash_rows_numbered_from n cs t ≡ record t { moves = t.moves ++ numbered_move_rows n (map (posting_of_cash_row t) cs) }
 added n [] t low = ap (λ (xs : List MoveRow). let u : Tables = record t { moves = xs } in u) (sym (append-nil t.moves))
 added n (c ∷ cs) t low =
     let r = move_row n (posting_of_cash_row t c) in
     let last : insert_row_by_key move_key r t.moves ≡ t.moves ++ r ∷ [] = put_last r t.moves low in
-    let one : with_numbered_cash_row n c t ≡ record t { moves = t.moves ++ r ∷ [] } = ap (λ (xs : List MoveRow). let u : Tables = record t { moves = xs } in u) last in
-    ap (with_cash_numbered_from (n + 1) cs) one
+    let one : tables_with_numbered_cash_row n c t ≡ record t { moves = t.moves ++ r ∷ [] } = ap (λ (xs : List MoveRow). let u : Tables = record t { moves = xs } in u) last in
+    ap (tables_with_cash_rows_numbered_from (n + 1) cs) one
     ∙ added (n + 1) cs (record t { moves = t.moves ++ r ∷ [] }) (higher n t.moves low (posting_of_cash_row t c))
     ∙ ap (λ (xs : List MoveRow). let u : Tables = record t { moves = xs } in u) (Rattle.std.proofs.Common.append_assoc t.moves (r ∷ []) (numbered_move_rows (n + 1) (map (posting_of_cash_row t) cs)))
 
 -- the tables of the first schema with their cash rows upgraded are the upgraded tables
-pub upgraded_is : (t : Tables) → t.moves ≡ [] → with_all_cash_numbered t ≡ tables_after_upgrade t
+pub upgraded_is : (t : Tables) → t.moves ≡ [] → tables_with_all_cash_rows_numbered t ≡ tables_after_upgrade t
 unfolding tables_after_upgrade
 upgraded_is t none =
     let low : above_all 1 t.moves = Rattle.std.proofs.Common.subst (above_all 1) (sym none) tt in
-    let all : t.moves ++ numbered_move_rows 1 (map (posting_of_cash_row t) (cash_by_stamp t)) ≡ numbered_move_rows 1 (postings_sorted_by_stamp (postings_of_tables t)) =
-    ap (λ (l : List MoveRow). l ++ numbered_move_rows 1 (map (posting_of_cash_row t) (cash_by_stamp t))) none
+    let all : t.moves ++ numbered_move_rows 1 (map (posting_of_cash_row t) (cash_transactions_by_stamp t)) ≡ numbered_move_rows 1 (postings_sorted_by_stamp (postings_of_tables t)) =
+    ap (λ (l : List MoveRow). l ++ numbered_move_rows 1 (map (posting_of_cash_row t) (cash_transactions_by_stamp t))) none
     ∙ ap (numbered_move_rows 1) (sym (posted_in_turn t t.cash)
     ∙ ap postings_sorted_by_stamp (sym (append-nil (map (posting_of_cash_row t) t.cash)) ∙ ap (λ (ms : List MoveRow). map (posting_of_cash_row t) t.cash ++ map posting_of_move_row ms) (sym none))) in
-    ap (λ (u : Tables). let v : Tables = record u { cash = [] } in v) (added 1 (cash_by_stamp t) t low)
+    ap (λ (u : Tables). let v : Tables = record u { cash = [] } in v) (added 1 (cash_transactions_by_stamp t) t low)
     ∙ ap (λ (xs : List MoveRow). let u : Tables = record t { cash = []; moves = xs } in u) all

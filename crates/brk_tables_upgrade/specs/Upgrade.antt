@@ -9,60 +9,60 @@ use Rattle.brk_model.specs.Upgraded.{tables_upgraded_from_schema}
 use Rattle.brk_model.specs.Schemas.{Schema}
 use Rattle.brk_model.specs.Tables.{Tables, CashRow, move_row}
 use Rattle.brk_changes.specs.Changes.{tables_with_cash_row}
-use Rattle.brk_sql.specs.Desk.{HasTables, HasSelectedTables, HasNoActionsAt}
-use Rattle.brk_tables_schema.specs.Desk.{Which, desk, desk_of_schema}
-use Rattle.brk_tables_schema.specs.Made.{IsTableOfSchema, LacksOtherTables}
-use Rattle.brk_tables_cash.specs.Upgrade.{without_cash_transactions}
+use Rattle.brk_sql.specs.Desk.{HasTables, HasSelectedTables, HasNoWritingForeignKeysAt}
+use Rattle.brk_tables_schema.specs.Desk.{DeskTable, desk_tables, desk_tables_of_schema}
+use Rattle.brk_tables_schema.specs.Made.{IsTableOfSchema, LacksOtherDeskTables}
+use Rattle.brk_tables_cash.specs.Upgrade.{tables_without_cash_transactions}
 
 -- The rows of CASH_TRANSACTION, sorted by stamp, ascending. Rows with equal stamps stay in the
 -- order of the table.
-abbrev pub cash_by_stamp : Tables → List CashRow
-cash_by_stamp t = sort_by_key (λ r. r.stamp) t.cash
+abbrev pub cash_transactions_by_stamp : Tables → List CashRow
+cash_transactions_by_stamp t = sort_by_key (λ r. r.stamp) t.cash
 
 -- The tables `t` with the row `c` of CASH_TRANSACTION inserted into CASH_MOVE under the number
 -- `id`.
-abbrev pub with_numbered_cash_row : ℕ → CashRow → Tables → Tables
-with_numbered_cash_row id c t = tables_with_cash_row (move_row id (posting_of_cash_row t c)) t
+abbrev pub tables_with_numbered_cash_row : ℕ → CashRow → Tables → Tables
+tables_with_numbered_cash_row id c t = tables_with_cash_row (move_row id (posting_of_cash_row t c)) t
 
 -- The tables `t` with the given rows of CASH_TRANSACTION inserted into CASH_MOVE, in order,
 -- numbered from `n`.
-abbrev pub with_cash_numbered_from : ℕ → List CashRow → Tables → Tables
-with_cash_numbered_from n [] t = t
-with_cash_numbered_from n (c ∷ cs) t = with_cash_numbered_from (n + 1) cs (with_numbered_cash_row n c t)
+abbrev pub tables_with_cash_rows_numbered_from : ℕ → List CashRow → Tables → Tables
+tables_with_cash_rows_numbered_from n [] t = t
+tables_with_cash_rows_numbered_from n (c ∷ cs) t = tables_with_cash_rows_numbered_from (n + 1) cs (tables_with_numbered_cash_row n c t)
 
 -- The tables `t` with all rows of CASH_TRANSACTION inserted into CASH_MOVE, numbered from 1 by
 -- ascending stamp, and with no rows in CASH_TRANSACTION.
-abbrev pub with_all_cash_numbered : Tables → Tables
-with_all_cash_numbered t = without_cash_transactions (with_cash_numbered_from 1 (cash_by_stamp t) t)
+abbrev pub tables_with_all_cash_rows_numbered : Tables → Tables
+tables_with_all_cash_rows_numbered t = tables_without_cash_transactions (tables_with_cash_rows_numbered_from 1 (cash_transactions_by_stamp t) t)
 
 -- Each table of `old` is in `new` at the same position. Its rows are unchanged if it is at none of
 -- the trees of the tables that are `In`, and none of its own foreign keys changes or deletes its
 -- rows.
-pub record PreservesTablesOutside (In : Which → Type 0) (tree : Which → ℕ) (old new : Database) : Type 0 where
+pub record PreservesTablesOutside (In : DeskTable → Type 0) (tree : DeskTable → ℕ) (old new : Database) : Type 0 where
   pub more : List Table
   pub tables : new.schema.tables ≡ old.schema.tables ++ more
-  pub rows : AllByRecursion (λ k. ((w : Which) → In w → k.tree ≢ tree w) → HasNoActionsAt old.schema k.tree → new.trees k.tree ≡ old.trees k.tree) old.schema.tables
+  pub rows : AllByRecursion (λ k. ((w : DeskTable) → In w → k.tree ≢ tree w) → HasNoWritingForeignKeysAt old.schema k.tree → new.trees k.tree ≡ old.trees k.tree) old.schema.tables
 
 -- The database `new` contains the tables of schema 3 with the rows `t`, and the other tables of
 -- `old` are unchanged (`PreservesTablesOutside`).
-pub record HasUpgradedTables (desk_before : Schema) (before : Which → ℕ) (t : Tables) (old new : Database) : Type 0 where
-  pub tree : Which → ℕ
-  pub rows : HasTables desk t tree new
+pub record HasUpgradedTables (desk_before : Schema) (before : DeskTable → ℕ) (t : Tables) (old new : Database) : Type 0 where
+  pub tree : DeskTable → ℕ
+  pub rows : HasTables desk_tables t tree new
   pub others : PreservesTablesOutside (IsTableOfSchema desk_before) before old new
   -- A table of `old` that is not one of the desk's is at none of their trees.
-  pub apart : AllByRecursion (λ k. ((w : Which) → IsTableOfSchema desk_before w → k.tree ≢ before w) → (w : Which) → k.tree ≢ tree w) old.schema.tables
+  pub apart : AllByRecursion (λ k. ((w : DeskTable) → IsTableOfSchema desk_before w → k.tree ≢ before w) → (w : DeskTable) → k.tree ≢ tree w) old.schema.tables
   -- A tree whose tables have no foreign keys that write rows remains so.
-  pub calm : (tree : ℕ) → HasNoActionsAt old.schema tree → HasNoActionsAt new.schema tree
+  pub calm : (tree : ℕ) → HasNoWritingForeignKeysAt old.schema tree → HasNoWritingForeignKeysAt new.schema tree
 
 -- If the database `old` contains the tables of `schema` with the rows `t`, and no table that a
 -- later schema adds, `new` contains the tables of schema 3 with the rows `t`, and other tables are
 -- unchanged (`HasUpgradedTables`). Vacuous otherwise.
-abbrev pub AddsLaterTables : Schema → Database → Database → Type 0
-AddsLaterTables schema old new = (t : Tables) (tree : Which → ℕ) → HasSelectedTables (desk_of_schema schema) (IsTableOfSchema schema) t tree old → LacksOtherTables schema t old → HasUpgradedTables schema tree t old new
+abbrev pub AddsTablesOfLaterSchemas : Schema → Database → Database → Type 0
+AddsTablesOfLaterSchemas schema old new = (t : Tables) (tree : DeskTable → ℕ) → HasSelectedTables (desk_tables_of_schema schema) (IsTableOfSchema schema) t tree old → LacksOtherDeskTables schema t old → HasUpgradedTables schema tree t old new
 
 -- If the database `old` contains the tables of `schema` with the rows `t`, and no table that a
 -- later schema adds, `new` contains the tables of schema 3 with the upgraded rows
 -- (`tables_upgraded_from_schema`), and other tables are unchanged (`HasUpgradedTables`). Vacuous
 -- otherwise.
 abbrev pub UpgradesTables : Schema → Database → Database → Type 0
-UpgradesTables schema old new = (t : Tables) (tree : Which → ℕ) → HasSelectedTables (desk_of_schema schema) (IsTableOfSchema schema) t tree old → LacksOtherTables schema t old → HasUpgradedTables schema tree (tables_upgraded_from_schema schema t) old new
+UpgradesTables schema old new = (t : Tables) (tree : DeskTable → ℕ) → HasSelectedTables (desk_tables_of_schema schema) (IsTableOfSchema schema) t tree old → LacksOtherDeskTables schema t old → HasUpgradedTables schema tree (tables_upgraded_from_schema schema t) old new

@@ -4,7 +4,7 @@ ghost use Rattle.std.specs.Prelude.{◌≡◌, IfErr, map};
 ghost use Rattle.brk_model.specs.Run.{IsCallFault};
 ghost use Rattle.brk_changes.specs.Rows.{abstract_cash_row};
 ghost use Rattle.brk_tables_schema.specs.Statements.{WritesDeskTables};
-ghost use Rattle.brk_tables_upgrade.specs.Upgrade.{with_cash_numbered_from, with_numbered_cash_row};
+ghost use Rattle.brk_tables_upgrade.specs.Upgrade.{tables_with_cash_rows_numbered_from, tables_with_numbered_cash_row};
 
 use crate::reading::account_of_trade;
 use brk_changes::{CashRow, MoveRow};
@@ -20,7 +20,7 @@ fn add_numbered_cash_row<S: Alter>(
     row: &CashRow,
 ) -> Result<(), Fault>
     ensures same_reference { tx.new.conn.ghost_name ≡ tx.old.conn.ghost_name }
-    ensures step { WritesDeskTables S.Store tx.old tx.new result (with_numbered_cash_row id (abstract_cash_row row.now)) }
+    ensures step { WritesDeskTables S.Store tx.old tx.new result (tables_with_numbered_cash_row id (abstract_cash_row row.now)) }
     ensures fault { IfErr result IsCallFault }
 {
     let Some(account) = account_of_trade(tx, row.trade)? else {
@@ -39,12 +39,12 @@ fn add_numbered_cash_row<S: Alter>(
 
 /// Inserts the cash rows of trades into CASH_MOVE, in order, numbered from 1. Fails with `Memory`
 /// or `Store` only.
-pub fn add_all_cash_rows<S: Alter>(
+pub fn add_numbered_cash_rows<S: Alter>(
     tx: &mut Transaction<'_, S>,
     rows: &[CashRow],
 ) -> Result<(), Fault>
     ensures same_reference { tx.new.conn.ghost_name ≡ tx.old.conn.ghost_name }
-    ensures step { WritesDeskTables S.Store tx.old tx.new result (with_cash_numbered_from 1 (map abstract_cash_row rows.now)) }
+    ensures step { WritesDeskTables S.Store tx.old tx.new result (tables_with_cash_rows_numbered_from 1 (map abstract_cash_row rows.now)) }
     ensures fault { IfErr result IsCallFault }
 {
     let mut number: u64 = 1;

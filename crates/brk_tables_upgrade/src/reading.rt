@@ -11,13 +11,13 @@ use brk_changes::CashRow;
 use brk_money::{Fault, Id};
 use brk_tables_schema::calls::select_rows;
 use brk_tables_schema::record::{decode_first_row, decode_rows};
-use brk_tables_schema::values::id_value;
+use brk_tables_schema::values::id_as_parameter;
 use sqlite::{Alter, Transaction};
 use std::alloc::Global;
 
 /// Returns all rows of CASH_TRANSACTION, sorted by trade, ascending. Changes nothing. Fails with
 /// `Memory` or `Store`.
-pub fn cash_rows<S: Alter>(
+pub fn cash_transactions_by_trade<S: Alter>(
     tx: &mut Transaction<'_, S>,
     alloc: Global,
 ) -> Result<Vec<CashRow>, Fault>
@@ -46,7 +46,7 @@ pub fn account_of_trade<S: Alter>(
     let rows = select_rows(
         tx,
         "SELECT T_CA_ID FROM TRADE WHERE T_ID = ?1 ORDER BY T_ID",
-        &[id_value(trade)],
+        &[id_as_parameter(trade)],
     )?;
     decode_first_row(&rows)
 }

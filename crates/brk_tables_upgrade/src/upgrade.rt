@@ -5,41 +5,41 @@ ghost use Rattle.brk_model.specs.Run.{IsCallFault};
 ghost use Rattle.brk_changes.specs.Schemas.{abstract_schema};
 ghost use Rattle.brk_sql.specs.Model.{IsConnectionStep};
 ghost use Rattle.brk_tables_schema.specs.Statements.{WritesDeskTables};
-ghost use Rattle.brk_tables_upgrade.specs.Upgrade.{AddsLaterTables, UpgradesTables, with_all_cash_numbered};
+ghost use Rattle.brk_tables_upgrade.specs.Upgrade.{AddsTablesOfLaterSchemas, UpgradesTables, tables_with_all_cash_rows_numbered};
 
-use crate::numbering::add_all_cash_rows;
+use crate::numbering::add_numbered_cash_rows;
 use crate::ordering::sort_cash_rows_by_stamp;
-use crate::reading::cash_rows;
+use crate::reading::cash_transactions_by_trade;
 use brk_changes::Schema;
 use brk_money::Fault;
-use brk_tables_cash::{remove_cash_rows, set_third_schema};
-use brk_tables_create::create_later_tables;
+use brk_tables_cash::{remove_cash_transactions, set_schema_number_to_three};
+use brk_tables_create::create_tables_of_later_schemas;
 use sqlite::{Alter, Transaction};
 use std::alloc::Global;
 
 // Creates the tables that a schema does not have, and sets the number of the schema to 3. The
 // effect is specified only if the tables of the schema exist, and none that a later schema adds.
 // Fails with `Memory` or `Store` only.
-fn add_later_tables<S: Alter>(tx: &mut Transaction<'_, S>, schema: Schema) -> Result<(), Fault>
+fn add_tables_of_later_schemas<S: Alter>(tx: &mut Transaction<'_, S>, schema: Schema) -> Result<(), Fault>
     ensures same_reference { tx.new.conn.ghost_name ≡ tx.old.conn.ghost_name }
-    ensures step { IsConnectionStep S.Store tx.old tx.new result (λ _ a b. AddsLaterTables (abstract_schema schema) a.now b.now) }
+    ensures step { IsConnectionStep S.Store tx.old tx.new result (λ _ a b. AddsTablesOfLaterSchemas (abstract_schema schema) a.now b.now) }
     ensures fault { IfErr result IsCallFault }
 {
-    create_later_tables(tx, schema)?;
-    set_third_schema(tx)
+    create_tables_of_later_schemas(tx, schema)?;
+    set_schema_number_to_three(tx)
 }
 
 // Inserts the rows of CASH_TRANSACTION into CASH_MOVE, numbered from 1 by ascending stamp, and
 // deletes them from CASH_TRANSACTION. Fails with `Memory` or `Store` only.
-fn number_cash_rows<S: Alter>(tx: &mut Transaction<'_, S>, alloc: Global) -> Result<(), Fault>
+fn move_cash_transactions_to_cash_moves<S: Alter>(tx: &mut Transaction<'_, S>, alloc: Global) -> Result<(), Fault>
     ensures same_reference { tx.new.conn.ghost_name ≡ tx.old.conn.ghost_name }
-    ensures step { WritesDeskTables S.Store tx.old tx.new result with_all_cash_numbered }
+    ensures step { WritesDeskTables S.Store tx.old tx.new result tables_with_all_cash_rows_numbered }
     ensures fault { IfErr result IsCallFault }
 {
-    let found = cash_rows(tx, alloc)?;
+    let found = cash_transactions_by_trade(tx, alloc)?;
     let rows = sort_cash_rows_by_stamp(found)?;
-    add_all_cash_rows(tx, &rows)?;
-    remove_cash_rows(tx)
+    add_numbered_cash_rows(tx, &rows)?;
+    remove_cash_transactions(tx)
 }
 
 /// Upgrades the tables of `schema` to schema 3, with any rows. The effect is specified only if
@@ -53,9 +53,9 @@ pub fn upgrade_tables<S: Alter>(
     ensures step { IsConnectionStep S.Store tx.old tx.new result (λ _ a b. UpgradesTables (abstract_schema schema) a.now b.now) }
     ensures fault { IfErr result IsCallFault }
 {
-    add_later_tables(tx, schema)?;
-    if schema.has_moves() {
+    add_tables_of_later_schemas(tx, schema)?;
+    if schema.has_cash_move_table() {
         return Ok(());
     }
-    number_cash_rows(tx, alloc)
+    move_cash_transactions_to_cash_moves(tx, alloc)
 }

@@ -21,7 +21,7 @@ use Rattle.brk_sql.proofs.Meant.{meant, reads_or}
 use Rattle.brk_sql.proofs.Pick.{selection}
 use Rattle.brk_sql.proofs.Scoped.{column_is, heading_is}
 use Rattle.brk_sql.proofs.Texts.{read}
-use Rattle.brk_tables_schema.specs.Shapes.{holding_history}
+use Rattle.brk_tables_schema.specs.Shapes.{holding_history_table}
 use Rattle.sqlite_ast.specs.declared.Shown.TheVariants.{One}
 use Rattle.sqlite_ast.specs.declared.Origin.TheVariants.{Table}
 use Rattle.sqlite_ast.specs.declared.Source.{Source, roll-Source}
@@ -95,35 +95,35 @@ names = codes "HH_H_T_ID" ∷ codes "HH_T_ID" ∷ codes "HH_BEFORE_QTY" ∷ code
 abbrev after : ℕ → Carried → State
 after spent last = record (fresh 2 max_budget) { budget = max_budget - spent; last = last }
 
-module _ (schema : Schema) (at tree : ℕ) (h : IsTableAt schema (holding_history tree) at) where
-  abbrev found : slice_get schema.tables at ≡ Some (holding_history tree)
+module _ (schema : Schema) (at tree : ℕ) (h : IsTableAt schema (holding_history_table tree) at) where
+  abbrev found : slice_get schema.tables at ≡ Some (holding_history_table tree)
   found = h.found
 
   shows : result lower (outermost schema) (level_one (codes "HOLDING_HISTORY") at []) core (fresh 2 max_budget) ≡ Ok (columns, after 4 binary)
   unfolding lowering
   shows =
       rw (
-        column_is schema at (holding_history tree) found (codes "HOLDING_HISTORY") [] [] true true (codes "HH_H_T_ID") 0 (integer_column (codes "HH_H_T_ID")) refl refl,
-        heading_is schema at (holding_history tree) found (codes "HOLDING_HISTORY") [] [] true true (e.Column None (codes "HH_H_T_ID")) (codes "HH_H_T_ID") (codes "HH_H_T_ID") 0 (integer_column (codes "HH_H_T_ID")) refl refl refl,
-        column_is schema at (holding_history tree) found (codes "HOLDING_HISTORY") [] [] true true (codes "HH_T_ID") 1 (integer_column (codes "HH_T_ID")) refl refl,
-        heading_is schema at (holding_history tree) found (codes "HOLDING_HISTORY") [] [] true true (e.Column None (codes "HH_T_ID")) (codes "HH_T_ID") (codes "HH_T_ID") 1 (integer_column (codes "HH_T_ID")) refl refl refl,
-        column_is schema at (holding_history tree) found (codes "HOLDING_HISTORY") [] [] true true (codes "HH_BEFORE_QTY") 2 (integer_column (codes "HH_BEFORE_QTY")) refl refl,
-        heading_is schema at (holding_history tree) found (codes "HOLDING_HISTORY") [] [] true true (e.Column None (codes "HH_BEFORE_QTY")) (codes "HH_BEFORE_QTY") (codes "HH_BEFORE_QTY") 2 (integer_column (codes "HH_BEFORE_QTY")) refl refl refl,
-        column_is schema at (holding_history tree) found (codes "HOLDING_HISTORY") [] [] true true (codes "HH_AFTER_QTY") 3 (integer_column (codes "HH_AFTER_QTY")) refl refl,
-        heading_is schema at (holding_history tree) found (codes "HOLDING_HISTORY") [] [] true true (e.Column None (codes "HH_AFTER_QTY")) (codes "HH_AFTER_QTY") (codes "HH_AFTER_QTY") 3 (integer_column (codes "HH_AFTER_QTY")) refl refl refl,
+        column_is schema at (holding_history_table tree) found (codes "HOLDING_HISTORY") [] [] true true (codes "HH_H_T_ID") 0 (integer_column (codes "HH_H_T_ID")) refl refl,
+        heading_is schema at (holding_history_table tree) found (codes "HOLDING_HISTORY") [] [] true true (e.Column None (codes "HH_H_T_ID")) (codes "HH_H_T_ID") (codes "HH_H_T_ID") 0 (integer_column (codes "HH_H_T_ID")) refl refl refl,
+        column_is schema at (holding_history_table tree) found (codes "HOLDING_HISTORY") [] [] true true (codes "HH_T_ID") 1 (integer_column (codes "HH_T_ID")) refl refl,
+        heading_is schema at (holding_history_table tree) found (codes "HOLDING_HISTORY") [] [] true true (e.Column None (codes "HH_T_ID")) (codes "HH_T_ID") (codes "HH_T_ID") 1 (integer_column (codes "HH_T_ID")) refl refl refl,
+        column_is schema at (holding_history_table tree) found (codes "HOLDING_HISTORY") [] [] true true (codes "HH_BEFORE_QTY") 2 (integer_column (codes "HH_BEFORE_QTY")) refl refl,
+        heading_is schema at (holding_history_table tree) found (codes "HOLDING_HISTORY") [] [] true true (e.Column None (codes "HH_BEFORE_QTY")) (codes "HH_BEFORE_QTY") (codes "HH_BEFORE_QTY") 2 (integer_column (codes "HH_BEFORE_QTY")) refl refl refl,
+        column_is schema at (holding_history_table tree) found (codes "HOLDING_HISTORY") [] [] true true (codes "HH_AFTER_QTY") 3 (integer_column (codes "HH_AFTER_QTY")) refl refl,
+        heading_is schema at (holding_history_table tree) found (codes "HOLDING_HISTORY") [] [] true true (e.Column None (codes "HH_AFTER_QTY")) (codes "HH_AFTER_QTY") (codes "HH_AFTER_QTY") 3 (integer_column (codes "HH_AFTER_QTY")) refl refl refl,
       )
 
   matches : matching lower (outermost schema) (level_one (codes "HOLDING_HISTORY") at columns) core (after 4 binary)
       ≡ Ok (record { steps = Inner tree ∷ []; filter = terms }, after 7 nothing)
   unfolding lowering
-  matches = rw (found, column_is schema at (holding_history tree) found (codes "HOLDING_HISTORY") columns [] false true (codes "HH_H_T_ID") 0 (integer_column (codes "HH_H_T_ID")) refl refl, found)
+  matches = rw (found, column_is schema at (holding_history_table tree) found (codes "HOLDING_HISTORY") columns [] false true (codes "HH_H_T_ID") 0 (integer_column (codes "HH_H_T_ID")) refl refl, found)
 
   sorted : sorts lower (inside schema (level_one (codes "HOLDING_HISTORY") at columns) false) columns by (after 7 nothing) ≡ Ok ((draft tree).order, after 9 binary)
   unfolding lowering
   sorted =
       rw (
-        column_is schema at (holding_history tree) found (codes "HOLDING_HISTORY") columns [] false true (codes "HH_H_T_ID") 0 (integer_column (codes "HH_H_T_ID")) refl refl,
-        column_is schema at (holding_history tree) found (codes "HOLDING_HISTORY") columns [] false true (codes "HH_T_ID") 1 (integer_column (codes "HH_T_ID")) refl refl,
+        column_is schema at (holding_history_table tree) found (codes "HOLDING_HISTORY") columns [] false true (codes "HH_H_T_ID") 0 (integer_column (codes "HH_H_T_ID")) refl refl,
+        column_is schema at (holding_history_table tree) found (codes "HOLDING_HISTORY") columns [] false true (codes "HH_T_ID") 1 (integer_column (codes "HH_T_ID")) refl refl,
       )
 
   meaning_is : meaning schema select ≡ Ok ((draft tree, names, Some Binary ∷ Some Binary ∷ Some Binary ∷ Some Binary ∷ []), [])

@@ -20,9 +20,9 @@ use Rattle.brk_sql.proofs.Looks.{tells_sorted}
 use Rattle.brk_sql.proofs.Pick.{sorted_by}
 use Rattle.brk_sql.proofs.Texts.{read}
 use Rattle.brk_tables_schema.specs.Cells.{natural_as_value, trade_cells}
-use Rattle.brk_tables_schema.specs.Desk.{Trades, desk}
+use Rattle.brk_tables_schema.specs.Desk.{Trades, desk_tables}
 use Rattle.brk_tables_schema.specs.Order.{ordering_by_key}
-use Rattle.brk_tables_schema.specs.Shapes.{trade}
+use Rattle.brk_tables_schema.specs.Shapes.{trade_table}
 use Rattle.brk_tables_schema.proofs.Compared.{at_least, at_most}
 use Rattle.brk_tables_schema.proofs.Order.{key_total, inserted}
 use Rattle.brk_tables_schema.proofs.Tests.{same_number, same_text}
@@ -58,7 +58,7 @@ second Equal b h = h
 second Greater b h = absurd (let f = h in cc)
 
 -- the three statements have one order, which is that of these moments
-by_age : (params : Row) (tree : ℕ) (a b : Row) (x y : TradeRow) → cells_in_column_order (trade tree) a ≡ trade_cells x → cells_in_column_order (trade tree) b ≡ trade_cells y → sorted_by params TwentyOfAccount.order a b ≡ rising x y
+by_age : (params : Row) (tree : ℕ) (a b : Row) (x y : TradeRow) → cells_in_column_order (trade_table tree) a ≡ trade_cells x → cells_in_column_order (trade_table tree) b ≡ trade_cells y → sorted_by params TwentyOfAccount.order a b ≡ rising x y
 by_age params tree a b x y e f =
     let p0 : column a 2 ≡ natural_as_value x.stamp = ap (λ row. column row 1) e in
     let q0 : column b 2 ≡ natural_as_value y.stamp = ap (λ row. column row 1) f in
@@ -74,11 +74,11 @@ first_shown n rows = limited_map trade_cells (Some n) (sort_by rising rows) ∙ 
 
 pub tells_twenty_of_account : (old new : State) (account first last : ℕ) (rows : List Row)
     → Shown TwentyOfAccount.statement (natural_as_value account ∷ natural_as_value first ∷ natural_as_value last ∷ []) old new rows
-    → TablesSatisfy desk (λ t. rows ≡ map trade_cells (take 20 (trade_rows_oldest_first (filter (λ r. (r.account == account) && row_stamp_is_between first last r) t.trades)))) old.now
+    → TablesSatisfy desk_tables (λ t. rows ≡ map trade_cells (take 20 (trade_rows_oldest_first (filter (λ r. (r.account == account) && row_stamp_is_between first last r) t.trades)))) old.now
 tells_twenty_of_account old new account first last rows shown = λ t tree h.
     let test : TradeRow → Bool = λ r. (r.account == account) && row_stamp_is_between first last r in
     let params : Row = natural_as_value account ∷ natural_as_value first ∷ natural_as_value last ∷ [] in
-    tells_sorted desk Trades TwentyOfAccount.statement params (read TwentyOfAccount.statement)
+    tells_sorted desk_tables Trades TwentyOfAccount.statement params (read TwentyOfAccount.statement)
     TwentyOfAccount.terms TwentyOfAccount.project TwentyOfAccount.order TwentyOfAccount.paging TwentyOfAccount.names TwentyOfAccount.understood_as
     test
     (λ tree r x e.
@@ -92,11 +92,11 @@ tells_twenty_of_account old new account first last rows shown = λ t tree h.
 
 pub tells_twenty_of_symbol : (old new : State) (symbol : List ℕ) (first last : ℕ) (rows : List Row)
     → Shown TwentyOfSymbol.statement (Words symbol ∷ natural_as_value first ∷ natural_as_value last ∷ []) old new rows
-    → TablesSatisfy desk (λ t. rows ≡ map trade_cells (take 20 (trade_rows_oldest_first (filter (λ r. bytes_eq r.symbol symbol && row_stamp_is_between first last r) t.trades)))) old.now
+    → TablesSatisfy desk_tables (λ t. rows ≡ map trade_cells (take 20 (trade_rows_oldest_first (filter (λ r. bytes_eq r.symbol symbol && row_stamp_is_between first last r) t.trades)))) old.now
 tells_twenty_of_symbol old new symbol first last rows shown = λ t tree h.
     let test : TradeRow → Bool = λ r. bytes_eq r.symbol symbol && row_stamp_is_between first last r in
     let params : Row = Words symbol ∷ natural_as_value first ∷ natural_as_value last ∷ [] in
-    tells_sorted desk Trades TwentyOfSymbol.statement params (read TwentyOfSymbol.statement)
+    tells_sorted desk_tables Trades TwentyOfSymbol.statement params (read TwentyOfSymbol.statement)
     TwentyOfSymbol.terms TwentyOfSymbol.project TwentyOfSymbol.order TwentyOfSymbol.paging TwentyOfSymbol.names TwentyOfSymbol.understood_as
     test
     (λ tree r x e.
@@ -121,11 +121,11 @@ filter_twice {X} p q (x ∷ xs) = by_test (q x) (filter_twice p q xs)
     by_test false h = h
 
 pub tells_first_since : (old new : State) (account first : ℕ) (rows : List Row) → Shown FirstSince.statement (natural_as_value account ∷ natural_as_value first ∷ []) old new rows
-    → TablesSatisfy desk (λ t. rows ≡ map trade_cells (take 1 (trade_rows_oldest_first (filter (λ r. nat_le first r.stamp) (trade_rows_of_account t account))))) old.now
+    → TablesSatisfy desk_tables (λ t. rows ≡ map trade_cells (take 1 (trade_rows_oldest_first (filter (λ r. nat_le first r.stamp) (trade_rows_of_account t account))))) old.now
 tells_first_since old new account first rows shown = λ t tree h.
     let test : TradeRow → Bool = λ r. (r.account == account) && nat_le first r.stamp in
     let params : Row = natural_as_value account ∷ natural_as_value first ∷ [] in
-    tells_sorted desk Trades FirstSince.statement params (read FirstSince.statement)
+    tells_sorted desk_tables Trades FirstSince.statement params (read FirstSince.statement)
     FirstSince.terms FirstSince.project FirstSince.order FirstSince.paging FirstSince.names FirstSince.understood_as
     test
     (λ tree r x e.

@@ -12,13 +12,13 @@ use brk_money::{Fault, Id};
 use brk_ref::{BrokerRow, Name};
 use brk_tables_schema::calls::select_rows;
 use brk_tables_schema::record::decode_rows;
-use brk_tables_schema::values::{id_value, text_value};
+use brk_tables_schema::values::{id_as_parameter, text_as_parameter};
 use sqlite::{Alter, Transaction};
 use std::alloc::Global;
 
 /// Returns the brokers with this name, sorted by id, ascending. Changes nothing. Fails with
 /// `Memory` or `Store`.
-pub fn brokers_named<S: Alter>(
+pub fn brokers_with_name<S: Alter>(
     tx: &mut Transaction<'_, S>,
     alloc: Global,
     name: &Name,
@@ -30,7 +30,7 @@ pub fn brokers_named<S: Alter>(
     let rows = select_rows(
         tx,
         "SELECT B_ID, B_NAME, B_NUM_TRADES, B_COMM_TOTAL FROM BROKER WHERE B_NAME = ?1 ORDER BY B_ID",
-        &[text_value(name.as_str())],
+        &[text_as_parameter(name.as_str())],
     )?;
     decode_rows(alloc, &rows)
 }
@@ -49,14 +49,14 @@ pub fn requests_of_broker<S: Alter>(
     let rows = select_rows(
         tx,
         "SELECT TR_T_ID, TR_TT_ID, TR_S_SYMB, TR_QTY, TR_BID_PRICE, TR_B_ID FROM TRADE_REQUEST WHERE TR_B_ID = ?1 ORDER BY TR_T_ID",
-        &[id_value(broker)],
+        &[id_as_parameter(broker)],
     )?;
     decode_rows(alloc, &rows)
 }
 
 /// Returns the ids of the accounts of a broker, ascending. Changes nothing. Fails with `Memory` or
 /// `Store`.
-pub fn accounts_of_broker<S: Alter>(
+pub fn account_ids_of_broker<S: Alter>(
     tx: &mut Transaction<'_, S>,
     alloc: Global,
     broker: Id,
@@ -68,7 +68,7 @@ pub fn accounts_of_broker<S: Alter>(
     let rows = select_rows(
         tx,
         "SELECT CA_ID FROM CUSTOMER_ACCOUNT WHERE CA_B_ID = ?1 ORDER BY CA_ID",
-        &[id_value(broker)],
+        &[id_as_parameter(broker)],
     )?;
     decode_rows(alloc, &rows)
 }

@@ -11,13 +11,13 @@ use brk_money::{Fault, Id, Status};
 use brk_ref::Symbol;
 use brk_tables_schema::calls::select_rows;
 use brk_tables_schema::record::decode_rows;
-use brk_tables_schema::values::{id_value, status_value, text_value};
+use brk_tables_schema::values::{id_as_parameter, status_as_parameter, text_as_parameter};
 use sqlite::{Alter, Transaction};
 use std::alloc::Global;
 
 /// Returns the ids of the completed trades of an account in a security, the oldest first: sorted by
 /// the stamp of completion, then by id. Changes nothing. Fails with `Memory` or `Store`.
-pub fn completed_trades_of_holding<S: Alter>(
+pub fn completed_trade_ids_of_holding<S: Alter>(
     tx: &mut Transaction<'_, S>,
     alloc: Global,
     account: Id,
@@ -32,9 +32,9 @@ pub fn completed_trades_of_holding<S: Alter>(
         tx,
         "SELECT T_ID FROM TRADE WHERE T_CA_ID = ?1 AND T_S_SYMB = ?2 AND T_ST_ID = ?3 ORDER BY T_DTS, T_ID",
         &[
-            id_value(account),
-            text_value(symbol.as_str()),
-            status_value(Status::Completed),
+            id_as_parameter(account),
+            text_as_parameter(symbol.as_str()),
+            status_as_parameter(Status::Completed),
         ],
     )?;
     decode_rows(alloc, &rows)

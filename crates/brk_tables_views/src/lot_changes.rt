@@ -10,7 +10,7 @@ use brk_changes::LotChange;
 use brk_money::{Fault, Id};
 use brk_tables_schema::calls::select_rows;
 use brk_tables_schema::record::decode_rows;
-use brk_tables_schema::values::id_value;
+use brk_tables_schema::values::id_as_parameter;
 use sqlite::{Alter, Transaction};
 use std::alloc::Global;
 
@@ -28,7 +28,7 @@ pub fn lot_changes_by_trade<S: Alter>(
     let rows = select_rows(
         tx,
         "SELECT HH_H_T_ID, HH_T_ID, HH_BEFORE_QTY, HH_AFTER_QTY FROM HOLDING_HISTORY WHERE HH_T_ID = ?1 ORDER BY HH_H_T_ID, HH_T_ID",
-        &[id_value(trade)],
+        &[id_as_parameter(trade)],
     )?;
     decode_rows(alloc, &rows)
 }
@@ -47,7 +47,7 @@ pub fn lot_changes_of_lot<S: Alter>(
     let rows = select_rows(
         tx,
         "SELECT HH_H_T_ID, HH_T_ID, HH_BEFORE_QTY, HH_AFTER_QTY FROM HOLDING_HISTORY WHERE HH_H_T_ID = ?1 ORDER BY HH_H_T_ID, HH_T_ID",
-        &[id_value(lot)],
+        &[id_as_parameter(lot)],
     )?;
     decode_rows(alloc, &rows)
 }

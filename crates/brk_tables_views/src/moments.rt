@@ -13,13 +13,13 @@ use brk_money::{Fault, Id, Stamp};
 use brk_ref::Symbol;
 use brk_tables_schema::calls::select_rows;
 use brk_tables_schema::record::{decode_first_row, decode_rows};
-use brk_tables_schema::values::{id_value, stamp_value, text_value};
+use brk_tables_schema::values::{id_as_parameter, stamp_as_parameter, text_as_parameter};
 use sqlite::{Alter, Transaction};
 use std::alloc::Global;
 
 /// Returns the first twenty trades of an account between two stamps, both included, the oldest
 /// first. Changes nothing. Fails with `Memory` or `Store`.
-pub fn twenty_trades_of_account<S: Alter>(
+pub fn first_twenty_trades_of_account<S: Alter>(
     tx: &mut Transaction<'_, S>,
     alloc: Global,
     account: Id,
@@ -33,14 +33,14 @@ pub fn twenty_trades_of_account<S: Alter>(
     let rows = select_rows(
         tx,
         "SELECT T_ID, T_DTS, T_ST_ID, T_TT_ID, T_IS_CASH, T_S_SYMB, T_QTY, T_BID_PRICE, T_CA_ID, T_EXEC_NAME, T_TRADE_PRICE, T_CHRG, T_COMM, T_TAX, T_LIFO FROM TRADE WHERE T_CA_ID = ?1 AND T_DTS >= ?2 AND T_DTS <= ?3 ORDER BY T_DTS, T_ID LIMIT 20",
-        &[id_value(account), stamp_value(first), stamp_value(last)],
+        &[id_as_parameter(account), stamp_as_parameter(first), stamp_as_parameter(last)],
     )?;
     decode_rows(alloc, &rows)
 }
 
 /// Returns the first twenty trades in a security between two stamps, both included, the oldest
 /// first. Changes nothing. Fails with `Memory` or `Store`.
-pub fn twenty_trades_of_symbol<S: Alter>(
+pub fn first_twenty_trades_of_symbol<S: Alter>(
     tx: &mut Transaction<'_, S>,
     alloc: Global,
     symbol: &Symbol,
@@ -55,9 +55,9 @@ pub fn twenty_trades_of_symbol<S: Alter>(
         tx,
         "SELECT T_ID, T_DTS, T_ST_ID, T_TT_ID, T_IS_CASH, T_S_SYMB, T_QTY, T_BID_PRICE, T_CA_ID, T_EXEC_NAME, T_TRADE_PRICE, T_CHRG, T_COMM, T_TAX, T_LIFO FROM TRADE WHERE T_S_SYMB = ?1 AND T_DTS >= ?2 AND T_DTS <= ?3 ORDER BY T_DTS, T_ID LIMIT 20",
         &[
-            text_value(symbol.as_str()),
-            stamp_value(first),
-            stamp_value(last),
+            text_as_parameter(symbol.as_str()),
+            stamp_as_parameter(first),
+            stamp_as_parameter(last),
         ],
     )?;
     decode_rows(alloc, &rows)
@@ -65,7 +65,7 @@ pub fn twenty_trades_of_symbol<S: Alter>(
 
 /// Returns the oldest trade of an account at or after the stamp `first`, or `None` if there is
 /// none. Changes nothing. Fails with `Store` only.
-pub fn first_trade_since<S: Alter>(
+pub fn first_trade_of_account_from_stamp<S: Alter>(
     tx: &mut Transaction<'_, S>,
     account: Id,
     first: Stamp,
@@ -77,7 +77,7 @@ pub fn first_trade_since<S: Alter>(
     let rows = select_rows(
         tx,
         "SELECT T_ID, T_DTS, T_ST_ID, T_TT_ID, T_IS_CASH, T_S_SYMB, T_QTY, T_BID_PRICE, T_CA_ID, T_EXEC_NAME, T_TRADE_PRICE, T_CHRG, T_COMM, T_TAX, T_LIFO FROM TRADE WHERE T_CA_ID = ?1 AND T_DTS >= ?2 ORDER BY T_DTS, T_ID LIMIT 1",
-        &[id_value(account), stamp_value(first)],
+        &[id_as_parameter(account), stamp_as_parameter(first)],
     )?;
     decode_first_row(&rows)
 }

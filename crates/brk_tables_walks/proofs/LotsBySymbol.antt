@@ -21,7 +21,7 @@ use Rattle.brk_sql.proofs.Meant.{meant, reads_or}
 use Rattle.brk_sql.proofs.Pick.{selection}
 use Rattle.brk_sql.proofs.Scoped.{column_is, heading_is}
 use Rattle.brk_sql.proofs.Texts.{read}
-use Rattle.brk_tables_schema.specs.Shapes.{holding}
+use Rattle.brk_tables_schema.specs.Shapes.{holding_table}
 use Rattle.sqlite_ast.specs.declared.Shown.TheVariants.{One}
 use Rattle.sqlite_ast.specs.declared.Origin.TheVariants.{Table}
 use Rattle.sqlite_ast.specs.declared.Source.{Source, roll-Source}
@@ -95,40 +95,40 @@ names = codes "H_T_ID" ∷ codes "H_CA_ID" ∷ codes "H_S_SYMB" ∷ codes "H_DTS
 abbrev after : ℕ → Carried → State
 after spent last = record (fresh 2 max_budget) { budget = max_budget - spent; last = last }
 
-module _ (schema : Schema) (at tree : ℕ) (h : IsTableAt schema (holding tree) at) where
-  abbrev found : slice_get schema.tables at ≡ Some (holding tree)
+module _ (schema : Schema) (at tree : ℕ) (h : IsTableAt schema (holding_table tree) at) where
+  abbrev found : slice_get schema.tables at ≡ Some (holding_table tree)
   found = h.found
 
   shows : result lower (outermost schema) (level_one (codes "HOLDING") at []) core (fresh 2 max_budget) ≡ Ok (columns, after 6 binary)
   unfolding lowering
   shows =
       rw (
-        column_is schema at (holding tree) found (codes "HOLDING") [] [] true true (codes "H_T_ID") 0 (integer_column (codes "H_T_ID")) refl refl,
-        heading_is schema at (holding tree) found (codes "HOLDING") [] [] true true (e.Column None (codes "H_T_ID")) (codes "H_T_ID") (codes "H_T_ID") 0 (integer_column (codes "H_T_ID")) refl refl refl,
-        column_is schema at (holding tree) found (codes "HOLDING") [] [] true true (codes "H_CA_ID") 1 (integer_column (codes "H_CA_ID")) refl refl,
-        heading_is schema at (holding tree) found (codes "HOLDING") [] [] true true (e.Column None (codes "H_CA_ID")) (codes "H_CA_ID") (codes "H_CA_ID") 1 (integer_column (codes "H_CA_ID")) refl refl refl,
-        column_is schema at (holding tree) found (codes "HOLDING") [] [] true true (codes "H_S_SYMB") 2 (text_column (codes "H_S_SYMB")) refl refl,
-        heading_is schema at (holding tree) found (codes "HOLDING") [] [] true true (e.Column None (codes "H_S_SYMB")) (codes "H_S_SYMB") (codes "H_S_SYMB") 2 (text_column (codes "H_S_SYMB")) refl refl refl,
-        column_is schema at (holding tree) found (codes "HOLDING") [] [] true true (codes "H_DTS") 3 (integer_column (codes "H_DTS")) refl refl,
-        heading_is schema at (holding tree) found (codes "HOLDING") [] [] true true (e.Column None (codes "H_DTS")) (codes "H_DTS") (codes "H_DTS") 3 (integer_column (codes "H_DTS")) refl refl refl,
-        column_is schema at (holding tree) found (codes "HOLDING") [] [] true true (codes "H_PRICE") 4 (integer_column (codes "H_PRICE")) refl refl,
-        heading_is schema at (holding tree) found (codes "HOLDING") [] [] true true (e.Column None (codes "H_PRICE")) (codes "H_PRICE") (codes "H_PRICE") 4 (integer_column (codes "H_PRICE")) refl refl refl,
-        column_is schema at (holding tree) found (codes "HOLDING") [] [] true true (codes "H_QTY") 5 (integer_column (codes "H_QTY")) refl refl,
-        heading_is schema at (holding tree) found (codes "HOLDING") [] [] true true (e.Column None (codes "H_QTY")) (codes "H_QTY") (codes "H_QTY") 5 (integer_column (codes "H_QTY")) refl refl refl,
+        column_is schema at (holding_table tree) found (codes "HOLDING") [] [] true true (codes "H_T_ID") 0 (integer_column (codes "H_T_ID")) refl refl,
+        heading_is schema at (holding_table tree) found (codes "HOLDING") [] [] true true (e.Column None (codes "H_T_ID")) (codes "H_T_ID") (codes "H_T_ID") 0 (integer_column (codes "H_T_ID")) refl refl refl,
+        column_is schema at (holding_table tree) found (codes "HOLDING") [] [] true true (codes "H_CA_ID") 1 (integer_column (codes "H_CA_ID")) refl refl,
+        heading_is schema at (holding_table tree) found (codes "HOLDING") [] [] true true (e.Column None (codes "H_CA_ID")) (codes "H_CA_ID") (codes "H_CA_ID") 1 (integer_column (codes "H_CA_ID")) refl refl refl,
+        column_is schema at (holding_table tree) found (codes "HOLDING") [] [] true true (codes "H_S_SYMB") 2 (text_column (codes "H_S_SYMB")) refl refl,
+        heading_is schema at (holding_table tree) found (codes "HOLDING") [] [] true true (e.Column None (codes "H_S_SYMB")) (codes "H_S_SYMB") (codes "H_S_SYMB") 2 (text_column (codes "H_S_SYMB")) refl refl refl,
+        column_is schema at (holding_table tree) found (codes "HOLDING") [] [] true true (codes "H_DTS") 3 (integer_column (codes "H_DTS")) refl refl,
+        heading_is schema at (holding_table tree) found (codes "HOLDING") [] [] true true (e.Column None (codes "H_DTS")) (codes "H_DTS") (codes "H_DTS") 3 (integer_column (codes "H_DTS")) refl refl refl,
+        column_is schema at (holding_table tree) found (codes "HOLDING") [] [] true true (codes "H_PRICE") 4 (integer_column (codes "H_PRICE")) refl refl,
+        heading_is schema at (holding_table tree) found (codes "HOLDING") [] [] true true (e.Column None (codes "H_PRICE")) (codes "H_PRICE") (codes "H_PRICE") 4 (integer_column (codes "H_PRICE")) refl refl refl,
+        column_is schema at (holding_table tree) found (codes "HOLDING") [] [] true true (codes "H_QTY") 5 (integer_column (codes "H_QTY")) refl refl,
+        heading_is schema at (holding_table tree) found (codes "HOLDING") [] [] true true (e.Column None (codes "H_QTY")) (codes "H_QTY") (codes "H_QTY") 5 (integer_column (codes "H_QTY")) refl refl refl,
       )
 
   matches : matching lower (outermost schema) (level_one (codes "HOLDING") at columns) core (after 6 binary)
       ≡ Ok (record { steps = Inner tree ∷ []; filter = terms }, after 9 nothing)
   unfolding lowering
-  matches = rw (found, column_is schema at (holding tree) found (codes "HOLDING") columns [] false true (codes "H_CA_ID") 1 (integer_column (codes "H_CA_ID")) refl refl, found)
+  matches = rw (found, column_is schema at (holding_table tree) found (codes "HOLDING") columns [] false true (codes "H_CA_ID") 1 (integer_column (codes "H_CA_ID")) refl refl, found)
 
   sorted : sorts lower (inside schema (level_one (codes "HOLDING") at columns) false) columns by (after 9 nothing) ≡ Ok ((draft tree).order, after 12 nothing)
   unfolding lowering
   sorted =
       rw (
-        column_is schema at (holding tree) found (codes "HOLDING") columns [] false true (codes "H_S_SYMB") 2 (text_column (codes "H_S_SYMB")) refl refl,
-        column_is schema at (holding tree) found (codes "HOLDING") columns [] false true (codes "H_DTS") 3 (integer_column (codes "H_DTS")) refl refl,
-        column_is schema at (holding tree) found (codes "HOLDING") columns [] false true (codes "H_T_ID") 0 (integer_column (codes "H_T_ID")) refl refl,
+        column_is schema at (holding_table tree) found (codes "HOLDING") columns [] false true (codes "H_S_SYMB") 2 (text_column (codes "H_S_SYMB")) refl refl,
+        column_is schema at (holding_table tree) found (codes "HOLDING") columns [] false true (codes "H_DTS") 3 (integer_column (codes "H_DTS")) refl refl,
+        column_is schema at (holding_table tree) found (codes "HOLDING") columns [] false true (codes "H_T_ID") 0 (integer_column (codes "H_T_ID")) refl refl,
       )
 
   meaning_is : meaning schema select ≡ Ok ((draft tree, names, None ∷ Some Binary ∷ Some Binary ∷ Some Binary ∷ Some Binary ∷ Some Binary ∷ []), [])

@@ -13,7 +13,7 @@ use Rattle.brk_sql.proofs.Looks.{tells_sorted}
 use Rattle.brk_tables_walks.proofs.Starts.{tells_start}
 use Rattle.brk_sql.proofs.Texts.{read}
 use Rattle.brk_tables_schema.specs.Cells.{natural_as_value, holding_cells}
-use Rattle.brk_tables_schema.specs.Desk.{Holdings, desk}
+use Rattle.brk_tables_schema.specs.Desk.{Holdings, desk_tables}
 use Rattle.brk_tables_schema.specs.Order.{ordering_by_key}
 use Rattle.brk_tables_schema.proofs.Order.{key_total, inserted}
 use Rattle.brk_tables_schema.proofs.Tests.{same_number}
@@ -32,9 +32,9 @@ second Equal b h = h
 second Greater b h = absurd (let f = h in cc)
 
 pub tells_lots_by_symbol : (old new : State) (account : ℕ) (rows : List Row) → Shown LotsBySymbol.statement (natural_as_value account ∷ []) old new rows
-    → TablesSatisfy desk (λ t. rows ≡ map holding_cells (lots_by_symbol account t)) old.now
+    → TablesSatisfy desk_tables (λ t. rows ≡ map holding_cells (lots_by_symbol account t)) old.now
 tells_lots_by_symbol old new account rows shown = λ t tree h.
-    tells_sorted desk Holdings LotsBySymbol.statement (natural_as_value account ∷ []) (read LotsBySymbol.statement) LotsBySymbol.terms LotsBySymbol.project LotsBySymbol.order LotsBySymbol.paging LotsBySymbol.names LotsBySymbol.understood_as
+    tells_sorted desk_tables Holdings LotsBySymbol.statement (natural_as_value account ∷ []) (read LotsBySymbol.statement) LotsBySymbol.terms LotsBySymbol.project LotsBySymbol.order LotsBySymbol.paging LotsBySymbol.names LotsBySymbol.understood_as
     (λ (r : HoldingRow). r.account == account)
     (λ tree r x e. let a0 : column r 2 ≡ natural_as_value x.account = ap (λ row. column row 1) e in rw (a0, same_number x.account account) (and_true _))
     holding_cells (λ tree r x e. e) (ordering_by_key lot_sort_key) (key_total lot_sort_key)
@@ -50,7 +50,7 @@ tells_lots_by_symbol old new account rows shown = λ t tree h.
     ∙ ap (map holding_cells) (sym (sorted lot_sort_key (filter (λ (r : HoldingRow). r.account == account) t.holdings)))
 
 pub lots_start : (s : State) (account : ℕ) (rows : List Row) → IsTrue s.is_open → Begins LotsBySymbol.statement (natural_as_value account ∷ []) s rows
-    → TablesSatisfy desk (λ t. (tail : List Row) × (rows ++ tail ≡ map holding_cells (lots_by_symbol account t))) s.now
+    → TablesSatisfy desk_tables (λ t. (tail : List Row) × (rows ++ tail ≡ map holding_cells (lots_by_symbol account t))) s.now
 lots_start s account rows up begins =
-    tells_start desk Holdings LotsBySymbol.statement (natural_as_value account ∷ []) (read LotsBySymbol.statement) LotsBySymbol.terms LotsBySymbol.project LotsBySymbol.order LotsBySymbol.paging LotsBySymbol.names LotsBySymbol.understood_as s rows begins up
+    tells_start desk_tables Holdings LotsBySymbol.statement (natural_as_value account ∷ []) (read LotsBySymbol.statement) LotsBySymbol.terms LotsBySymbol.project LotsBySymbol.order LotsBySymbol.paging LotsBySymbol.names LotsBySymbol.understood_as s rows begins up
     (λ t all. all ≡ map holding_cells (lots_by_symbol account t)) (λ all. tells_lots_by_symbol s s account all)

@@ -15,20 +15,20 @@ use Rattle.sqlite.specs.Given.{HasBegun, HasGiven, Returns}
 use Rattle.sqlite.specs.State.{State, IsUnchanged, IsRolledBack, IsStatement, Survives, CommitsShowing, Begins, Shown, ShowsRows, FailsToQuery, FailsToShow, IsNotRun, Fails}
 use Rattle.sqlite.proofs.Callers.{unchanged_then}
 use Rattle.sqlite.proofs.StateLemmas.{survives_then, survives_weaker}
-use Rattle.brk_tables_walks.specs.Walk.{IsQuery}
+use Rattle.brk_tables_walks.specs.Walk.{HasNoReturningClause}
 
 none_some : {X : Type 0} (o : Option X) → o ≡ None → IsSome o → ⊥
 none_some None e h = absurd (let f = h in cc)
 none_some (Some x) e h = absurd (let f = e in cc)
 
-never : (sql : List ℕ) (params : Row) (old : State) (db : Trees) → IsQuery sql → CommitsShowing sql params old db → ⊥
+never : (sql : List ℕ) (params : Row) (old : State) (db : Trees) → HasNoReturningClause sql → CommitsShowing sql params old db → ⊥
 unfolding CommitsShowing
 never sql params old db q h = none_some h.0.returning (q old.now.schema h.0 h.1.is) h.2
 
-pub commits_none : (sql : List ℕ) (params : Row) (old new : State) → IsQuery sql → Survives old new (CommitsShowing sql params old) → Survives old new (λ _. ⊥)
+pub commits_none : (sql : List ℕ) (params : Row) (old new : State) → HasNoReturningClause sql → Survives old new (CommitsShowing sql params old) → Survives old new (λ _. ⊥)
 commits_none sql params old new q = survives_weaker old new _ _ (λ _ db. never sql params old db q)
 
-pub begun : {S : Type 0} (g : Ghosts S) (sql : List ℕ) (params : Row) (old new : Held S) → IsQuery sql → HasBegun g sql params old new → HasGiven g sql params new [] × IsUnchanged (state g old) (state g new)
+pub begun : {S : Type 0} (g : Ghosts S) (sql : List ℕ) (params : Row) (old new : Held S) → HasNoReturningClause sql → HasBegun g sql params old new → HasGiven g sql params new [] × IsUnchanged (state g old) (state g new)
 begun g sql params old new q (inl h) = h
 begun g sql params old new q (inr h) = absurd (go (understood old.schema sql) refl h.0)
   where
@@ -40,7 +40,7 @@ pub through : (a b c : State) → Survives a b (λ _. ⊥) → Survives b c (λ 
 through a b c = survives_then a b c (λ _. ⊥) (λ _. ⊥) (λ _. ⊥) (λ _ db none. none) (λ _ db none. none)
 
 -- a query that is refused leaves the database, or undoes the transaction
-pub refused : (sql : List ℕ) (params : Row) (old new : State) (e : Error) → IsQuery sql → FailsToQuery sql params old new e → IsUnchanged old new ⊎ IsRolledBack old new
+pub refused : (sql : List ℕ) (params : Row) (old new : State) (e : Error) → HasNoReturningClause sql → FailsToQuery sql params old new e → IsUnchanged old new ⊎ IsRolledBack old new
 unfolding FailsToQuery IsNotRun
 refused sql params old new e q (inl (inl h)) = inl h.1
 refused sql params old new e q (inl (inr h)) = inr h.3
@@ -71,7 +71,7 @@ module _ (sql : List ℕ) (params : Row) (a b : State) (same : a.now ≡ b.now) 
   unfolding Begins statement_at
   begins_at rows h = (h.0, statement_at h.0 h.1, h.2, h.3, source_at h.3 h.4, h.5)
 
-  pub shown_at : (late : State) (rows : List Row) → IsQuery sql → IsUnchanged b b → Shown sql params a late rows → Shown sql params b b rows
+  pub shown_at : (late : State) (rows : List Row) → HasNoReturningClause sql → IsUnchanged b b → Shown sql params a late rows → Shown sql params b b rows
   unfolding Shown statement_at
   shown_at late rows q u h =
       let full = timed params h.0.formats h.1.now in

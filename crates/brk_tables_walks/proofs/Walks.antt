@@ -9,11 +9,11 @@ use Rattle.brk_model.specs.Tables.{Tables}
 use Rattle.brk_sql.specs.Desk.{TablesSatisfy}
 use Rattle.brk_sql.proofs.Decode.{all_are}
 use Rattle.brk_sql.proofs.Order.{map_twice}
-use Rattle.brk_tables_schema.specs.Desk.{desk}
+use Rattle.brk_tables_schema.specs.Desk.{desk_tables}
 use Rattle.brk_tables_walks.specs.declared.walking.WalkError.{WalkError}
 use Rattle.brk_tables_walks.specs.declared.walking.WalkError.TheVariants.{Failed, Cause}
-use Rattle.brk_tables_walks.specs.Walk.{TakesAll, IsWalkError, EndsEarly}
-use Rattle.brk_tables_walks.specs.Walks.{IsWholeList, IsPrefixOfList, StopsBeforeEnd, TakesInOrder, TableWalkPost}
+use Rattle.brk_tables_walks.specs.Walk.{TakesAllRecords, IsWalkError, WalkEndsEarly}
+use Rattle.brk_tables_walks.specs.Walks.{AreAllRecordsOfList, IsPrefixOfList, TableWalkEndsEarly, TakesListSatisfying, TableWalkPost}
 
 map_parts : {X Y : Type 0} (f : X → Y) (xs ys : List X) → map f (xs ++ ys) ≡ map f xs ++ map f ys
 map_parts f [] ys = refl
@@ -27,13 +27,13 @@ module _ {X M : Type 0} (of : X → M) (cells : M → Row) (back : Row → M) (i
 
   module _ {S V E : Type 0} (g : Ghosts S) (old new : Held S) (list : Tables → List M) (takes : V → X → V → Type 0) (stops : V → X → E → V → Type 0) (before after : V) (result : Result (Unit {0}) (WalkError E))
       (sql : List ℕ) (params : Row)
-      (tells : (rows : List Row) → Shown sql params (state g old) (state g old) rows → TablesSatisfy desk (λ t. rows ≡ map cells (list t)) (state g old).now)
-      (starts : (rows : List Row) → IsTrue (state g old).is_open → Begins sql params (state g old) rows → TablesSatisfy desk (λ t. (tail : List Row) × (rows ++ tail ≡ map cells (list t))) (state g old).now) where
+      (tells : (rows : List Row) → Shown sql params (state g old) (state g old) rows → TablesSatisfy desk_tables (λ t. rows ≡ map cells (list t)) (state g old).now)
+      (starts : (rows : List Row) → IsTrue (state g old).is_open → Begins sql params (state g old) rows → TablesSatisfy desk_tables (λ t. (tail : List Row) × (rows ++ tail ≡ map cells (list t))) (state g old).now) where
     are_first : (xs : List X) → (xs ≡ []) ⊎ (IsTrue (state g old).is_open × Begins sql params (state g old) (map (λ x. cells (of x)) xs)) → IsPrefixOfList (state g old) list (map of xs)
     are_first xs (inl none) = inl (ap (map of) none)
     are_first xs (inr h) = inr (h.0, λ t has. let it = starts _ h.0 h.1 t has.0 has.1 in (map back it.0, first_are xs it.0 (list t) it.1))
 
-    breaks_off : (stop : WalkError E) → EndsEarly (λ x. cells (of x)) takes stops sql params (state g old) before after stop → StopsBeforeEnd (IsPrefixOfList (state g old) list) of takes stops before after stop
+    breaks_off : (stop : WalkError E) → WalkEndsEarly (λ x. cells (of x)) takes stops sql params (state g old) before after stop → TableWalkEndsEarly (IsPrefixOfList (state g old) list) of takes stops before after stop
     breaks_off (Cause e) h = (h.records, h.next, h.at, h.taken, h.stopped, are_first (h.records ++ h.next ∷ []) (inr (h.is_open, h.begins)))
     breaks_off (Failed fault) h = (h.0, (h.1.records, h.1.taken, are_first h.1.records h.1.begins))
 
@@ -43,8 +43,8 @@ module _ {X M : Type 0} (of : X → M) (cells : M → Row) (back : Row → M) (i
     same_at settled (inr r) o = let was = r.was_open o in (was, (r.undone o).0 ∙ sym (settled was), (r.undone o).1)
 
     pub walks : Survives (state g old) (state g new) (λ _. ⊥) → (IsTrue (state g old).is_open → (state g old).now ≡ (state g old).committed)
-        → (HasCleanDisk (state g new) → OnOk result (TakesAll (λ x. cells (of x)) takes sql params (state g old) before after))
-        → (HasCleanDisk (state g new) → IfErr result (EndsEarly (λ x. cells (of x)) takes stops sql params (state g old) before after))
+        → (HasCleanDisk (state g new) → OnOk result (TakesAllRecords (λ x. cells (of x)) takes sql params (state g old) before after))
+        → (HasCleanDisk (state g new) → IfErr result (WalkEndsEarly (λ x. cells (of x)) takes stops sql params (state g old) before after))
         → (HasCleanDisk (state g new) → IsUnchanged (state g old) (state g new) ⊎ IsRolledBack (state g old) (state g new)) → IfErr result (IsWalkError stops after) → TableWalkPost g old new of list takes stops before after result
     walks survives settled all early kept fault = record {
       all = λ clean. done result (all clean);
@@ -54,10 +54,10 @@ module _ {X M : Type 0} (of : X → M) (cells : M → Row) (back : Row → M) (i
       survives = survives;
     }
       where
-        done : (r : Result (Unit {0}) (WalkError E)) → OnOk r (TakesAll (λ x. cells (of x)) takes sql params (state g old) before after) → OnOk r (TakesInOrder (IsWholeList (state g old) list) of takes before after)
+        done : (r : Result (Unit {0}) (WalkError E)) → OnOk r (TakesAllRecords (λ x. cells (of x)) takes sql params (state g old) before after) → OnOk r (TakesListSatisfying (AreAllRecordsOfList (state g old) list) of takes before after)
         done (Ok x) h = (h.records, h.taken, (h.is_open, (λ t has. all_are cells back is_back of h.records _ _ (list t) refl refl (tells _ h.shown t has.0 has.1))))
         done (Err e) h = tt
 
-        broken : (r : Result (Unit {0}) (WalkError E)) → IfErr r (EndsEarly (λ x. cells (of x)) takes stops sql params (state g old) before after) → IfErr r (StopsBeforeEnd (IsPrefixOfList (state g old) list) of takes stops before after)
+        broken : (r : Result (Unit {0}) (WalkError E)) → IfErr r (WalkEndsEarly (λ x. cells (of x)) takes stops sql params (state g old) before after) → IfErr r (TableWalkEndsEarly (IsPrefixOfList (state g old) list) of takes stops before after)
         broken (Ok x) h = tt
         broken (Err stop) h = breaks_off stop h

@@ -20,13 +20,13 @@ abbrev pub cash_sort_key : MoveRow → List KeyPart
 cash_sort_key r = number r.stamp ∷ number r.id ∷ []
 
 -- True if the cash row is of `account` and its stamp is from `from` to `to`, both included.
-abbrev pub is_cash_between : ℕ → ℕ → ℕ → MoveRow → Bool
-is_cash_between account from to row = (row.account == account) && is_in_range from to row.stamp
+abbrev pub is_cash_row_between : ℕ → ℕ → ℕ → MoveRow → Bool
+is_cash_row_between account from to row = (row.account == account) && is_in_range from to row.stamp
 
 -- The cash rows of `account` with stamps from `from` to `to`, both included, sorted by stamp and
 -- then by number, ascending.
 abbrev pub cash_rows_between : ℕ → ℕ → ℕ → Tables → List MoveRow
-cash_rows_between account from to t = rows_sorted_by_key cash_sort_key (filter (is_cash_between account from to) t.moves)
+cash_rows_between account from to t = rows_sorted_by_key cash_sort_key (filter (is_cash_row_between account from to) t.moves)
 
 -- The sort key of a trade: the stamp of its last status change, then its id.
 abbrev pub stamp_and_id_key : TradeRow → List KeyPart

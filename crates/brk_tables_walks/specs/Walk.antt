@@ -12,8 +12,8 @@ use Rattle.brk_tables_walks.specs.declared.walking.WalkError.TheVariants.{Failed
 
 -- In each schema in which the statement `sql` compiles, it has no RETURNING clause. Vacuous if it
 -- compiles in none.
-abbrev pub IsQuery : List ℕ → Type 0
-IsQuery sql = (schema : Schema) (c : Compiled) → understood schema sql ≡ Ok c → c.returning ≡ None
+abbrev pub HasNoReturningClause : List ℕ → Type 0
+HasNoReturningClause sql = (schema : Schema) (c : Compiled) → understood schema sql ≡ Ok c → c.returning ≡ None
 
 -- The error is `Failed` with the fault `Memory` or `Store`, or it is the error with which the
 -- visitor stopped at some record and became `after`.
@@ -23,21 +23,21 @@ IsWalkError {V} {X} stops after (Cause e) = (at : V) × (next : X) × stops at n
 
 module _ {V X : Type 0} (cells : X → Row) (takes : V → X → V → Type 0) where
   -- The database was open, and the visitor took all records of the query's result, in order.
-  pub record TakesAll (sql : List ℕ) (params : Row) (db : State) (old new : V) : Type 0 where
+  pub record TakesAllRecords (sql : List ℕ) (params : Row) (db : State) (old new : V) : Type 0 where
     pub records : List X
     pub is_open : IsTrue db.is_open
     pub shown : Shown sql params db db (map cells records)
     pub taken : FoldsTo takes old records new
 
   -- The visitor took a prefix of the records of the query's result, in order, possibly none.
-  pub record TakesFirst (sql : List ℕ) (params : Row) (db : State) (old new : V) : Type 0 where
+  pub record TakesPrefixOfRecords (sql : List ℕ) (params : Row) (db : State) (old new : V) : Type 0 where
     pub records : List X
     pub begins : (records ≡ []) ⊎ (IsTrue db.is_open × Begins sql params db (map cells records))
     pub taken : FoldsTo takes old records new
 
   -- The database was open, and the visitor took a prefix of the records of the query's result, in
   -- order, and stopped at the next one with the error `e`.
-  pub record StopsAt {E : Type 0} (stops : V → X → E → V → Type 0) (sql : List ℕ) (params : Row) (db : State) (old : V) (e : E) (new : V) : Type 0 where
+  pub record StopsAtRecord {E : Type 0} (stops : V → X → E → V → Type 0) (sql : List ℕ) (params : Row) (db : State) (old : V) (e : E) (new : V) : Type 0 where
     pub records : List X
     pub next : X
     pub is_open : IsTrue db.is_open
@@ -47,7 +47,7 @@ module _ {V X : Type 0} (cells : X → Row) (takes : V → X → V → Type 0) w
     pub stopped : stops at next e new
 
   -- The walk failed. At a fault, which is `Memory` or `Store`, the visitor had taken a prefix of
-  -- the records (`TakesFirst`). At the visitor's error it had stopped at a record (`StopsAt`).
-  abbrev pub EndsEarly : {E : Type 0} → (V → X → E → V → Type 0) → List ℕ → Row → State → V → V → WalkError E → Type 0
-  EndsEarly stops sql params db old new (Failed fault) = IsCallFault fault × TakesFirst sql params db old new
-  EndsEarly stops sql params db old new (Cause e) = StopsAt stops sql params db old e new
+  -- the records (`TakesPrefixOfRecords`). At the visitor's error it had stopped at a record (`StopsAtRecord`).
+  abbrev pub WalkEndsEarly : {E : Type 0} → (V → X → E → V → Type 0) → List ℕ → Row → State → V → V → WalkError E → Type 0
+  WalkEndsEarly stops sql params db old new (Failed fault) = IsCallFault fault × TakesPrefixOfRecords sql params db old new
+  WalkEndsEarly stops sql params db old new (Cause e) = StopsAtRecord stops sql params db old e new

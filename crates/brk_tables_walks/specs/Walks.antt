@@ -6,33 +6,33 @@ use Rattle.sqlite.specs.Held.{Held, state}
 use Rattle.sqlite.specs.State.{State, HasCleanDisk, Survives}
 use Rattle.brk_model.specs.Run.{IsCallFault}
 use Rattle.brk_model.specs.Tables.{Tables}
-use Rattle.brk_tables_schema.specs.Made.{HasRows}
+use Rattle.brk_tables_schema.specs.Made.{HasDeskTables}
 use Rattle.brk_tables_walks.specs.Walk.{IsWalkError}
 use Rattle.brk_tables_walks.specs.declared.walking.WalkError.{WalkError}
 use Rattle.brk_tables_walks.specs.declared.walking.WalkError.TheVariants.{Failed, Cause}
 
 -- The visitor took some records, in order, which changed it from `before` to `after`, and `So`
 -- holds of the list of these records.
-abbrev pub TakesInOrder : {X M V : Type 0} → (List M → Type 0) → (X → M) → (V → X → V → Type 0) → V → V → Type 0
-TakesInOrder {X} So of takes before after = (taken : List X) × FoldsTo takes before taken after × So (map of taken)
+abbrev pub TakesListSatisfying : {X M V : Type 0} → (List M → Type 0) → (X → M) → (V → X → V → Type 0) → V → V → Type 0
+TakesListSatisfying {X} So of takes before after = (taken : List X) × FoldsTo takes before taken after × So (map of taken)
 
 -- The walk failed. At a fault, which is `Memory` or `Store`, `Begins` holds of the records that the
 -- visitor took. At the visitor's error `Begins` holds of the records that it took, followed by the
 -- one at which it stopped.
-abbrev pub StopsBeforeEnd : {X M V E : Type 0} → (List M → Type 0) → (X → M) → (V → X → V → Type 0) → (V → X → E → V → Type 0) → V → V → WalkError E → Type 0
-StopsBeforeEnd {X} Begins of takes stops before after (Failed fault) = IsCallFault fault × TakesInOrder Begins of takes before after
-StopsBeforeEnd {X} {M} {V} Begins of takes stops before after (Cause e) =
+abbrev pub TableWalkEndsEarly : {X M V E : Type 0} → (List M → Type 0) → (X → M) → (V → X → V → Type 0) → (V → X → E → V → Type 0) → V → V → WalkError E → Type 0
+TableWalkEndsEarly {X} Begins of takes stops before after (Failed fault) = IsCallFault fault × TakesListSatisfying Begins of takes before after
+TableWalkEndsEarly {X} {M} {V} Begins of takes stops before after (Cause e) =
     (taken : List X) × (next : X) × (at : V) × FoldsTo takes before taken at × stops at next e after × Begins (map of (taken ++ next ∷ []))
 
 -- The database is open, and the records `all` equal the whole `list` of the rows that it contains.
 -- The last part is vacuous if it does not contain all tables of a desk.
-abbrev pub IsWholeList : {M : Type 0} → State → (Tables → List M) → List M → Type 0
-IsWholeList db list all = IsTrue db.is_open × ((t : Tables) → HasRows t db.now → all ≡ list t)
+abbrev pub AreAllRecordsOfList : {M : Type 0} → State → (Tables → List M) → List M → Type 0
+AreAllRecordsOfList db list all = IsTrue db.is_open × ((t : Tables) → HasDeskTables t db.now → all ≡ list t)
 
 -- The records `first` are a prefix of the `list` of the rows that the open database contains, or
 -- there are none. Vacuous if the open database does not contain all tables of a desk.
 abbrev pub IsPrefixOfList : {M : Type 0} → State → (Tables → List M) → List M → Type 0
-IsPrefixOfList {M} db list first = (first ≡ []) ⊎ (IsTrue db.is_open × ((t : Tables) → HasRows t db.now → (rest : List M) × (first ++ rest ≡ list t)))
+IsPrefixOfList {M} db list first = (first ≡ []) ⊎ (IsTrue db.is_open × ((t : Tables) → HasDeskTables t db.now → (rest : List M) × (first ++ rest ≡ list t)))
 
 -- The postcondition of a walk, which writes nothing: it passes the records of `list` to a visitor,
 -- in order, one at a time, until the visitor stops. The clauses on records and on the database are
@@ -40,9 +40,9 @@ IsPrefixOfList {M} db list first = (first ≡ []) ⊎ (IsTrue db.is_open × ((t 
 pub record TableWalkPost {S X M V E : Type 0} (g : Ghosts S) (old new : Held S) (of : X → M) (list : Tables → List M) (takes : V → X → V → Type 0) (stops : V → X → E → V → Type 0)
     (before after : V) (result : Result (Unit {0}) (WalkError E)) : Type 0 where
   -- If the walk returns `Ok`, the visitor took every record of the list, in order.
-  pub all : HasCleanDisk (state g new) → OnOk result (TakesInOrder (IsWholeList (state g old) list) of takes before after)
-  -- At an error the visitor took a prefix of the list, possibly none (`StopsBeforeEnd`).
-  pub early : HasCleanDisk (state g new) → IfErr result (StopsBeforeEnd (IsPrefixOfList (state g old) list) of takes stops before after)
+  pub all : HasCleanDisk (state g new) → OnOk result (TakesListSatisfying (AreAllRecordsOfList (state g old) list) of takes before after)
+  -- At an error the visitor took a prefix of the list, possibly none (`TableWalkEndsEarly`).
+  pub early : HasCleanDisk (state g new) → IfErr result (TableWalkEndsEarly (IsPrefixOfList (state g old) list) of takes stops before after)
   -- The error is `Memory` or `Store`, or that of the visitor, whether or not the disk assumption
   -- holds.
   pub fault : IfErr result (IsWalkError stops after)

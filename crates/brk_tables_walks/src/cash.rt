@@ -6,10 +6,10 @@ ghost use Rattle.brk_tables_walks.specs.Lists.{cash_rows_between};
 ghost use Rattle.brk_tables_walks.specs.Walks.{TableWalkPost};
 
 use crate::visitor::Visitor;
-use crate::walking::{WalkError, walk};
+use crate::walking::{WalkError, walk_query_rows};
 use brk_changes::MoveRow;
 use brk_money::{Id, Stamp};
-use brk_tables_schema::values::{id_value, stamp_value};
+use brk_tables_schema::values::{id_as_parameter, stamp_as_parameter};
 use sqlite::{Alter, Connection};
 
 /// Passes the cash rows of an account from the stamp `from` to `to`, both included, to the visitor,
@@ -17,7 +17,7 @@ use sqlite::{Alter, Connection};
 ///
 /// Stops at the first error and returns it: `Failed` with `Memory` or `Store`, or the visitor's
 /// `Cause`. Returns `Ok` only after the last row. Writes nothing.
-pub fn walk_cash_between<S: Alter, E, V: Visitor<MoveRow, E>>(
+pub fn walk_cash_rows_of_account<S: Alter, E, V: Visitor<MoveRow, E>>(
     conn: &mut Connection<S>,
     account: Id,
     from: Stamp,
@@ -32,10 +32,10 @@ pub fn walk_cash_between<S: Alter, E, V: Visitor<MoveRow, E>>(
     ensures walked { TableWalkPost S.Store conn.old conn.new abstract_move_row (cash_rows_between account from to) V.takes V.stops visitor.old visitor.new result }
 {
     let _settled = conn.is_autocommit();
-    walk::<S, MoveRow, E, V>(
+    walk_query_rows::<S, MoveRow, E, V>(
         conn,
         "SELECT CM_ID, CM_CA_ID, CM_T_ID, CM_DTS, CM_AMT, CM_NAME FROM CASH_MOVE WHERE CM_CA_ID = ?1 AND CM_DTS >= ?2 AND CM_DTS <= ?3 ORDER BY CM_DTS, CM_ID",
-        &[id_value(account), stamp_value(from), stamp_value(to)],
+        &[id_as_parameter(account), stamp_as_parameter(from), stamp_as_parameter(to)],
         visitor,
     )
 }

@@ -8,8 +8,8 @@ pub mod trades;
 pub mod visitor;
 pub mod walking;
 
-pub use cash::walk_cash_between;
+pub use cash::walk_cash_rows_of_account;
 pub use lots::walk_lots;
 pub use trades::walk_completed_trades;
 pub use visitor::Visitor;
-pub use walking::{WalkError, walk};
+pub use walking::{WalkError, walk_query_rows};

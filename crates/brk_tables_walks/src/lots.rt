@@ -6,10 +6,10 @@ ghost use Rattle.brk_tables_walks.specs.Lists.{lots_by_symbol};
 ghost use Rattle.brk_tables_walks.specs.Walks.{TableWalkPost};
 
 use crate::visitor::Visitor;
-use crate::walking::{WalkError, walk};
+use crate::walking::{WalkError, walk_query_rows};
 use brk_changes::HoldingRow;
 use brk_money::Id;
-use brk_tables_schema::values::id_value;
+use brk_tables_schema::values::id_as_parameter;
 use sqlite::{Alter, Connection};
 
 /// Passes the lots of an account to the visitor, sorted by symbol and then by stamp of opening, the
@@ -30,10 +30,10 @@ pub fn walk_lots<S: Alter, E, V: Visitor<HoldingRow, E>>(
     ensures walked { TableWalkPost S.Store conn.old conn.new abstract_holding_row (lots_by_symbol account) V.takes V.stops visitor.old visitor.new result }
 {
     let _settled = conn.is_autocommit();
-    walk::<S, HoldingRow, E, V>(
+    walk_query_rows::<S, HoldingRow, E, V>(
         conn,
         "SELECT H_T_ID, H_CA_ID, H_S_SYMB, H_DTS, H_PRICE, H_QTY FROM HOLDING WHERE H_CA_ID = ?1 ORDER BY H_S_SYMB, H_DTS, H_T_ID",
-        &[id_value(account)],
+        &[id_as_parameter(account)],
         visitor,
     )
 }

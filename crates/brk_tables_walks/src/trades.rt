@@ -6,10 +6,10 @@ ghost use Rattle.brk_tables_walks.specs.Lists.{completed_trades_by_stamp_and_id}
 ghost use Rattle.brk_tables_walks.specs.Walks.{TableWalkPost};
 
 use crate::visitor::Visitor;
-use crate::walking::{WalkError, walk};
+use crate::walking::{WalkError, walk_query_rows};
 use brk_changes::TradeRow;
 use brk_money::Status;
-use brk_tables_schema::values::status_value;
+use brk_tables_schema::values::status_as_parameter;
 use sqlite::{Alter, Connection};
 
 /// Passes the completed trades of all accounts to the visitor, sorted by the stamp of completion
@@ -29,10 +29,10 @@ pub fn walk_completed_trades<S: Alter, E, V: Visitor<TradeRow, E>>(
     ensures walked { TableWalkPost S.Store conn.old conn.new abstract_trade_row completed_trades_by_stamp_and_id V.takes V.stops visitor.old visitor.new result }
 {
     let _settled = conn.is_autocommit();
-    walk::<S, TradeRow, E, V>(
+    walk_query_rows::<S, TradeRow, E, V>(
         conn,
         "SELECT T_ID, T_DTS, T_ST_ID, T_TT_ID, T_IS_CASH, T_S_SYMB, T_QTY, T_BID_PRICE, T_CA_ID, T_EXEC_NAME, T_TRADE_PRICE, T_CHRG, T_COMM, T_TAX, T_LIFO FROM TRADE WHERE T_ST_ID = ?1 ORDER BY T_DTS, T_ID",
-        &[status_value(Status::Completed)],
+        &[status_as_parameter(Status::Completed)],
         visitor,
     )
 }

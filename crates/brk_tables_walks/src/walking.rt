@@ -3,7 +3,7 @@ ghost use Rattle.sqlite.specs.Held.{state};
 ghost use Rattle.sqlite.specs.State.{HasCleanDisk, IsRolledBack, IsUnchanged, Survives};
 ghost use Rattle.sqlite.specs.Values.{bound};
 ghost use Rattle.brk_model.specs.Run.{IsCallFault};
-ghost use Rattle.brk_tables_walks.specs.Walk.{IsWalkError, EndsEarly, IsQuery, TakesAll};
+ghost use Rattle.brk_tables_walks.specs.Walk.{IsWalkError, WalkEndsEarly, HasNoReturningClause, TakesAllRecords};
 
 use crate::visitor::Visitor;
 use brk_money::Fault;
@@ -36,26 +36,26 @@ fn decode_record<R: Record>(row: &Row) -> Result<R, Fault>
 /// Passes the records in the rows of a query to the visitor, in order, until all are passed or an
 /// error occurs. Fails with `Failed` and the fault `Memory` or `Store`, or with `Cause` and the
 /// visitor's error.
-pub fn walk<S: Alter, R: Record, E, V: Visitor<R, E>>(
+pub fn walk_query_rows<S: Alter, R: Record, E, V: Visitor<R, E>>(
     conn: &mut Connection<S>,
     sql: &str,
     params: &[ValueRef<'_>],
     visitor: &mut V,
 ) -> Result<(), WalkError<E>>
-    requires query { IsQuery sql.now }
+    requires query { HasNoReturningClause sql.now }
     requires ready { V.ready visitor.old }
     ensures ready { V.ready visitor.new }
     ensures leads { V.leads visitor.old visitor.new }
     // If it returns `Ok`, the visitor took all records of the result, in order.
-    ensures all { HasCleanDisk (state S.Store conn.new) → OnOk result (TakesAll R.cells V.takes sql.now (bound params.now) (state S.Store conn.old) visitor.old visitor.new) }
+    ensures all { HasCleanDisk (state S.Store conn.new) → OnOk result (TakesAllRecords R.cells V.takes sql.now (bound params.now) (state S.Store conn.old) visitor.old visitor.new) }
     // At the visitor's error, it took the records before the one at which it stopped. Otherwise it
     // took the first records, possibly none.
-    ensures early { HasCleanDisk (state S.Store conn.new) → IfErr result (EndsEarly R.cells V.takes V.stops sql.now (bound params.now) (state S.Store conn.old) visitor.old visitor.new) }
+    ensures early { HasCleanDisk (state S.Store conn.new) → IfErr result (WalkEndsEarly R.cells V.takes V.stops sql.now (bound params.now) (state S.Store conn.old) visitor.old visitor.new) }
     // The error is `Memory` or `Store`, or that of the visitor, whether or not the disk assumption
     // holds.
     ensures fault { IfErr result (IsWalkError V.stops visitor.new) }
-    ensures same { HasCleanDisk (state S.Store conn.new) → OnOk result (IsUnchanged (state S.Store conn.old) (state S.Store conn.new)) }
-    ensures kept { HasCleanDisk (state S.Store conn.new) → IsUnchanged (state S.Store conn.old) (state S.Store conn.new) ⊎ IsRolledBack (state S.Store conn.old) (state S.Store conn.new) }
+    ensures unchanged_if_ok { HasCleanDisk (state S.Store conn.new) → OnOk result (IsUnchanged (state S.Store conn.old) (state S.Store conn.new)) }
+    ensures changes_at_most_by_rollback { HasCleanDisk (state S.Store conn.new) → IsUnchanged (state S.Store conn.old) (state S.Store conn.new) ⊎ IsRolledBack (state S.Store conn.old) (state S.Store conn.new) }
     ensures mode { conn.old.in_transaction ≡ false → conn.new.in_transaction ≡ false }
     ensures crash { Survives (state S.Store conn.old) (state S.Store conn.new) (λ _. ⊥) }
 {

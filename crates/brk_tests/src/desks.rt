@@ -17,7 +17,7 @@ pub struct Still {
 
 impl Still {
     /// Returns the clock that always returns 2024-03-01 00:00 UTC.
-    pub fn at_first_moment() -> Still {
+    pub fn at_first_timestamp() -> Still {
         Still {
             at: Stamp::nearest(FIRST_MOMENT),
         }
@@ -67,7 +67,7 @@ pub fn run_batch_at_desk(
         alloc,
         input,
         &mut lines,
-        &mut Still::at_first_moment(),
+        &mut Still::at_first_timestamp(),
         desk,
     );
     (lines, ended)

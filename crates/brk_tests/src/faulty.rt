@@ -16,7 +16,7 @@ pub struct Failing<'a> {
 impl<'a> Failing<'a> {
     /// Returns a reader of `bytes` that fails once after the given number of first bytes, or after
     /// all of them.
-    pub fn failing_after(bytes: &'a [u8], count: usize, fault: ErrorKind) -> Failing<'a> {
+    pub fn reader_failing_once(bytes: &'a [u8], count: usize, fault: ErrorKind) -> Failing<'a> {
         let (before, after) = bytes.split_at(count.min(bytes.len()));
         Failing {
             before,

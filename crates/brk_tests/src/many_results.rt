@@ -55,10 +55,10 @@ fn expect_totals_after_trades(
 ) -> Result<(), Fail> {
     let account = Id::new(100).ok_or("account")?;
     let broker = Id::new(1).ok_or("broker")?;
-    let summaries = store.summaries_of(alloc, account)?;
+    let summaries = store.summaries_of_account(alloc, account)?;
     assert_eq!(rt; summaries.len(), 1);
     assert_eq!(rt; summaries[0].qty, 42_084);
-    match store.broker_numbers(broker)? {
+    match store.broker_totals(broker)? {
         Some(numbers) => {
             assert_eq!(rt; numbers.trades.get(), 500);
             assert_eq!(rt; numbers.commissions.get(), 1_252_500);

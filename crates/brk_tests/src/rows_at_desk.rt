@@ -14,7 +14,7 @@ use std::test::Fail;
 const LOTS: u64 = 100;
 
 // Returns a batch of purchases of two shares each: `LOTS` for account 100, and one for account 101.
-fn purchases_of_two_shares_each(alloc: Global) -> Result<String, Fail> {
+fn batch_of_two_share_purchases(alloc: Global) -> Result<String, Fail> {
     let mut batch = String::from_str(alloc, "batch,P\naccount,101,10,1,Side,1,10000.00\n")?;
     for n in 1..=LOTS {
         writeln!(batch, "order,100,TMB,ABC,2,,cash,fifo,Ann,Lee,T10")?;
@@ -29,7 +29,7 @@ fn purchases_of_two_shares_each(alloc: Global) -> Result<String, Fail> {
 // Returns the files of a desk with `LOTS` lots of account 100 and one of account 101.
 fn files_with_hundred_lots(alloc: Global) -> Result<Held, Fail> {
     let set = files_with_reference_data(alloc)?;
-    let batch = purchases_of_two_shares_each(alloc)?;
+    let batch = batch_of_two_share_purchases(alloc)?;
     let Sent { seen, held, .. } = run_batch_until_crash(
         alloc,
         &set,
@@ -69,7 +69,7 @@ fn sale_completes_within_calls(
             alloc,
             batch.as_bytes(),
             &mut lines,
-            &mut Still::at_first_moment(),
+            &mut Still::at_first_timestamp(),
             &mut desk,
         ));
     }

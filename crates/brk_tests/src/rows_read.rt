@@ -13,7 +13,7 @@ use std::test::Fail;
 const LOTS: u64 = 40;
 
 // Returns a batch of the orders and results of forty purchases of one share each.
-fn purchases_of_one_share_each(alloc: Global) -> Result<String, Fail> {
+fn batch_of_one_share_purchases(alloc: Global) -> Result<String, Fail> {
     let mut batch = String::from_str(alloc, "batch,P\n")?;
     for n in 1..=LOTS {
         writeln!(batch, "order,100,TMB,ABC,1,,cash,fifo,Ann,Lee,T10")?;
@@ -25,7 +25,7 @@ fn purchases_of_one_share_each(alloc: Global) -> Result<String, Fail> {
 
 // Returns a store whose account 100 has forty lots of one share each.
 fn store_with_forty_lots(alloc: Global) -> Result<Store<MemStore>, Fail> {
-    let batch = purchases_of_one_share_each(alloc)?;
+    let batch = batch_of_one_share_purchases(alloc)?;
     let mut desk = desk_with_reference_data(alloc)?;
     let (_, ended) = run_batch_at_desk(alloc, &mut desk, batch.as_bytes());
     match ended {

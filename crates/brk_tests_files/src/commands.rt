@@ -31,7 +31,7 @@ fn append_marked_lines(out: &mut String, mark: char, bytes: &[u8]) -> Result<(),
 
 // Runs the program with these arguments and this input, and appends its output, its errors and its
 // exit status.
-fn run_and_append_output(
+fn run_program_and_append_output(
     rt: &HostRuntime,
     out: &mut String,
     words: &str,
@@ -49,7 +49,7 @@ fn run_and_append_output(
 }
 
 // Changes a file without the program, and appends whether that succeeded.
-fn change_file_and_append(
+fn change_file_and_append_result(
     rt: &HostRuntime,
     out: &mut String,
     verb: &str,
@@ -59,7 +59,7 @@ fn change_file_and_append(
     let done = match verb {
         "write" => folder::write_file(rt, words, input),
         "copy" => folder::copy_file(rt, words),
-        "cut" => folder::cut_file_in_half(rt, words),
+        "cut" => folder::remove_second_half_of_file(rt, words),
         "sql" => folder::execute_sql_in_file(rt, words, input),
         _ => false,
     };
@@ -76,7 +76,7 @@ pub fn execute_transcript_command(
 ) -> Result<(), Failed> {
     let (verb, words) = command.split_once(' ').unwrap_or((command, ""));
     match verb {
-        "$" => run_and_append_output(rt, out, words, input),
-        _ => change_file_and_append(rt, out, verb, words, input),
+        "$" => run_program_and_append_output(rt, out, words, input),
+        _ => change_file_and_append_result(rt, out, verb, words, input),
     }
 }

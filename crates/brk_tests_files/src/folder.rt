@@ -17,7 +17,7 @@ pub fn copy_file(rt: &HostRuntime, paths: &str) -> bool {
 }
 
 /// Removes the second half of a file. Returns true if that succeeds.
-pub fn cut_file_in_half(rt: &HostRuntime, path: &str) -> bool {
+pub fn remove_second_half_of_file(rt: &HostRuntime, path: &str) -> bool {
     match fs::read(rt, path) {
         Ok(whole) => write_file(rt, path, &whole[..whole.len() / 2]),
         Err(_) => false,

@@ -12,7 +12,7 @@ struct Due<'a> {
 }
 
 // Executes the pending command, if there is one, and appends its output lines.
-fn execute_due_command(
+fn execute_pending_file_command(
     rt: &HostRuntime,
     out: &mut String,
     due: Option<Due<'_>>,
@@ -29,7 +29,7 @@ fn is_output_line(line: &str) -> bool {
 }
 
 // Returns the command that a line begins, or `None` if it is a comment or empty.
-fn command_of_line(alloc: Global, line: &str) -> Option<Due<'_>> {
+fn command_begun_by_line(alloc: Global, line: &str) -> Option<Due<'_>> {
     if line.is_empty() || line.starts_with('#') {
         return None;
     }
@@ -40,7 +40,7 @@ fn command_of_line(alloc: Global, line: &str) -> Option<Due<'_>> {
 }
 
 // Adds an input line to the pending command, if there is one.
-fn add_input_to_due<'a>(due: Option<Due<'a>>, text: &str) -> Result<Option<Due<'a>>, AllocError> {
+fn add_input_to_pending_command<'a>(due: Option<Due<'a>>, text: &str) -> Result<Option<Due<'a>>, AllocError> {
     let Some(mut due) = due else {
         return Ok(None);
     };
@@ -59,12 +59,12 @@ fn process_transcript_line<'a>(
     match line.strip_prefix("| ") {
         Some(text) => {
             writeln!(out, "{line}")?;
-            Ok(add_input_to_due(due, text)?)
+            Ok(add_input_to_pending_command(due, text)?)
         }
         None => {
-            execute_due_command(rt, out, due)?;
+            execute_pending_file_command(rt, out, due)?;
             writeln!(out, "{line}")?;
-            Ok(command_of_line(rt.alloc(), line))
+            Ok(command_begun_by_line(rt.alloc(), line))
         }
     }
 }
@@ -79,6 +79,6 @@ pub fn replay_file_transcript(rt: &HostRuntime, text: &str) -> Result<String, Fa
             due = process_transcript_line(rt, &mut out, due, line)?;
         }
     }
-    execute_due_command(rt, &mut out, due)?;
+    execute_pending_file_command(rt, &mut out, due)?;
     Ok(out)
 }

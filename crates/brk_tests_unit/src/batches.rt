@@ -5,7 +5,7 @@ ghost use Rattle.brk_model.specs.Commands.{Again, Booked, Done, Refused};
 ghost use Rattle.brk_tests_unit.specs.declared.batches.Asked.{Asked};
 ghost use Rattle.brk_tests_unit.specs.declared.batches.Asked.TheVariants as asks;
 
-use brk_batch_engine::{BatchFault, Clock, Counts, FaultKind, MOST_BYTES, RowAnswer, Rows, run};
+use brk_batch_engine::{BatchFault, Clock, Counts, FaultKind, MAXIMUM_INPUT_BYTES, RowAnswer, Rows, execute_batch_on_desk};
 use brk_money::{Fault, Limit, Planned, Refusal, Stamp};
 use brk_ref::Key;
 use std::alloc::{AllocError, Global};
@@ -161,7 +161,7 @@ impl Long {
         if at < 8 {
             return header[at as usize];
         }
-        let left = MOST_BYTES.saturating_sub(at) as usize;
+        let left = MAXIMUM_INPUT_BYTES.saturating_sub(at) as usize;
         if left > self.tail.len() {
             return b'\n';
         }
@@ -174,7 +174,7 @@ impl Long {
 
 impl Read for Long {
     fn read(&mut self, buf: &mut [u8]) -> io::Result<usize> {
-        if self.at >= MOST_BYTES {
+        if self.at >= MAXIMUM_INPUT_BYTES {
             return Err(io::Error::from(io::ErrorKind::Other));
         }
         let mut at = self.at;
@@ -182,7 +182,7 @@ impl Read for Long {
             *place = self.byte_at_position(at);
             at = at.saturating_add(1);
         }
-        let n = buf.len().min(MOST_BYTES.saturating_sub(self.at) as usize);
+        let n = buf.len().min(MAXIMUM_INPUT_BYTES.saturating_sub(self.at) as usize);
         self.at = self.at.saturating_add(n as u64);
         Ok(n)
     }
@@ -225,7 +225,7 @@ fn run_batch_on_new_desk<R: Read + Drop>(
         at: Stamp::new(7).ok_or("a stamp")?,
     };
     let mut desk = Last { moment: 0 };
-    let done = run::<R, Vec<u8>, Fixed, Last>(alloc, reader, &mut out, &mut clock, &mut desk);
+    let done = execute_batch_on_desk::<R, Vec<u8>, Fixed, Last>(alloc, reader, &mut out, &mut clock, &mut desk);
     Ok((done, out))
 }
 
@@ -389,7 +389,7 @@ fn a_failed_write_ends_the_batch(rt: HostRuntime) -> Result<(), Fail> {
             at: Stamp::new(7).ok_or("a stamp")?,
         };
         let mut desk = Last { moment: 0 };
-        let done = run::<&[u8], Choppy, Fixed, Last>(
+        let done = execute_batch_on_desk::<&[u8], Choppy, Fixed, Last>(
             rt.alloc(),
             WHOLE,
             &mut out,

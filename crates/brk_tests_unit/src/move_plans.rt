@@ -2,7 +2,7 @@ use crate::told::format_planned_reply;
 use brk_money::{Cents, Day, Id, MoveId, Stamp};
 use brk_orders::{Direction, Movement};
 use brk_ref::MovedAmount;
-use brk_trade::{MoveFound, plan_move, plan_oneday};
+use brk_trade::{MovementPlanFacts, plan_move, plan_oneday};
 use std::alloc::Global;
 use std::process::Abort;
 use std::test::Fail;
@@ -18,12 +18,12 @@ struct Case {
 }
 
 // Returns the facts that the tables hold for the movement of a case.
-fn movement_facts(case: Case) -> Result<MoveFound, Fail> {
+fn movement_facts(case: Case) -> Result<MovementPlanFacts, Fail> {
     let balance = match case.balance {
         Some(balance) => Some(Cents::new(balance).ok_or("balance")?),
         None => None,
     };
-    Ok(MoveFound {
+    Ok(MovementPlanFacts {
         balance,
         has_all_movements: case.has_all_movements,
         next: MoveId::new(case.next).ok_or("number")?,

@@ -4,9 +4,9 @@
 use crate::told::format_planned_reply;
 use brk_lots::Position;
 use brk_money::{Id, Price, Rate, Stamp, TaxRate, TaxStatus, TradeType, Wide};
-use brk_orders::{check_feed, check_order};
+use brk_orders::{parse_market_feed, parse_trade_order};
 use brk_ref::{ChargeAmount, LastTrade, Symbol, Volume};
-use brk_trade::{OrderAccount, OrderFound, Quote, plan_feed, plan_order, price_triggers_trade};
+use brk_trade::{OrderAccount, OrderPlanFacts, Quote, plan_feed, plan_order, price_triggers_trade};
 use std::alloc::Global;
 use std::process::Abort;
 use std::test::Fail;
@@ -29,7 +29,7 @@ fn quote_with_100_shares_left(alloc: Global) -> Result<Vec<Quote>, Fail> {
 fn reply_to_feed(alloc: Global, ticks: &[&[u8]]) -> Result<String, Fail> {
     let now = Stamp::nearest(1_709_251_200_019);
     let quotes = quote_with_100_shares_left(alloc)?;
-    let planned = match check_feed(alloc, ticks)? {
+    let planned = match parse_market_feed(alloc, ticks)? {
         Ok(feed) => plan_feed(alloc, &feed, quotes, None, now),
         Err(_) => return Err("a feed")?,
     };
@@ -59,14 +59,14 @@ fn a_feed_beyond_volume_limit_is_refused(rt: HostRuntime) -> Result<(), Fail> {
 
 // Returns the facts for a purchase while ABC is at 10.00, after `trades` trades: a commission rate
 // of one percent and a charge of 5.00.
-fn purchase_facts(trades: u64) -> Result<OrderFound, Fail> {
+fn purchase_facts(trades: u64) -> Result<OrderPlanFacts, Fail> {
     let broker = Id::new(1).ok_or("broker")?;
     let rates = TaxRate::new(20_000).ok_or("rates")?;
     let account = OrderAccount {
         broker,
         tax_status: TaxStatus::Withheld,
     };
-    Ok(OrderFound {
+    Ok(OrderPlanFacts {
         account: Some(account),
         last_price: Price::new(1_000),
         is_permitted: true,
@@ -84,8 +84,8 @@ const PURCHASE: [&[u8]; 10] = [
 ];
 
 // Returns the reply to a purchase with these facts, or its refusal.
-fn reply_to_purchase(alloc: Global, found: &OrderFound) -> Result<String, Fail> {
-    let order = match check_order(alloc, &PURCHASE)? {
+fn reply_to_purchase(alloc: Global, found: &OrderPlanFacts) -> Result<String, Fail> {
+    let order = match parse_trade_order(alloc, &PURCHASE)? {
         Ok(order) => order,
         Err(_) => return Err("an order")?,
     };

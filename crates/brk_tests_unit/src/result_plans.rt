@@ -5,7 +5,7 @@ use brk_money::{
 };
 use brk_ref::{ChargeAmount, Name, Symbol};
 use brk_trade::{
-    Amount, BrokerNumbers, ResultAccount, ResultFound, TradeCount, TradeRow, plan_result,
+    Amount, BrokerTotals, ResultAccount, ResultPlanFacts, TradeCount, TradeRow, plan_result,
 };
 use std::alloc::Global;
 use std::process::Abort;
@@ -81,22 +81,22 @@ fn account_of_case(case: Case) -> Result<ResultAccount, Fail> {
 }
 
 // Returns the broker totals of a case.
-fn broker_totals_of_case(case: Case) -> Result<BrokerNumbers, Fail> {
-    Ok(BrokerNumbers {
+fn broker_totals_of_case(case: Case) -> Result<BrokerTotals, Fail> {
+    Ok(BrokerTotals {
         trades: TradeCount::new(0).ok_or("trades")?,
         commissions: Amount::new(case.commissions).ok_or("commissions")?,
     })
 }
 
 // Returns the facts that the tables hold for the result of a case.
-fn result_facts(alloc: Global, case: Case) -> Result<ResultFound, Fail> {
+fn result_facts(alloc: Global, case: Case) -> Result<ResultPlanFacts, Fail> {
     let account = account_of_case(case)?;
     let broker = broker_totals_of_case(case)?;
     let rates = TaxRate::new(20_000).ok_or("rates")?;
     let security = Name::parse(alloc, b"Acme")?.ok_or("security")?;
     let trade = trade_row_of_case(alloc, case)?;
     let next = MoveId::new(1).ok_or("number")?;
-    Ok(ResultFound {
+    Ok(ResultPlanFacts {
         trade,
         account,
         broker,
@@ -113,7 +113,7 @@ fn result_facts(alloc: Global, case: Case) -> Result<ResultFound, Fail> {
 // refusal.
 fn reply_to_result(
     alloc: Global,
-    found: Option<&ResultFound>,
+    found: Option<&ResultPlanFacts>,
     last: Option<Stamp>,
 ) -> Result<String, Fail> {
     let price = Price::new(1_010).ok_or("price")?;

@@ -15,7 +15,7 @@ use Rattle.brk_money.specs.declared.side.Side.{Side}
 use Rattle.brk_money.specs.declared.side.Side.TheVariants.{Buy, Sell}
 use Rattle.brk_plans.proofs.Refusals.{first_joined, first_of}
 use Rattle.brk_trade.specs.Outcomes.{deal_of_trade_row, checks_before_reading_lots, checks_after_reading_lots, result_checks, values_of_closing}
-use Rattle.brk_trade.specs.declared.result_found.ResultFound.{ResultFound}
+use Rattle.brk_trade.specs.declared.result_found.ResultPlanFacts.{ResultPlanFacts}
 use Rattle.brk_changes.specs.declared.trade_row.TradeRow.{TradeRow}
 
 -- where the first tests find no cause, the first refusal is that of the others
@@ -23,7 +23,7 @@ pub first_after : (ts us : List RefusalCheck) → first_refusal ts ≡ None → 
 first_after ts us e = first_joined ts us ∙ ap (λ refusal. first_of refusal (first_refusal us)) e
 
 -- what the first tests refuse is refused for their reason
-pub first_refuses : (found : ResultFound) (price : ℕ) (values : Values) (clock : Option ℕ) (refusal : Refusal)
+pub first_refuses : (found : ResultPlanFacts) (price : ℕ) (values : Values) (clock : Option ℕ) (refusal : Refusal)
     → first_refusal (checks_before_reading_lots found) ≡ Some refusal → first_refusal (result_checks found price values clock) ≡ Some refusal
 first_refuses found price values clock refusal e =
     first_joined (checks_before_reading_lots found) (checks_after_reading_lots found price values clock) ∙ ap (λ cause. first_of cause (first_refusal (checks_after_reading_lots found price values clock))) e
@@ -48,7 +48,7 @@ pub closing_values : (d : Deal) (ls : List Lot) (closing : Closing) → IsClosin
 closing_values d ls closing k = λ i. record { buy_value = nat_abs (k.bought i); sell_value = nat_abs (k.sold i) }
 
 -- a refusal that the values tell, over the lots of a position, after the first tests found no cause
-pub refused_by_values : (found : ResultFound) (price : ℕ) (ls : List Lot) (at stamp : ℕ) (closing : Closing) (clock : _) (refusal : Refusal)
+pub refused_by_values : (found : ResultPlanFacts) (price : ℕ) (ls : List Lot) (at stamp : ℕ) (closing : Closing) (clock : _) (refusal : Refusal)
     → IsClosingOfDeal (deal_of_trade_row found.trade price at) ls closing → first_refusal (checks_before_reading_lots found) ≡ None
     → first_refusal (checks_after_reading_lots found price (values_of_closing closing) clock) ≡ Some refusal
     → first_refusal (result_checks found price (closing_values_of_deal (deal_of_trade_row found.trade price stamp) (shares_of_lots ls)) clock) ≡ Some refusal

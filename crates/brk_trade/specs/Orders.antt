@@ -30,7 +30,7 @@ use Rattle.brk_changes.specs.Rows.{abstract_trade_row}
 use Rattle.brk_changes.specs.declared.change.Change.{Change}
 use Rattle.brk_changes.specs.declared.change.Change.TheVariants as change
 use Rattle.brk_trade.specs.declared.order.Placement.{Placement}
-use Rattle.brk_trade.specs.declared.order.OrderFound.{OrderFound}
+use Rattle.brk_trade.specs.declared.order.OrderPlanFacts.{OrderPlanFacts}
 use Rattle.brk_plans.specs.declared.plan.Plan.{Plan}
 use Rattle.brk_plans.specs.declared.reply.Reply.TheVariants.{Ordered}
 use Rattle.brk_changes.specs.declared.request_row.RequestRow.{RequestRow}
@@ -38,7 +38,7 @@ use Rattle.brk_changes.specs.declared.trade_row.TradeRow.{TradeRow}
 
 -- The checks of an order against the facts `found`: its account and its security exist, its
 -- executor is permitted, and a charge and a commission rate apply.
-abbrev pub order_checks : OrderFound → List RefusalCheck
+abbrev pub order_checks : OrderPlanFacts → List RefusalCheck
 order_checks found =
     (is_none found.account, NoAccount) ∷ (is_none found.last_price, NoSecurity) ∷ (not found.is_permitted, NotPermitted)
     ∷ (is_none found.charge, NoCharge) ∷ (is_none found.rate, NoRate) ∷ []
@@ -49,7 +49,7 @@ requested_price_or_last order last = unwrap_or (price_of_order order.order_type)
 
 -- The terms of `order` from the facts `found`. A number that is missing counts as 0, and a missing
 -- account as untaxed.
-abbrev pub terms_of_order : Order → OrderFound → Terms
+abbrev pub terms_of_order : Order → OrderPlanFacts → Terms
 terms_of_order order found = record {
   side = side_of_trade_type (trade_type_of_order order.order_type);
   qty = order.qty;
@@ -64,7 +64,7 @@ terms_of_order order found = record {
 
 -- `order` passes its checks against the facts `found`, and `placement` has its terms and the broker
 -- of its account.
-pub record IsCheckedPlacement (order : Order) (found : OrderFound) (placement : Placement) : Type 0 where
+pub record IsCheckedPlacement (order : Order) (found : OrderPlanFacts) (placement : Placement) : Type 0 where
   pub tested : first_refusal (order_checks found) ≡ None
   pub terms : placement.terms ≡ terms_of_order order found
   pub broker : placement.broker ≡ option_map_or (λ a. a.broker) found.account 0
@@ -79,14 +79,14 @@ MatchesModelEstimate terms given estimate =
 
 -- `order` passes its checks against the facts `found`, and `estimate` follows from its terms and
 -- the lots that the source may have (`MatchesModelEstimate`).
-pub record EstimatesCheckedOrder (order : Order) (found : OrderFound) (given : List Lot → Type 0) (estimate : Estimate) : Type 0 where
+pub record EstimatesCheckedOrder (order : Order) (found : OrderPlanFacts) (given : List Lot → Type 0) (estimate : Estimate) : Type 0 where
   pub accepted : first_refusal (order_checks found) ≡ None
   pub estimated : MatchesModelEstimate (terms_of_order order found) given estimate
 
 -- The check that an id is left for a new trade, where `last` is the greatest id in use. Trades are
 -- numbered from 1 without a gap.
-abbrev pub trade_id_is_left_check : Option ℕ → RefusalCheck
-trade_id_is_left_check last = (nat_le greatest_id (unwrap_or last 0), Range limit.Trades)
+abbrev pub free_trade_id_check : Option ℕ → RefusalCheck
+free_trade_id_check last = (nat_le greatest_id (unwrap_or last 0), Range limit.Trades)
 
 -- The id of the next trade: `last` plus 1, or 1 if there are no trades.
 abbrev pub next_trade_id : Option ℕ → ℕ
@@ -120,35 +120,35 @@ trade_row_of_order order terms trade stamp = trade_row_with_texts order terms tr
 
 -- The TRADE_REQUEST row of `trade`, which `order` placed with the terms `terms`, or none if it is a
 -- market order. `broker` is the broker of its account.
-abbrev pub request_of_order : Order → Terms → (broker trade : ℕ) → Option RequestRow
-request_of_order order terms broker trade =
+abbrev pub request_row_of_order : Order → Terms → (broker trade : ℕ) → Option RequestRow
+request_row_of_order order terms broker trade =
     if is_market_type (trade_type_of_order order.order_type) then None
     else Some (record { trade = trade; kind = trade_type_of_order order.order_type; symbol = order.symbol; qty = order.qty; bid = terms.price; broker = broker })
 
 -- The row changes that add a trade: its TRADE row `row`, its first TRADE_HISTORY row, its
--- `request`, if any, and the last stamp.
+-- `request_table`, if any, and the last stamp.
 abbrev pub row_changes_of_order : TradeRow → Option RequestRow → List Change
 row_changes_of_order row request =
     change.AddTrade row ∷ change.AddHistory (record { trade = row.id; status = row.status; stamp = row.stamp })
-    ∷ map change.AddRequest (option_to_list request) ++ change.SetLast row.stamp ∷ []
+    ∷ map change.AddRequest (option_to_list request) ++ change.SetLastStamp row.stamp ∷ []
 
 -- `changes` are the row changes that add `trade`, which `order` placed with the terms `terms` at
 -- `stamp`.
 pub record AreOrderChanges (order : Order) (terms : Terms) (broker trade stamp : ℕ) (changes : List Change) : Type 0 where
   pub row : TradeRow
   pub added : abstract_trade_row row ≡ trade_row_of_order order terms trade stamp
-  pub changed : changes ≡ row_changes_of_order row (request_of_order order terms broker trade)
+  pub changed : changes ≡ row_changes_of_order row (request_row_of_order order terms broker trade)
 
 -- `plan` adds the trade of `order` at the stamp of the command, with the next id. The order passes
 -- its checks against the facts `found`, an id and a later stamp are left, and the reply has the
 -- stamp, the id, the first status and the estimate from the lots of the source
 -- (`MatchesModelEstimate`). `given` holds of the lists of lots that the source may have, `last` is
 -- the last stamp, and `now` the clock reading.
-pub record IsOrderPlan (order : Order) (found : OrderFound) (given : List Lot → Type 0) (last : Option ℕ) (now : ℕ) (plan : Plan) : Type 0 where
+pub record IsOrderPlan (order : Order) (found : OrderPlanFacts) (given : List Lot → Type 0) (last : Option ℕ) (now : ℕ) (plan : Plan) : Type 0 where
   pub stamp : ℕ
   pub estimate : Estimate
-  pub accepted : first_refusal (order_checks found ++ trade_id_is_left_check found.last_trade ∷ later_stamp_check last now ∷ []) ≡ None
+  pub accepted : first_refusal (order_checks found ++ free_trade_id_check found.last_trade ∷ later_stamp_check last now ∷ []) ≡ None
   pub stamped : stamp_after last now ≡ Some stamp
   pub estimated : MatchesModelEstimate (terms_of_order order found) given estimate
-  pub told : plan.reply ≡ Ordered (record { stamp = stamp; trade = next_trade_id found.last_trade; status = model_orders.first_status (trade_type_of_order order.order_type); estimate = estimate })
+  pub replied : plan.reply ≡ Ordered (record { stamp = stamp; trade = next_trade_id found.last_trade; status = model_orders.first_status (trade_type_of_order order.order_type); estimate = estimate })
   pub changes : AreOrderChanges order (terms_of_order order found) (option_map_or (λ a. a.broker) found.account 0) (next_trade_id found.last_trade) stamp plan.changes.items

@@ -15,8 +15,8 @@ use Rattle.brk_money.specs.Moments.{greatest_day}
 use Rattle.brk_money.specs.declared.refusal.Limit.TheVariants as limit
 use Rattle.brk_money.specs.declared.refusal.Refusal.TheVariants.{WrongStatus, NoRate, Range, ClockEnd}
 use Rattle.brk_money.specs.declared.status.Status.TheVariants.{Submitted}
-use Rattle.brk_trade.specs.declared.outcome.ResultNumbers.{ResultNumbers}
-use Rattle.brk_trade.specs.declared.result_found.ResultFound.{ResultFound}
+use Rattle.brk_trade.specs.declared.outcome.ResultFigures.{ResultFigures}
+use Rattle.brk_trade.specs.declared.result_found.ResultPlanFacts.{ResultPlanFacts}
 use Rattle.brk_changes.specs.declared.trade_row.TradeRow.{TradeRow}
 
 -- The greatest value of a trade, in cents: the greatest quantity at the greatest price.
@@ -29,45 +29,45 @@ deal_of_trade_row t price stamp = record { trade = t.id; side = side_of_trade_ty
 
 -- The number of shares of the trade's security that its account holds after the trade, below 0 if
 -- sold short.
-abbrev pub shares_held_after_trade : ResultFound → ℤ
+abbrev pub shares_held_after_trade : ResultPlanFacts → ℤ
 shares_held_after_trade found = unwrap_or found.summary (pos 0) +ℤ signed_by_side (side_of_trade_type found.trade.kind) found.trade.qty
 
 -- The commission of the trade at `price`, in cents, at the rate of its band, or at rate 0 if it has
 -- no band.
-abbrev pub commission_of_result : ResultFound → ℕ → ℕ
+abbrev pub commission_of_result : ResultPlanFacts → ℕ → ℕ
 commission_of_result found price = commission (unwrap_or found.rate 0) found.trade.qty price
 
 -- The tax on the realised gain of `values`, in cents, for the account of the trade.
-abbrev pub tax_of_result : ResultFound → Values → ℕ
+abbrev pub tax_of_result : ResultPlanFacts → Values → ℕ
 tax_of_result found values = tax_on_gain_at_status found.account.tax_status found.rates values
 
 -- The part of the tax that is withheld from the settlement, in cents: all of it if the tax status
 -- of the account withholds it, otherwise 0.
-abbrev pub tax_withheld : ResultFound → Values → ℕ
-tax_withheld found values = if is_withholding_status found.account.tax_status then tax_of_result found values else 0
+abbrev pub withheld_tax_of_result : ResultPlanFacts → Values → ℕ
+withheld_tax_of_result found values = if is_withholding_status found.account.tax_status then tax_of_result found values else 0
 
 -- The settlement amount of the trade at `price`, in cents, below 0 if the account pays: its signed
 -- value minus the charge, the commission and the withheld tax.
-abbrev pub settlement_amount_of_result : ResultFound → ℕ → Values → ℤ
+abbrev pub settlement_amount_of_result : ResultPlanFacts → ℕ → Values → ℤ
 settlement_amount_of_result found price values =
-    signed_proceeds (side_of_trade_type found.trade.kind) (found.trade.qty * price) -ℤ pos (found.trade.charge + commission_of_result found price + tax_withheld found values)
+    signed_proceeds (side_of_trade_type found.trade.kind) (found.trade.qty * price) -ℤ pos (found.trade.charge + commission_of_result found price + withheld_tax_of_result found values)
 
 -- The balance of the account plus `amount` after a cash trade, and the balance alone after a margin
 -- trade, in cents.
-abbrev pub balance_after_amount : ResultFound → ℤ → ℤ
-balance_after_amount found amount = if found.trade.is_cash then found.account.balance +ℤ amount else found.account.balance
+abbrev pub balance_after_settlement_amount : ResultPlanFacts → ℤ → ℤ
+balance_after_settlement_amount found amount = if found.trade.is_cash then found.account.balance +ℤ amount else found.account.balance
 
 -- The balance of the account after the trade, in cents.
-abbrev pub balance_after_result : ResultFound → ℕ → Values → ℤ
-balance_after_result found price values = balance_after_amount found (settlement_amount_of_result found price values)
+abbrev pub balance_after_result : ResultPlanFacts → ℕ → Values → ℤ
+balance_after_result found price values = balance_after_settlement_amount found (settlement_amount_of_result found price values)
 
 -- The commissions of the broker after the trade, in cents.
-abbrev pub broker_commissions_after_result : ResultFound → ℕ → ℕ
+abbrev pub broker_commissions_after_result : ResultPlanFacts → ℕ → ℕ
 broker_commissions_after_result found price = found.broker.commissions + commission_of_result found price
 
 -- The checks of a result that need no lots: the trade is submitted, a commission rate applies, and
 -- the shares held after it do not exceed the limit.
-abbrev pub checks_before_reading_lots : ResultFound → List RefusalCheck
+abbrev pub checks_before_reading_lots : ResultPlanFacts → List RefusalCheck
 checks_before_reading_lots found =
     (not (is_same_trade_status found.trade.status Submitted), WrongStatus found.trade.status) ∷ (is_none found.rate, NoRate)
     ∷ (nat_lt greatest_summary (nat_abs (shares_held_after_trade found)), Range limit.Summary) ∷ []
@@ -80,14 +80,14 @@ due_day_check rule stamp = (option_map_or (λ s. nat_lt greatest_day (due_day_of
 -- The checks of a result that need the values of the closed shares or the stamp. The balance after
 -- a cash trade and the broker's commissions do not exceed their limits, a stamp is left, and the
 -- due day is within the calendar.
-abbrev pub checks_after_reading_lots : ResultFound → ℕ → Values → Option ℕ → List RefusalCheck
+abbrev pub checks_after_reading_lots : ResultPlanFacts → ℕ → Values → Option ℕ → List RefusalCheck
 checks_after_reading_lots found price values stamp =
     (found.trade.is_cash && nat_lt greatest_amount (nat_abs (balance_after_result found price values)), Range limit.Balance)
     ∷ (nat_lt greatest_amount (broker_commissions_after_result found price), Range limit.Broker) ∷ due_day_check found.rule stamp ∷ []
 
 -- All checks of a result: those that need no lots, then those that need the values of the closed
 -- shares.
-abbrev pub result_checks : ResultFound → ℕ → Values → Option ℕ → List RefusalCheck
+abbrev pub result_checks : ResultPlanFacts → ℕ → Values → Option ℕ → List RefusalCheck
 result_checks found price values stamp = checks_before_reading_lots found ++ checks_after_reading_lots found price values stamp
 
 -- The buy value and the sell value of `closing`, in cents, without their signs.
@@ -96,7 +96,7 @@ values_of_closing closing = record { buy_value = nat_abs closing.buy_value; sell
 
 -- The figures of the completed trade, from the facts `found`, its price, the values of the closed
 -- shares and its stamp.
-abbrev pub figures_of_result : ResultFound → ℕ → Values → ℕ → ResultNumbers
+abbrev pub figures_of_result : ResultPlanFacts → ℕ → Values → ℕ → ResultFigures
 figures_of_result found price values stamp = record {
   stamp = stamp;
   due_day = due_day_of_completion_stamp found.rule stamp;

@@ -28,8 +28,8 @@ use Rattle.brk_changes.specs.declared.cash_type.CashType.TheVariants as cash_typ
 use Rattle.brk_changes.specs.declared.change.Change.{Change}
 use Rattle.brk_changes.specs.declared.change.Change.TheVariants as change
 use Rattle.brk_changes.specs.declared.move_row.MoveRow.{MoveRow}
-use Rattle.brk_trade.specs.declared.outcome.ResultNumbers.{ResultNumbers}
-use Rattle.brk_trade.specs.declared.result_found.ResultFound.{ResultFound}
+use Rattle.brk_trade.specs.declared.outcome.ResultFigures.{ResultFigures}
+use Rattle.brk_trade.specs.declared.result_found.ResultPlanFacts.{ResultPlanFacts}
 use Rattle.brk_plans.specs.declared.plan.Plan.{Plan}
 use Rattle.brk_plans.specs.declared.reply.Completed.{Completed}
 use Rattle.brk_plans.specs.declared.reply.Reply.TheVariants as reply
@@ -37,8 +37,8 @@ use Rattle.brk_changes.specs.declared.trade_row.TradeRow.{TradeRow}
 
 -- The row change of the lot of `touch`: the lot is deleted if none of its shares is left, and
 -- otherwise its quantity is set.
-abbrev pub row_change_of_touched_lot : Touch → Change
-row_change_of_touched_lot touch = if is_zero touch.after then change.RemoveLot touch.lot else change.SetLot touch.lot touch.after
+abbrev pub row_change_of_touched_holding : Touch → Change
+row_change_of_touched_holding touch = if is_zero touch.after then change.RemoveLot touch.lot else change.SetLot touch.lot touch.after
 
 -- The row change that adds the HOLDING_HISTORY row of `touch`, made by `trade`.
 abbrev pub row_change_adding_lot_history : ℕ → Touch → Change
@@ -47,7 +47,7 @@ row_change_adding_lot_history trade touch = change.AddLotChange (record { lot = 
 -- The row changes of the lot of `touch`, which `trade` closes or reduces: of its HOLDING row, and
 -- of its history.
 abbrev pub row_changes_of_touched_lot : ℕ → Touch → List Change
-row_changes_of_touched_lot trade touch = row_change_of_touched_lot touch ∷ row_change_adding_lot_history trade touch ∷ []
+row_changes_of_touched_lot trade touch = row_change_of_touched_holding touch ∷ row_change_adding_lot_history trade touch ∷ []
 
 -- The row changes that add `lot`, which the trade `t` opens, and its HOLDING_HISTORY row.
 abbrev pub row_changes_of_opened_lot : TradeRow → Lot → List Change
@@ -77,7 +77,7 @@ abbrev pub cash_text_of_trade : TradeRow → Text → Text
 cash_text_of_trade t security = cash_row_name_from_parts (codes " shares of ") t.kind t.qty security
 
 -- The CASH_MOVE row of the completed trade, with the next id, or none if it is a margin trade.
-abbrev pub cash_row_of_result : ResultFound → ResultNumbers → Option tables.MoveRow
+abbrev pub cash_row_of_result : ResultPlanFacts → ResultFigures → Option tables.MoveRow
 cash_row_of_result found outcome =
     if found.trade.is_cash
     then Some (record {
@@ -96,48 +96,48 @@ row_changes_of_cash_row account balance row = change.AddMove row ∷ change.SetB
 
 -- The row changes of the completed `trade` itself: the values of its completion, and its
 -- TRADE_HISTORY row.
-abbrev pub row_changes_of_completed_trade : ℕ → ℕ → ResultNumbers → List Change
+abbrev pub row_changes_of_completed_trade : ℕ → ℕ → ResultFigures → List Change
 row_changes_of_completed_trade trade price outcome =
     change.CompleteTrade trade outcome.stamp price outcome.commission outcome.tax
     ∷ change.AddHistory (record { trade = trade; status = status.Completed; stamp = outcome.stamp }) ∷ []
 
 -- The row change of the totals of the account's broker: one more completed trade, and its
 -- `commissions`.
-abbrev pub row_change_of_broker_totals : ResultFound → ℕ → Change
-row_change_of_broker_totals found commissions = change.SetBrokerNumbers found.account.broker (pos (found.broker.trades + 1)) commissions
+abbrev pub row_change_of_broker_totals : ResultPlanFacts → ℕ → Change
+row_change_of_broker_totals found commissions = change.SetBrokerTotals found.account.broker (pos (found.broker.trades + 1)) commissions
 
 -- The row change that adds the SETTLEMENT row of the trade `t`.
-abbrev pub row_change_adding_settlement : TradeRow → ResultNumbers → Change
+abbrev pub row_change_adding_settlement : TradeRow → ResultFigures → Change
 row_change_adding_settlement t outcome =
     change.AddSettlement (record { trade = t.id; cash_type = first_cash_type_of_trade t.is_cash; due_day = outcome.due_day; amount = outcome.amount })
 
 -- The row changes of the account's summary, of the broker's totals and of the settlement.
-abbrev pub summary_broker_settlement_changes : ResultFound → ResultNumbers → List Change
+abbrev pub summary_broker_settlement_changes : ResultPlanFacts → ResultFigures → List Change
 summary_broker_settlement_changes found outcome =
     row_change_of_summary found.summary found.trade outcome.summary ∷ row_change_of_broker_totals found outcome.commissions ∷ row_change_adding_settlement found.trade outcome ∷ []
 
 -- The row changes that complete the trade of `found`: of the trade itself, of the lots that it
 -- touches and of the one that it opens, of the summary, the broker's totals and the settlement, of
 -- its cash row, if any, and of the last stamp.
-abbrev pub row_changes_of_result : ResultFound → ℕ → Closing → ResultNumbers → Option MoveRow → List Change
+abbrev pub row_changes_of_result : ResultPlanFacts → ℕ → Closing → ResultFigures → Option MoveRow → List Change
 row_changes_of_result found price closing outcome cash =
     row_changes_of_completed_trade found.trade.id price outcome
     ++ flat_map (row_changes_of_touched_lot found.trade.id) closing.touched.items
     ++ flat_map (row_changes_of_opened_lot found.trade) (option_to_list closing.opened)
     ++ summary_broker_settlement_changes found outcome
     ++ flat_map (row_changes_of_cash_row found.trade.account outcome.balance) (option_to_list cash)
-    ++ change.SetLast outcome.stamp ∷ []
+    ++ change.SetLastStamp outcome.stamp ∷ []
 
 -- `changes` complete the trade of `found` at `price` with the closed and opened lots of `closing`
--- and the figures `outcome`. They add a cash row if it is a cash trade.
-pub record AreResultChanges (found : ResultFound) (price : ℕ) (closing : Closing) (outcome : ResultNumbers) (changes : List Change) : Type 0 where
+-- and the figures `execute_call`. They add a cash row if it is a cash trade.
+pub record AreResultChanges (found : ResultPlanFacts) (price : ℕ) (closing : Closing) (outcome : ResultFigures) (changes : List Change) : Type 0 where
   pub cash : Option MoveRow
   pub moved : option_map abstract_move_row cash ≡ cash_row_of_result found outcome
   pub changed : changes ≡ row_changes_of_result found price closing outcome cash
 
 -- Those figures of a completed trade that its reply has.
-abbrev pub reply_of_completed_result : ResultNumbers → Completed
-reply_of_completed_result outcome = record {
+abbrev pub completed_reply_of_figures : ResultFigures → Completed
+completed_reply_of_figures outcome = record {
   stamp = outcome.stamp;
   commission = outcome.commission;
   tax = outcome.tax;
@@ -150,34 +150,34 @@ reply_of_completed_result outcome = record {
 
 -- The number of shares of the trade's security that its account holds before the trade, below 0 if
 -- sold short; 0 if there is no summary.
-abbrev pub shares_held_in_summary : ResultFound → ℤ
-shares_held_in_summary found = unwrap_or found.summary (pos 0)
+abbrev pub shares_held_before_trade : ResultPlanFacts → ℤ
+shares_held_before_trade found = unwrap_or found.summary (pos 0)
 
 -- `ls` are lots that the source may have (`given`), in the sequence in which the trade of `found`
 -- closes lots; none of them was opened by this trade; and their quantities add up to the summary.
-abbrev pub AreLotsBeforeTrade : (List Lot → Type 0) → ResultFound → List Lot → Type 0
-AreLotsBeforeTrade given found ls = YieldsPosition given found.trade.is_lifo ls × AreOpenedByOtherTrades found.trade.id ls × (shares_held_in_summary found ≡ lot_quantity_sum ls)
+abbrev pub AreLotsBeforeTrade : (List Lot → Type 0) → ResultPlanFacts → List Lot → Type 0
+AreLotsBeforeTrade given found ls = YieldsPosition given found.trade.is_lifo ls × AreOpenedByOtherTrades found.trade.id ls × (shares_held_before_trade found ≡ lot_quantity_sum ls)
 
 -- The account holds no shares that the trade of `found` would close.
-abbrev pub ClosesNoHeldShares : ResultFound → Type 0
-ClosesNoHeldShares found = closes_lots (side_of_trade_type found.trade.kind) (shares_held_in_summary found) ≡ false
+abbrev pub ClosesNoHeldShares : ResultPlanFacts → Type 0
+ClosesNoHeldShares found = closes_lots (side_of_trade_type found.trade.kind) (shares_held_before_trade found) ≡ false
 
 -- `plan` completes the trade of `found` at `price` and the stamp of the command. The result passes
 -- all its checks, and the row changes and the reply follow from `closing`, the lots that the trade
 -- closes and opens. The clause `closes` is vacuous if no lots of the source match the summary
 -- (`AreLotsBeforeTrade`). `given` holds of the lists of lots that the source may have, `last` is
 -- the last stamp, and `now` the clock reading.
-pub record IsResultPlan (found : ResultFound) (price : ℕ) (given : List Lot → Type 0) (last : Option ℕ) (now : ℕ) (plan : Plan) : Type 0 where
+pub record IsResultPlan (found : ResultPlanFacts) (price : ℕ) (given : List Lot → Type 0) (last : Option ℕ) (now : ℕ) (plan : Plan) : Type 0 where
   pub stamp : ℕ
   pub closing : Closing
   pub stamped : stamp_after last now ≡ Some stamp
   pub closes : (ls : List Lot) → AreLotsBeforeTrade given found ls → IsClosingOfDeal (deal_of_trade_row found.trade price stamp) ls closing
   pub accepted : first_refusal (result_checks found price (values_of_closing closing) (Some stamp)) ≡ None
-  pub told : plan.reply ≡ reply.Completed (reply_of_completed_result (figures_of_result found price (values_of_closing closing) stamp))
+  pub replied : plan.reply ≡ reply.Completed (completed_reply_of_figures (figures_of_result found price (values_of_closing closing) stamp))
   pub changes : AreResultChanges found price closing (figures_of_result found price (values_of_closing closing) stamp) plan.changes.items
 
 -- The trade exists, and `plan` completes it (`IsResultPlan`).
-abbrev pub CompletesExistingTrade : Option ResultFound → ℕ → (List Lot → Type 0) → Option ℕ → ℕ → Plan → Type 0
+abbrev pub CompletesExistingTrade : Option ResultPlanFacts → ℕ → (List Lot → Type 0) → Option ℕ → ℕ → Plan → Type 0
 CompletesExistingTrade None price given last now plan = ⊥
 CompletesExistingTrade (Some found) price given last now plan = IsResultPlan found price given last now plan
 
@@ -185,7 +185,7 @@ CompletesExistingTrade (Some found) price given last now plan = IsResultPlan fou
 -- `price`. The clause `early` is vacuous if no check before the lots are read fails, and the clause
 -- `late` if no lots of the source match the summary (`AreLotsBeforeTrade`). `last` is the last
 -- stamp, and `now` the clock reading.
-pub record IsRefusalOfExistingTrade (found : ResultFound) (price : ℕ) (given : List Lot → Type 0) (last : Option ℕ) (now : ℕ) (refusal : Refusal) : Type 0 where
+pub record IsRefusalOfExistingTrade (found : ResultPlanFacts) (price : ℕ) (given : List Lot → Type 0) (last : Option ℕ) (now : ℕ) (refusal : Refusal) : Type 0 where
   -- If a check before the lots are read fails, its refusal is `refusal`, whatever the lots are.
   pub early : IfSome (first_refusal (checks_before_reading_lots found)) (λ cause. refusal ≡ cause)
   -- `refusal` is that of the first check that fails, with the values of those shares of the lots
@@ -195,7 +195,7 @@ pub record IsRefusalOfExistingTrade (found : ResultFound) (price : ℕ) (given :
 
 -- `refusal` is that of a result: `NoTrade` if there is no such trade, and otherwise the first one
 -- that applies (`IsRefusalOfExistingTrade`).
-abbrev pub IsResultRefusal : Option ResultFound → ℕ → (List Lot → Type 0) → Option ℕ → ℕ → Refusal → Type 0
+abbrev pub IsResultRefusal : Option ResultPlanFacts → ℕ → (List Lot → Type 0) → Option ℕ → ℕ → Refusal → Type 0
 IsResultRefusal None price given last now refusal = refusal ≡ NoTrade
 IsResultRefusal (Some found) price given last now refusal = IsRefusalOfExistingTrade found price given last now refusal
 
@@ -206,7 +206,7 @@ stamp_or_clock_reading stamp now = unwrap_or stamp now
 -- From `before` to `after`, the number of reads of the source grew by at most one more than the
 -- number of lots that the trade touches, and not at all if there is no such trade. Vacuous if no
 -- lots of the source match the summary (`AreLotsBeforeTrade`).
-abbrev pub ResultReadsFewLots : Option ResultFound → ℕ → ℕ → (List Lot → Type 0) → (before after : ℕ) → Type 0
-ResultReadsFewLots None price stamp given before after = after ≤ before
-ResultReadsFewLots (Some found) price stamp given before after =
+abbrev pub ResultReadsAtMostOneLotMore : Option ResultPlanFacts → ℕ → ℕ → (List Lot → Type 0) → (before after : ℕ) → Type 0
+ResultReadsAtMostOneLotMore None price stamp given before after = after ≤ before
+ResultReadsAtMostOneLotMore (Some found) price stamp given before after =
     (ls : List Lot) → AreLotsBeforeTrade given found ls → after ≤ before + length (touches_of_existing_lots (deal_of_trade_row found.trade price stamp) (shares_of_lots ls)) + 1

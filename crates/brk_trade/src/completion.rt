@@ -6,8 +6,8 @@ ghost use Rattle.brk_trade.specs.Results as spec;
 ghost use Rattle.brk_trade.specs.Results.{AreResultChanges};
 ghost use Rattle.brk_changes.specs.Rows.{abstract_move_row};
 
-use crate::outcome::ResultNumbers;
-use crate::result_found::ResultFound;
+use crate::outcome::ResultFigures;
+use crate::result_found::ResultPlanFacts;
 use brk_changes::{
     Amount, CashType, Change, HistoryRow, HoldingRow, LotChange, MoveRow, SettlementRow,
     SummaryRow, TradeRow,
@@ -22,7 +22,7 @@ use std::alloc::{AllocError, Global};
 fn append_completed_trade_changes(
     trade: Id,
     price: Price,
-    outcome: &ResultNumbers,
+    outcome: &ResultFigures,
     changes: &mut Vec<Change>,
 ) -> Result<(), Fault>
     ensures changes { OnOk result (changes.new.items ≡ changes.old.items ++ spec.row_changes_of_completed_trade trade price outcome.now) }
@@ -46,7 +46,7 @@ fn append_completed_trade_changes(
 // Returns the row change of a touched lot: the lot is deleted if none of its shares is left, and
 // otherwise its quantity is set.
 fn create_touched_lot_change(touch: &Touch) -> Change
-    ensures { result ≡ spec.row_change_of_touched_lot touch.now }
+    ensures { result ≡ spec.row_change_of_touched_holding touch.now }
 {
     if touch.after == 0 {
         Change::RemoveLot(touch.lot)
@@ -87,7 +87,7 @@ fn append_touched_lot_changes(
 
 // Appends the row changes of all lots that `trade` touched, and of their histories. Fails with
 // `Memory` only.
-fn append_changes_of_touched_lots(
+fn append_changes_of_all_touched_lots(
     trade: Id,
     touched: &[Touch],
     changes: &mut Vec<Change>,
@@ -133,7 +133,7 @@ fn append_opened_lot_changes(
 
 // Returns the row change of the summary of the trade's account and symbol: it is added if there was
 // none, deleted if its quantity is 0 now, and otherwise set. Fails with `Memory` only.
-fn create_summary_change(found: &ResultFound, outcome: &ResultNumbers) -> Result<Change, Fault>
+fn create_summary_change(found: &ResultPlanFacts, outcome: &ResultFigures) -> Result<Change, Fault>
     ensures change { IfOk result (λ change. change ≡ spec.row_change_of_summary found.now.summary found.now.trade outcome.now.summary) }
     ensures fault { OnErr result (result ≡ Err Memory) }
 {
@@ -170,10 +170,10 @@ fn first_cash_type(is_cash: bool) -> CashType
 
 // Returns the row change of the totals of the account's broker: one more completed trade, and its
 // new commissions.
-fn create_broker_totals_change(found: &ResultFound, commissions: Amount) -> Change
+fn create_broker_totals_change(found: &ResultPlanFacts, commissions: Amount) -> Change
     ensures { result ≡ spec.row_change_of_broker_totals found.now commissions }
 {
-    Change::SetBrokerNumbers {
+    Change::SetBrokerTotals {
         broker: found.account.broker,
         trades: found.broker.trades.get() as i64 + 1,
         commissions,
@@ -181,7 +181,7 @@ fn create_broker_totals_change(found: &ResultFound, commissions: Amount) -> Chan
 }
 
 // Returns the row change that adds the settlement.
-fn create_settlement_change(trade: &TradeRow, outcome: &ResultNumbers) -> Change
+fn create_settlement_change(trade: &TradeRow, outcome: &ResultFigures) -> Change
     ensures { result ≡ spec.row_change_adding_settlement trade.now outcome.now }
 {
     Change::AddSettlement(SettlementRow {
@@ -195,8 +195,8 @@ fn create_settlement_change(trade: &TradeRow, outcome: &ResultNumbers) -> Change
 // Appends the row changes of the account's summary, of the broker's totals and of the settlement.
 // Fails with `Memory` only.
 fn append_summary_and_settlement_changes(
-    found: &ResultFound,
-    outcome: &ResultNumbers,
+    found: &ResultPlanFacts,
+    outcome: &ResultFigures,
     changes: &mut Vec<Change>,
 ) -> Result<(), Fault>
     ensures changes { OnOk result (changes.new.items ≡ changes.old.items ++ spec.summary_broker_settlement_changes found.now outcome.now) }
@@ -235,8 +235,8 @@ fn format_trade_cash_text(
 // runs out.
 fn create_result_cash_row(
     alloc: Global,
-    found: &ResultFound,
-    outcome: &ResultNumbers,
+    found: &ResultPlanFacts,
+    outcome: &ResultFigures,
 ) -> Result<Option<MoveRow>, AllocError>
     ensures { IfOk result (λ cash. option_map abstract_move_row cash ≡ spec.cash_row_of_result found.now outcome.now) }
 {
@@ -257,7 +257,7 @@ fn create_result_cash_row(
 // set. Fails with `Memory` only.
 fn append_cash_row_changes(
     account: Id,
-    outcome: &ResultNumbers,
+    outcome: &ResultFigures,
     cash: Option<MoveRow>,
     changes: &mut Vec<Change>,
 ) -> Result<(), Fault>
@@ -279,10 +279,10 @@ fn append_cash_row_changes(
 // with `Memory` only.
 fn create_result_changes(
     alloc: Global,
-    found: &ResultFound,
+    found: &ResultPlanFacts,
     price: Price,
     closing: &Closing,
-    outcome: &ResultNumbers,
+    outcome: &ResultFigures,
     cash: Option<MoveRow>,
 ) -> Result<Vec<Change>, Fault>
     ensures changes { IfOk result (λ changes. changes.items ≡ spec.row_changes_of_result found.now price closing.now outcome.now cash) }
@@ -291,22 +291,22 @@ fn create_result_changes(
     let trade = &found.trade;
     let mut changes = Vec::new(alloc);
     append_completed_trade_changes(trade.id, price, outcome, &mut changes)?;
-    append_changes_of_touched_lots(trade.id, &closing.touched, &mut changes)?;
+    append_changes_of_all_touched_lots(trade.id, &closing.touched, &mut changes)?;
     append_opened_lot_changes(trade, closing.opened, &mut changes)?;
     append_summary_and_settlement_changes(found, outcome, &mut changes)?;
     append_cash_row_changes(trade.account, outcome, cash, &mut changes)?;
-    changes.push(Change::SetLast(outcome.stamp))?;
+    changes.push(Change::SetLastStamp(outcome.stamp))?;
     Ok(changes)
 }
 
 // Returns the row changes that complete the trade with these closed and opened lots and these
 // figures. Fails with `Memory` only.
-pub(crate) fn completion_changes(
+pub(crate) fn create_completion_changes(
     alloc: Global,
-    found: &ResultFound,
+    found: &ResultPlanFacts,
     price: Price,
     closing: &Closing,
-    outcome: &ResultNumbers,
+    outcome: &ResultFigures,
 ) -> Result<Vec<Change>, Fault>
     ensures changes { IfOk result (λ changes. AreResultChanges found.now price closing.now outcome.now changes.items) }
     ensures fault { OnErr result (result ≡ Err Memory) }

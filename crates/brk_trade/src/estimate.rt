@@ -8,12 +8,12 @@ ghost use Rattle.brk_lots.specs.declared.lot.Lot.{Lot};
 ghost use Rattle.brk_lots.specs.Lots.{shares_of_lots};
 ghost use Rattle.brk_lots.specs.Against.{closes_lots};
 ghost use Rattle.brk_lots.specs.Books.{lot_quantity_sum};
-ghost use Rattle.brk_lots.specs.Sources.{YieldsPosition, IsFaithfulRemainder};
+ghost use Rattle.brk_lots.specs.Sources.{YieldsPosition, AreLotsOfFaithfulSource};
 ghost use Rattle.brk_lots.specs.Values.{closing_values_of_deal};
-ghost use Rattle.brk_trade.specs.Estimates.{AreOrderTermsInBase, OrderReadsFewLots, commission_from_terms, deal_from_terms, tax_on_gain_at_status};
+ghost use Rattle.brk_trade.specs.Estimates.{AreOrderTermsInBase, OrderReadsAtMostOneLotMore, commission_from_terms, deal_from_terms, tax_on_gain_at_status};
 ghost use Rattle.brk_plans.specs.Replies.{estimate_from_model};
 
-use brk_lots::{LotSource, Values, closes_lots, estimate_values, zero_values};
+use brk_lots::{LotSource, Values, closes_lots, estimate_closing_values, zero_closing_values};
 use brk_money::{
     Amount, Cents, Fault, Price, Qty, Rate, Side, TaxRate, TaxStatus, Wide, commission, tax,
 };
@@ -75,18 +75,18 @@ pub fn tax_on_realised_gain(values: Values, status: TaxStatus, rates: TaxRate) -
 fn values_of_shares_to_close<L: LotSource>(source: &mut L, terms: &Terms) -> Result<Values, Fault>
     ensures leads { L.leads source.old source.new }
     ensures values { IfOk result (λ values. (ls : List Lot) (trade stamp : ℕ) (lifo : Bool) →
-        YieldsPosition (IsFaithfulRemainder (L.reads_faithfully source.new) (L.remaining source.old)) lifo ls → terms.now.held ≡ lot_quantity_sum ls →
+        YieldsPosition (AreLotsOfFaithfulSource (L.reads_faithfully source.new) (L.remaining source.old)) lifo ls → terms.now.held ≡ lot_quantity_sum ls →
         values ≡ closing_values_of_deal (deal_from_terms terms.now trade stamp lifo) (shares_of_lots ls)) }
-    ensures asked { OrderReadsFewLots terms.now (IsFaithfulRemainder (L.reads_faithfully source.new) (L.remaining source.old)) (L.asked source.old) (L.asked source.new) }
-    ensures unmet { closes_lots terms.now.side terms.now.held ≡ false → source.new ≡ source.old }
+    ensures asked { OrderReadsAtMostOneLotMore terms.now (AreLotsOfFaithfulSource (L.reads_faithfully source.new) (L.remaining source.old)) (L.asked source.old) (L.asked source.new) }
+    ensures reads_no_lot { closes_lots terms.now.side terms.now.held ≡ false → source.new ≡ source.old }
     ensures faulted { IfOk result (λ values. L.faulted source.new ≡ L.faulted source.old) }
     ensures fault { IfErr result (λ fault. (before : L) × L.fails before fault source.new) }
-    ensures rest { (ls : List Lot) → IsFaithfulRemainder (L.reads_faithfully source.new) (L.remaining source.old) ls → (n : ℕ) × L.remaining source.new (drop n ls) }
+    ensures rest { (ls : List Lot) → AreLotsOfFaithfulSource (L.reads_faithfully source.new) (L.remaining source.old) ls → (n : ℕ) × L.remaining source.new (drop n ls) }
 {
     if closes_lots(terms.side, terms.held) {
-        estimate_values(source, terms.side, terms.qty, terms.price)
+        estimate_closing_values(source, terms.side, terms.qty, terms.price)
     } else {
-        Ok(zero_values())
+        Ok(zero_closing_values())
     }
 }
 
@@ -100,17 +100,17 @@ pub fn estimate_order<L: LotSource>(source: &mut L, terms: &Terms) -> Result<Est
     // The estimate equals the model's estimate, in a base that has the terms and the shares of the
     // lots.
     ensures estimate { IfOk result (λ estimate. (base : Base) (o : Order) (ls : List Lot) →
-        AreOrderTermsInBase base o terms.now → shares_of_position (completed_trades base) o.account o.symbol ≡ shares_of_lots ls → YieldsPosition (IsFaithfulRemainder (L.reads_faithfully source.new) (L.remaining source.old)) o.is_lifo ls →
+        AreOrderTermsInBase base o terms.now → shares_of_position (completed_trades base) o.account o.symbol ≡ shares_of_lots ls → YieldsPosition (AreLotsOfFaithfulSource (L.reads_faithfully source.new) (L.remaining source.old)) o.is_lifo ls →
         terms.now.held ≡ lot_quantity_sum ls → estimate ≡ estimate_from_model (spec_orders.estimate base o)) }
     ensures commission { IfOk result (λ estimate. estimate.commission ≡ commission_from_terms terms.now) }
     // It reads at most one lot more than the order would touch, also if it fails, and none
     // if it would close none.
-    ensures asked { OrderReadsFewLots terms.now (IsFaithfulRemainder (L.reads_faithfully source.new) (L.remaining source.old)) (L.asked source.old) (L.asked source.new) }
-    ensures unmet { closes_lots terms.now.side terms.now.held ≡ false → source.new ≡ source.old }
+    ensures asked { OrderReadsAtMostOneLotMore terms.now (AreLotsOfFaithfulSource (L.reads_faithfully source.new) (L.remaining source.old)) (L.asked source.old) (L.asked source.new) }
+    ensures reads_no_lot { closes_lots terms.now.side terms.now.held ≡ false → source.new ≡ source.old }
     // A fault of the source is never ignored, and is returned unchanged.
     ensures faulted { IfOk result (λ estimate. L.faulted source.new ≡ L.faulted source.old) }
     ensures fault { IfErr result (λ fault. (before : L) × L.fails before fault source.new) }
-    ensures rest { (ls : List Lot) → IsFaithfulRemainder (L.reads_faithfully source.new) (L.remaining source.old) ls → (n : ℕ) × L.remaining source.new (drop n ls) }
+    ensures rest { (ls : List Lot) → AreLotsOfFaithfulSource (L.reads_faithfully source.new) (L.remaining source.old) ls → (n : ℕ) × L.remaining source.new (drop n ls) }
 {
     let values = values_of_shares_to_close(source, terms)?;
     Ok(Estimate {

@@ -1,18 +1,18 @@
 ghost use Rattle.std.specs.Prelude.{◌≡◌, ◌⊎◌, ◌++◌, ◌∷◌, [], ℕ, List, drop, IfOk, IfErr, OnErr, MatchResult, MatchOption, Some, None, false, string_bytes};
 ghost use Rattle.brk_lots.specs.declared.lot.Lot.{Lot};
 ghost use Rattle.brk_lots.specs.Against.{closes_lots};
-ghost use Rattle.brk_lots.specs.Sources.{IsFaithfulRemainder};
+ghost use Rattle.brk_lots.specs.Sources.{AreLotsOfFaithfulSource};
 ghost use Rattle.brk_model.specs.Orders as model;
 ghost use Rattle.brk_model.specs.Tests.{first_refusal};
 ghost use Rattle.brk_money.specs.declared.fault.Fault.{Fault};
 ghost use Rattle.brk_ref.specs.Records.{abstract_executor};
 ghost use Rattle.brk_money.specs.declared.refusal.Limit.TheVariants as limit;
 ghost use Rattle.brk_money.specs.declared.refusal.Refusal.TheVariants.{Range};
-ghost use Rattle.brk_trade.specs.Estimates.{OrderReadsFewLots, commission_from_terms};
+ghost use Rattle.brk_trade.specs.Estimates.{OrderReadsAtMostOneLotMore, commission_from_terms};
 ghost use Rattle.brk_trade.specs.Orders as spec;
 ghost use Rattle.brk_plans.specs.Reference.{later_stamp_check};
 ghost use Rattle.brk_changes.specs.Rows.{abstract_trade_row};
-ghost use Rattle.brk_trade.specs.Orders.{AreOrderChanges, EstimatesCheckedOrder, IsOrderPlan, IsCheckedPlacement, order_checks, terms_of_order, trade_id_is_left_check};
+ghost use Rattle.brk_trade.specs.Orders.{AreOrderChanges, EstimatesCheckedOrder, IsOrderPlan, IsCheckedPlacement, order_checks, terms_of_order, free_trade_id_check};
 
 use crate::estimate::{Terms, estimate_order};
 use brk_changes::{Amount, Change, HistoryRow, RequestRow, TradeRow};
@@ -38,7 +38,7 @@ pub struct OrderAccount {
 /// The facts in the tables that decide on an order. A fact that is not needed after an earlier
 /// refusal is not read.
 #[derive(Clone, Copy, PartialEq, Eq)]
-pub struct OrderFound {
+pub struct OrderPlanFacts {
     /// The account, or `None` if it does not exist.
     pub account: Option<OrderAccount>,
     /// The last price of its security in cents, or `None` if the security does not exist.
@@ -76,7 +76,7 @@ fn requested_price(order: &Order, last: Price) -> Price
 
 // Returns the terms of an order and the broker of its account, or the first refusal that applies of
 // `NoAccount`, `NoSecurity`, `NotPermitted`, `NoCharge` and `NoRate`.
-fn checked_placement(order: &Order, found: &OrderFound) -> Result<Placement, Refusal>
+fn checked_placement(order: &Order, found: &OrderPlanFacts) -> Result<Placement, Refusal>
     ensures { MatchResult result
         (IsCheckedPlacement order.now found.now)
         (λ refusal. first_refusal (order_checks found.now) ≡ Some refusal) }
@@ -120,22 +120,22 @@ fn checked_placement(order: &Order, found: &OrderFound) -> Result<Placement, Ref
 /// holds no shares that the order would close.
 pub fn plan_estimate<L: LotSource>(
     order: &Order,
-    found: &OrderFound,
+    found: &OrderPlanFacts,
     source: &mut L,
 ) -> Planned<Estimate>
     ensures leads { L.leads source.old source.new }
     ensures planned { IfOk result (λ planned. MatchResult planned
-        (EstimatesCheckedOrder order.now found.now (IsFaithfulRemainder (L.reads_faithfully source.new) (L.remaining source.old)))
+        (EstimatesCheckedOrder order.now found.now (AreLotsOfFaithfulSource (L.reads_faithfully source.new) (L.remaining source.old)))
         (λ refusal. first_refusal (order_checks found.now) ≡ Some refusal)) }
     ensures refused { IfOk result (λ planned. OnErr planned (source.new ≡ source.old)) }
     // It reads at most one lot more than the order would touch, also if it fails.
-    ensures asked { OrderReadsFewLots (terms_of_order order.now found.now) (IsFaithfulRemainder (L.reads_faithfully source.new) (L.remaining source.old)) (L.asked source.old) (L.asked source.new) }
+    ensures asked { OrderReadsAtMostOneLotMore (terms_of_order order.now found.now) (AreLotsOfFaithfulSource (L.reads_faithfully source.new) (L.remaining source.old)) (L.asked source.old) (L.asked source.new) }
     // It reads no lot if the account holds no shares that the order would close.
-    ensures unmet { closes_lots (terms_of_order order.now found.now).side (terms_of_order order.now found.now).held ≡ false → source.new ≡ source.old }
+    ensures reads_no_lot { closes_lots (terms_of_order order.now found.now).side (terms_of_order order.now found.now).held ≡ false → source.new ≡ source.old }
     // A fault of the source is never ignored, and is returned unchanged.
     ensures faulted { IfOk result (λ planned. L.faulted source.new ≡ L.faulted source.old) }
     ensures fault { IfErr result (λ fault. (before : L) × L.fails before fault source.new) }
-    ensures rest { (ls : List Lot) → IsFaithfulRemainder (L.reads_faithfully source.new) (L.remaining source.old) ls → (n : ℕ) × L.remaining source.new (drop n ls) }
+    ensures rest { (ls : List Lot) → AreLotsOfFaithfulSource (L.reads_faithfully source.new) (L.remaining source.old) ls → (n : ℕ) × L.remaining source.new (drop n ls) }
 {
     let placement = match checked_placement(order, found) {
         Ok(placement) => placement,
@@ -149,8 +149,8 @@ pub fn plan_estimate<L: LotSource>(
 // no id is left.
 fn next_free_trade_id(last: Option<Id>) -> Option<Id>
     ensures { MatchOption result
-        (first_refusal (trade_id_is_left_check last ∷ []) ≡ Some (Range limit.Trades))
-        (λ trade. (first_refusal (trade_id_is_left_check last ∷ []) ≡ None) × (trade ≡ spec.next_trade_id last)) }
+        (first_refusal (free_trade_id_check last ∷ []) ≡ Some (Range limit.Trades))
+        (λ trade. (first_refusal (free_trade_id_check last ∷ []) ≡ None) × (trade ≡ spec.next_trade_id last)) }
 {
     match last {
         Some(last) => Id::new(last.get() + 1),
@@ -238,7 +238,7 @@ fn create_order_request_row(
     placement: &Placement,
     trade: Id,
 ) -> Result<Option<RequestRow>, AllocError>
-    ensures { IfOk result (λ request. request ≡ spec.request_of_order order.now placement.now.terms placement.now.broker trade) }
+    ensures { IfOk result (λ request. request ≡ spec.request_row_of_order order.now placement.now.terms placement.now.broker trade) }
 {
     if order.order_type.kind().is_market() {
         return Ok(None);
@@ -274,7 +274,7 @@ fn create_new_trade_changes(
     if let Some(request) = request {
         changes.push(Change::AddRequest(request))?;
     }
-    changes.push(Change::SetLast(stamp))?;
+    changes.push(Change::SetLastStamp(stamp))?;
     Ok(changes)
 }
 
@@ -312,24 +312,24 @@ fn create_order_changes(
 pub fn plan_order<L: LotSource>(
     alloc: Global,
     order: &Order,
-    found: &OrderFound,
+    found: &OrderPlanFacts,
     source: &mut L,
     last: Option<Stamp>,
     now: Stamp,
 ) -> Planned<Plan>
     ensures leads { L.leads source.old source.new }
     ensures planned { IfOk result (λ planned. MatchResult planned
-        (IsOrderPlan order.now found.now (IsFaithfulRemainder (L.reads_faithfully source.new) (L.remaining source.old)) last now)
-        (λ refusal. first_refusal (order_checks found.now ++ trade_id_is_left_check found.now.last_trade ∷ later_stamp_check last now ∷ []) ≡ Some refusal)) }
+        (IsOrderPlan order.now found.now (AreLotsOfFaithfulSource (L.reads_faithfully source.new) (L.remaining source.old)) last now)
+        (λ refusal. first_refusal (order_checks found.now ++ free_trade_id_check found.now.last_trade ∷ later_stamp_check last now ∷ []) ≡ Some refusal)) }
     ensures refused { IfOk result (λ planned. OnErr planned (source.new ≡ source.old)) }
     // It reads at most one lot more than the order would touch, also if it fails.
-    ensures asked { OrderReadsFewLots (terms_of_order order.now found.now) (IsFaithfulRemainder (L.reads_faithfully source.new) (L.remaining source.old)) (L.asked source.old) (L.asked source.new) }
+    ensures asked { OrderReadsAtMostOneLotMore (terms_of_order order.now found.now) (AreLotsOfFaithfulSource (L.reads_faithfully source.new) (L.remaining source.old)) (L.asked source.old) (L.asked source.new) }
     // It reads no lot if the account holds no shares that the order would close.
-    ensures unmet { closes_lots (terms_of_order order.now found.now).side (terms_of_order order.now found.now).held ≡ false → source.new ≡ source.old }
+    ensures reads_no_lot { closes_lots (terms_of_order order.now found.now).side (terms_of_order order.now found.now).held ≡ false → source.new ≡ source.old }
     // A fault of the source is never ignored, and is returned unchanged.
     ensures faulted { IfOk result (λ planned. L.faulted source.new ≡ L.faulted source.old) }
     ensures fault { IfErr result (λ fault. (fault ≡ Fault.Memory) ⊎ ((before : L) × L.fails before fault source.new)) }
-    ensures rest { (ls : List Lot) → IsFaithfulRemainder (L.reads_faithfully source.new) (L.remaining source.old) ls → (n : ℕ) × L.remaining source.new (drop n ls) }
+    ensures rest { (ls : List Lot) → AreLotsOfFaithfulSource (L.reads_faithfully source.new) (L.remaining source.old) ls → (n : ℕ) × L.remaining source.new (drop n ls) }
 {
     let placement = match checked_placement(order, found) {
         Ok(placement) => placement,

@@ -7,10 +7,10 @@ ghost use Rattle.brk_model.specs.Tests.{first_refusal};
 ghost use Rattle.brk_trade.specs.Outcomes as spec;
 ghost use Rattle.brk_trade.specs.Outcomes.{checks_before_reading_lots, checks_after_reading_lots, figures_of_result, values_of_closing};
 
-use crate::result_found::ResultFound;
+use crate::result_found::ResultPlanFacts;
 use crate::settling::{
-    amounts_of_closing, balance_within_limit_after, commission_of_trade_at,
-    commissions_within_limit_after, due_day_in_calendar, settlement_amount_of_trade,
+    values_of_closed_shares, balance_if_within_limit, commission_at_price_and_rate,
+    commissions_if_within_limit, due_day_if_in_calendar, settlement_amount_of_trade,
     tax_on_closed_shares,
 };
 use brk_changes::{Amount, Schema, is_submitted};
@@ -19,7 +19,7 @@ use brk_money::{Cents, Day, Limit, Price, Rate, Refusal, Side, Stamp};
 
 /// The figures of a completed trade, in cents (Trade-Result).
 #[derive(Clone, Copy, PartialEq, Eq)]
-pub struct ResultNumbers {
+pub struct ResultFigures {
     pub stamp: Stamp,
     /// The day on which the trade settles.
     pub due_day: Day,
@@ -61,7 +61,7 @@ fn signed_quantity_of_side(side: Side, qty: u32) -> i128
 
 // Returns the number of shares of the trade's security that its account holds after it, below 0 if
 // sold short, or `None` if it exceeds the limit.
-fn summary_within_limit_after(found: &ResultFound) -> Option<i64>
+fn shares_held_if_within_limit(found: &ResultPlanFacts) -> Option<i64>
     ensures { MatchOption result
         (nat_lt greatest_summary (nat_abs (spec.shares_held_after_trade found.now)) ≡ true)
         (λ summary. (summary ≡ spec.shares_held_after_trade found.now) × (nat_lt greatest_summary (nat_abs (spec.shares_held_after_trade found.now)) ≡ false)) }
@@ -76,7 +76,7 @@ fn summary_within_limit_after(found: &ResultFound) -> Option<i64>
 
 // Returns the commission rate and the shares held after the trade, or the first refusal that
 // applies before lots are read: `WrongStatus`, `NoRate` or `Range(Summary)`.
-pub(crate) fn checked_rate_and_summary(found: &ResultFound) -> Result<RateAndSummary, Refusal>
+pub(crate) fn checked_rate_and_summary(found: &ResultPlanFacts) -> Result<RateAndSummary, Refusal>
     ensures { MatchResult result
         (λ known. (first_refusal (checks_before_reading_lots found.now) ≡ None) × (found.now.rate ≡ Some known.rate) × (known.summary ≡ spec.shares_held_after_trade found.now))
         (λ refusal. first_refusal (checks_before_reading_lots found.now) ≡ Some refusal) }
@@ -87,7 +87,7 @@ pub(crate) fn checked_rate_and_summary(found: &ResultFound) -> Result<RateAndSum
     let Some(rate) = found.rate else {
         return Err(Refusal::NoRate);
     };
-    let Some(summary) = summary_within_limit_after(found) else {
+    let Some(summary) = shares_held_if_within_limit(found) else {
         return Err(Refusal::Range(Limit::Summary));
     };
     Ok(RateAndSummary { rate, summary })
@@ -96,12 +96,12 @@ pub(crate) fn checked_rate_and_summary(found: &ResultFound) -> Result<RateAndSum
 // Returns the figures of the completion, or the first refusal that applies with the values of the
 // closed shares: `Range(Balance)`, `Range(Broker)` or `ClockEnd`.
 pub(crate) fn checked_result_figures(
-    found: &ResultFound,
+    found: &ResultPlanFacts,
     price: Price,
     known: &RateAndSummary,
     closing: &Closing,
     stamp: Option<Stamp>,
-) -> Result<ResultNumbers, Refusal>
+) -> Result<ResultFigures, Refusal>
     requires bought { (pos 0 ≤ℤ closing.now.buy_value) × (closing.now.buy_value ≤ℤ pos (found.now.trade.qty * greatest_price)) }
     requires sold { (pos 0 ≤ℤ closing.now.sell_value) × (closing.now.sell_value ≤ℤ pos (found.now.trade.qty * greatest_price)) }
     requires rate { found.now.rate ≡ Some known.now.rate }
@@ -110,25 +110,25 @@ pub(crate) fn checked_result_figures(
         (λ outcome. (first_refusal (checks_after_reading_lots found.now price (values_of_closing closing.now) stamp) ≡ None) × (stamp ≡ Some outcome.stamp) × (outcome ≡ figures_of_result found.now price (values_of_closing closing.now) outcome.stamp))
         (λ refusal. first_refusal (checks_after_reading_lots found.now price (values_of_closing closing.now) stamp) ≡ Some refusal) }
 {
-    let values = amounts_of_closing(found.trade.qty, closing);
+    let values = values_of_closed_shares(found.trade.qty, closing);
     let buy_value = values.buy_value;
     let sell_value = values.sell_value;
-    let commission = commission_of_trade_at(&found.trade, price, known.rate);
+    let commission = commission_at_price_and_rate(&found.trade, price, known.rate);
     let tax = tax_on_closed_shares(found, values);
     let amount = settlement_amount_of_trade(found, price, commission, tax);
-    let Some(balance) = balance_within_limit_after(found, amount) else {
+    let Some(balance) = balance_if_within_limit(found, amount) else {
         return Err(Refusal::Range(Limit::Balance));
     };
-    let Some(commissions) = commissions_within_limit_after(found.broker, commission) else {
+    let Some(commissions) = commissions_if_within_limit(found.broker, commission) else {
         return Err(Refusal::Range(Limit::Broker));
     };
     let Some(stamp) = stamp else {
         return Err(Refusal::ClockEnd);
     };
-    let Some(due_day) = due_day_in_calendar(found.rule, stamp) else {
+    let Some(due_day) = due_day_if_in_calendar(found.rule, stamp) else {
         return Err(Refusal::ClockEnd);
     };
-    Ok(ResultNumbers {
+    Ok(ResultFigures {
         stamp,
         due_day,
         commission,

@@ -2,25 +2,25 @@ ghost use Rattle.std.specs.Prelude.{◌≡◌, ◌⊎◌, ◌+◌, ◌*◌, ◌�
 ghost use Rattle.brk_lots.specs.declared.lot.Lot.{Lot};
 ghost use Rattle.brk_lots.specs.Closing.{IsClosingOfDeal};
 ghost use Rattle.brk_lots.specs.Lots.{shares_of_lots};
-ghost use Rattle.brk_lots.specs.Sources.{IsFaithfulRemainder};
+ghost use Rattle.brk_lots.specs.Sources.{AreLotsOfFaithfulSource};
 ghost use Rattle.brk_model.specs.Limits.{greatest_price};
 ghost use Rattle.brk_model.specs.Shares.{touches_of_existing_lots};
 ghost use Rattle.brk_money.specs.Moments as moments;
 ghost use Rattle.brk_money.specs.declared.fault.Fault.{Fault};
 ghost use Rattle.brk_trade.specs.Outcomes.{deal_of_trade_row};
-ghost use Rattle.brk_trade.specs.Results.{AreLotsBeforeTrade, ResultReadsFewLots, CompletesExistingTrade, IsResultRefusal, ClosesNoHeldShares, stamp_or_clock_reading, reply_of_completed_result};
+ghost use Rattle.brk_trade.specs.Results.{AreLotsBeforeTrade, ResultReadsAtMostOneLotMore, CompletesExistingTrade, IsResultRefusal, ClosesNoHeldShares, stamp_or_clock_reading, completed_reply_of_figures};
 
-use crate::completion::completion_changes;
-use crate::outcome::{ResultNumbers, checked_rate_and_summary, checked_result_figures};
-use crate::result_found::ResultFound;
-use brk_lots::{Closing, LotSource, close, closes_lots, open_without_closing};
+use crate::completion::create_completion_changes;
+use crate::outcome::{ResultFigures, checked_rate_and_summary, checked_result_figures};
+use crate::result_found::ResultPlanFacts;
+use brk_lots::{Closing, LotSource, close, closes_lots, open_lot_without_closing};
 use brk_money::{Fault, Planned, Price, Refusal, Stamp, stamp_after};
 use brk_plans::{Completed, Plan, Reply};
 use std::alloc::Global;
 
 // Returns those figures of a completed trade that its reply has.
-fn create_completed_reply(outcome: &ResultNumbers) -> Completed
-    ensures { result ≡ reply_of_completed_result outcome.now }
+fn create_completed_reply(outcome: &ResultFigures) -> Completed
+    ensures { result ≡ completed_reply_of_figures outcome.now }
 {
     Completed {
         stamp: outcome.stamp,
@@ -40,28 +40,28 @@ fn create_completed_reply(outcome: &ResultNumbers) -> Completed
 fn close_or_open_lots<L: LotSource>(
     alloc: Global,
     source: &mut L,
-    found: &ResultFound,
+    found: &ResultPlanFacts,
     price: Price,
     stamp: Stamp,
 ) -> Result<Closing, Fault>
     ensures leads { L.leads source.old source.new }
-    ensures closing { IfOk result (λ closing. (ls : List Lot) → AreLotsBeforeTrade (IsFaithfulRemainder (L.reads_faithfully source.new) (L.remaining source.old)) found.now ls →
+    ensures closing { IfOk result (λ closing. (ls : List Lot) → AreLotsBeforeTrade (AreLotsOfFaithfulSource (L.reads_faithfully source.new) (L.remaining source.old)) found.now ls →
         IsClosingOfDeal (deal_of_trade_row found.now.trade price stamp) ls closing) }
     ensures bought { IfOk result (λ closing. (pos 0 ≤ℤ closing.buy_value) × (closing.buy_value ≤ℤ pos (found.now.trade.qty * greatest_price))) }
     ensures sold { IfOk result (λ closing. (pos 0 ≤ℤ closing.sell_value) × (closing.sell_value ≤ℤ pos (found.now.trade.qty * greatest_price))) }
-    ensures most { (ls : List Lot) → AreLotsBeforeTrade (IsFaithfulRemainder (L.reads_faithfully source.new) (L.remaining source.old)) found.now ls →
+    ensures asked { (ls : List Lot) → AreLotsBeforeTrade (AreLotsOfFaithfulSource (L.reads_faithfully source.new) (L.remaining source.old)) found.now ls →
         L.asked source.new ≤ L.asked source.old + length (touches_of_existing_lots (deal_of_trade_row found.now.trade price stamp) (shares_of_lots ls)) + 1 }
-    ensures unmet { ClosesNoHeldShares found.now → source.new ≡ source.old }
+    ensures reads_no_lot { ClosesNoHeldShares found.now → source.new ≡ source.old }
     ensures faulted { IfOk result (λ closing. L.faulted source.new ≡ L.faulted source.old) }
     ensures fault { IfErr result (λ fault. (fault ≡ Fault.Memory) ⊎ ((before : L) × L.fails before fault source.new)) }
-    ensures rest { (ls : List Lot) → IsFaithfulRemainder (L.reads_faithfully source.new) (L.remaining source.old) ls → (n : ℕ) × L.remaining source.new (drop n ls) }
+    ensures rest { (ls : List Lot) → AreLotsOfFaithfulSource (L.reads_faithfully source.new) (L.remaining source.old) ls → (n : ℕ) × L.remaining source.new (drop n ls) }
 {
     let trade = &found.trade;
     let side = trade.kind.side();
     if closes_lots(side, found.summary.unwrap_or(0)) {
         close(alloc, source, side, trade.qty, trade.id, price, stamp)
     } else {
-        Ok(open_without_closing(alloc, side, trade.qty, trade.id, price, stamp))
+        Ok(open_lot_without_closing(alloc, side, trade.qty, trade.id, price, stamp))
     }
 }
 
@@ -83,7 +83,7 @@ fn close_or_open_lots<L: LotSource>(
 /// the trade would close.
 pub fn plan_result<L: LotSource>(
     alloc: Global,
-    found: Option<&ResultFound>,
+    found: Option<&ResultPlanFacts>,
     price: Price,
     source: &mut L,
     last: Option<Stamp>,
@@ -91,16 +91,16 @@ pub fn plan_result<L: LotSource>(
 ) -> Planned<Plan>
     ensures leads { L.leads source.old source.new }
     ensures planned { IfOk result (λ planned. MatchResult planned
-        (CompletesExistingTrade (option_map (λ f. f.now) found.entry) price (IsFaithfulRemainder (L.reads_faithfully source.new) (L.remaining source.old)) last now)
-        (IsResultRefusal (option_map (λ f. f.now) found.entry) price (IsFaithfulRemainder (L.reads_faithfully source.new) (L.remaining source.old)) last now)) }
+        (CompletesExistingTrade (option_map (λ f. f.now) found.entry) price (AreLotsOfFaithfulSource (L.reads_faithfully source.new) (L.remaining source.old)) last now)
+        (IsResultRefusal (option_map (λ f. f.now) found.entry) price (AreLotsOfFaithfulSource (L.reads_faithfully source.new) (L.remaining source.old)) last now)) }
     // It reads at most one lot more than the trade touches, also if it fails.
-    ensures asked { ResultReadsFewLots (option_map (λ f. f.now) found.entry) price (stamp_or_clock_reading (moments.stamp_after last now) now) (IsFaithfulRemainder (L.reads_faithfully source.new) (L.remaining source.old)) (L.asked source.old) (L.asked source.new) }
+    ensures asked { ResultReadsAtMostOneLotMore (option_map (λ f. f.now) found.entry) price (stamp_or_clock_reading (moments.stamp_after last now) now) (AreLotsOfFaithfulSource (L.reads_faithfully source.new) (L.remaining source.old)) (L.asked source.old) (L.asked source.new) }
     // It reads no lot if the account holds no shares that the trade would close.
-    ensures unmet { IfSome (option_map (λ f. f.now) found.entry) (λ f. ClosesNoHeldShares f → source.new ≡ source.old) }
+    ensures reads_no_lot { IfSome (option_map (λ f. f.now) found.entry) (λ f. ClosesNoHeldShares f → source.new ≡ source.old) }
     // A fault of the source is never ignored, and is returned unchanged.
     ensures faulted { IfOk result (λ planned. L.faulted source.new ≡ L.faulted source.old) }
     ensures fault { IfErr result (λ fault. (fault ≡ Fault.Memory) ⊎ ((before : L) × L.fails before fault source.new)) }
-    ensures rest { (ls : List Lot) → IsFaithfulRemainder (L.reads_faithfully source.new) (L.remaining source.old) ls → (n : ℕ) × L.remaining source.new (drop n ls) }
+    ensures rest { (ls : List Lot) → AreLotsOfFaithfulSource (L.reads_faithfully source.new) (L.remaining source.old) ls → (n : ℕ) × L.remaining source.new (drop n ls) }
 {
     let Some(found) = found else {
         return Ok(Err(Refusal::NoTrade));
@@ -121,7 +121,7 @@ pub fn plan_result<L: LotSource>(
         Ok(outcome) => outcome,
         Err(refusal) => return Ok(Err(refusal)),
     };
-    let changes = completion_changes(alloc, found, price, &closing, &outcome)?;
+    let changes = create_completion_changes(alloc, found, price, &closing, &outcome)?;
     let reply = Reply::Completed(create_completed_reply(&outcome));
     Ok(Ok(Plan { changes, reply }))
 }

@@ -1,4 +1,4 @@
-use brk_changes::{BrokerNumbers, TradeRow};
+use brk_changes::{BrokerTotals, TradeRow};
 use brk_money::{Cents, Day, Id, MoveId, Rate, TaxRate, TaxStatus};
 use brk_ref::Name;
 
@@ -16,12 +16,12 @@ pub struct ResultAccount {
 /// The facts in the tables that decide on a result of a trade. A fact that is not needed after an
 /// earlier refusal is not read.
 #[derive(Drop)]
-pub struct ResultFound {
+pub struct ResultPlanFacts {
     pub trade: TradeRow,
     /// The account of the trade.
     pub account: ResultAccount,
     /// The totals of the account's broker.
-    pub broker: BrokerNumbers,
+    pub broker: BrokerTotals,
     /// The number of shares of the trade's security that the account holds in all, negative if sold
     /// short, or `None` if there is no row (HS_QTY).
     pub summary: Option<i64>,

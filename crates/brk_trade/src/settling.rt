@@ -13,8 +13,8 @@ ghost use Rattle.brk_trade.specs.Outcomes as spec;
 ghost use Rattle.brk_trade.specs.Outcomes.{greatest_trade_value, values_of_closing};
 
 use crate::estimate::tax_on_realised_gain;
-use crate::result_found::ResultFound;
-use brk_changes::{Amount, BrokerNumbers, TradeRow, due_day_after_completion};
+use crate::result_found::ResultPlanFacts;
+use brk_changes::{Amount, BrokerTotals, TradeRow, due_day_after_completion};
 use brk_lots::{Closing, Values};
 use brk_money::{Cents, Day, Price, Qty, Rate, Side, Stamp, TaxStatus, Wide, commission};
 use brk_plans::add_within_balance_limit;
@@ -31,7 +31,7 @@ fn value_as_amount(value: Wide) -> Amount
 
 // Returns the buy value and the sell value of the closed shares as amounts. They are at most the
 // value of a trade of `qty` at the greatest price.
-pub(crate) fn amounts_of_closing(qty: Qty, closing: &Closing) -> Values
+pub(crate) fn values_of_closed_shares(qty: Qty, closing: &Closing) -> Values
     requires bought { (pos 0 ≤ℤ closing.now.buy_value) × (closing.now.buy_value ≤ℤ pos (qty * greatest_price)) }
     requires sold { (pos 0 ≤ℤ closing.now.sell_value) × (closing.now.sell_value ≤ℤ pos (qty * greatest_price)) }
     ensures values { result ≡ values_of_closing closing.now }
@@ -47,7 +47,7 @@ pub(crate) fn amounts_of_closing(qty: Qty, closing: &Closing) -> Values
 // Returns the commission of a trade at a price and a rate, in cents, which is at most the greatest
 // value of a trade.
 #[tactic(auto, using(crate::proofs::Bounds::commission_high))]
-pub(crate) fn commission_of_trade_at(trade: &TradeRow, price: Price, rate: Rate) -> Amount
+pub(crate) fn commission_at_price_and_rate(trade: &TradeRow, price: Price, rate: Rate) -> Amount
     ensures value { result ≡ amounts.commission rate trade.now.qty price }
     ensures high { result ≤ greatest_trade_value }
 {
@@ -58,7 +58,7 @@ pub(crate) fn commission_of_trade_at(trade: &TradeRow, price: Price, rate: Rate)
 // Returns the tax on the realised gain of the closed shares, in cents, which is at most the
 // greatest value of a trade.
 #[tactic(auto, using(crate::proofs::Bounds::tax_at_high))]
-pub(crate) fn tax_on_closed_shares(found: &ResultFound, values: Values) -> Amount
+pub(crate) fn tax_on_closed_shares(found: &ResultPlanFacts, values: Values) -> Amount
     requires { values.sell_value ≤ greatest_trade_value }
     ensures value { result ≡ spec.tax_of_result found.now values }
     ensures high { result ≤ greatest_trade_value }
@@ -94,7 +94,7 @@ fn proceeds_less_costs(side: Side, value: u64, taken_off: u64) -> Cents
 // Returns the settlement amount of the trade, in cents, below 0 if the account pays: its signed
 // value minus the charge, the commission and the withheld tax.
 pub(crate) fn settlement_amount_of_trade(
-    found: &ResultFound,
+    found: &ResultPlanFacts,
     price: Price,
     commission: Amount,
     tax: Amount,
@@ -112,10 +112,10 @@ pub(crate) fn settlement_amount_of_trade(
 
 // Returns the balance of the account plus `amount` after a cash trade, or `None` if it exceeds the
 // limit. A margin trade leaves it unchanged.
-pub(crate) fn balance_within_limit_after(found: &ResultFound, amount: Cents) -> Option<Cents>
+pub(crate) fn balance_if_within_limit(found: &ResultPlanFacts, amount: Cents) -> Option<Cents>
     ensures { MatchOption result
-        (found.now.trade.is_cash && nat_lt greatest_amount (nat_abs (spec.balance_after_amount found.now amount)) ≡ true)
-        (λ after. (after ≡ spec.balance_after_amount found.now amount) × (found.now.trade.is_cash && nat_lt greatest_amount (nat_abs (spec.balance_after_amount found.now amount)) ≡ false)) }
+        (found.now.trade.is_cash && nat_lt greatest_amount (nat_abs (spec.balance_after_settlement_amount found.now amount)) ≡ true)
+        (λ after. (after ≡ spec.balance_after_settlement_amount found.now amount) × (found.now.trade.is_cash && nat_lt greatest_amount (nat_abs (spec.balance_after_settlement_amount found.now amount)) ≡ false)) }
 {
     if !found.trade.is_cash {
         return Some(found.account.balance);
@@ -124,8 +124,8 @@ pub(crate) fn balance_within_limit_after(found: &ResultFound, amount: Cents) -> 
 }
 
 // Returns the commissions of the broker plus `commission`, or `None` if they exceed the limit.
-pub(crate) fn commissions_within_limit_after(
-    broker: BrokerNumbers,
+pub(crate) fn commissions_if_within_limit(
+    broker: BrokerTotals,
     commission: Amount,
 ) -> Option<Amount>
     ensures { MatchOption result
@@ -137,7 +137,7 @@ pub(crate) fn commissions_within_limit_after(
 
 // Returns the due day of a trade that is completed at `stamp`, or `None` if it is after the last
 // day of the calendar.
-pub(crate) fn due_day_in_calendar(rule: Option<Day>, stamp: Stamp) -> Option<Day>
+pub(crate) fn due_day_if_in_calendar(rule: Option<Day>, stamp: Stamp) -> Option<Day>
     ensures { MatchOption result
         (nat_lt greatest_day (derived.due_day_of_completion_stamp rule stamp) ≡ true)
         (λ day. (day ≡ derived.due_day_of_completion_stamp rule stamp) × (nat_lt greatest_day (derived.due_day_of_completion_stamp rule stamp) ≡ false)) }

@@ -20,17 +20,17 @@ use Rattle.brk_plans.specs.declared.plan.Plan.{Plan}
 use Rattle.brk_book_theorems.specs.Steps.{base_after_command}
 use Rattle.brk_trade_theorems.specs.Plans.{PlanImplementsCommand}
 use Rattle.brk_trade_theorems.specs.TradePlans.{PlanCancelPrecondition}
-use Rattle.brk_trade_theorems.specs.TradeTests.{cancel_checks_on_tables}
+use Rattle.brk_trade_theorems.specs.TradeTests.{cancel_checks_on_trade_row}
 use Rattle.brk_trade_theorems.proofs.TradePlanning.{cancel_refusal, cancel_done, refused_step}
 
 -- a cancel is tested by its trade's status as by the whole row
 same_tests : (row : Option TradeRow) (last : Option ℕ) (now : ℕ)
-    → planner.cancel_checks (option_map (λ r. r.status) row) ++ later_stamp_check last now ∷ [] ≡ cancel_checks_on_tables row last now
+    → planner.cancel_checks (option_map (λ r. r.status) row) ++ later_stamp_check last now ∷ [] ≡ cancel_checks_on_trade_row row last now
 same_tests None last now = refl
 same_tests (Some r) last now = refl
 
 read_tests : (base : Base) (id : ℕ) (found : Option Status) (last : Option ℕ) (now : ℕ) → PlanCancelPrecondition base id found last now
-    → first_refusal (planner.cancel_checks found ++ later_stamp_check last now ∷ []) ≡ first_refusal (cancel_checks_on_tables (trade_row_with_id (sheets base) id) (sheets base).last now)
+    → first_refusal (planner.cancel_checks found ++ later_stamp_check last now ∷ []) ≡ first_refusal (cancel_checks_on_trade_row (trade_row_with_id (sheets base) id) (sheets base).last now)
 read_tests base id found last now k =
     (λ i. first_refusal (planner.cancel_checks (k.status_read i) ++ later_stamp_check (k.last_read i) now ∷ []))
     ∙ ap first_refusal (same_tests (trade_row_with_id (sheets base) id) (sheets base).last now)
@@ -50,7 +50,7 @@ cancel_plan_does base id found last now plan k p =
     let stamped : stamp_after (sheets base).last now ≡ Some p.stamp = sym (ap (λ o. stamp_after o now) k.last_read) ∙ p.stamped in
     let done = cancel_done base now id p.stamp k.books k.moment (sym (read_tests base id found last now k) ∙ p.accepted) stamped in
     record {
-      steps = done.steps ∙ ap (λ reply. Ok (reply, base_after_command base now (CancelTrade id))) (sym (ap abstract_reply p.told));
+      steps = done.steps ∙ ap (λ reply. Ok (reply, base_after_command base now (CancelTrade id))) (sym (ap abstract_reply p.replied));
       rows = done.rows ∙ ap (λ changes. tables_after_changes changes (sheets base)) (sym p.changes);
-      kept = done.kept;
+      books_after = done.books_after;
     }

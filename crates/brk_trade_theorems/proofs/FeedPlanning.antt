@@ -19,17 +19,17 @@ use Rattle.brk_plans.specs.Feed as planner
 use Rattle.brk_plans.specs.Feed.{SymbolState, IsFeedPlan, row_changes_of_ticks, exceeds_volume_limit, trades_triggered_by_ticks, is_state_of_symbol, lacks_state_of_symbol, states_after_ticks, IsTickedReply}
 use Rattle.brk_plans.specs.Reference.{later_stamp_check}
 use Rattle.brk_plans.specs.Replies.{abstract_reply}
-use Rattle.brk_changes.specs.declared.change.Change.TheVariants.{SetLast}
+use Rattle.brk_changes.specs.declared.change.Change.TheVariants.{SetLastStamp}
 use Rattle.brk_plans.specs.declared.plan.Plan.{Plan}
 use Rattle.brk_plans.specs.declared.reply.Reply.{Reply}
 use Rattle.brk_plans.specs.declared.reply.Reply.TheVariants as reply
 use Rattle.brk_book_theorems.specs.Steps.{base_after_command}
 use Rattle.brk_trade_theorems.specs.Plans.{PlanImplementsCommand}
-use Rattle.brk_trade_theorems.specs.TradePlans.{HasQuoteIfTraded, PlanFeedPrecondition, HasDistinctQuoteSymbols}
+use Rattle.brk_trade_theorems.specs.TradePlans.{HasQuoteIfSymbolHasLastTrade, PlanFeedPrecondition, HasDistinctQuoteSymbols}
 use Rattle.brk_book_theorems.specs.TradeReads.{last_trade_row_of_symbol}
 use Rattle.brk_book_theorems.specs.Ticks.{exceeds_symbol_volume_limit, is_tick_of_unknown_symbol}
 use Rattle.brk_trade_theorems.specs.TradeTests.{feed_checks_on_tables}
-use Rattle.brk_book_theorems.specs.Trading.{ids_triggered_by_feed}
+use Rattle.brk_book_theorems.specs.Trading.{trade_ids_triggered_by_feed}
 use Rattle.brk_book_theorems.proofs.Same.{All-map, any-none}
 use Rattle.brk_book_theorems.proofs.Tested.{not_not}
 use Rattle.brk_book_theorems.proofs.Ticks.{base_apart}
@@ -42,7 +42,7 @@ use Rattle.brk_trade_theorems.proofs.QuotedVolumes.{quotes_exceed}
 -- ---- what is tested
 
 -- a symbol that has a last trade has a quote, and no other has
-same_known : (t : Tables) (ticks : List Tick) (quotes : List SymbolState) (tick : Tick) → AllByRecursion (IsHeld t ticks) quotes → HasDistinctQuoteSymbols quotes → HasQuoteIfTraded t quotes tick
+same_known : (t : Tables) (ticks : List Tick) (quotes : List SymbolState) (tick : Tick) → AllByRecursion (IsHeld t ticks) quotes → HasDistinctQuoteSymbols quotes → HasQuoteIfSymbolHasLastTrade t quotes tick
     → list_any (is_state_of_symbol tick.symbol) quotes ≡ is_some (last_trade_row_of_symbol t tick.symbol)
 same_known t ticks quotes tick k d h = both_ways (list_any (is_state_of_symbol tick.symbol) quotes) (is_some (last_trade_row_of_symbol t tick.symbol)) there h
   where
@@ -51,11 +51,11 @@ same_known t ticks quotes tick k d h = both_ways (list_any (is_state_of_symbol t
         let q = quote_of t ticks tick.symbol quotes k d e in
         ap is_some (sym (ap (last_trade_row_of_symbol t) q.same) ∙ q.read.last_trade)
 
-same_unknown : (t : Tables) (ticks : List Tick) (quotes : List SymbolState) → AllByRecursion (IsHeld t ticks) quotes → HasDistinctQuoteSymbols quotes → AllByRecursion (HasQuoteIfTraded t quotes) ticks
+same_unknown : (t : Tables) (ticks : List Tick) (quotes : List SymbolState) → AllByRecursion (IsHeld t ticks) quotes → HasDistinctQuoteSymbols quotes → AllByRecursion (HasQuoteIfSymbolHasLastTrade t quotes) ticks
     → list_any (lacks_state_of_symbol quotes) ticks ≡ list_any (is_tick_of_unknown_symbol t) (abstract_ticks ticks)
 same_unknown t ticks quotes k d quoted = each ticks quoted
   where
-    each : (us : List Tick) → AllByRecursion (HasQuoteIfTraded t quotes) us → list_any (lacks_state_of_symbol quotes) us ≡ list_any (is_tick_of_unknown_symbol t) (abstract_ticks us)
+    each : (us : List Tick) → AllByRecursion (HasQuoteIfSymbolHasLastTrade t quotes) us → list_any (lacks_state_of_symbol quotes) us ≡ list_any (is_tick_of_unknown_symbol t) (abstract_ticks us)
     each [] h = refl
     each (u ∷ us) h = λ i. not (same_known t ticks quotes u k d h.0 i) || each us h.1 i
 
@@ -119,13 +119,13 @@ feed_plan_does base ticks quotes last now plan k p =
     record { read = held_quotes base ticks quotes last now k; apart = k.quotes_read.apart; requests = base_apart base k.books; known = known } in
     let stamped : stamp_after t.last now ≡ Some p.stamp = sym (ap (λ o. stamp_after o now) k.last_read) ∙ p.stamped in
     let done = feed_done base now (abstract_ticks ticks) p.stamp k.books k.moment (sym (read_tests base p.stamp ticks quotes last now k) ∙ p.accepted) stamped in
-    let told : Ticked p.stamp (ids_triggered_by_feed p.stamp (abstract_ticks ticks) t) ≡ abstract_reply plan.reply =
-    ap (Ticked p.stamp) (sym (ticks_ids t p.stamp ticks quotes quoted)) ∙ sym (told_reply p.stamp (trades_triggered_by_ticks p.stamp ticks quotes) plan.reply p.told) in
+    let told : Ticked p.stamp (trade_ids_triggered_by_feed p.stamp (abstract_ticks ticks) t) ≡ abstract_reply plan.reply =
+    ap (Ticked p.stamp) (sym (ticks_ids t p.stamp ticks quotes quoted)) ∙ sym (told_reply p.stamp (trades_triggered_by_ticks p.stamp ticks quotes) plan.reply p.replied) in
     record {
       steps = done.steps ∙ ap (λ reply. Ok (reply, base_after_command base now (FeedTicks (abstract_ticks ticks)))) told;
       rows = done.rows
-          ∙ ap (tables_after_changes (SetLast p.stamp ∷ [])) (sym (ticks_changes t p.stamp ticks quotes quoted))
-          ∙ sym (after_more (row_changes_of_ticks p.stamp ticks quotes) (SetLast p.stamp ∷ []) t)
+          ∙ ap (tables_after_changes (SetLastStamp p.stamp ∷ [])) (sym (ticks_changes t p.stamp ticks quotes quoted))
+          ∙ sym (after_more (row_changes_of_ticks p.stamp ticks quotes) (SetLastStamp p.stamp ∷ []) t)
           ∙ ap (λ changes. tables_after_changes changes t) (sym p.changes);
-      kept = done.kept;
+      books_after = done.books_after;
     }

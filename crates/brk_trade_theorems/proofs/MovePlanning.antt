@@ -29,13 +29,13 @@ use Rattle.brk_orders.specs.declared.movement.Direction.TheVariants.{Deposit, Wi
 use Rattle.brk_orders.specs.declared.movement.Movement.{Movement}
 use Rattle.brk_plans.specs.Movement as planner
 use Rattle.brk_plans.specs.Movement.{IsMovementPlan, row_changes_of_movement, movement_checks, cash_text_of_direction, signed_cash_amount}
-use Rattle.brk_plans.specs.OneDay.{IsSettlementDayPlan, settlement_day_is_later_check, settlement_day_checks}
+use Rattle.brk_plans.specs.OneDay.{IsSettlementDayPlan, later_settlement_day_check, settlement_day_checks}
 use Rattle.brk_plans.specs.Reference.{later_stamp_check}
 use Rattle.brk_plans.specs.Replies.{abstract_reply}
-use Rattle.brk_plans.specs.declared.movement.MoveFound.{MoveFound}
+use Rattle.brk_plans.specs.declared.movement.MovementPlanFacts.{MovementPlanFacts}
 use Rattle.brk_plans.specs.declared.plan.Plan.{Plan}
 use Rattle.brk_book_theorems.specs.Books.{BooksInvariant}
-use Rattle.brk_book_theorems.specs.Movements.{balance_including_movement, numbered_row_of_movement, tables_after_movement}
+use Rattle.brk_book_theorems.specs.Movements.{account_balance_after_movement, numbered_cash_row_of_movement, tables_after_movement}
 use Rattle.brk_book_theorems.specs.Steps.{HasTableEffect, IsAcceptedWithEffect, PreservesBooksInvariant, base_after_command}
 use Rattle.brk_book_theorems.proofs.MoveReading.{moves_counted, reads_last_move}
 use Rattle.brk_book_theorems.proofs.Movements.{books_deposit, books_one_day, books_withdrawal, step_deposit, step_one_day, step_withdrawal}
@@ -69,7 +69,7 @@ summed opening total amount = omega (arith, ints)
 
 -- a movement adds its amount to its account's balance
 balance_moved : (base : Base) (m : records.Movement)
-    → balance_of_account base.accounts (postings_of_base base) m.account +ℤ m.amount ≡ balance_including_movement base m
+    → balance_of_account base.accounts (postings_of_base base) m.account +ℤ m.amount ≡ account_balance_after_movement base m
 unfolding balance_of_account
 balance_moved base m =
     let posted : List Posting = postings_of_base base in
@@ -82,26 +82,26 @@ balance_moved base m =
     ∙ total_one (λ p. p.amount) (postings_to_account posted m.account) (posting_of_movement m) []
     ∙ ap (λ ps. total_by (λ p. p.amount) ps +ℤ m.amount) (append_nil (postings_to_account posted m.account))))
 
-account_read : (base : Base) (m : Movement) (found : MoveFound) → MovementFactsMatchTables (sheets base) m found → is_none found.balance ≡ is_none (account_with_id base m.account)
+account_read : (base : Base) (m : Movement) (found : MovementPlanFacts) → MovementFactsMatchTables (sheets base) m found → is_none found.balance ≡ is_none (account_with_id base m.account)
 account_read base m found k =
     ap is_none (k.balance ∙ ap (option_map (λ r. r.balance)) (reads_account base m.account))
     ∙ is_none-map (λ r. r.balance) (option_map (account_row base.accounts (postings_of_base base)) (account_with_id base m.account))
     ∙ is_none-map (account_row base.accounts (postings_of_base base)) (account_with_id base m.account)
 
-balance_read : (base : Base) (m : Movement) (found : MoveFound) (stamp : ℕ) → MovementFactsMatchTables (sheets base) m found → is_none found.balance ≡ false
-    → planner.balance_after_movement m found ≡ balance_including_movement base (moved m.direction stamp m.account m.amount)
+balance_read : (base : Base) (m : Movement) (found : MovementPlanFacts) (stamp : ℕ) → MovementFactsMatchTables (sheets base) m found → is_none found.balance ≡ false
+    → planner.balance_after_movement m found ≡ account_balance_after_movement base (moved m.direction stamp m.account m.amount)
 balance_read base m found stamp k there =
     let balance = balance_found base m.account found.balance (account_with_id base m.account) refl
     (k.balance ∙ ap (option_map (λ r. r.balance)) (reads_account base m.account)) (sym (account_read base m found k) ∙ there) in
     ap (λ z. z +ℤ planner.signed_amount_of_movement m) balance ∙ balance_moved base (moved m.direction stamp m.account m.amount)
 
-tests_read : (base : Base) (m : Movement) (found : MoveFound) (last : Option ℕ) (now stamp : ℕ) → PlanMovementPrecondition base m found last now
+tests_read : (base : Base) (m : Movement) (found : MovementPlanFacts) (last : Option ℕ) (now stamp : ℕ) → PlanMovementPrecondition base m found last now
     → first_refusal (movement_checks m found ++ later_stamp_check last now ∷ [])
     ≡ first_refusal (checks_of_movement base (moved m.direction stamp m.account m.amount) ++ (nat_lt greatest_stamp (stamp_of_next_command base now), ClockEnd) ∷ (false, TooEarly) ∷ [])
 tests_read base m found last now stamp k =
     let alike = same_first (is_none found.balance) (is_none (account_with_id base m.account)) NoAccount
     ((nat_lt greatest_amount (nat_abs (planner.balance_after_movement m found)), Range limit.Balance) ∷ (found.has_all_movements, Range limit.Moves) ∷ later_stamp_check last now ∷ [])
-    ((nat_lt greatest_amount (nat_abs (balance_including_movement base (moved m.direction stamp m.account m.amount))), Range limit.Balance)
+    ((nat_lt greatest_amount (nat_abs (account_balance_after_movement base (moved m.direction stamp m.account m.amount))), Range limit.Balance)
     ∷ (nat_le greatest_id (length base.movements), Range limit.Moves) ∷ (nat_lt greatest_stamp (stamp_of_next_command base now), ClockEnd) ∷ (false, TooEarly) ∷ [])
     (account_read base m found k.looked_up) (λ there.
     same_first _ _ (Range limit.Balance) _ _ (ap (λ z. nat_lt greatest_amount (nat_abs z)) (balance_read base m found stamp k.looked_up there)) (λ _.
@@ -116,11 +116,11 @@ unfolding refusal_of_command checks_of_command
 refused_as base now m Deposit e = refl
 refused_as base now m Withdrawal e = refl
 
-pub move_read : (base : Base) (m : Movement) (found : MoveFound) (last : Option ℕ) (now : ℕ) → PlanMovementPrecondition base m found last now
+pub move_read : (base : Base) (m : Movement) (found : MovementPlanFacts) (last : Option ℕ) (now : ℕ) → PlanMovementPrecondition base m found last now
     → first_refusal (movement_checks m found ++ later_stamp_check last now ∷ []) ≡ refusal_of_command base now (movement_command m)
 move_read base m found last now k = tests_read base m found last now (stamp_of_next_command base now) k ∙ refused_as base now m m.direction refl
 
-pub move_refused : (base : Base) (m : Movement) (found : MoveFound) (last : Option ℕ) (now : ℕ) (refusal : Refusal) → PlanMovementPrecondition base m found last now
+pub move_refused : (base : Base) (m : Movement) (found : MovementPlanFacts) (last : Option ℕ) (now : ℕ) (refusal : Refusal) → PlanMovementPrecondition base m found last now
     → first_refusal (movement_checks m found ++ later_stamp_check last now ∷ []) ≡ Some refusal → step base now (movement_command m) ≡ Err refusal
 move_refused base m found last now refusal k e = refused_step base now (movement_command m) refusal (sym (move_read base m found last now k) ∙ e)
 
@@ -143,7 +143,7 @@ first_passes : (b : Bool) (refusal : Refusal) (ts : List RefusalCheck) → first
 first_passes true refusal ts e = absurd (cc)
 first_passes false refusal ts e = refl
 
-pub move_plan_does : (base : Base) (m : Movement) (found : MoveFound) (last : Option ℕ) (now : ℕ) (plan : Plan) → PlanMovementPrecondition base m found last now
+pub move_plan_does : (base : Base) (m : Movement) (found : MovementPlanFacts) (last : Option ℕ) (now : ℕ) (plan : Plan) → PlanMovementPrecondition base m found last now
     → IsMovementPlan m found last now plan → PlanImplementsCommand base now (movement_command m) plan
 move_plan_does base m found last now plan k p =
     let command : Command = movement_command m in
@@ -152,10 +152,10 @@ move_plan_does base m found last now plan k p =
     let there : is_none found.balance ≡ false = first_passes (is_none found.balance) NoAccount
     ((nat_lt greatest_amount (nat_abs (planner.balance_after_movement m found)), Range limit.Balance) ∷ (found.has_all_movements, Range limit.Moves) ∷ later_stamp_check last now ∷ []) p.accepted in
     let number : found.next ≡ length (postings_of_base base) + 1 = k.looked_up.next ∙ ap (λ n. n + 1) (reads_last_move base) in
-    let balance : planner.balance_after_movement m found ≡ balance_including_movement base (moved m.direction p.stamp m.account m.amount) = balance_read base m found p.stamp k.looked_up there in
-    let row : abstract_move_row p.moves.row ≡ numbered_row_of_movement base (moved m.direction p.stamp m.account m.amount) = p.moves.posted ∙ (λ i. record (planner.cash_row_of_movement m found.next p.stamp) { id = number i }) in
+    let balance : planner.balance_after_movement m found ≡ account_balance_after_movement base (moved m.direction p.stamp m.account m.amount) = balance_read base m found p.stamp k.looked_up there in
+    let row : abstract_move_row p.moves.row ≡ numbered_cash_row_of_movement base (moved m.direction p.stamp m.account m.amount) = p.moves.posted ∙ (λ i. record (planner.cash_row_of_movement m found.next p.stamp) { id = number i }) in
     let told : reply_to_movement base (moved m.direction p.stamp m.account m.amount) ≡ abstract_reply plan.reply =
-    (λ i. MovedCash p.stamp (sym number i) (sym balance i)) ∙ sym (ap abstract_reply p.moves.told) in
+    (λ i. MovedCash p.stamp (sym number i) (sym balance i)) ∙ sym (ap abstract_reply p.moves.replied) in
     let change : ℕ → Tables → Tables = λ stamp. tables_after_movement base (moved m.direction stamp m.account m.amount) in
     let done : IsAcceptedWithEffect base now command p.stamp (abstract_reply plan.reply) (change p.stamp) =
     is_done base now command p.stamp (abstract_reply plan.reply) change k.books accepted next
@@ -165,7 +165,7 @@ move_plan_does base m found last now plan k p =
       steps = done.steps;
       rows = done.rows ∙ (λ i. tables_with_last_stamp p.stamp (tables_with_balance m.account (sym balance i) (tables_with_cash_row (sym row i) (sheets base))))
           ∙ ap (λ changes. tables_after_changes changes (sheets base)) (sym p.moves.changes);
-      kept = done.kept;
+      books_after = done.books_after;
     }
 
 -- ---- a settlement day
@@ -190,7 +190,7 @@ pub one_day_read : (base : Base) (day : ℕ) (rule last : Option ℕ) (now : ℕ
 unfolding refusal_of_command checks_of_command
 one_day_read base day rule last now k =
     let later = early_read base day last now (stamp_after last now) k.books k.last_read k.moment refl in
-    (same_first (is_some rule) (is_some base.rule) Exists (later_stamp_check last now ∷ settlement_day_is_later_check day last now ∷ [])
+    (same_first (is_some rule) (is_some base.rule) Exists (later_stamp_check last now ∷ later_settlement_day_check day last now ∷ [])
     ((nat_lt greatest_stamp (stamp_of_next_command base now), ClockEnd) ∷ (nat_le day (day_of (stamp_of_next_command base now)), TooEarly) ∷ [])
     (ap is_some (k.rule_read ∙ rule_is base)) (λ _. record { first = later })).first
 
@@ -207,7 +207,7 @@ one_day_plan_does base day rule last now plan k p =
     let done : IsAcceptedWithEffect base now (SetOneDay day) p.stamp (Booked p.stamp) (tables_with_settlement_day day) =
     is_done base now (SetOneDay day) p.stamp (Booked p.stamp) (λ stamp. tables_with_settlement_day day) k.books accepted next (ap Booked (sym next)) (step_one_day base now day) (books_one_day base now day) in
     record {
-      steps = done.steps ∙ ap (λ reply. Ok (reply, base_after_command base now (SetOneDay day))) (sym (ap abstract_reply p.told));
+      steps = done.steps ∙ ap (λ reply. Ok (reply, base_after_command base now (SetOneDay day))) (sym (ap abstract_reply p.replied));
       rows = done.rows ∙ ap (λ changes. tables_after_changes changes (sheets base)) (sym p.changes);
-      kept = done.kept;
+      books_after = done.books_after;
     }

@@ -8,7 +8,7 @@ use Rattle.brk_money.specs.declared.refusal.Refusal.TheVariants.{BadQty, NoAccou
 use Rattle.brk_money.specs.declared.refusal.Limit.TheVariants as limit
 use Rattle.brk_model.specs.Limits.{most_accounts_per_customer, greatest_tax_rate}
 use Rattle.brk_model.specs.Base as base_spec
-use Rattle.brk_model.specs.Base.{Base, tax_rate_of_id}
+use Rattle.brk_model.specs.Base.{Base, tax_rate_record_with_id}
 use Rattle.brk_model.specs.Sheets.{sheets}
 use Rattle.brk_model.specs.Commands.{Booked}
 use Rattle.brk_model.specs.Tests.{checks_of_command, refusal_of_command, first_refusal, duplicate_check, stamp_of_next_command}
@@ -22,7 +22,7 @@ use Rattle.brk_plans.specs.declared.reference.Reference.{Reference}
 use Rattle.brk_plans.specs.declared.reference.Reference.TheVariants as reference
 use Rattle.brk_ref.specs.Records.{abstract_broker, abstract_customer, abstract_account, abstract_permission, abstract_listing, abstract_charge, abstract_band, abstract_tax_rate, abstract_customer_tax}
 use Rattle.brk_book_theorems.specs.Books.{BooksInvariant}
-use Rattle.brk_book_theorems.specs.Reads.{rate_sum_of_customer}
+use Rattle.brk_book_theorems.specs.Reads.{customer_tax_rate_sum}
 use Rattle.brk_plans.specs.Replies.{abstract_reply}
 use Rattle.brk_plans.specs.Commands.{command_adding_record}
 use Rattle.brk_book_theorems.specs.Steps.{base_after_command, PreservesBooksInvariant}
@@ -88,17 +88,17 @@ refusal_read base (reference.TaxRate r) found last now k =
 refusal_read base (reference.CustomerTax x) found last now k =
     let customer = k.looked_up.customer_there ∙ reads_has_customer base x.customer in
     let rate = k.looked_up.rate_there ∙ reads_rate base x.tax in
-    let none = ap is_none rate ∙ is_none-map (λ r. r.rate) (tax_rate_of_id base x.tax) in
+    let none = ap is_none rate ∙ is_none-map (λ r. r.rate) (tax_rate_record_with_id base x.tax) in
     let same = k.looked_up.same_id ∙ reads_pays_tax base x.customer x.tax in
-    let sum = exceeds_read found.rates (rate_sum_of_customer (sheets base) x.customer) found.rate k.looked_up.sum
+    let sum = exceeds_read found.rates (customer_tax_rate_sum (sheets base) x.customer) found.rate k.looked_up.sum
     ∙ (λ i. nat_lt greatest_tax_rate (reads_rates base x.customer i + unwrap_or (rate i) 0))
-    ∙ ap (λ n. nat_lt greatest_tax_rate (base_spec.tax_rate_sum_of_customer base x.customer + n)) (map-or (tax_rate_of_id base x.tax)) in
+    ∙ ap (λ n. nat_lt greatest_tax_rate (base_spec.tax_rate_sum_of_customer base x.customer + n)) (map-or (tax_rate_record_with_id base x.tax)) in
     let clock = clock_read base last now k.books k.last_read k.moment in
     λ i. first_refusal ((not (customer i), NoCustomer) ∷ (none i, NoTax) ∷ duplicate_check (same i) ∷ (sum i, TaxSum) ∷ (clock i, ClockEnd) ∷ [])
 
 -- the rows and the books after the command of a record
 reference_rows : (base : Base) (now : ℕ) (r : Reference) → BooksInvariant base → refusal_of_command base now (command_adding_record r) ≡ None
-    → sheets (base_after_command base now (command_adding_record r)) ≡ tables_after_changes (row_changes_adding_record (stamp_of_next_command base now) r ++ change.SetLast (stamp_of_next_command base now) ∷ []) (sheets base)
+    → sheets (base_after_command base now (command_adding_record r)) ≡ tables_after_changes (row_changes_adding_record (stamp_of_next_command base now) r ++ change.SetLastStamp (stamp_of_next_command base now) ∷ []) (sheets base)
 reference_rows base now (reference.Broker b) books e = step_broker base now (abstract_broker b) books e
 reference_rows base now (reference.Customer c) books e = step_customer base now (abstract_customer c) books e
 reference_rows base now (reference.Account a) books e = step_account base now (abstract_account a) books e
@@ -141,11 +141,11 @@ plan_does base r found last now plan k p =
     record {
       steps = ap (λ o. value_unless_refused o (reply_to_command base (stamp_of_next_command base now) (command_adding_record r), base_after_command base now (command_adding_record r))) e
           ∙ ap (λ reply. Ok (reply, base_after_command base now (command_adding_record r)))
-          (reference_reply base (stamp_of_next_command base now) r ∙ sym (ap Booked s) ∙ sym (ap abstract_reply p.told));
+          (reference_reply base (stamp_of_next_command base now) r ∙ sym (ap Booked s) ∙ sym (ap abstract_reply p.replied));
       rows = reference_rows base now r k.books e
-          ∙ ap (λ stamp. tables_after_changes (row_changes_adding_record stamp r ++ change.SetLast stamp ∷ []) (sheets base)) (sym s)
+          ∙ ap (λ stamp. tables_after_changes (row_changes_adding_record stamp r ++ change.SetLastStamp stamp ∷ []) (sheets base)) (sym s)
           ∙ ap (λ changes. tables_after_changes changes (sheets base)) (sym p.changes);
-      kept = reference_books base now r k.books e;
+      books_after = reference_books base now r k.books e;
     }
 
 pub refusal_does : (base : Base) (r : Reference) (found : ReferenceFacts) (last : Option ℕ) (now : ℕ) (refusal : Refusal) → PlanReferencePrecondition base r found last now

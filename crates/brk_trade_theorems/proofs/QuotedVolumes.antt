@@ -18,7 +18,7 @@ use Rattle.brk_plans.specs.Feed.{SymbolState, exceeds_volume_limit, is_state_of_
 use Rattle.brk_book_theorems.specs.Books.{BooksInvariant, HasDistinctSymbols, HasVolumeWithinLimit}
 use Rattle.brk_book_theorems.specs.TradeReads.{volume_of_symbol}
 use Rattle.brk_trade_theorems.specs.TradePlans.{HasDistinctQuoteSymbols}
-use Rattle.brk_book_theorems.specs.Ticks.{exceeds_symbol_volume_limit, tick_quantity_of_symbol}
+use Rattle.brk_book_theorems.specs.Ticks.{exceeds_symbol_volume_limit, tick_quantity_sum_of_symbol}
 use Rattle.brk_book_theorems.proofs.Same.{All-map, All-mapped, find-All}
 use Rattle.brk_book_theorems.proofs.Reading.{find-map, is_some-map, some-is-any}
 use Rattle.brk_book_theorems.proofs.TermReading.{reads_last_trade}
@@ -131,4 +131,4 @@ quotes_exceed base stamp ticks quotes books k d known =
     ∙ sym (reads_exceeds (market quotes) stamp (abstract_ticks ticks) (market_books quotes d (quotes_within base ticks quotes books k)) (market_knows quotes ticks known))
     ∙ any-each (exceeds_symbol_volume_limit (sheets (market quotes)) (abstract_ticks ticks)) (exceeds_symbol_volume_limit (sheets base) (abstract_ticks ticks)) (abstract_ticks ticks)
     (All-mapped (λ u. exceeds_symbol_volume_limit (sheets (market quotes)) (abstract_ticks ticks) u ≡ exceeds_symbol_volume_limit (sheets base) (abstract_ticks ticks) u) abstract_tick ticks
-    (All-map ticks (λ tick h. ap (λ volume. nat_lt greatest_amount (volume + tick_quantity_of_symbol tick.symbol (abstract_ticks ticks))) (market_volume (sheets base) ticks tick.symbol quotes k d h)) known))
+    (All-map ticks (λ tick h. ap (λ volume. nat_lt greatest_amount (volume + tick_quantity_sum_of_symbol tick.symbol (abstract_ticks ticks))) (market_volume (sheets base) ticks tick.symbol quotes k d h)) known))

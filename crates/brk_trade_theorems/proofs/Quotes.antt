@@ -17,7 +17,7 @@ use Rattle.brk_plans.specs.declared.quote.Quote.{Quote}
 use Rattle.brk_plans.specs.declared.span.Span.{Span}
 use Rattle.brk_book_theorems.specs.Books.{BooksInvariant}
 use Rattle.brk_book_theorems.specs.TradeReads.{last_trade_row_of_symbol, requests_of_symbol, volume_of_symbol}
-use Rattle.brk_trade_theorems.specs.TradePlans.{AreQuotesOfTicks, IsQuoteOfTick, IsQuoteOfSomeTick, HasQuoteIfTraded, HasDistinctQuoteSymbols}
+use Rattle.brk_trade_theorems.specs.TradePlans.{AreQuotesOfTicks, IsQuoteOfTick, IsQuoteOfSomeTick, HasQuoteIfSymbolHasLastTrade, HasDistinctQuoteSymbols}
 use Rattle.brk_book_theorems.proofs.Bools.{same_text, texts_back}
 use Rattle.brk_book_theorems.proofs.Same.{NonePass, All-append, All-map, any-none, filter-none, find-All, map-last}
 use Rattle.brk_book_theorems.proofs.Places.{FoundAt, filter-one, find-at, some_of}
@@ -109,12 +109,12 @@ no_quotes t all = record { read = tt; apart = tt; quoted = tt }
 pub quoted_before : (t : Tables) (all ticks : List Tick) (tick : Tick) (quotes : List Quote) → AreQuotesOfTicks t all ticks (states_of_quotes quotes) → list_any (is_state_of_symbol tick.symbol) (states_of_quotes quotes) ≡ true
     → AreQuotesOfTicks t all (ticks ++ tick ∷ []) (states_of_quotes quotes)
 quoted_before t all ticks tick quotes k e =
-    record { read = k.read; apart = k.apart; quoted = All-append (HasQuoteIfTraded t (states_of_quotes quotes)) ticks (tick ∷ []) k.quoted ((λ h. e), tt) }
+    record { read = k.read; apart = k.apart; quoted = All-append (HasQuoteIfSymbolHasLastTrade t (states_of_quotes quotes)) ticks (tick ∷ []) k.quoted ((λ h. e), tt) }
 
 pub not_listed : (t : Tables) (all ticks : List Tick) (tick : Tick) (quotes : List Quote) → AreQuotesOfTicks t all ticks (states_of_quotes quotes) → last_trade_row_of_symbol t tick.symbol ≡ None
     → AreQuotesOfTicks t all (ticks ++ tick ∷ []) (states_of_quotes quotes)
 not_listed t all ticks tick quotes k e =
-    record { read = k.read; apart = k.apart; quoted = All-append (HasQuoteIfTraded t (states_of_quotes quotes)) ticks (tick ∷ []) k.quoted ((λ h. absurd (none (sym (ap is_some e) ∙ h))), tt) }
+    record { read = k.read; apart = k.apart; quoted = All-append (HasQuoteIfSymbolHasLastTrade t (states_of_quotes quotes)) ticks (tick ∷ []) k.quoted ((λ h. absurd (none (sym (ap is_some e) ∙ h))), tt) }
   where
     none : false ≡ true → ⊥
     none h = absurd (cc)
@@ -147,7 +147,7 @@ one_more t all ticks tick quotes quote k e m r =
     record {
       read = All-append (IsQuoteOfSomeTick t all) quotes (quote ∷ []) k.read (record { tick = tick; among = m; is = r }, tt);
       apart = apart_last quotes quote k.apart none;
-      quoted = All-append (HasQuoteIfTraded t (quotes ++ quote ∷ [])) ticks (tick ∷ [])
+      quoted = All-append (HasQuoteIfSymbolHasLastTrade t (quotes ++ quote ∷ [])) ticks (tick ∷ [])
           (All-map ticks (λ u h s. any-last (is_state_of_symbol u.symbol) quotes quote (h s)) k.quoted)
           ((λ s. any-at_last (is_state_of_symbol tick.symbol) quotes quote (listed t tick.symbol quote r.last_trade)), tt);
     }

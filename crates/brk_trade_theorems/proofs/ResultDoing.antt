@@ -33,13 +33,13 @@ use Rattle.brk_changes.specs.Changes.{tables_after_change, tables_after_changes,
 use Rattle.brk_trade.specs.Outcomes.{deal_of_trade_row, figures_of_result, result_checks, shares_held_after_trade, values_of_closing}
 use Rattle.brk_plans.specs.Replies.{abstract_reply}
 use Rattle.brk_trade.specs.Results as planner
-use Rattle.brk_trade.specs.Results.{CompletesExistingTrade, row_changes_of_cash_row, row_changes_of_result, first_cash_type_of_trade, row_changes_of_opened_lot, summary_broker_settlement_changes, row_change_of_summary, row_changes_of_touched_lot, reply_of_completed_result, row_changes_of_completed_trade}
+use Rattle.brk_trade.specs.Results.{CompletesExistingTrade, row_changes_of_cash_row, row_changes_of_result, first_cash_type_of_trade, row_changes_of_opened_lot, summary_broker_settlement_changes, row_change_of_summary, row_changes_of_touched_lot, completed_reply_of_figures, row_changes_of_completed_trade}
 use Rattle.brk_changes.specs.Rows.{cash_type_text, abstract_move_row, abstract_trade_row}
 use Rattle.brk_changes.specs.declared.move_row.MoveRow.{MoveRow}
 use Rattle.brk_changes.specs.declared.change.Change.{Change}
 use Rattle.brk_changes.specs.declared.change.Change.TheVariants as change
-use Rattle.brk_trade.specs.declared.outcome.ResultNumbers.{ResultNumbers}
-use Rattle.brk_trade.specs.declared.result_found.ResultFound.{ResultFound}
+use Rattle.brk_trade.specs.declared.outcome.ResultFigures.{ResultFigures}
+use Rattle.brk_trade.specs.declared.result_found.ResultPlanFacts.{ResultPlanFacts}
 use Rattle.brk_plans.specs.declared.plan.Plan.{Plan}
 use Rattle.brk_plans.specs.declared.reply.Reply.TheVariants as reply
 use Rattle.brk_changes.specs.declared.summary_row.SummaryRow as summary
@@ -47,9 +47,9 @@ use Rattle.brk_changes.specs.declared.trade_row.TradeRow as planned
 use Rattle.brk_book_theorems.specs.Books.{BooksInvariant}
 use Rattle.brk_trade_theorems.specs.Plans.{PlanImplementsCommand}
 use Rattle.brk_book_theorems.specs.Steps.{IsAcceptedWithEffect, base_after_command}
-use Rattle.brk_trade_theorems.specs.ResultPlans.{PlanResultPrecondition, PassesResultChecks}
-use Rattle.brk_book_theorems.specs.Results.{with_cash_posted, with_trade_completed, with_lots_opened, tables_after_result, result_rows_of_trade, with_summary_changed, with_lots_touched}
-use Rattle.brk_book_theorems.specs.TradeReads.{position_lots, summary_row_of_quantity, summary_row_of_position}
+use Rattle.brk_trade_theorems.specs.ResultPlans.{PlanResultPrecondition, PassesFirstResultChecks}
+use Rattle.brk_book_theorems.specs.Results.{tables_with_cash_row_if_cash_trade, tables_with_trade_completed_and_history, tables_with_lots_opened, tables_after_result, result_rows_of_trade, tables_with_summary_changed, tables_with_lots_touched}
+use Rattle.brk_book_theorems.specs.TradeReads.{lots_of_position, summary_row_if_nonzero, summary_row_of_position}
 use Rattle.brk_book_theorems.specs.Trading.{history_row_of_status}
 use Rattle.brk_trade_theorems.proofs.QuotedTicks.{after_more}
 use Rattle.brk_trade_theorems.proofs.ResultFinding.{TradeFound, amount_read, balance_read, broker_found, commission_read, commissions_read, held_found, account_found, next_found, passes_rate, passes_status, passes_summary, result_refusal, result_values, rule_found, security_found, summary_found, summary_read, tax_read, trade_found}
@@ -63,7 +63,7 @@ use Rattle.brk_trade_theorems.proofs.ResultRefusing.{at_market, deal_read, held_
 
 -- ---- the rows
 
-touched_made : (trade : ℕ) (touched : List Touch) (t : Tables) → tables_after_changes (flat_map (row_changes_of_touched_lot trade) touched) t ≡ with_lots_touched trade (map abstract_touch touched) t
+touched_made : (trade : ℕ) (touched : List Touch) (t : Tables) → tables_after_changes (flat_map (row_changes_of_touched_lot trade) touched) t ≡ tables_with_lots_touched trade (map abstract_touch touched) t
 touched_made trade [] t = refl
 touched_made trade (touch ∷ touched) t =
     after_more (row_changes_of_touched_lot trade touch) (flat_map (row_changes_of_touched_lot trade) touched) t
@@ -75,7 +75,7 @@ touched_made trade (touch ∷ touched) t =
     left touch true = refl
     left touch false = refl
 
-opened_made : (trade : planned.TradeRow) (ls : List Lot) (t : Tables) → tables_after_changes (flat_map (row_changes_of_opened_lot trade) ls) t ≡ with_lots_opened (abstract_trade_row trade) (map abstract_lot ls) t
+opened_made : (trade : planned.TradeRow) (ls : List Lot) (t : Tables) → tables_after_changes (flat_map (row_changes_of_opened_lot trade) ls) t ≡ tables_with_lots_opened (abstract_trade_row trade) (map abstract_lot ls) t
 opened_made trade [] t = refl
 opened_made trade (lot ∷ ls) t = after_more (row_changes_of_opened_lot trade lot) (flat_map (row_changes_of_opened_lot trade) ls) t ∙ opened_made trade ls _
 
@@ -91,10 +91,10 @@ moved_some Sell (suc n) h = ap is_zero (plain (signed_by_side Sell (suc n)))
     plain : (z : ℤ) → pos 0 +ℤ z ≡ z
     plain z = omega (arith, ints)
 
-summary_made : (found : ResultFound) (row : Option SummaryRow) (before after : ℤ) (t : Tables) → found.summary ≡ option_map (λ r. r.qty) row
+summary_made : (found : ResultPlanFacts) (row : Option SummaryRow) (before after : ℤ) (t : Tables) → found.summary ≡ option_map (λ r. r.qty) row
     → (row ≡ None → is_zero before ≡ true) → ((r : SummaryRow) → row ≡ Some r → is_zero before ≡ false) → (row ≡ None → is_zero after ≡ false)
     → tables_after_change (row_change_of_summary found.summary found.trade after) t
-    ≡ with_summary_changed before after (record { account = found.trade.account; symbol = found.trade.symbol; qty = after }) t
+    ≡ tables_with_summary_changed before after (record { account = found.trade.account; symbol = found.trade.symbol; qty = after }) t
 summary_made found row before after t e none some new = by_row row refl e
   where
     S : summary.SummaryRow
@@ -118,7 +118,7 @@ summary_made found row before after t e none some new = by_row row refl e
 -- ---- a completion
 
 -- a result that was planned, of the trade that it completes
-record Planned (base : Base) (price : ℕ) (last : Option ℕ) (now : ℕ) (t : Trade) (found : ResultFound) (closing : Closing) (stamp : ℕ) : Type 0 where
+record Planned (base : Base) (price : ℕ) (last : Option ℕ) (now : ℕ) (t : Trade) (found : ResultPlanFacts) (closing : Closing) (stamp : ℕ) : Type 0 where
   pub found_it : TradeFound base t found
   pub front : List Trade
   pub back : List Trade
@@ -127,16 +127,16 @@ record Planned (base : Base) (price : ℕ) (last : Option ℕ) (now : ℕ) (t : 
   pub values : values_of_closing closing ≡ result_values base stamp price t
   pub touched : map abstract_touch closing.touched.items ≡ list_in_closing_order t.is_lifo (touches_of_existing_lots (deal_of_result stamp price t) (shares_of_position (completed_trades base) t.account t.symbol))
   pub opened : map abstract_lot (option_to_list closing.opened) ≡ lots_of_shares (opened_shares (deal_of_result stamp price t) (shares_of_position (completed_trades base) t.account t.symbol))
-  pub one : PassesResultChecks 1 found
+  pub one : PassesFirstResultChecks 1 found
   pub rated : is_none found.rate ≡ false
-  pub two : PassesResultChecks 2 found
-  pub three : PassesResultChecks 3 found
+  pub two : PassesFirstResultChecks 2 found
+  pub three : PassesFirstResultChecks 3 found
 
-abbrev outcome_planned : ResultFound → ℕ → Closing → ℕ → ResultNumbers
+abbrev outcome_planned : ResultPlanFacts → ℕ → Closing → ℕ → ResultFigures
 outcome_planned found price closing stamp = figures_of_result found price (values_of_closing closing) stamp
 
 -- what it comes to is what the definitions say
-record Agrees (base : Base) (price : ℕ) (t : Trade) (found : ResultFound) (closing : Closing) (stamp : ℕ) : Type 0 where
+record Agrees (base : Base) (price : ℕ) (t : Trade) (found : ResultPlanFacts) (closing : Closing) (stamp : ℕ) : Type 0 where
   pub commission : (outcome_planned found price closing stamp).commission ≡ (completed_trade base stamp price t).commission
   pub tax : (outcome_planned found price closing stamp).tax ≡ (completed_trade base stamp price t).tax
   pub amount : (outcome_planned found price closing stamp).amount ≡ derived.settlement_amount base.accounts (completed_trade base stamp price t)
@@ -147,7 +147,7 @@ record Agrees (base : Base) (price : ℕ) (t : Trade) (found : ResultFound) (clo
   pub trades : pos (found.broker.trades + 1) ≡ pos (trade_count_of_broker base.accounts (completed_trades (base_after_result base stamp price t)) (broker_id_of_account base t.account))
   pub broker : found.account.broker ≡ broker_id_of_account base t.account
 
-agrees : (base : Base) (price : ℕ) (last : Option ℕ) (now : ℕ) (t : Trade) (found : ResultFound) (closing : Closing) (stamp : ℕ) → Planned base price last now t found closing stamp
+agrees : (base : Base) (price : ℕ) (last : Option ℕ) (now : ℕ) (t : Trade) (found : ResultPlanFacts) (closing : Closing) (stamp : ℕ) → Planned base price last now t found closing stamp
     → Agrees base price t found closing stamp
 agrees base price last now t found closing stamp k =
     let f = k.found_it in
@@ -169,8 +169,8 @@ agrees base price last now t found closing stamp k =
 
 -- ---- the reply
 
-told_read : (base : Base) (price : ℕ) (last : Option ℕ) (now : ℕ) (t : Trade) (found : ResultFound) (closing : Closing) (stamp : ℕ) → Planned base price last now t found closing stamp
-    → CompletedTrade stamp (completion_of_trade base stamp price t) ≡ abstract_reply (reply.Completed (reply_of_completed_result (outcome_planned found price closing stamp)))
+told_read : (base : Base) (price : ℕ) (last : Option ℕ) (now : ℕ) (t : Trade) (found : ResultPlanFacts) (closing : Closing) (stamp : ℕ) → Planned base price last now t found closing stamp
+    → CompletedTrade stamp (completion_of_trade base stamp price t) ≡ abstract_reply (reply.Completed (completed_reply_of_figures (outcome_planned found price closing stamp)))
 unfolding completion_of_trade completed_trade
 told_read base price last now t found closing stamp k =
     let a = agrees base price last now t found closing stamp k in
@@ -186,62 +186,62 @@ told_read base price last now t found closing stamp k =
 
 -- ---- the changes, one after another
 
-trade_made : (base : Base) (price : ℕ) (last : Option ℕ) (now : ℕ) (t : Trade) (found : ResultFound) (closing : Closing) (stamp : ℕ) → Planned base price last now t found closing stamp
-    → (x : Tables) → tables_after_changes (row_changes_of_completed_trade found.trade.id price (outcome_planned found price closing stamp)) x ≡ with_trade_completed (trade_row (completed_trade base stamp price t)) x
+trade_made : (base : Base) (price : ℕ) (last : Option ℕ) (now : ℕ) (t : Trade) (found : ResultPlanFacts) (closing : Closing) (stamp : ℕ) → Planned base price last now t found closing stamp
+    → (x : Tables) → tables_after_changes (row_changes_of_completed_trade found.trade.id price (outcome_planned found price closing stamp)) x ≡ tables_with_trade_completed_and_history (trade_row (completed_trade base stamp price t)) x
 unfolding completed_trade
 trade_made base price last now t found closing stamp k x =
     let a = agrees base price last now t found closing stamp k in
     let m : stamp ≡ last_status_stamp_of_trade (completed_trade base stamp price t) = sym (moment_then base stamp price t) in
     λ i. tables_with_history_row (history_row_of_status (k.found_it.row i).id Completed (m i)) (tables_with_trade_completed (k.found_it.row i).id (m i) price (a.commission i) (a.tax i) x)
 
-lots_made : (base : Base) (price : ℕ) (last : Option ℕ) (now : ℕ) (t : Trade) (found : ResultFound) (closing : Closing) (stamp : ℕ) → Planned base price last now t found closing stamp
+lots_made : (base : Base) (price : ℕ) (last : Option ℕ) (now : ℕ) (t : Trade) (found : ResultPlanFacts) (closing : Closing) (stamp : ℕ) → Planned base price last now t found closing stamp
     → (x : Tables) → tables_after_changes (flat_map (row_changes_of_opened_lot found.trade) (option_to_list closing.opened)) (tables_after_changes (flat_map (row_changes_of_touched_lot found.trade.id) closing.touched.items) x)
-    ≡ with_lots_opened (trade_row (completed_trade base stamp price t)) (result_rows_of_trade base stamp price t).opened (with_lots_touched t.id (result_rows_of_trade base stamp price t).touched x)
+    ≡ tables_with_lots_opened (trade_row (completed_trade base stamp price t)) (result_rows_of_trade base stamp price t).opened (tables_with_lots_touched t.id (result_rows_of_trade base stamp price t).touched x)
 unfolding completed_trade
 lots_made base price last now t found closing stamp k x =
     ap (tables_after_changes (flat_map (row_changes_of_opened_lot found.trade) (option_to_list closing.opened))) (touched_made found.trade.id closing.touched.items x)
-    ∙ opened_made found.trade (option_to_list closing.opened) (with_lots_touched found.trade.id (map abstract_touch closing.touched.items) x)
-    ∙ (λ i. with_lots_opened (k.found_it.row i) (k.opened i) (with_lots_touched (k.found_it.row i).id (k.touched i) x))
+    ∙ opened_made found.trade (option_to_list closing.opened) (tables_with_lots_touched found.trade.id (map abstract_touch closing.touched.items) x)
+    ∙ (λ i. tables_with_lots_opened (k.found_it.row i) (k.opened i) (tables_with_lots_touched (k.found_it.row i).id (k.touched i) x))
 
 cash_type_read : (b : Bool) → cash_type_text (first_cash_type_of_trade b) ≡ cond b (codes "Cash Account") (codes "Margin")
 cash_type_read true = refl
 cash_type_read false = refl
 
 -- the summary is a row where it is not 0
-summary_row_is : (base : Base) (price : ℕ) (last : Option ℕ) (now : ℕ) (t : Trade) (found : ResultFound) (closing : Closing) (stamp : ℕ) → Planned base price last now t found closing stamp
+summary_row_is : (base : Base) (price : ℕ) (last : Option ℕ) (now : ℕ) (t : Trade) (found : ResultPlanFacts) (closing : Closing) (stamp : ℕ) → Planned base price last now t found closing stamp
     → (x : Tables) → tables_after_change (row_change_of_summary found.summary found.trade (outcome_planned found price closing stamp).summary) x
-    ≡ with_summary_changed (holding_summary_quantity (completed_trades base) t.account t.symbol) (holding_summary_quantity (completed_trades (base_after_result base stamp price t)) t.account t.symbol)
+    ≡ tables_with_summary_changed (holding_summary_quantity (completed_trades base) t.account t.symbol) (holding_summary_quantity (completed_trades (base_after_result base stamp price t)) t.account t.symbol)
     (record { account = t.account; symbol = t.symbol; qty = holding_summary_quantity (completed_trades (base_after_result base stamp price t)) t.account t.symbol }) x
 summary_row_is base price last now t found closing stamp k x =
     let a = agrees base price last now t found closing stamp k in
     let f = k.found_it in
     let held : unwrap_or found.summary (pos 0) ≡ holding_summary_quantity (completed_trades base) t.account t.symbol = held_found base t found f k.two in
-    let row : summary_row_of_position (sheets base) t.account t.symbol ≡ summary_row_of_quantity t.account t.symbol (holding_summary_quantity (completed_trades base) t.account t.symbol) =
+    let row : summary_row_of_position (sheets base) t.account t.symbol ≡ summary_row_if_nonzero t.account t.symbol (holding_summary_quantity (completed_trades base) t.account t.symbol) =
     reads_summary_row base t.account t.symbol f.books (ap is_some f.owner.there) (ap is_some f.listed_is) in
     summary_made found (summary_row_of_position (sheets base) t.account t.symbol) (holding_summary_quantity (completed_trades base) t.account t.symbol) (shares_held_after_trade found) x (summary_found base t found f k.two)
     (λ e. none_zero t.account t.symbol (holding_summary_quantity (completed_trades base) t.account t.symbol) (is_zero (holding_summary_quantity (completed_trades base) t.account t.symbol)) refl (sym row ∙ e))
     (λ r e. some_left t.account t.symbol (holding_summary_quantity (completed_trades base) t.account t.symbol) (is_zero (holding_summary_quantity (completed_trades base) t.account t.symbol)) refl r (sym row ∙ e))
     (λ e. ap (λ o. is_zero (unwrap_or o (pos 0) +ℤ signed_by_side (side_of_trade_type found.trade.kind) found.trade.qty)) (summary_found base t found f k.two ∙ ap (option_map (λ r. r.qty)) e)
     ∙ moved_some (side_of_trade_type found.trade.kind) found.trade.qty k.some_shares)
-    ∙ (λ i. with_summary_changed (holding_summary_quantity (completed_trades base) t.account t.symbol) (a.summary i) (record { account = (f.row i).account; symbol = (f.row i).symbol; qty = a.summary i }) x)
+    ∙ (λ i. tables_with_summary_changed (holding_summary_quantity (completed_trades base) t.account t.symbol) (a.summary i) (record { account = (f.row i).account; symbol = (f.row i).symbol; qty = a.summary i }) x)
   where
-    none_zero : (account : ℕ) (symbol : Text) (q : ℤ) (b : Bool) → is_zero q ≡ b → summary_row_of_quantity account symbol q ≡ None → is_zero q ≡ true
+    none_zero : (account : ℕ) (symbol : Text) (q : ℤ) (b : Bool) → is_zero q ≡ b → summary_row_if_nonzero account symbol q ≡ None → is_zero q ≡ true
     none_zero account symbol q true e h = e
     none_zero account symbol q false e h =
         let row : SummaryRow = record { account = account; symbol = symbol; qty = q } in
         let k : Some row ≡ None = sym (ap (λ b. cond b None (Some row)) e) ∙ h in absurd (cc)
 
-    some_left : (account : ℕ) (symbol : Text) (q : ℤ) (b : Bool) → is_zero q ≡ b → (r : SummaryRow) → summary_row_of_quantity account symbol q ≡ Some r → is_zero q ≡ false
+    some_left : (account : ℕ) (symbol : Text) (q : ℤ) (b : Bool) → is_zero q ≡ b → (r : SummaryRow) → summary_row_if_nonzero account symbol q ≡ Some r → is_zero q ≡ false
     some_left account symbol q false e r h = e
     some_left account symbol q true e r h =
         let row : SummaryRow = record { account = account; symbol = symbol; qty = q } in
         let k : None ≡ Some r = sym (ap (λ b. cond b None (Some row)) e) ∙ h in absurd (cc)
 
-sums_made : (base : Base) (price : ℕ) (last : Option ℕ) (now : ℕ) (t : Trade) (found : ResultFound) (closing : Closing) (stamp : ℕ) → Planned base price last now t found closing stamp
+sums_made : (base : Base) (price : ℕ) (last : Option ℕ) (now : ℕ) (t : Trade) (found : ResultPlanFacts) (closing : Closing) (stamp : ℕ) → Planned base price last now t found closing stamp
     → (x : Tables) → tables_after_changes (summary_broker_settlement_changes found (outcome_planned found price closing stamp)) x
     ≡ tables_with_settlement (result_rows_of_trade base stamp price t).settlement
     (tables_with_broker_totals (result_rows_of_trade base stamp price t).broker (result_rows_of_trade base stamp price t).trades (result_rows_of_trade base stamp price t).commissions
-    (with_summary_changed (holding_summary_quantity (completed_trades base) t.account t.symbol) (holding_summary_quantity (completed_trades (base_after_result base stamp price t)) t.account t.symbol)
+    (tables_with_summary_changed (holding_summary_quantity (completed_trades base) t.account t.symbol) (holding_summary_quantity (completed_trades (base_after_result base stamp price t)) t.account t.symbol)
     (record { account = t.account; symbol = t.symbol; qty = holding_summary_quantity (completed_trades (base_after_result base stamp price t)) t.account t.symbol }) x))
 unfolding completed_trade
 sums_made base price last now t found closing stamp k x =
@@ -255,10 +255,10 @@ sums_made base price last now t found closing stamp k x =
     })
     (tables_with_broker_totals (a.broker i) (a.trades i) (a.commissions i) (summary_row_is base price last now t found closing stamp k x i))
 
-cash_made : (base : Base) (price : ℕ) (last : Option ℕ) (now : ℕ) (t : Trade) (found : ResultFound) (closing : Closing) (stamp : ℕ) → Planned base price last now t found closing stamp
+cash_made : (base : Base) (price : ℕ) (last : Option ℕ) (now : ℕ) (t : Trade) (found : ResultPlanFacts) (closing : Closing) (stamp : ℕ) → Planned base price last now t found closing stamp
     → (cash : Option MoveRow) → option_map abstract_move_row cash ≡ planner.cash_row_of_result found (outcome_planned found price closing stamp) → (x : Tables)
     → tables_after_changes (flat_map (row_changes_of_cash_row found.trade.account (outcome_planned found price closing stamp).balance) (option_to_list cash)) x
-    ≡ with_cash_posted t.is_cash (result_rows_of_trade base stamp price t).cash t.account (result_rows_of_trade base stamp price t).balance x
+    ≡ tables_with_cash_row_if_cash_trade t.is_cash (result_rows_of_trade base stamp price t).cash t.account (result_rows_of_trade base stamp price t).balance x
 unfolding completed_trade
 cash_made base price last now t found closing stamp k cash moved x = by_cash t.is_cash refl cash (moved ∙ told)
   where
@@ -297,7 +297,7 @@ cash_made base price last now t found closing stamp k cash moved x = by_cash t.i
 
     Made : Bool → Option MoveRow → Type 0
     Made b cash = tables_after_changes (flat_map (row_changes_of_cash_row found.trade.account (outcome_planned found price closing stamp).balance) (option_to_list cash)) x
-        ≡ with_cash_posted b row t.account (result_rows_of_trade base stamp price t).balance x
+        ≡ tables_with_cash_row_if_cash_trade b row t.account (result_rows_of_trade base stamp price t).balance x
 
     unsome : (c d : tables.MoveRow) → Some c ≡ Some d → c ≡ d
     unsome c d e = cc
@@ -313,31 +313,31 @@ cash_made base price last now t found closing stamp k cash moved x = by_cash t.i
         let j : Some (abstract_move_row c) ≡ Some moves =
         h ∙ ap (λ b. cond b (Some moves) None) e in
         let same : abstract_move_row c ≡ row = unsome (abstract_move_row c) moves j ∙ (λ i. record row { name = sym (name e) i }) in
-        (λ i. tables_with_balance (f.row i).account (a.balance i) (tables_with_cash_row (same i) x)) ∙ sym (ap (λ b. with_cash_posted b row t.account (result_rows_of_trade base stamp price t).balance x) e)
-    by_cash false e None h = sym (ap (λ b. with_cash_posted b row t.account (result_rows_of_trade base stamp price t).balance x) e)
+        (λ i. tables_with_balance (f.row i).account (a.balance i) (tables_with_cash_row (same i) x)) ∙ sym (ap (λ b. tables_with_cash_row_if_cash_trade b row t.account (result_rows_of_trade base stamp price t).balance x) e)
+    by_cash false e None h = sym (ap (λ b. tables_with_cash_row_if_cash_trade b row t.account (result_rows_of_trade base stamp price t).balance x) e)
     by_cash false e (Some c) h =
         let j : Some (abstract_move_row c) ≡ None =
         h ∙ ap (λ b. cond b (Some moves) None) e in
         absurd (cc)
 
 -- all of them
-changes_made : (base : Base) (price : ℕ) (last : Option ℕ) (now : ℕ) (t : Trade) (found : ResultFound) (closing : Closing) (stamp : ℕ) → Planned base price last now t found closing stamp
+changes_made : (base : Base) (price : ℕ) (last : Option ℕ) (now : ℕ) (t : Trade) (found : ResultPlanFacts) (closing : Closing) (stamp : ℕ) → Planned base price last now t found closing stamp
     → (cash : Option MoveRow) → option_map abstract_move_row cash ≡ planner.cash_row_of_result found (outcome_planned found price closing stamp) → (x : Tables)
     → tables_after_changes (row_changes_of_result found price closing (outcome_planned found price closing stamp) cash) x ≡ tables_with_last_stamp stamp (tables_after_result (result_rows_of_trade base stamp price t) x)
 unfolding completed_trade
 changes_made base price last now t found closing stamp k cash moved x =
-    let o : ResultNumbers = outcome_planned found price closing stamp in
+    let o : ResultFigures = outcome_planned found price closing stamp in
     let T : List Change = row_changes_of_completed_trade found.trade.id price o in
     let L : List Change = flat_map (row_changes_of_touched_lot found.trade.id) closing.touched.items in
     let O : List Change = flat_map (row_changes_of_opened_lot found.trade) (option_to_list closing.opened) in
     let S : List Change = summary_broker_settlement_changes found o in
     let C : List Change = flat_map (row_changes_of_cash_row found.trade.account o.balance) (option_to_list cash) in
-    after_more ((((T ++ L) ++ O) ++ S) ++ C) (change.SetLast stamp ∷ []) x
+    after_more ((((T ++ L) ++ O) ++ S) ++ C) (change.SetLastStamp stamp ∷ []) x
     ∙ ap (tables_with_last_stamp stamp) (after_more (((T ++ L) ++ O) ++ S) C x
     ∙ ap (tables_after_changes C) (after_more ((T ++ L) ++ O) S x
     ∙ ap (tables_after_changes S) (after_more (T ++ L) O x ∙ ap (tables_after_changes O) (after_more T L x)
     ∙ ap (λ y. tables_after_changes O (tables_after_changes L y)) (trade_made base price last now t found closing stamp k x)
-    ∙ lots_made base price last now t found closing stamp k (with_trade_completed (trade_row (completed_trade base stamp price t)) x))
+    ∙ lots_made base price last now t found closing stamp k (tables_with_trade_completed_and_history (trade_row (completed_trade base stamp price t)) x))
     ∙ sums_made base price last now t found closing stamp k _)
     ∙ cash_made base price last now t found closing stamp k cash moved _)
 
@@ -353,7 +353,7 @@ result_done base id price now stamp t books e accepted next =
     ∙ (λ i. CompletedTrade (sym next i) (completion_of_trade base (sym next i) price t)))
     (step_result base now id price t e) (books_result base now id price)
 
-pub result_plan_does : (base : Base) (id price : ℕ) (found : Option ResultFound) (given : List Lot → Type 0) (last : Option ℕ) (now : ℕ) (plan : Plan) → PlanResultPrecondition base id found given last now
+pub result_plan_does : (base : Base) (id price : ℕ) (found : Option ResultPlanFacts) (given : List Lot → Type 0) (last : Option ℕ) (now : ℕ) (plan : Plan) → PlanResultPrecondition base id found given last now
     → CompletesExistingTrade found price given last now plan → PlanImplementsCommand base now (CompleteTrade id price) plan
 result_plan_does base id price None given last now plan k p = absurd p
 result_plan_does base id price (Some found) given last now plan k p =
@@ -361,7 +361,7 @@ result_plan_does base id price (Some found) given last now plan k p =
     let f : TradeFound base t.0 found = trade_found base id t.0 found k.books t.1 t.2 k.looked_up in
     let next : p.stamp ≡ stamp_of_next_command base now = stamp_read base last now p.stamp k.last_read p.stamped in
     let tests = none_refuse (result_checks found price (values_of_closing p.closing) (Some p.stamp)) p.accepted in
-    let held = position_lots (sheets base) found.trade.account found.trade.symbol in
+    let held = lots_of_position (sheets base) found.trade.account found.trade.symbol in
     let met = lots_met base id found given k.books k.trade_read (at_market found tests.0) (k.lots_read (passes_status found tests.0)) (held_by_row base t.0 found f (passes_rate found tests.0 tests.1.0)) in
     let closes : IsClosingOfDeal (deal_of_trade_row found.trade price p.stamp) held p.closing = p.closes held met in
     let deal : deal_of_trade_row found.trade price p.stamp ≡ deal_of_result p.stamp price t.0 = deal_read t.0 found price p.stamp t.2 in
@@ -391,8 +391,8 @@ result_plan_does base id price (Some found) given last now plan k p =
     } in
     let done = result_done base id price now p.stamp t.0 k.books t.1 accepted next in
     record {
-      steps = done.steps ∙ ap (λ reply. Ok (reply, base_after_command base now (CompleteTrade id price))) (told_read base price last now t.0 found p.closing p.stamp made ∙ sym (ap abstract_reply p.told));
+      steps = done.steps ∙ ap (λ reply. Ok (reply, base_after_command base now (CompleteTrade id price))) (told_read base price last now t.0 found p.closing p.stamp made ∙ sym (ap abstract_reply p.replied));
       rows = done.rows ∙ sym (changes_made base price last now t.0 found p.closing p.stamp made p.changes.cash p.changes.moved (sheets base))
           ∙ sym (ap (λ changes. tables_after_changes changes (sheets base)) p.changes.changed);
-      kept = done.kept;
+      books_after = done.books_after;
     }

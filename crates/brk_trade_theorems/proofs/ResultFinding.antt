@@ -6,7 +6,7 @@ use Rattle.std.proofs.lemmas.Bool.{eqb-true}
 use Rattle.brk_lots.specs.Values.{closing_values_of_deal}
 use Rattle.brk_lots.specs.declared.values.Values.{Values}
 use Rattle.brk_model.specs.Base as base_spec
-use Rattle.brk_model.specs.Base.{Base, commission_band_for, is_taxable_status, broker_id_of_account, broker_with_id, completed_trades, customer_id_of_account, exchange_of_security, has_status, last_status_change, security_name, security_with_symbol, is_withholding_status, tax_status_in_accounts, tier_of_account, trade_with_id}
+use Rattle.brk_model.specs.Base.{Base, commission_band_for_quantity, is_taxable_status, broker_id_of_account, broker_with_id, completed_trades, customer_id_of_account, exchange_of_security, has_status, last_status_change, security_name, security_with_symbol, is_withholding_status, tax_status_in_accounts, tier_of_account, trade_with_id}
 use Rattle.brk_model.specs.Commands.{CompleteTrade}
 use Rattle.brk_model.specs.Derived as derived
 use Rattle.brk_model.specs.Derived.{balance_of_account, commission_total_of_broker, due_day_of_completion_stamp, postings_of_base, signed_proceeds, shares_of_position, holding_summary_quantity, trade_count_of_broker}
@@ -29,12 +29,12 @@ use Rattle.brk_money.specs.declared.tax_status.TaxStatus.TheVariants.{Untaxed}
 use Rattle.brk_trade.specs.Outcomes.{settlement_amount_of_result, balance_after_result, commission_of_result, broker_commissions_after_result, due_day_check, result_checks, shares_held_after_trade, tax_of_result}
 use Rattle.brk_changes.specs.Rows.{abstract_trade_row}
 use Rattle.brk_trade.specs.declared.result_found.ResultAccount.{ResultAccount}
-use Rattle.brk_trade.specs.declared.result_found.ResultFound.{ResultFound}
+use Rattle.brk_trade.specs.declared.result_found.ResultPlanFacts.{ResultPlanFacts}
 use Rattle.brk_model.specs.Names.{AccountOfTradeExists, BrokerOfAccountExists, SecurityOfTradeExists}
 use Rattle.brk_book_theorems.specs.Books.{BooksInvariant}
 use Rattle.brk_book_theorems.specs.OrderReads.{CustomerOfAccountSatisfies}
-use Rattle.brk_book_theorems.specs.Reads.{rate_sum_of_customer}
-use Rattle.brk_trade_theorems.specs.ResultPlans.{ResultFactsMatchTables, PassesResultChecks, result_account_of_row}
+use Rattle.brk_book_theorems.specs.Reads.{customer_tax_rate_sum}
+use Rattle.brk_trade_theorems.specs.ResultPlans.{ResultFactsMatchTables, PassesFirstResultChecks, result_account_of_row}
 use Rattle.brk_book_theorems.specs.TradeReads.{band_of_quantity, summary_row_of_position}
 use Rattle.brk_book_theorems.proofs.Holding.{held_read}
 use Rattle.brk_book_theorems.proofs.Same.{find-All}
@@ -54,7 +54,7 @@ use Rattle.brk_trade_theorems.proofs.TradePlanning.{stamp_read}
 -- ---- a trade that was found
 
 -- its row, and that what it names is there
-pub record TradeFound (base : Base) (t : Trade) (found : ResultFound) : Type 0 where
+pub record TradeFound (base : Base) (t : Trade) (found : ResultPlanFacts) : Type 0 where
   pub books : BooksInvariant base
   pub row : abstract_trade_row found.trade ≡ trade_row t
   pub read : ResultFactsMatchTables (sheets base) found
@@ -62,7 +62,7 @@ pub record TradeFound (base : Base) (t : Trade) (found : ResultFound) : Type 0 w
   pub listed : Security
   pub listed_is : security_with_symbol base t.symbol ≡ Some listed
 
-pub trade_found : (base : Base) (id : ℕ) (t : Trade) (found : ResultFound) → BooksInvariant base → trade_with_id base id ≡ Some t → abstract_trade_row found.trade ≡ trade_row t
+pub trade_found : (base : Base) (id : ℕ) (t : Trade) (found : ResultPlanFacts) → BooksInvariant base → trade_with_id base id ≡ Some t → abstract_trade_row found.trade ≡ trade_row t
     → ResultFactsMatchTables (sheets base) found → TradeFound base t found
 trade_found base id t found books e row read =
     let s = some_of (security_with_symbol base t.symbol) (find-All (SecurityOfTradeExists base) (λ u. u.id == id) base.trades t books.securities e) in
@@ -77,18 +77,18 @@ trade_found base id t found books e row read =
 
 -- ---- what was found of it
 
-pub passes_status : (found : ResultFound) → not (is_same_trade_status found.trade.status Submitted) ≡ false → PassesResultChecks 1 found
+pub passes_status : (found : ResultPlanFacts) → not (is_same_trade_status found.trade.status Submitted) ≡ false → PassesFirstResultChecks 1 found
 passes_status found a = rw a refl
 
-pub passes_rate : (found : ResultFound) → not (is_same_trade_status found.trade.status Submitted) ≡ false → is_none found.rate ≡ false → PassesResultChecks 2 found
+pub passes_rate : (found : ResultPlanFacts) → not (is_same_trade_status found.trade.status Submitted) ≡ false → is_none found.rate ≡ false → PassesFirstResultChecks 2 found
 passes_rate found a b = rw (a, b) refl
 
-pub passes_summary : (found : ResultFound) → not (is_same_trade_status found.trade.status Submitted) ≡ false → is_none found.rate ≡ false
-    → nat_lt greatest_summary (nat_abs (shares_held_after_trade found)) ≡ false → PassesResultChecks 3 found
+pub passes_summary : (found : ResultPlanFacts) → not (is_same_trade_status found.trade.status Submitted) ≡ false → is_none found.rate ≡ false
+    → nat_lt greatest_summary (nat_abs (shares_held_after_trade found)) ≡ false → PassesFirstResultChecks 3 found
 passes_summary found a b c = rw (a, b, c) refl
 
-rate_read : (base : Base) (t : Trade) (found : ResultFound) → TradeFound base t found → PassesResultChecks 1 found
-    → found.rate ≡ option_map (λ b. b.rate) (commission_band_for base (tier_of_account base t.account) t.kind (exchange_of_security base t.symbol) t.qty)
+rate_read : (base : Base) (t : Trade) (found : ResultPlanFacts) → TradeFound base t found → PassesFirstResultChecks 1 found
+    → found.rate ≡ option_map (λ b. b.rate) (commission_band_for_quantity base (tier_of_account base t.account) t.kind (exchange_of_security base t.symbol) t.qty)
 rate_read base t found k p =
     let exchange : exchange_of_security base t.symbol ≡ k.listed.exchange = ap (λ x. option_map_or (λ s. s.exchange) x []) k.listed_is in
     let row : security_row_with_symbol (sheets base) t.symbol ≡ Some (security_row k.listed) = reads_security base t.symbol ∙ ap (option_map security_row) k.listed_is in
@@ -98,14 +98,14 @@ rate_read base t found k p =
     (of_customer base t.account
     (λ c. IfSome (security_row_with_symbol (sheets base) t.symbol) (λ s. found.rate ≡ option_map (λ b. b.rate) (band_of_quantity (sheets base) c.tier t.kind s.exchange t.qty))) k.owner told)
     ∙ ap (option_map (λ b. b.rate)) (reads_band base k.owner.c.tier t.kind k.listed.exchange t.qty k.books
-    ∙ (λ i. commission_band_for base (sym (tier_found base t.account k.owner) i) t.kind (sym exchange i) t.qty))
+    ∙ (λ i. commission_band_for_quantity base (sym (tier_found base t.account k.owner) i) t.kind (sym exchange i) t.qty))
 
-pub summary_found : (base : Base) (t : Trade) (found : ResultFound) → TradeFound base t found → PassesResultChecks 2 found
+pub summary_found : (base : Base) (t : Trade) (found : ResultPlanFacts) → TradeFound base t found → PassesFirstResultChecks 2 found
     → found.summary ≡ option_map (λ r. r.qty) (summary_row_of_position (sheets base) t.account t.symbol)
 summary_found base t found k p =
     subst (λ (r : TradeRow). found.summary ≡ option_map (λ s. s.qty) (summary_row_of_position (sheets base) r.account r.symbol)) k.row (k.read.summary p)
 
-pub held_found : (base : Base) (t : Trade) (found : ResultFound) → TradeFound base t found → PassesResultChecks 2 found
+pub held_found : (base : Base) (t : Trade) (found : ResultPlanFacts) → TradeFound base t found → PassesFirstResultChecks 2 found
     → unwrap_or found.summary (pos 0) ≡ holding_summary_quantity (completed_trades base) t.account t.symbol
 held_found base t found k p =
     held_read base t.account t.symbol found.summary k.books (ap is_some k.owner.there) (ap is_some k.listed_is) (summary_found base t found k p)
@@ -117,7 +117,7 @@ account_is base t = record { broker = broker_id_of_account base t.account; tax_s
 account_id : (base : Base) (account : ℕ) (f : OwnerFound base account) → f.a.id ≡ account
 account_id base account f = let g : FoundAt Account (λ a. a.id == account) f.a base.accounts = find-at (λ a. a.id == account) base.accounts f.a f.there in eqb-true f.a.id account g.passes
 
-pub account_found : (base : Base) (t : Trade) (found : ResultFound) → TradeFound base t found → PassesResultChecks 3 found
+pub account_found : (base : Base) (t : Trade) (found : ResultPlanFacts) → TradeFound base t found → PassesFirstResultChecks 3 found
     → found.account ≡ account_is base t
 account_found base t found k p =
     of_account base t.account (λ a. found.account ≡ result_account_of_row a) k.owner
@@ -128,13 +128,13 @@ account_found base t found k p =
       balance = balance_of_account base.accounts (postings_of_base base) (account_id base t.account k.owner i);
     })
 
-rates_found : (base : Base) (t : Trade) (found : ResultFound) → TradeFound base t found → PassesResultChecks 3 found → found.rates ≡ base_spec.tax_rate_sum_of_customer base (customer_id_of_account base t.account)
+rates_found : (base : Base) (t : Trade) (found : ResultPlanFacts) → TradeFound base t found → PassesFirstResultChecks 3 found → found.rates ≡ base_spec.tax_rate_sum_of_customer base (customer_id_of_account base t.account)
 rates_found base t found k p =
-    of_account base t.account (λ a. found.rates ≡ rate_sum_of_customer (sheets base) a.customer) k.owner
-    (subst (λ (r : TradeRow). IfSome (account_row_with_id (sheets base) r.account) (λ a. found.rates ≡ rate_sum_of_customer (sheets base) a.customer)) k.row (k.read.rates p))
+    of_account base t.account (λ a. found.rates ≡ customer_tax_rate_sum (sheets base) a.customer) k.owner
+    (subst (λ (r : TradeRow). IfSome (account_row_with_id (sheets base) r.account) (λ a. found.rates ≡ customer_tax_rate_sum (sheets base) a.customer)) k.row (k.read.rates p))
     ∙ reads_rates base k.owner.a.customer ∙ ap (base_spec.tax_rate_sum_of_customer base) (sym (ap (λ x. option_map_or (λ a. a.customer) x 0) k.owner.there))
 
-pub broker_found : (base : Base) (t : Trade) (found : ResultFound) → TradeFound base t found → PassesResultChecks 3 found
+pub broker_found : (base : Base) (t : Trade) (found : ResultPlanFacts) → TradeFound base t found → PassesFirstResultChecks 3 found
     → (pos found.broker.trades ≡ pos (trade_count_of_broker base.accounts (completed_trades base) (broker_id_of_account base t.account)))
     × (found.broker.commissions ≡ commission_total_of_broker base.accounts (completed_trades base) (broker_id_of_account base t.account))
 broker_found base t found k p =
@@ -150,18 +150,18 @@ broker_found base t found k p =
     (pos found.broker.trades ≡ b.trades) × (found.broker.commissions ≡ b.commissions)))) k.row (k.read.broker p))) in
     (told.0 ∙ ap (λ id. pos (trade_count_of_broker base.accounts (completed_trades base) id)) same, told.1 ∙ ap (commission_total_of_broker base.accounts (completed_trades base)) same)
 
-pub security_found : (base : Base) (t : Trade) (found : ResultFound) → TradeFound base t found → PassesResultChecks 3 found → found.security ≡ security_name base t.symbol
+pub security_found : (base : Base) (t : Trade) (found : ResultPlanFacts) → TradeFound base t found → PassesFirstResultChecks 3 found → found.security ≡ security_name base t.symbol
 security_found base t found k p =
     let row : security_row_with_symbol (sheets base) t.symbol ≡ Some (security_row k.listed) = reads_security base t.symbol ∙ ap (option_map security_row) k.listed_is in
     subst (λ x. IfSome x (λ s. found.security ≡ s.name)) row
     (subst (λ (r : TradeRow). IfSome (security_row_with_symbol (sheets base) r.symbol) (λ s. found.security ≡ s.name)) k.row (k.read.security p))
     ∙ sym (ap (λ x. option_map_or (λ s. s.name) x []) k.listed_is)
 
-pub rule_found : (base : Base) (t : Trade) (found : ResultFound) → TradeFound base t found → PassesResultChecks 3 found → found.rule ≡ base.rule
+pub rule_found : (base : Base) (t : Trade) (found : ResultPlanFacts) → TradeFound base t found → PassesFirstResultChecks 3 found → found.rule ≡ base.rule
 unfolding tables_of_base_in_schema tables_sorted_by_key
 rule_found base t found k p = k.read.rule p
 
-pub next_found : (base : Base) (t : Trade) (found : ResultFound) → TradeFound base t found → PassesResultChecks 3 found → found.next ≡ length (postings_of_base base) + 1
+pub next_found : (base : Base) (t : Trade) (found : ResultPlanFacts) → TradeFound base t found → PassesFirstResultChecks 3 found → found.next ≡ length (postings_of_base base) + 1
 next_found base t found k p = k.read.next p ∙ ap (λ n. n + 1) (reads_last_move base)
 
 -- ---- what follows from it
@@ -175,21 +175,21 @@ band_rate : (b : Option Band) (rate : Option ℕ) (qty price : ℕ) → rate ≡
 band_rate None rate qty price e h = let k : true ≡ false = sym (ap is_none e) ∙ h in absurd (cc)
 band_rate (Some b) rate qty price e h = ap (λ r. commission (unwrap_or r 0) qty price) e
 
-pub commission_read : (base : Base) (stamp price : ℕ) (t : Trade) (found : ResultFound) → TradeFound base t found → PassesResultChecks 1 found → is_none found.rate ≡ false
+pub commission_read : (base : Base) (stamp price : ℕ) (t : Trade) (found : ResultPlanFacts) → TradeFound base t found → PassesFirstResultChecks 1 found → is_none found.rate ≡ false
     → commission_of_result found price ≡ (completed_trade base stamp price t).commission
 unfolding completed_trade
 commission_read base stamp price t found k p h =
     ap (λ (r : TradeRow). commission (unwrap_or found.rate 0) r.qty price) k.row
-    ∙ band_rate (commission_band_for base (tier_of_account base t.account) t.kind (exchange_of_security base t.symbol) t.qty) found.rate t.qty price (rate_read base t found k p) h
+    ∙ band_rate (commission_band_for_quantity base (tier_of_account base t.account) t.kind (exchange_of_security base t.symbol) t.qty) found.rate t.qty price (rate_read base t found k p) h
 
-pub tax_read : (base : Base) (stamp price : ℕ) (t : Trade) (found : ResultFound) → TradeFound base t found → PassesResultChecks 3 found
+pub tax_read : (base : Base) (stamp price : ℕ) (t : Trade) (found : ResultPlanFacts) → TradeFound base t found → PassesFirstResultChecks 3 found
     → tax_of_result found (result_values base stamp price t) ≡ (completed_trade base stamp price t).tax
 unfolding completed_trade
 tax_read base stamp price t found k p =
     let g : ℤ = realised_gain (deal_of_result stamp price t) (shares_of_position (completed_trades base) t.account t.symbol) in
     λ i. cond (is_taxable_status (account_found base t found k p i).tax_status) (tax g (rates_found base t found k p i)) 0
 
-pub amount_read : (base : Base) (stamp price : ℕ) (t : Trade) (found : ResultFound) → TradeFound base t found → PassesResultChecks 3 found → is_none found.rate ≡ false → PassesResultChecks 1 found
+pub amount_read : (base : Base) (stamp price : ℕ) (t : Trade) (found : ResultPlanFacts) → TradeFound base t found → PassesFirstResultChecks 3 found → is_none found.rate ≡ false → PassesFirstResultChecks 1 found
     → settlement_amount_of_result found price (result_values base stamp price t) ≡ derived.settlement_amount base.accounts (completed_trade base stamp price t)
 unfolding completed_trade
 amount_read base stamp price t found k p h q =
@@ -199,8 +199,8 @@ amount_read base stamp price t found k p h q =
     λ i. let r : TradeRow = k.row i in
     signed_proceeds (side_of_trade_type r.kind) (r.qty * price) -ℤ pos (r.charge + c i + cond (is_withholding_status (a i).tax_status) (x i) 0)
 
-pub balance_read : (base : Base) (stamp price : ℕ) (t : Trade) (xs ys : List Trade) (found : ResultFound) → TradeFound base t found → IsResult base stamp price t xs ys
-    → PassesResultChecks 3 found → is_none found.rate ≡ false → PassesResultChecks 1 found
+pub balance_read : (base : Base) (stamp price : ℕ) (t : Trade) (xs ys : List Trade) (found : ResultPlanFacts) → TradeFound base t found → IsResult base stamp price t xs ys
+    → PassesFirstResultChecks 3 found → is_none found.rate ≡ false → PassesFirstResultChecks 1 found
     → balance_after_result found price (result_values base stamp price t) ≡ balance_of_account base.accounts (postings_of_base (base_after_result base stamp price t)) t.account
 balance_read base stamp price t xs ys found k r p h q =
     (λ i. cond (k.row i).is_cash ((a i).balance +ℤ m i) (a i).balance) ∙ by_cash t.is_cash refl
@@ -221,13 +221,13 @@ balance_read base stamp price t xs ys found k r p h q =
         ap (λ b. cond b (balance_of_account base.accounts (postings_of_base base) t.account +ℤ derived.settlement_amount base.accounts (completed_trade base stamp price t)) (balance_of_account base.accounts (postings_of_base base) t.account)) e
         ∙ sym (balance_stays base stamp price t xs ys r e)
 
-pub summary_read : (base : Base) (stamp price : ℕ) (t : Trade) (xs ys : List Trade) (found : ResultFound) → TradeFound base t found → IsResult base stamp price t xs ys → PassesResultChecks 2 found
+pub summary_read : (base : Base) (stamp price : ℕ) (t : Trade) (xs ys : List Trade) (found : ResultPlanFacts) → TradeFound base t found → IsResult base stamp price t xs ys → PassesFirstResultChecks 2 found
     → shares_held_after_trade found ≡ holding_summary_quantity (completed_trades (base_after_result base stamp price t)) t.account t.symbol
 summary_read base stamp price t xs ys found k r p =
     (λ i. held_found base t found k p i +ℤ signed_by_side (side_of_trade_type (k.row i).kind) (k.row i).qty) ∙ sym (summary_grows base stamp price t xs ys r)
 
-pub commissions_read : (base : Base) (stamp price : ℕ) (t : Trade) (xs ys : List Trade) (found : ResultFound) → TradeFound base t found → IsResult base stamp price t xs ys
-    → PassesResultChecks 3 found → is_none found.rate ≡ false → PassesResultChecks 1 found
+pub commissions_read : (base : Base) (stamp price : ℕ) (t : Trade) (xs ys : List Trade) (found : ResultPlanFacts) → TradeFound base t found → IsResult base stamp price t xs ys
+    → PassesFirstResultChecks 3 found → is_none found.rate ≡ false → PassesFirstResultChecks 1 found
     → broker_commissions_after_result found price ≡ commission_total_of_broker base.accounts (completed_trades (base_after_result base stamp price t)) (broker_id_of_account base t.account)
 commissions_read base stamp price t xs ys found k r p h q =
     (λ i. (broker_found base t found k p).1 i + commission_read base stamp price t found k q h i) ∙ sym (commissions_grow base stamp price t xs ys r)
@@ -238,7 +238,7 @@ pub mark_status : (o : Option StatusChange) → is_same_trade_status (option_map
 mark_status None = refl
 mark_status (Some m) = refl
 
-status_read : (t : Trade) (found : ResultFound) → abstract_trade_row found.trade ≡ trade_row t → not (is_same_trade_status found.trade.status Submitted) ≡ not (has_status Submitted t)
+status_read : (t : Trade) (found : ResultPlanFacts) → abstract_trade_row found.trade ≡ trade_row t → not (is_same_trade_status found.trade.status Submitted) ≡ not (has_status Submitted t)
 status_read t found row = ap (λ (r : TradeRow). not (is_same_trade_status r.status Submitted)) row ∙ ap not (mark_status (last_status_change t))
 
 -- a stamp that is left, and the day of settlement
@@ -262,7 +262,7 @@ due_read base last now (Some stamp) books l h e =
     by_day true = refl
     by_day false = refl
 
-all_alike : (base : Base) (now id price : ℕ) (t : Trade) (found : ResultFound) (last : Option ℕ) → TradeFound base t found → trade_with_id base id ≡ Some t
+all_alike : (base : Base) (now id price : ℕ) (t : Trade) (found : ResultPlanFacts) (last : Option ℕ) → TradeFound base t found → trade_with_id base id ≡ Some t
     → last ≡ (sheets base).last → now ≤ greatest_stamp
     → Alike (result_checks found price (result_values base (stamp_of_next_command base now) price t) (stamp_after last now))
     (model.checks_of_result base (base_after_result base (stamp_of_next_command base now) price t) (stamp_of_next_command base now) t ++ (nat_lt greatest_stamp (stamp_of_next_command base now), ClockEnd) ∷ (false, TooEarly) ∷ [])
@@ -270,7 +270,7 @@ all_alike base now id price t found last k e l h =
     subst (λ s. Alike ((not (is_same_trade_status found.trade.status Submitted), WrongStatus s) ∷ F) G) (ap (λ (r : TradeRow). r.status) (sym k.row))
     (same_first _ _ (WrongStatus (last_status_of_trade t)) _ _ (status_read t found k.row) (λ a.
     same_first _ _ NoRate _ _
-    (ap is_none (rate_read base t found k (passes_status found a)) ∙ is_none-map (λ b. b.rate) (commission_band_for base (tier_of_account base t.account) t.kind (exchange_of_security base t.symbol) t.qty)) (λ b.
+    (ap is_none (rate_read base t found k (passes_status found a)) ∙ is_none-map (λ b. b.rate) (commission_band_for_quantity base (tier_of_account base t.account) t.kind (exchange_of_security base t.symbol) t.qty)) (λ b.
     let f : Found base now price t = found_at base now id price t k.books e (not_not (has_status Submitted t) (sym (status_read t found k.row) ∙ a)) in
     let one = passes_status found a in
     same_first _ _ (Range limit.Summary) _ _
@@ -296,7 +296,7 @@ all_alike base now id price t found last k e l h =
     G : List RefusalCheck
     G = model.checks_of_result base (base_after_result base stamp price t) stamp t ++ (nat_lt greatest_stamp stamp, ClockEnd) ∷ (false, TooEarly) ∷ []
 
-pub result_refusal : (base : Base) (now id price : ℕ) (t : Trade) (found : ResultFound) (last : Option ℕ) → TradeFound base t found → trade_with_id base id ≡ Some t
+pub result_refusal : (base : Base) (now id price : ℕ) (t : Trade) (found : ResultPlanFacts) (last : Option ℕ) → TradeFound base t found → trade_with_id base id ≡ Some t
     → last ≡ (sheets base).last → now ≤ greatest_stamp
     → first_refusal (result_checks found price (result_values base (stamp_of_next_command base now) price t) (stamp_after last now)) ≡ refusal_of_command base now (CompleteTrade id price)
 unfolding refusal_of_command checks_of_command

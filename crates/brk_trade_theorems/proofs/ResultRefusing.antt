@@ -21,13 +21,13 @@ use Rattle.brk_money.specs.Moments.{stamp_after}
 use Rattle.brk_money.specs.declared.refusal.Refusal.{Refusal}
 use Rattle.brk_money.specs.declared.status.Status.TheVariants.{Submitted}
 use Rattle.brk_trade.specs.Outcomes.{deal_of_trade_row, checks_before_reading_lots, result_checks}
-use Rattle.brk_trade.specs.Results.{AreLotsBeforeTrade, IsResultRefusal, shares_held_in_summary}
+use Rattle.brk_trade.specs.Results.{AreLotsBeforeTrade, IsResultRefusal, shares_held_before_trade}
 use Rattle.brk_trade.proofs.Results.{first_refuses}
 use Rattle.brk_changes.specs.Rows.{abstract_trade_row}
-use Rattle.brk_trade.specs.declared.result_found.ResultFound.{ResultFound}
+use Rattle.brk_trade.specs.declared.result_found.ResultPlanFacts.{ResultPlanFacts}
 use Rattle.brk_book_theorems.specs.Books.{BooksInvariant}
-use Rattle.brk_trade_theorems.specs.ResultPlans.{TradeLotsSatisfy, PlanResultPrecondition, PassesResultChecks}
-use Rattle.brk_book_theorems.specs.TradeReads.{position_lots}
+use Rattle.brk_trade_theorems.specs.ResultPlans.{TradeLotsSatisfy, PlanResultPrecondition, PassesFirstResultChecks}
+use Rattle.brk_book_theorems.specs.TradeReads.{lots_of_position}
 use Rattle.brk_book_theorems.proofs.Holding.{lots_given, total_is}
 use Rattle.brk_book_theorems.proofs.LotOrder.{shares_read}
 use Rattle.brk_book_theorems.proofs.Places.{FoundAt, find-at}
@@ -49,46 +49,46 @@ trade_of base id row e = by_trade (trade_with_id base id) refl
     by_trade (Some t) f = let k : Some row ≡ Some (trade_row t) = sym e ∙ reads_trade base id ∙ ap (option_map trade_row) f in let j : row ≡ trade_row t = cc in (t, f, j)
 
 -- the shares of its lots
-pub lots_shares : (base : Base) (t : Trade) (found : ResultFound) → TradeFound base t found
-    → shares_of_lots (position_lots (sheets base) found.trade.account found.trade.symbol) ≡ shares_of_position (completed_trades base) t.account t.symbol
+pub lots_shares : (base : Base) (t : Trade) (found : ResultPlanFacts) → TradeFound base t found
+    → shares_of_lots (lots_of_position (sheets base) found.trade.account found.trade.symbol) ≡ shares_of_position (completed_trades base) t.account t.symbol
 lots_shares base t found f =
     shares_read base found.trade.account found.trade.symbol f.books ∙ ap (λ (r : TradeRow). shares_of_position (completed_trades base) r.account r.symbol) f.row
 
 -- a trade at the market meets those of a position, from one of its ends, none of which it opened
-pub lots_met : (base : Base) (id : ℕ) (found : ResultFound) (given : List Lot → Type 0) → BooksInvariant base → trade_row_with_id (sheets base) id ≡ Some (abstract_trade_row found.trade)
-    → is_same_trade_status found.trade.status Submitted ≡ true → TradeLotsSatisfy (sheets base) found.trade given → shares_held_in_summary found ≡ holding_summary_quantity (completed_trades base) found.trade.account found.trade.symbol
-    → AreLotsBeforeTrade given found (position_lots (sheets base) found.trade.account found.trade.symbol)
+pub lots_met : (base : Base) (id : ℕ) (found : ResultPlanFacts) (given : List Lot → Type 0) → BooksInvariant base → trade_row_with_id (sheets base) id ≡ Some (abstract_trade_row found.trade)
+    → is_same_trade_status found.trade.status Submitted ≡ true → TradeLotsSatisfy (sheets base) found.trade given → shares_held_before_trade found ≡ holding_summary_quantity (completed_trades base) found.trade.account found.trade.symbol
+    → AreLotsBeforeTrade given found (lots_of_position (sheets base) found.trade.account found.trade.symbol)
 lots_met base id found given books e s k h =
     let trade = found.trade in
     let t = trade_of base id (abstract_trade_row trade) e in
     let at_market : has_status Submitted t.0 ≡ true = sym (ap (λ (r : TradeRow). is_same_trade_status r.status Submitted) t.2 ∙ mark_status (last_status_change t.0)) ∙ s in
     let g : FoundAt Trade (λ u. u.id == id) t.0 base.trades = find-at (λ u. u.id == id) base.trades t.0 t.1 in
     let same : trade.id ≡ id = ap (λ (r : TradeRow). r.id) t.2 ∙ eqb-true t.0.id id g.passes in
-    let fresh : AreOpenedByOtherTrades id (position_lots (sheets base) trade.account trade.symbol) = new_of_waiting base id trade.account trade.symbol t.0 books t.1 (submitted_not_completed t.0 at_market) in (
+    let fresh : AreOpenedByOtherTrades id (lots_of_position (sheets base) trade.account trade.symbol) = new_of_waiting base id trade.account trade.symbol t.0 books t.1 (submitted_not_completed t.0 at_market) in (
       lots_given base trade.account trade.symbol trade.is_lifo given books k,
-      subst (λ (m : ℕ). AreOpenedByOtherTrades m (position_lots (sheets base) trade.account trade.symbol)) (sym same) fresh,
+      subst (λ (m : ℕ). AreOpenedByOtherTrades m (lots_of_position (sheets base) trade.account trade.symbol)) (sym same) fresh,
       h ∙ sym (total_is base trade.account trade.symbol books),
     )
 
 -- what it holds in all, by its row
-pub held_by_row : (base : Base) (t : Trade) (found : ResultFound) → TradeFound base t found → PassesResultChecks 2 found → shares_held_in_summary found ≡ holding_summary_quantity (completed_trades base) found.trade.account found.trade.symbol
+pub held_by_row : (base : Base) (t : Trade) (found : ResultPlanFacts) → TradeFound base t found → PassesFirstResultChecks 2 found → shares_held_before_trade found ≡ holding_summary_quantity (completed_trades base) found.trade.account found.trade.symbol
 held_by_row base t found f p = held_found base t found f p ∙ sym (ap (λ (r : TradeRow). holding_summary_quantity (completed_trades base) r.account r.symbol) f.row)
 
 -- it meets them as the definitions say
-pub deal_read : (t : Trade) (found : ResultFound) (price stamp : ℕ) → abstract_trade_row found.trade ≡ trade_row t → deal_of_trade_row found.trade price stamp ≡ deal_of_result stamp price t
+pub deal_read : (t : Trade) (found : ResultPlanFacts) (price stamp : ℕ) → abstract_trade_row found.trade ≡ trade_row t → deal_of_trade_row found.trade price stamp ≡ deal_of_result stamp price t
 deal_read t found price stamp row = ap (λ (r : TradeRow). record { trade = r.id; side = side_of_trade_type r.kind; qty = r.qty; price = price; stamp = stamp; is_lifo = r.is_lifo }) row
 
 -- ---- the refusal
 
 -- a trade that its status does not refuse is at the market
-pub at_market : (found : ResultFound) → not (is_same_trade_status found.trade.status Submitted) ≡ false → is_same_trade_status found.trade.status Submitted ≡ true
+pub at_market : (found : ResultPlanFacts) → not (is_same_trade_status found.trade.status Submitted) ≡ false → is_same_trade_status found.trade.status Submitted ≡ true
 at_market found e = by_status (is_same_trade_status found.trade.status Submitted) e
   where
     by_status : (b : Bool) → not b ≡ false → b ≡ true
     by_status true e = refl
     by_status false e = absurd (cc)
 
-pub result_refused : (base : Base) (id price : ℕ) (found : Option ResultFound) (given : List Lot → Type 0) (last : Option ℕ) (now : ℕ) (refusal : Refusal) → PlanResultPrecondition base id found given last now
+pub result_refused : (base : Base) (id price : ℕ) (found : Option ResultPlanFacts) (given : List Lot → Type 0) (last : Option ℕ) (now : ℕ) (refusal : Refusal) → PlanResultPrecondition base id found given last now
     → IsResultRefusal found price given last now refusal → step base now (CompleteTrade id price) ≡ Err refusal
 result_refused base id price None given last now refusal k r =
     refused_step base now (CompleteTrade id price) refusal (nothing_refused base now id price (no_trade (trade_with_id base id) refl) ∙ ap Some (sym r))
@@ -120,8 +120,8 @@ result_refused base id price (Some found) given last now refusal k r = by_first 
         let p = none_refuse (checks_before_reading_lots found) e in
         let held = held_by_row base t.0 found f (passes_rate found p.0 p.1.0) in
         let met = lots_met base id found given k.books k.trade_read (at_market found p.0) (k.lots_read (passes_status found p.0)) held in
-        let values : closing_values_of_deal (deal_of_trade_row found.trade price stamp) (shares_of_lots (position_lots (sheets base) found.trade.account found.trade.symbol)) ≡ result_values base stamp price t.0 =
+        let values : closing_values_of_deal (deal_of_trade_row found.trade price stamp) (shares_of_lots (lots_of_position (sheets base) found.trade.account found.trade.symbol)) ≡ result_values base stamp price t.0 =
         λ i. closing_values_of_deal (deal_read t.0 found price stamp t.2 i) (lots_shares base t.0 found f i) in
         refused_step base now (CompleteTrade id price) refusal
         (sym of_base ∙ sym (ap (λ v. first_refusal (result_checks found price v (stamp_after last now))) values)
-        ∙ r.late (position_lots (sheets base) found.trade.account found.trade.symbol) stamp met)
+        ∙ r.late (lots_of_position (sheets base) found.trade.account found.trade.symbol) stamp met)

@@ -24,8 +24,8 @@ use Rattle.brk_plans.specs.Reference.{later_stamp_check}
 use Rattle.brk_plans.proofs.Refusals.{first_joined, first_of}
 use Rattle.brk_book_theorems.specs.Books.{BooksInvariant}
 use Rattle.brk_book_theorems.specs.Steps.{base_after_command, HasTableEffect, IsAcceptedWithEffect, PreservesBooksInvariant}
-use Rattle.brk_book_theorems.specs.Trading.{tables_after_cancel, tables_after_feed, ids_triggered_by_feed}
-use Rattle.brk_trade_theorems.specs.TradeTests.{cancel_checks_on_tables, feed_checks_on_tables}
+use Rattle.brk_book_theorems.specs.Trading.{tables_after_cancel, tables_after_feed, trade_ids_triggered_by_feed}
+use Rattle.brk_trade_theorems.specs.TradeTests.{cancel_checks_on_trade_row, feed_checks_on_tables}
 use Rattle.brk_book_theorems.specs.Ticks.{exceeds_symbol_volume_limit, is_tick_of_unknown_symbol}
 use Rattle.brk_book_theorems.proofs.Same.{All-map, any-none}
 use Rattle.brk_book_theorems.proofs.Reading.{is_none-map, reads_last}
@@ -57,7 +57,7 @@ unfolding step
 is_done base now command stamp reply change books e s told rows kept = record {
   steps = ap (λ o. value_unless_refused o (reply_to_command base (stamp_of_next_command base now) command, base_after_command base now command)) e ∙ ap (λ reply. Ok (reply, base_after_command base now command)) told;
   rows = rows books e ∙ ap (λ stamp. tables_with_last_stamp stamp (change stamp (sheets base))) (sym s);
-  kept = kept books e;
+  books_after = kept books e;
 }
 
 -- a first test that fails
@@ -80,22 +80,22 @@ mark_status None = refl
 mark_status (Some m) = refl
 
 same_tests : (o : Option Trade) (last : Option ℕ) (now : ℕ)
-    → cancel_checks_on_tables (option_map trade_row o) last now ≡ option_map_or (λ t. status_check (has_status Pending t) t ∷ []) o ((true, NoTrade) ∷ []) ++ later_stamp_check last now ∷ []
+    → cancel_checks_on_trade_row (option_map trade_row o) last now ≡ option_map_or (λ t. status_check (has_status Pending t) t ∷ []) o ((true, NoTrade) ∷ []) ++ later_stamp_check last now ∷ []
 same_tests None last now = refl
 same_tests (Some t) last now = ap (λ b. (not b, WrongStatus (last_status_of_trade t)) ∷ later_stamp_check last now ∷ []) (mark_status (last_status_change t))
 
 pub cancel_refusal : (base : Base) (now id : ℕ) → BooksInvariant base → now ≤ greatest_stamp
-    → first_refusal (cancel_checks_on_tables (trade_row_with_id (sheets base) id) (sheets base).last now) ≡ refusal_of_command base now (CancelTrade id)
+    → first_refusal (cancel_checks_on_trade_row (trade_row_with_id (sheets base) id) (sheets base).last now) ≡ refusal_of_command base now (CancelTrade id)
 unfolding refusal_of_command checks_of_command
 cancel_refusal base now id books h =
     let clock = clock_read base (sheets base).last now books refl h in
-    ap (λ o. first_refusal (cancel_checks_on_tables o (sheets base).last now)) (reads_trade base id)
+    ap (λ o. first_refusal (cancel_checks_on_trade_row o (sheets base).last now)) (reads_trade base id)
     ∙ ap first_refusal (same_tests (trade_with_id base id) (sheets base).last now)
     ∙ ap (λ b. first_refusal (option_map_or (λ t. status_check (has_status Pending t) t ∷ []) (trade_with_id base id) ((true, NoTrade) ∷ []) ++ (b, ClockEnd) ∷ [])) clock
     ∙ never_early (option_map_or (λ t. status_check (has_status Pending t) t ∷ []) (trade_with_id base id) ((true, NoTrade) ∷ [])) (nat_lt greatest_stamp (stamp_of_next_command base now))
 
 pub cancel_done : (base : Base) (now id stamp : ℕ) → BooksInvariant base → now ≤ greatest_stamp
-    → first_refusal (cancel_checks_on_tables (trade_row_with_id (sheets base) id) (sheets base).last now) ≡ None → stamp_after (sheets base).last now ≡ Some stamp
+    → first_refusal (cancel_checks_on_trade_row (trade_row_with_id (sheets base) id) (sheets base).last now) ≡ None → stamp_after (sheets base).last now ≡ Some stamp
     → IsAcceptedWithEffect base now (CancelTrade id) stamp (CanceledTrade stamp) (tables_after_cancel stamp id)
 unfolding reply_to_command
 cancel_done base now id stamp books h e s =
@@ -135,11 +135,11 @@ feed_refusal base now ticks books h = by_unknown (list_any unknown ticks) refl
 
 pub feed_done : (base : Base) (now : ℕ) (ticks : List Tick) (stamp : ℕ) → BooksInvariant base → now ≤ greatest_stamp
     → first_refusal (feed_checks_on_tables (sheets base) ticks (sheets base).last now) ≡ None → stamp_after (sheets base).last now ≡ Some stamp
-    → IsAcceptedWithEffect base now (FeedTicks ticks) stamp (Ticked stamp (ids_triggered_by_feed stamp ticks (sheets base))) (tables_after_feed stamp ticks)
+    → IsAcceptedWithEffect base now (FeedTicks ticks) stamp (Ticked stamp (trade_ids_triggered_by_feed stamp ticks (sheets base))) (tables_after_feed stamp ticks)
 unfolding reply_to_command
 feed_done base now ticks stamp books h e s =
     let next = stamp_read base (sheets base).last now stamp refl s in
     let accepted : refusal_of_command base now (FeedTicks ticks) ≡ None = sym (feed_refusal base now ticks books h) ∙ e in
-    is_done base now (FeedTicks ticks) stamp (Ticked stamp (ids_triggered_by_feed stamp ticks (sheets base))) (λ stamp. tables_after_feed stamp ticks) books accepted next
-    (ap (Ticked (stamp_of_next_command base now)) (step_triggered base now ticks books accepted) ∙ ap (λ stamp. Ticked stamp (ids_triggered_by_feed stamp ticks (sheets base))) (sym next))
+    is_done base now (FeedTicks ticks) stamp (Ticked stamp (trade_ids_triggered_by_feed stamp ticks (sheets base))) (λ stamp. tables_after_feed stamp ticks) books accepted next
+    (ap (Ticked (stamp_of_next_command base now)) (step_triggered base now ticks books accepted) ∙ ap (λ stamp. Ticked stamp (trade_ids_triggered_by_feed stamp ticks (sheets base))) (sym next))
     (step_feed base now ticks) (books_feed base now ticks)

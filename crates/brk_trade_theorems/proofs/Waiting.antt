@@ -23,7 +23,7 @@ use Rattle.brk_orders.specs.declared.tick.Tick.{Tick}
 use Rattle.brk_plans.specs.Feed.{price_span_of_first_symbol, span_including_price, span_including_tick}
 use Rattle.brk_plans.specs.declared.span.Span.{Span}
 use Rattle.brk_book_theorems.specs.Books.{BooksInvariant}
-use Rattle.brk_trade_theorems.specs.TradePlans.{price_span_may_trigger}
+use Rattle.brk_trade_theorems.specs.TradePlans.{price_span_can_trigger_bid}
 use Rattle.brk_book_theorems.specs.TradeReads.{requests_of_symbol}
 use Rattle.brk_book_theorems.proofs.LotReading.{IdsRise, numbered_rise, rise_filter}
 use Rattle.brk_book_theorems.proofs.Orders.{Ascends, Rises, one_order, permuted}
@@ -102,7 +102,7 @@ span_spans first ticks = (folded_spans first.symbol (record { lowest = first.pri
 
 -- ---- what a price within the span triggers, the span may trigger
 
-pub triggered_may : (span : Span) (kind : TradeType) (bid price : ℕ) → is_within span price → is_triggering_price kind bid price ≡ true → price_span_may_trigger span kind bid ≡ true
+pub triggered_may : (span : Span) (kind : TradeType) (bid price : ℕ) → is_within span price → is_triggering_price kind bid price ≡ true → price_span_can_trigger_bid span kind bid ≡ true
 triggered_may span StopLoss bid price w e = let l = w.0 in grind (arith, nat_tests)
 triggered_may span LimitSell bid price w e = let h = w.1 in grind (arith, nat_tests)
 triggered_may span LimitBuy bid price w e = let l = w.0 in grind (arith, nat_tests)
@@ -112,7 +112,7 @@ triggered_may span MarketSell bid price w e = absurd (cc)
 -- ---- three selections are all that a span may trigger
 
 abbrev pub may : Span → RequestRow → Bool
-may span r = price_span_may_trigger span r.kind r.bid
+may span r = price_span_can_trigger_bid span r.kind r.bid
 
 -- what the three selections bring
 abbrev pub stop_losses : Tables → Text → Span → List RequestRow
@@ -157,7 +157,7 @@ selected t symbol span =
     append_assoc [] ys zs = refl
     append_assoc (x ∷ xs) ys zs = ap (λ us. x ∷ us) (append_assoc xs ys zs)
 
-    loss_test : (s : Bool) (kind : TradeType) (bid : ℕ) → (s && price_span_may_trigger span kind bid) && is_same_trade_type kind StopLoss ≡ s && (is_same_trade_type kind StopLoss && nat_le span.lowest bid)
+    loss_test : (s : Bool) (kind : TradeType) (bid : ℕ) → (s && price_span_can_trigger_bid span kind bid) && is_same_trade_type kind StopLoss ≡ s && (is_same_trade_type kind StopLoss && nat_le span.lowest bid)
     loss_test false kind bid = refl
     loss_test true StopLoss bid = and_one (nat_le span.lowest bid)
     loss_test true LimitSell bid = and_none (nat_le bid span.highest)
@@ -166,7 +166,7 @@ selected t symbol span =
     loss_test true MarketSell bid = refl
 
     sell_test : (s : Bool) (kind : TradeType) (bid : ℕ)
-        → ((s && price_span_may_trigger span kind bid) && not (is_same_trade_type kind StopLoss)) && is_same_trade_type kind LimitSell ≡ s && (is_same_trade_type kind LimitSell && nat_le bid span.highest)
+        → ((s && price_span_can_trigger_bid span kind bid) && not (is_same_trade_type kind StopLoss)) && is_same_trade_type kind LimitSell ≡ s && (is_same_trade_type kind LimitSell && nat_le bid span.highest)
     sell_test false kind bid = refl
     sell_test true StopLoss bid = and_none (nat_le span.lowest bid && false)
     sell_test true LimitSell bid = and_one (nat_le bid span.highest && true) ∙ and_one (nat_le bid span.highest)
@@ -175,7 +175,7 @@ selected t symbol span =
     sell_test true MarketSell bid = refl
 
     buy_test : (s : Bool) (kind : TradeType) (bid : ℕ)
-        → ((s && price_span_may_trigger span kind bid) && not (is_same_trade_type kind StopLoss)) && not (is_same_trade_type kind LimitSell) ≡ s && (is_same_trade_type kind LimitBuy && nat_le span.lowest bid)
+        → ((s && price_span_can_trigger_bid span kind bid) && not (is_same_trade_type kind StopLoss)) && not (is_same_trade_type kind LimitSell) ≡ s && (is_same_trade_type kind LimitBuy && nat_le span.lowest bid)
     buy_test false kind bid = refl
     buy_test true StopLoss bid = and_one (nat_le span.lowest bid && false) ∙ and_none (nat_le span.lowest bid)
     buy_test true LimitSell bid = and_none (nat_le bid span.highest && true)

@@ -7,7 +7,7 @@ use Rattle.brk_plans.specs.declared.reference.ReferenceFacts.{ReferenceFacts}
 use Rattle.brk_plans.specs.declared.reference.Reference.{Reference}
 use Rattle.brk_plans.specs.declared.reference.Reference.TheVariants as reference
 use Rattle.brk_model.specs.Form.{has_account, has_broker, has_customer, has_security}
-use Rattle.brk_book_theorems.specs.Reads.{contains_tax_id, account_count_of_customer, contains_permission, contains_charge, overlaps_some_band, contains_tax_rate, rate_by_tax_id, pays_tax, rate_sum_of_customer}
+use Rattle.brk_book_theorems.specs.Reads.{contains_tax_id, account_count_of_customer, contains_permission, contains_charge, overlaps_some_band, contains_tax_rate, rate_of_tax_rate_with_id, contains_customer_tax, customer_tax_rate_sum}
 
 -- The facts `found` about the account `id`, its customer and its broker are true of the tables:
 -- which of the three exist, and how many accounts the customer has.
@@ -22,9 +22,9 @@ pub record AccountFactsMatchTables (t : Tables) (id customer broker : ℕ) (foun
 -- exceeds the greatest rate.
 pub record CustomerTaxFactsMatchTables (t : Tables) (customer tax : ℕ) (found : ReferenceFacts) : Type 0 where
   pub customer_there : found.customer ≡ has_customer t customer
-  pub rate_there : found.rate ≡ rate_by_tax_id t tax
-  pub same_id : found.same_id ≡ pays_tax t customer tax
-  pub sum : SomeIff found.rates (rate_sum_of_customer t customer ≤ greatest_tax_rate) (rate_sum_of_customer t customer)
+  pub rate_there : found.rate ≡ rate_of_tax_rate_with_id t tax
+  pub same_id : found.same_id ≡ contains_customer_tax t customer tax
+  pub sum : SomeIff found.rates (customer_tax_rate_sum t customer ≤ greatest_tax_rate) (customer_tax_rate_sum t customer)
 
 -- The facts `found` about a record of reference data are true of the tables. Facts that records of
 -- its kind do not need may have any value.

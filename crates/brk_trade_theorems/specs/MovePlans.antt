@@ -8,26 +8,26 @@ use Rattle.brk_model.specs.Limits.{greatest_id}
 use Rattle.brk_model.specs.Sheets.{sheets}
 use Rattle.brk_model.specs.Tables.{Tables}
 use Rattle.brk_orders.specs.declared.movement.Movement.{Movement}
-use Rattle.brk_plans.specs.declared.movement.MoveFound.{MoveFound}
+use Rattle.brk_plans.specs.declared.movement.MovementPlanFacts.{MovementPlanFacts}
 use Rattle.brk_book_theorems.specs.Books.{BooksInvariant}
-use Rattle.brk_book_theorems.specs.TradeReads.{last_cash_row_number}
+use Rattle.brk_book_theorems.specs.TradeReads.{last_cash_row_number_or_zero}
 
 -- ---- a movement
 
 -- The facts `found` about the movement `m` are true of the tables: the balance of its account,
 -- whether there is room for one movement more, and the next number of a cash row.
-pub record MovementFactsMatchTables (t : Tables) (m : Movement) (found : MoveFound) : Type 0 where
+pub record MovementFactsMatchTables (t : Tables) (m : Movement) (found : MovementPlanFacts) : Type 0 where
   pub balance : found.balance ≡ option_map (λ r. r.balance) (account_row_with_id t m.account)
   -- True if and only if the number of movements reaches the greatest id; movements are the cash
   -- rows without a trade.
   pub counted : found.has_all_movements ≡ nat_le greatest_id (length (filter (λ r. is_none r.trade) t.moves))
   -- The next number follows that of the last cash row.
-  pub next : found.next ≡ last_cash_row_number t + 1
+  pub next : found.next ≡ last_cash_row_number_or_zero t + 1
 
 -- The precondition of planning the movement `m`: the base satisfies the books invariant, the facts
 -- `found` and the last stamp are read from its tables, and the clock reading `now` is within the
 -- range of stamps.
-pub record PlanMovementPrecondition (base : Base) (m : Movement) (found : MoveFound) (last : Option ℕ) (now : ℕ) : Type 0 where
+pub record PlanMovementPrecondition (base : Base) (m : Movement) (found : MovementPlanFacts) (last : Option ℕ) (now : ℕ) : Type 0 where
   pub books : BooksInvariant base
   pub looked_up : MovementFactsMatchTables (sheets base) m found
   pub last_read : last ≡ (sheets base).last

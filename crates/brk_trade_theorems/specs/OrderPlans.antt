@@ -3,8 +3,8 @@ use Rattle.std.specs.Prelude.{◌≡◌, ◌≤◌, ℕ, ◌+ℤ◌, List, take,
 use Rattle.brk_lots.specs.declared.lot.Lot.{Lot}
 use Rattle.brk_model.specs.Base.{Base}
 use Rattle.brk_model.specs.Joins.{account_row_with_id, security_row_with_symbol}
-use Rattle.brk_model.specs.Orders.{permitted}
-use Rattle.brk_model.specs.PositionView.{asset_total}
+use Rattle.brk_model.specs.Orders.{is_customer_or_has_permission}
+use Rattle.brk_model.specs.PositionView.{market_value_of_account_row}
 use Rattle.brk_model.specs.Sheets.{sheets}
 use Rattle.brk_model.specs.Tables.{AccountRow, Tables}
 use Rattle.brk_model.specs.Tests.{first_refusal}
@@ -14,11 +14,11 @@ use Rattle.brk_orders.specs.declared.order.Order.{Order}
 use Rattle.brk_ref.specs.Records.{abstract_executor}
 use Rattle.brk_trade.specs.Orders.{order_checks}
 use Rattle.brk_trade.specs.declared.order.OrderAccount.{OrderAccount}
-use Rattle.brk_trade.specs.declared.order.OrderFound.{OrderFound}
+use Rattle.brk_trade.specs.declared.order.OrderPlanFacts.{OrderPlanFacts}
 use Rattle.brk_book_theorems.specs.Books.{BooksInvariant}
-use Rattle.brk_book_theorems.specs.Reads.{rate_sum_of_customer}
-use Rattle.brk_book_theorems.specs.TradeReads.{band_of_quantity, permission_for_tax_id, summary_row_of_position}
-use Rattle.brk_book_theorems.specs.OrderReads.{PositionLotsSatisfy, CustomerOfAccountSatisfies, charge_of_type_and_tier, last_price_of_symbol, last_trade_row_id}
+use Rattle.brk_book_theorems.specs.Reads.{customer_tax_rate_sum}
+use Rattle.brk_book_theorems.specs.TradeReads.{band_of_quantity, permission_list_for_tax_id, summary_row_of_position}
+use Rattle.brk_book_theorems.specs.OrderReads.{PositionLotsSatisfy, CustomerOfAccountSatisfies, charge_of_type_and_tier, last_price_of_symbol, trade_id_in_last_row}
 
 -- ---- lookups
 
@@ -30,41 +30,41 @@ order_account_of_row r = record { broker = r.broker; tax_status = r.tax_status }
 
 -- The first `n` checks of the order pass. The checks are, in this order: account, security,
 -- executor, charge and band.
-abbrev pub PassesOrderChecks : ℕ → OrderFound → Type 0
-PassesOrderChecks n found = first_refusal (take n (order_checks found)) ≡ None
+abbrev pub PassesFirstOrderChecks : ℕ → OrderPlanFacts → Type 0
+PassesFirstOrderChecks n found = first_refusal (take n (order_checks found)) ≡ None
 
 -- The facts `found` about the order are true of the tables. A clause is vacuous if one of the
 -- checks that it names fails, since the fact is not read then. A clause about the customer, the
 -- account or the security is also vacuous if this does not exist.
-pub record EstimateFactsMatchTables (t : Tables) (order : Order) (found : OrderFound) : Type 0 where
+pub record EstimateFactsMatchTables (t : Tables) (order : Order) (found : OrderPlanFacts) : Type 0 where
   pub account : found.account ≡ option_map order_account_of_row (account_row_with_id t order.account)
-  pub last_price : PassesOrderChecks 1 found → found.last_price ≡ last_price_of_symbol t order.symbol
+  pub last_price : PassesFirstOrderChecks 1 found → found.last_price ≡ last_price_of_symbol t order.symbol
   -- The executor is checked by the customer's names and the account's permission for the executor's
   -- tax id.
-  pub is_permitted : PassesOrderChecks 2 found
+  pub is_permitted : PassesFirstOrderChecks 2 found
       → CustomerOfAccountSatisfies t order.account (λ c.
-      found.is_permitted ≡ permitted c (permission_for_tax_id t order.account order.executor.tax_id) (abstract_executor order.executor))
+      found.is_permitted ≡ is_customer_or_has_permission c (permission_list_for_tax_id t order.account order.executor.tax_id) (abstract_executor order.executor))
   -- The charge is that of the customer's tier.
-  pub charge : PassesOrderChecks 3 found
+  pub charge : PassesFirstOrderChecks 3 found
       → CustomerOfAccountSatisfies t order.account (λ c.
       found.charge ≡ charge_of_type_and_tier t (trade_type_of_order order.order_type) c.tier)
   -- The rate is that of the band of the quantity, by the customer's tier and the security's
   -- exchange.
-  pub rate : PassesOrderChecks 4 found
+  pub rate : PassesFirstOrderChecks 4 found
       → CustomerOfAccountSatisfies t order.account (λ c. IfSome (security_row_with_symbol t order.symbol) (λ s.
       found.rate ≡ option_map (λ b. b.rate) (band_of_quantity t c.tier (trade_type_of_order order.order_type) s.exchange order.qty)))
   -- The rates are the sum of those that the customer pays.
-  pub rates : PassesOrderChecks 5 found → IfSome (account_row_with_id t order.account) (λ a. found.rates ≡ rate_sum_of_customer t a.customer)
+  pub rates : PassesFirstOrderChecks 5 found → IfSome (account_row_with_id t order.account) (λ a. found.rates ≡ customer_tax_rate_sum t a.customer)
   -- The assets are the balance plus the market value of the holdings.
-  pub assets : PassesOrderChecks 5 found → IfSome (account_row_with_id t order.account) (λ a. found.assets ≡ a.balance +ℤ asset_total t a)
+  pub assets : PassesFirstOrderChecks 5 found → IfSome (account_row_with_id t order.account) (λ a. found.assets ≡ a.balance +ℤ market_value_of_account_row t a)
   -- The summary is that of the account in the symbol.
-  pub summary : PassesOrderChecks 5 found → found.summary ≡ option_map (λ r. r.qty) (summary_row_of_position t order.account order.symbol)
+  pub summary : PassesFirstOrderChecks 5 found → found.summary ≡ option_map (λ r. r.qty) (summary_row_of_position t order.account order.symbol)
 
 -- The facts `found` about the order are true of the tables, as for an estimate, and so is the
 -- number of the last trade. That number is arbitrary if one of the five checks fails.
-pub record OrderFactsMatchTables (t : Tables) (order : Order) (found : OrderFound) : Type 0 where
+pub record OrderFactsMatchTables (t : Tables) (order : Order) (found : OrderPlanFacts) : Type 0 where
   pub estimate : EstimateFactsMatchTables t order found
-  pub last_trade : PassesOrderChecks 5 found → found.last_trade ≡ last_trade_row_id t
+  pub last_trade : PassesFirstOrderChecks 5 found → found.last_trade ≡ trade_id_in_last_row t
 
 -- ---- lots
 
@@ -78,7 +78,7 @@ OrderLotsSatisfy t order given = PositionLotsSatisfy t order.account order.symbo
 -- The precondition of planning the order: the base satisfies the books invariant, the facts `found`
 -- and the last stamp are read from its tables, and the clock reading `now` is within the range of
 -- stamps.
-pub record PlanOrderPrecondition (base : Base) (order : Order) (found : OrderFound) (last : Option ℕ) (now : ℕ) : Type 0 where
+pub record PlanOrderPrecondition (base : Base) (order : Order) (found : OrderPlanFacts) (last : Option ℕ) (now : ℕ) : Type 0 where
   pub books : BooksInvariant base
   pub looked_up : OrderFactsMatchTables (sheets base) order found
   pub last_read : last ≡ (sheets base).last

@@ -30,4 +30,4 @@ pub record PlanReferencePrecondition (base : Base) (reference : Reference) (foun
 pub record PlanImplementsCommand (base : Base) (now : ℕ) (command : Command) (plan : Plan) : Type 0 where
   pub steps : step base now command ≡ Ok (abstract_reply plan.reply, base_after_command base now command)
   pub rows : sheets (base_after_command base now command) ≡ tables_after_changes plan.changes.items (sheets base)
-  pub kept : BooksInvariant (base_after_command base now command)
+  pub books_after : BooksInvariant (base_after_command base now command)

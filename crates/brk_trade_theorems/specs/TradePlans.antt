@@ -35,19 +35,19 @@ pub record PlanCancelPrecondition (base : Base) (id : ℕ) (found : Option Statu
 
 -- True if a price of the span can trigger the bid. A stop loss and a limit buy are triggered by the
 -- lowest price if by any, a limit sell by the highest. Market types are never triggered.
-abbrev pub price_span_may_trigger : Span → TradeType → ℕ → Bool
-price_span_may_trigger span StopLoss bid = nat_le span.lowest bid
-price_span_may_trigger span LimitSell bid = nat_le bid span.highest
-price_span_may_trigger span LimitBuy bid = nat_le span.lowest bid
-price_span_may_trigger span MarketBuy bid = false
-price_span_may_trigger span MarketSell bid = false
+abbrev pub price_span_can_trigger_bid : Span → TradeType → ℕ → Bool
+price_span_can_trigger_bid span StopLoss bid = nat_le span.lowest bid
+price_span_can_trigger_bid span LimitSell bid = nat_le bid span.highest
+price_span_can_trigger_bid span LimitBuy bid = nat_le span.lowest bid
+price_span_can_trigger_bid span MarketBuy bid = false
+price_span_can_trigger_bid span MarketSell bid = false
 
 -- The quote has the row of LAST_TRADE of the tick's symbol in the tables. Its requests are exactly
 -- the symbol's requests that a price of the symbol's ticks can trigger, sorted by trade.
 pub record IsQuoteOfTick (t : Tables) (tick : Tick) (ticks : List Tick) (quote : SymbolState) : Type 0 where
   pub symbol : quote.last.symbol ≡ tick.symbol
   pub last_trade : last_trade_row_of_symbol t tick.symbol ≡ Some (abstract_last_trade_row quote.last)
-  pub requests : IsPermutation (filter (λ r. price_span_may_trigger (price_span_of_first_symbol tick ticks) r.kind r.bid) (requests_of_symbol t tick.symbol)) (map abstract_request_row quote.requests)
+  pub requests : IsPermutation (filter (λ r. price_span_can_trigger_bid (price_span_of_first_symbol tick ticks) r.kind r.bid) (requests_of_symbol t tick.symbol)) (map abstract_request_row quote.requests)
   pub order : IsNonDecreasingBy (λ (r : request.RequestRow). r.trade) quote.requests
 
 -- The quote satisfies `IsQuoteOfTick` for at least one of the ticks.
@@ -63,15 +63,15 @@ HasDistinctQuoteSymbols (quote ∷ quotes) = AllByRecursion (λ other. is_state_
 
 -- If the symbol of the tick has a row of LAST_TRADE, one of the quotes has this symbol. Vacuous if
 -- it has no such row.
-abbrev pub HasQuoteIfTraded : Tables → List SymbolState → Tick → Type 0
-HasQuoteIfTraded t quotes tick = is_some (last_trade_row_of_symbol t tick.symbol) ≡ true → list_any (is_state_of_symbol tick.symbol) quotes ≡ true
+abbrev pub HasQuoteIfSymbolHasLastTrade : Tables → List SymbolState → Tick → Type 0
+HasQuoteIfSymbolHasLastTrade t quotes tick = is_some (last_trade_row_of_symbol t tick.symbol) ≡ true → list_any (is_state_of_symbol tick.symbol) quotes ≡ true
 
 -- Each quote satisfies `IsQuoteOfTick` for a tick of the feed `all`, no two quotes have the same
 -- symbol, and each symbol of `ticks` with a row of LAST_TRADE has a quote.
 pub record AreQuotesOfTicks (t : Tables) (all ticks : List Tick) (quotes : List SymbolState) : Type 0 where
   pub read : AllByRecursion (IsQuoteOfSomeTick t all) quotes
   pub apart : HasDistinctQuoteSymbols quotes
-  pub quoted : AllByRecursion (HasQuoteIfTraded t quotes) ticks
+  pub quoted : AllByRecursion (HasQuoteIfSymbolHasLastTrade t quotes) ticks
 
 -- The precondition of planning a feed: the base satisfies the books invariant, the quotes of the
 -- ticks and the last stamp are read from its tables, and the clock reading `now` is within the

@@ -15,9 +15,9 @@ use Rattle.brk_book_theorems.specs.Ticks.{exceeds_symbol_volume_limit, is_tick_o
 
 -- The checks of a cancel, in order: the trade exists, it is pending, and a stamp after the last
 -- stamp is within the range.
-abbrev pub cancel_checks_on_tables : Option TradeRow → Option ℕ → ℕ → List RefusalCheck
-cancel_checks_on_tables None last now = (true, NoTrade) ∷ later_stamp_check last now ∷ []
-cancel_checks_on_tables (Some r) last now = (not (is_same_trade_status r.status Pending), WrongStatus r.status) ∷ later_stamp_check last now ∷ []
+abbrev pub cancel_checks_on_trade_row : Option TradeRow → Option ℕ → ℕ → List RefusalCheck
+cancel_checks_on_trade_row None last now = (true, NoTrade) ∷ later_stamp_check last now ∷ []
+cancel_checks_on_trade_row (Some r) last now = (not (is_same_trade_status r.status Pending), WrongStatus r.status) ∷ later_stamp_check last now ∷ []
 
 -- ---- a feed
 

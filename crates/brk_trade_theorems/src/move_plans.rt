@@ -11,7 +11,7 @@ ghost use Rattle.brk_orders.specs.declared.movement.Movement.{Movement};
 ghost use Rattle.brk_plans.specs.Movement.{IsMovementPlan, movement_checks};
 ghost use Rattle.brk_plans.specs.OneDay.{IsSettlementDayPlan, settlement_day_checks};
 ghost use Rattle.brk_plans.specs.Reference.{later_stamp_check};
-ghost use Rattle.brk_plans.specs.declared.movement.MoveFound.{MoveFound};
+ghost use Rattle.brk_plans.specs.declared.movement.MovementPlanFacts.{MovementPlanFacts};
 ghost use Rattle.brk_plans.specs.declared.plan.Plan.{Plan};
 ghost use Rattle.brk_trade_theorems.specs.MovePlans.{PlanMovementPrecondition, PlanSettlementDayPrecondition};
 ghost use Rattle.brk_trade_theorems.specs.Plans.{PlanImplementsCommand};
@@ -19,11 +19,11 @@ ghost use Rattle.brk_trade_theorems.specs.Plans.{PlanImplementsCommand};
 /// Proves that the checks of a movement against facts that were read refuse it exactly as the model
 /// does, and that its plan implements the command.
 pub fn movement_plans_implement_commands()
-    ensures first { (base : Base) (m : Movement) (found : MoveFound) (last : Option ℕ) (now : ℕ) → PlanMovementPrecondition base m found last now
+    ensures first { (base : Base) (m : Movement) (found : MovementPlanFacts) (last : Option ℕ) (now : ℕ) → PlanMovementPrecondition base m found last now
         → first_refusal (movement_checks m found ++ later_stamp_check last now ∷ []) ≡ refusal_of_command base now (movement_command m) }
-    ensures refused { (base : Base) (m : Movement) (found : MoveFound) (last : Option ℕ) (now : ℕ) (refusal : Refusal) → PlanMovementPrecondition base m found last now
+    ensures refused { (base : Base) (m : Movement) (found : MovementPlanFacts) (last : Option ℕ) (now : ℕ) (refusal : Refusal) → PlanMovementPrecondition base m found last now
         → first_refusal (movement_checks m found ++ later_stamp_check last now ∷ []) ≡ Some refusal → step base now (movement_command m) ≡ Err refusal }
-    ensures done { (base : Base) (m : Movement) (found : MoveFound) (last : Option ℕ) (now : ℕ) (plan : Plan) → PlanMovementPrecondition base m found last now
+    ensures done { (base : Base) (m : Movement) (found : MovementPlanFacts) (last : Option ℕ) (now : ℕ) (plan : Plan) → PlanMovementPrecondition base m found last now
         → IsMovementPlan m found last now plan → PlanImplementsCommand base now (movement_command m) plan }
 {}
 

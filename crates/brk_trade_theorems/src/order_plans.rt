@@ -18,10 +18,10 @@ ghost use Rattle.brk_model.specs.Tests.{first_refusal, refusal_of_command};
 ghost use Rattle.brk_money.specs.declared.refusal.Refusal.{Refusal};
 ghost use Rattle.brk_orders.specs.Records.{abstract_order};
 ghost use Rattle.brk_orders.specs.declared.order.Order.{Order};
-ghost use Rattle.brk_trade.specs.Orders.{EstimatesCheckedOrder, IsOrderPlan, order_checks, terms_of_order, trade_id_is_left_check};
+ghost use Rattle.brk_trade.specs.Orders.{EstimatesCheckedOrder, IsOrderPlan, order_checks, terms_of_order, free_trade_id_check};
 ghost use Rattle.brk_plans.specs.Reference.{later_stamp_check};
 ghost use Rattle.brk_plans.specs.Replies.{abstract_estimate};
-ghost use Rattle.brk_trade.specs.declared.order.OrderFound.{OrderFound};
+ghost use Rattle.brk_trade.specs.declared.order.OrderPlanFacts.{OrderPlanFacts};
 ghost use Rattle.brk_plans.specs.declared.plan.Plan.{Plan};
 ghost use Rattle.brk_book_theorems.specs.Books.{BooksInvariant};
 ghost use Rattle.brk_trade_theorems.specs.OrderPlans.{OrderLotsSatisfy, EstimateFactsMatchTables, PlanOrderPrecondition};
@@ -30,20 +30,20 @@ ghost use Rattle.brk_trade_theorems.specs.Plans.{PlanImplementsCommand};
 /// Proves that the terms of an order that are computed from facts of the tables are the terms that
 /// the base has for the order, if the order passes its checks and the base satisfies the books
 /// invariant.
-pub fn order_facts_give_the_order_terms()
-    ensures { (base : Base) (order : Order) (found : OrderFound) → BooksInvariant base → EstimateFactsMatchTables (sheets base) order found
+pub fn terms_from_order_facts_match_the_base()
+    ensures { (base : Base) (order : Order) (found : OrderPlanFacts) → BooksInvariant base → EstimateFactsMatchTables (sheets base) order found
         → first_refusal (order_checks found) ≡ None → AreOrderTermsInBase base (abstract_order order) (terms_of_order order found) }
 {}
 
 /// Proves that the checks of an order against facts that were read refuse it exactly as the model
 /// does, and that its plan implements the command.
 pub fn order_plans_implement_commands()
-    ensures first { (base : Base) (order : Order) (found : OrderFound) (last : Option ℕ) (now : ℕ) → PlanOrderPrecondition base order found last now
-        → first_refusal (order_checks found ++ trade_id_is_left_check found.last_trade ∷ later_stamp_check last now ∷ []) ≡ refusal_of_command base now (PlaceOrder (abstract_order order)) }
-    ensures refused { (base : Base) (order : Order) (found : OrderFound) (last : Option ℕ) (now : ℕ) (refusal : Refusal) → PlanOrderPrecondition base order found last now
-        → first_refusal (order_checks found ++ trade_id_is_left_check found.last_trade ∷ later_stamp_check last now ∷ []) ≡ Some refusal
+    ensures first { (base : Base) (order : Order) (found : OrderPlanFacts) (last : Option ℕ) (now : ℕ) → PlanOrderPrecondition base order found last now
+        → first_refusal (order_checks found ++ free_trade_id_check found.last_trade ∷ later_stamp_check last now ∷ []) ≡ refusal_of_command base now (PlaceOrder (abstract_order order)) }
+    ensures refused { (base : Base) (order : Order) (found : OrderPlanFacts) (last : Option ℕ) (now : ℕ) (refusal : Refusal) → PlanOrderPrecondition base order found last now
+        → first_refusal (order_checks found ++ free_trade_id_check found.last_trade ∷ later_stamp_check last now ∷ []) ≡ Some refusal
         → step base now (PlaceOrder (abstract_order order)) ≡ Err refusal }
-    ensures done { (base : Base) (order : Order) (found : OrderFound) (lots : List Lot) (last : Option ℕ) (now : ℕ) (plan : Plan) → PlanOrderPrecondition base order found last now
+    ensures done { (base : Base) (order : Order) (found : OrderPlanFacts) (lots : List Lot) (last : Option ℕ) (now : ℕ) (plan : Plan) → PlanOrderPrecondition base order found last now
         → OrderLotsSatisfy (sheets base) order (EqualsLots lots) → IsOrderPlan order found (EqualsLots lots) last now plan → PlanImplementsCommand base now (PlaceOrder (abstract_order order)) plan }
 {}
 
@@ -51,11 +51,11 @@ pub fn order_plans_implement_commands()
 /// estimate equals the model's, so that its fields are the view of the query. The base satisfies
 /// the books invariant.
 pub fn estimates_equal_model_estimates()
-    ensures refused { (base : Base) (order : Order) (found : OrderFound) (refusal : Refusal) → BooksInvariant base → EstimateFactsMatchTables (sheets base) order found
+    ensures refused { (base : Base) (order : Order) (found : OrderPlanFacts) (refusal : Refusal) → BooksInvariant base → EstimateFactsMatchTables (sheets base) order found
         → first_refusal (order_checks found) ≡ Some refusal → ask base (EstimateOf (abstract_order order)) ≡ Err refusal }
-    ensures told { (base : Base) (order : Order) (found : OrderFound) (lots : List Lot) (e : Estimate) → BooksInvariant base → EstimateFactsMatchTables (sheets base) order found
+    ensures estimate { (base : Base) (order : Order) (found : OrderPlanFacts) (lots : List Lot) (e : Estimate) → BooksInvariant base → EstimateFactsMatchTables (sheets base) order found
         → OrderLotsSatisfy (sheets base) order (EqualsLots lots) → EstimatesCheckedOrder order found (EqualsLots lots) e → e ≡ estimate_from_model (estimate base (abstract_order order)) }
-    ensures answered { (base : Base) (order : Order) (found : OrderFound) (lots : List Lot) (e : Estimate) → BooksInvariant base → EstimateFactsMatchTables (sheets base) order found
+    ensures answered { (base : Base) (order : Order) (found : OrderPlanFacts) (lots : List Lot) (e : Estimate) → BooksInvariant base → EstimateFactsMatchTables (sheets base) order found
         → OrderLotsSatisfy (sheets base) order (EqualsLots lots) → EstimatesCheckedOrder order found (EqualsLots lots) e
         → ask base (EstimateOf (abstract_order order)) ≡ Ok (estimate_fields (abstract_estimate e) ∷ []) }
 {}

@@ -17,7 +17,7 @@ ghost use Rattle.brk_plans.specs.Cancel.{IsCancelPlan, cancel_checks};
 ghost use Rattle.brk_plans.specs.Feed.{SymbolState, IsFeedPlan, feed_checks, states_of_quotes, state_of_quote, is_state_of_symbol};
 ghost use Rattle.brk_plans.specs.Reference.{later_stamp_check};
 ghost use Rattle.brk_trade.specs.Results.{CompletesExistingTrade, IsResultRefusal};
-ghost use Rattle.brk_trade.specs.declared.result_found.ResultFound.{ResultFound};
+ghost use Rattle.brk_trade.specs.declared.result_found.ResultPlanFacts.{ResultPlanFacts};
 ghost use Rattle.brk_plans.specs.declared.plan.Plan.{Plan};
 ghost use Rattle.brk_plans.specs.declared.quote.Quote.{Quote};
 ghost use Rattle.brk_trade_theorems.specs.Plans.{PlanImplementsCommand};
@@ -64,8 +64,8 @@ pub fn quotes_are_read_tick_by_tick()
 /// Proves that a refusal of a result is the refusal of the model, and that its plan implements the
 /// command.
 pub fn result_plans_implement_commands()
-    ensures refused { (base : Base) (id price : ℕ) (found : Option ResultFound) (lots : List Lot) (last : Option ℕ) (now : ℕ) (refusal : Refusal)
+    ensures refused { (base : Base) (id price : ℕ) (found : Option ResultPlanFacts) (lots : List Lot) (last : Option ℕ) (now : ℕ) (refusal : Refusal)
         → PlanResultPrecondition base id found (EqualsLots lots) last now → IsResultRefusal found price (EqualsLots lots) last now refusal → step base now (CompleteTrade id price) ≡ Err refusal }
-    ensures done { (base : Base) (id price : ℕ) (found : Option ResultFound) (lots : List Lot) (last : Option ℕ) (now : ℕ) (plan : Plan)
+    ensures done { (base : Base) (id price : ℕ) (found : Option ResultPlanFacts) (lots : List Lot) (last : Option ℕ) (now : ℕ) (plan : Plan)
         → PlanResultPrecondition base id found (EqualsLots lots) last now → CompletesExistingTrade found price (EqualsLots lots) last now plan → PlanImplementsCommand base now (CompleteTrade id price) plan }
 {}

@@ -15,9 +15,9 @@ ghost use Rattle.brk_model.specs.Tests.{first_refusal, refusal_of_command};
 ghost use Rattle.brk_book_theorems.specs.Books.{BooksInvariant};
 ghost use Rattle.brk_book_theorems.specs.Steps.{IsAcceptedWithEffect};
 ghost use Rattle.brk_book_theorems.specs.TradeReads.{volume_of_symbol};
-ghost use Rattle.brk_trade_theorems.specs.TradeTests.{cancel_checks_on_tables, feed_checks_on_tables};
-ghost use Rattle.brk_book_theorems.specs.Ticks.{tick_quantity_of_symbol};
-ghost use Rattle.brk_book_theorems.specs.Trading.{tables_after_cancel, ids_triggered_by_feed, tables_after_feed};
+ghost use Rattle.brk_trade_theorems.specs.TradeTests.{cancel_checks_on_trade_row, feed_checks_on_tables};
+ghost use Rattle.brk_book_theorems.specs.Ticks.{tick_quantity_sum_of_symbol};
+ghost use Rattle.brk_book_theorems.specs.Trading.{tables_after_cancel, trade_ids_triggered_by_feed, tables_after_feed};
 
 /// Proves that the model's step of a refused command returns the refusal of its first failed check.
 pub fn refused_commands_return_their_refusal()
@@ -27,23 +27,23 @@ pub fn refused_commands_return_their_refusal()
 /// Proves that the checks of a cancel against the row of its trade refuse it exactly as the model
 /// does, and that its row changes implement the command if they pass. The base satisfies the books
 /// invariant.
-pub fn cancel_changes_implement_commands()
+pub fn cancel_row_changes_implement_commands()
     ensures first { (base : Base) (now id : ℕ) → BooksInvariant base → now ≤ greatest_stamp
-        → first_refusal (cancel_checks_on_tables (trade_row_with_id (sheets base) id) (sheets base).last now) ≡ refusal_of_command base now (CancelTrade id) }
+        → first_refusal (cancel_checks_on_trade_row (trade_row_with_id (sheets base) id) (sheets base).last now) ≡ refusal_of_command base now (CancelTrade id) }
     ensures done { (base : Base) (now id stamp : ℕ) → BooksInvariant base → now ≤ greatest_stamp
-        → first_refusal (cancel_checks_on_tables (trade_row_with_id (sheets base) id) (sheets base).last now) ≡ None → stamp_after (sheets base).last now ≡ Some stamp
+        → first_refusal (cancel_checks_on_trade_row (trade_row_with_id (sheets base) id) (sheets base).last now) ≡ None → stamp_after (sheets base).last now ≡ Some stamp
         → IsAcceptedWithEffect base now (CancelTrade id) stamp (CanceledTrade stamp) (tables_after_cancel stamp id) }
 {}
 
 /// Proves that the checks of a feed against the last trades of its symbols refuse it exactly as the
 /// model does. If they pass, its row changes implement the command, and the reply lists the trades
 /// that it triggers. The base satisfies the books invariant.
-pub fn feed_changes_implement_commands()
+pub fn feed_row_changes_implement_commands()
     ensures first { (base : Base) (now : ℕ) (ticks : List Tick) → BooksInvariant base → now ≤ greatest_stamp
         → first_refusal (feed_checks_on_tables (sheets base) ticks (sheets base).last now) ≡ refusal_of_command base now (FeedTicks ticks) }
     ensures done { (base : Base) (now : ℕ) (ticks : List Tick) (stamp : ℕ) → BooksInvariant base → now ≤ greatest_stamp
         → first_refusal (feed_checks_on_tables (sheets base) ticks (sheets base).last now) ≡ None → stamp_after (sheets base).last now ≡ Some stamp
-        → IsAcceptedWithEffect base now (FeedTicks ticks) stamp (Ticked stamp (ids_triggered_by_feed stamp ticks (sheets base))) (tables_after_feed stamp ticks) }
+        → IsAcceptedWithEffect base now (FeedTicks ticks) stamp (Ticked stamp (trade_ids_triggered_by_feed stamp ticks (sheets base))) (tables_after_feed stamp ticks) }
 {}
 
 /// Proves that a feed of existing symbols adds the quantities of a symbol's ticks to the volume of
@@ -51,5 +51,5 @@ pub fn feed_changes_implement_commands()
 pub fn feeds_add_tick_quantities_to_volumes()
     ensures { (base : Base) (stamp : ℕ) (ticks : List Tick) (symbol : Text) → BooksInvariant base
         → AllByRecursion (λ tick. is_some (security_with_symbol base tick.symbol) ≡ true) ticks → is_some (security_with_symbol base symbol) ≡ true
-        → volume_of_symbol (tables_after_feed stamp ticks (sheets base)) symbol ≡ volume_of_symbol (sheets base) symbol + tick_quantity_of_symbol symbol ticks }
+        → volume_of_symbol (tables_after_feed stamp ticks (sheets base)) symbol ≡ volume_of_symbol (sheets base) symbol + tick_quantity_sum_of_symbol symbol ticks }
 {}

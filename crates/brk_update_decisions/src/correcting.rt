@@ -1,13 +1,13 @@
 //! Decisions on text updates.
 
 ghost use Rattle.std.specs.Prelude.{IfErr};
-ghost use Rattle.brk_decisions.specs.Decisions.{Decides};
+ghost use Rattle.brk_decisions.specs.Decisions.{DecidesCommand};
 ghost use Rattle.brk_model.specs.Run.{IsCallFault};
 ghost use Rattle.brk_orders.specs.Records.{text_update_command};
 ghost use Rattle.brk_store.specs.Holds.{ReadPost};
 ghost use Rattle.brk_update_theorems.specs.Corrections.{UpdateFactsMatchTables};
 
-use crate::finding::{read_cash_name_trades, read_cash_type_trades, read_executor_trades};
+use crate::finding::{read_trades_of_cash_name_update, read_trades_of_cash_type_update, read_trades_of_executor_update};
 use brk_money::{Fault, Planned, Stamp};
 use brk_orders::Update;
 use brk_store::Store;
@@ -17,7 +17,7 @@ use std::alloc::Global;
 
 // Returns the trades that an update selects, or `None` if a trade, account or security of the
 // update does not exist. Changes nothing. Fails with `Memory` or `Store` only.
-fn read_update_facts<S: Alter>(
+fn read_trades_of_update<S: Alter>(
     alloc: Global,
     store: &mut Store<S>,
     update: &Update,
@@ -26,9 +26,9 @@ fn read_update_facts<S: Alter>(
     ensures fault { IfErr result IsCallFault }
 {
     match update {
-        Update::Executors(trades) => read_executor_trades(alloc, store, trades),
-        Update::CashTypes { account, span } => read_cash_type_trades(alloc, store, *account, *span),
-        Update::CashNames { symbol, span } => read_cash_name_trades(alloc, store, symbol, *span),
+        Update::Executors(trades) => read_trades_of_executor_update(alloc, store, trades),
+        Update::CashTypes { account, span } => read_trades_of_cash_type_update(alloc, store, *account, *span),
+        Update::CashNames { symbol, span } => read_trades_of_cash_name_update(alloc, store, symbol, *span),
     }
 }
 
@@ -43,11 +43,11 @@ pub fn decide_update<S: Alter>(
     now: Stamp,
     update: &Update,
 ) -> Planned<Plan>
-    ensures read { ReadPost S.Store store.old store.new result (Decides now (text_update_command update.now)) }
+    ensures read { ReadPost S.Store store.old store.new result (DecidesCommand now (text_update_command update.now)) }
     ensures fault { IfErr result IsCallFault }
 {
     let _moment = now.get();
-    let last = store.last()?;
-    let found = read_update_facts(alloc, store, update)?;
+    let last = store.last_stamp()?;
+    let found = read_trades_of_update(alloc, store, update)?;
     plan_update(alloc, update, found, last, now)
 }

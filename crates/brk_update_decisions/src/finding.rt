@@ -20,16 +20,16 @@ use std::alloc::Global;
 
 // Returns the trades of an account that an update with this span selects, each with the cash type
 // of its settlement. Changes nothing. Fails with `Memory` or `Store` only.
-fn read_settled_trades<S: Alter>(
+fn read_trades_with_cash_types<S: Alter>(
     alloc: Global,
     store: &mut Store<S>,
     account: Id,
     span: Span,
 ) -> Result<Vec<SettlementText>, Fault>
-    ensures read { ReadPost S.Store store.old store.new result (λ settled t. SettlementTextsMatchTables t (chosen.completed_trades_of_account account span.first span.last t) settled.items) }
+    ensures read { ReadPost S.Store store.old store.new result (λ settled t. SettlementTextsMatchTables t (chosen.first_twenty_completed_trade_rows_of_account account span.first span.last t) settled.items) }
     ensures fault { IfErr result IsCallFault }
 {
-    let trades = store.completed_of_account(alloc, account, span)?;
+    let trades = store.completed_trades_in_span(alloc, account, span)?;
     let mut settled = Vec::new(alloc);
     for trade in &trades {
         let cash_type = require_cash_type(store, trade.id)?;
@@ -44,16 +44,16 @@ fn read_settled_trades<S: Alter>(
 
 // Returns the cash trades of a symbol that an update with this span selects, each with the name of
 // its cash row. Changes nothing. Fails with `Memory` or `Store` only.
-fn read_paid_trades<S: Alter>(
+fn read_cash_trades_with_names<S: Alter>(
     alloc: Global,
     store: &mut Store<S>,
     symbol: &Symbol,
     span: Span,
 ) -> Result<Vec<CashText>, Fault>
-    ensures read { ReadPost S.Store store.old store.new result (λ paid t. CashTextsMatchTables t (chosen.completed_cash_trades_of_symbol symbol.now span.first span.last t) paid.items) }
+    ensures read { ReadPost S.Store store.old store.new result (λ paid t. CashTextsMatchTables t (chosen.first_twenty_completed_cash_trade_rows_of_symbol symbol.now span.first span.last t) paid.items) }
     ensures fault { IfErr result IsCallFault }
 {
-    let trades = store.completed_cash_of_symbol(alloc, symbol, span)?;
+    let trades = store.completed_cash_trades_in_span(alloc, symbol, span)?;
     let mut paid = Vec::new(alloc);
     for trade in &trades {
         let name = require_cash_name(store, trade.id)?;
@@ -69,7 +69,7 @@ fn read_paid_trades<S: Alter>(
 
 // Returns the trades with these ids, for an update of their executors, or `None` if one of them
 // does not exist. Changes nothing. Fails with `Memory` or `Store` only.
-pub(crate) fn read_executor_trades<S: Alter>(
+pub(crate) fn read_trades_of_executor_update<S: Alter>(
     alloc: Global,
     store: &mut Store<S>,
     trades: &TradeIds,
@@ -93,7 +93,7 @@ fn account_row_exists<S: Alter>(store: &mut Store<S>, account: Id) -> Result<boo
 
 // Returns the trades of an account that an update of cash types selects, or `None` if the account
 // does not exist. Changes nothing. Fails with `Memory` or `Store` only.
-pub(crate) fn read_cash_type_trades<S: Alter>(
+pub(crate) fn read_trades_of_cash_type_update<S: Alter>(
     alloc: Global,
     store: &mut Store<S>,
     account: Id,
@@ -105,7 +105,7 @@ pub(crate) fn read_cash_type_trades<S: Alter>(
     if !account_row_exists(store, account)? {
         return Ok(None);
     }
-    let settled = read_settled_trades(alloc, store, account, span)?;
+    let settled = read_trades_with_cash_types(alloc, store, account, span)?;
     Ok(Some(TextUpdate::CashTypes(settled)))
 }
 
@@ -126,7 +126,7 @@ fn read_security_name<S: Alter>(
 
 // Returns the trades of a symbol that an update of cash names selects, or `None` if the security
 // does not exist. Changes nothing. Fails with `Memory` or `Store` only.
-pub(crate) fn read_cash_name_trades<S: Alter>(
+pub(crate) fn read_trades_of_cash_name_update<S: Alter>(
     alloc: Global,
     store: &mut Store<S>,
     symbol: &Symbol,
@@ -138,6 +138,6 @@ pub(crate) fn read_cash_name_trades<S: Alter>(
     let Some(name) = read_security_name(store, symbol)? else {
         return Ok(None);
     };
-    let paid = read_paid_trades(alloc, store, symbol, span)?;
+    let paid = read_cash_trades_with_names(alloc, store, symbol, span)?;
     Ok(Some(TextUpdate::CashNames(name, paid)))
 }

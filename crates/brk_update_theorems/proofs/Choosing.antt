@@ -10,12 +10,12 @@ use Rattle.brk_model.specs.Base.{Base, completed_trades, is_completed, last_stat
 use Rattle.brk_model.specs.Joins.{trade_rows_oldest_first}
 use Rattle.brk_model.specs.Lists.{is_pair_less}
 use Rattle.brk_model.specs.LookupView.{row_stamp_is_between}
-use Rattle.brk_model.specs.Names.{AreNumberedFrom}
+use Rattle.brk_model.specs.Names.{TradesAreNumberedFrom}
 use Rattle.brk_model.specs.Records.{StatusChange, Trade}
 use Rattle.brk_model.specs.Sheets.{sheets}
 use Rattle.brk_model.specs.Tables.{TradeRow, trade_row}
 use Rattle.brk_model.specs.Updates.{trade_stamp_is_between, trades_oldest_first}
-use Rattle.brk_changes.specs.Chosen.{completed_cash_trades_of_symbol, completed_trades_of_account, first_twenty_completed_trades}
+use Rattle.brk_changes.specs.Chosen.{first_twenty_completed_cash_trade_rows_of_symbol, first_twenty_completed_trade_rows_of_account, first_twenty_completed_trade_rows}
 use Rattle.brk_book_theorems.proofs.LotReading.{All-sort}
 use Rattle.brk_book_theorems.proofs.Same.{All-filter}
 use Rattle.brk_book_theorems.proofs.TradeReading.{trades_in_order}
@@ -30,8 +30,8 @@ mark_completed None = refl
 mark_completed (Some m) = refl
 
 -- a test of rows that is one of trades
-pub chosen_rows : (base : Base) (row_test : TradeRow → Bool) (test : Trade → Bool) (first last : ℕ) → AreNumberedFrom 1 base.trades → ((t : Trade) → row_test (trade_row t) ≡ test t)
-    → first_twenty_completed_trades (λ r. row_test r && row_stamp_is_between first last r) (sheets base) ≡ map trade_row (chosen_trades base test first last)
+pub chosen_rows : (base : Base) (row_test : TradeRow → Bool) (test : Trade → Bool) (first last : ℕ) → TradesAreNumberedFrom 1 base.trades → ((t : Trade) → row_test (trade_row t) ≡ test t)
+    → first_twenty_completed_trade_rows (λ r. row_test r && row_stamp_is_between first last r) (sheets base) ≡ map trade_row (chosen_trades base test first last)
 chosen_rows base row_test test first last n same =
     let wanted : Trade → Bool = λ t. test t && trade_stamp_is_between first last t in
     ap (λ rows. take 20 (trade_rows_oldest_first (filter (λ r. is_same_trade_status r.status Completed && (row_test r && row_stamp_is_between first last r)) rows))) (trades_in_order base n)
@@ -43,12 +43,12 @@ chosen_rows base row_test test first last n same =
     (sort-map (λ t u. is_pair_less (last_status_stamp_of_trade t) (last_status_stamp_of_trade u) t.id u.id) (λ a b. is_pair_less a.stamp b.stamp a.id b.id) trade_row (filter wanted (completed_trades base)) (λ a b. refl))
     ∙ take-map trade_row 20 (trades_oldest_first (filter wanted (completed_trades base)))
 
-pub account_rows : (base : Base) (account first last : ℕ) → AreNumberedFrom 1 base.trades
-    → completed_trades_of_account account first last (sheets base) ≡ map trade_row (chosen_trades base (λ t. t.account == account) first last)
+pub account_rows : (base : Base) (account first last : ℕ) → TradesAreNumberedFrom 1 base.trades
+    → first_twenty_completed_trade_rows_of_account account first last (sheets base) ≡ map trade_row (chosen_trades base (λ t. t.account == account) first last)
 account_rows base account first last n = chosen_rows base (λ r. r.account == account) (λ t. t.account == account) first last n (λ t. refl)
 
-pub symbol_rows : (base : Base) (symbol : Text) (first last : ℕ) → AreNumberedFrom 1 base.trades
-    → completed_cash_trades_of_symbol symbol first last (sheets base) ≡ map trade_row (chosen_trades base (λ t. t.is_cash && bytes_eq t.symbol symbol) first last)
+pub symbol_rows : (base : Base) (symbol : Text) (first last : ℕ) → TradesAreNumberedFrom 1 base.trades
+    → first_twenty_completed_cash_trade_rows_of_symbol symbol first last (sheets base) ≡ map trade_row (chosen_trades base (λ t. t.is_cash && bytes_eq t.symbol symbol) first last)
 symbol_rows base symbol first last n =
     chosen_rows base (λ r. r.is_cash && bytes_eq r.symbol symbol) (λ t. t.is_cash && bytes_eq t.symbol symbol) first last n (λ t. refl)
 

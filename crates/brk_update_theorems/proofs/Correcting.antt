@@ -26,14 +26,14 @@ use Rattle.brk_orders.specs.Records.{text_update_command}
 use Rattle.brk_orders.specs.declared.update.Update as told
 use Rattle.brk_orders.specs.declared.update.Update.TheVariants as update
 use Rattle.brk_changes.specs.Changes.{tables_after_change, tables_after_changes, tables_with_last_stamp}
-use Rattle.brk_changes.specs.Chosen.{completed_cash_trades_of_symbol, completed_trades_of_account}
+use Rattle.brk_changes.specs.Chosen.{first_twenty_completed_cash_trade_rows_of_symbol, first_twenty_completed_trade_rows_of_account}
 use Rattle.brk_changes.specs.Rows.{cash_type_text, abstract_trade_row}
 use Rattle.brk_changes.specs.declared.change.Change.{Change}
 use Rattle.brk_changes.specs.declared.trade_row.TradeRow as row
 use Rattle.brk_plans.specs.Reference.{later_stamp_check}
 use Rattle.brk_plans.specs.Replies.{abstract_reply}
 use Rattle.brk_plans.specs.Update as planner
-use Rattle.brk_plans.specs.Update.{IsUpdatePlan, cash_text_update, cash_type_update, count_of_updated_trades, executor_name_update, missing_record_refusal, update_checks, table_updates_of_texts}
+use Rattle.brk_plans.specs.Update.{IsUpdatePlan, cash_text_update, cash_type_update, count_of_updated_trades, executor_name_update, missing_target_refusal, update_checks, table_updates_of_text_update}
 use Rattle.brk_plans.specs.declared.corrected.TextUpdate.{TextUpdate}
 use Rattle.brk_plans.specs.declared.corrected.TextUpdate.TheVariants as corrected
 use Rattle.brk_plans.specs.declared.corrected.CashText.{CashText}
@@ -52,7 +52,7 @@ use Rattle.brk_trade_theorems.proofs.TradePlanning.{refused_step, stamp_read}
 use Rattle.brk_book_theorems.proofs.TradeReading.{reads_trade}
 use Rattle.brk_book_theorems.proofs.Trades.{whole}
 use Rattle.brk_book_theorems.proofs.Volumes.{any-same}
-use Rattle.brk_update_theorems.specs.Corrections.{CashTextsMatchTables, SettlementTextsMatchTables, AreTradesWithIds, SelectedTradesMatchTables, UpdateFactsMatchTables, SecurityHasName, PlanUpdatePrecondition, CashTextRow, SettlementTextRow, cash_row_of_trade, cash_text_row_in, cash_text_row, settlement_text_row_in, settlement_text_row, settlement_row_of_trade}
+use Rattle.brk_update_theorems.specs.Corrections.{CashTextsMatchTables, SettlementTextsMatchTables, AreTradesWithIds, SelectedTradesMatchTables, UpdateFactsMatchTables, SecurityHasName, PlanUpdatePrecondition, CashTextRow, SettlementTextRow, cash_row_of_trade, cash_text_row_in_tables, cash_text_row_of_typed_row, settlement_text_row_in_tables, settlement_text_row_of_typed_row, settlement_row_of_trade}
 use Rattle.brk_update_theorems.proofs.Choosing.{account_rows, chosen_trades, of_chosen, symbol_rows}
 use Rattle.brk_update_theorems.proofs.Owning.{own_cash, own_rows, own_settlements}
 use Rattle.brk_update_theorems.proofs.Rewording.{reworded, tables_reworded}
@@ -155,7 +155,7 @@ cash_types_rows base ids =
     ∙ tables_reworded (λ t. t.executor) (word_then p) (λ t. t.cash_name) base
 
 cash_types_along : (t : Tables) (cs : List SettlementText) → fold (λ t c. cash_type_update c t) t cs
-    ≡ record t { settlements = fold (λ rows c. update_where (λ r. r.trade == c.trade) (λ r. record r { cash_type = planner.other_cash_type_text c.is_cash (cash_type_text c.cash_type) }) rows) t.settlements cs }
+    ≡ record t { settlements = fold (λ rows c. update_where (λ r. r.trade == c.trade) (λ r. record r { cash_type = planner.toggled_cash_type_text c.is_cash (cash_type_text c.cash_type) }) rows) t.settlements cs }
 cash_types_along t [] = refl
 cash_types_along t (c ∷ cs) = cash_types_along (cash_type_update c t) cs
 
@@ -175,26 +175,26 @@ found_of view told id (c ∷ cs) (u ∷ us) P own e h =
 same_row : (base : Base) (t u : Trade) → t.id ≡ u.id → trade_row_with_id (sheets base) t.id ≡ Some (trade_row t) → trade_row_with_id (sheets base) u.id ≡ Some (trade_row u) → trade_row u ≡ trade_row t
 same_row base t u same own other = some_is _ _ (sym other ∙ ap (trade_row_with_id (sheets base)) (sym same) ∙ own)
 
-pub cash_types_set : (base : Base) (account first last : ℕ) (cs : List SettlementText) → BooksInvariant base → SettlementTextsMatchTables (sheets base) (completed_trades_of_account account first last (sheets base)) cs
+pub cash_types_set : (base : Base) (account first last : ℕ) (cs : List SettlementText) → BooksInvariant base → SettlementTextsMatchTables (sheets base) (first_twenty_completed_trade_rows_of_account account first last (sheets base)) cs
     → sheets (base_with_updated_cash_types (selected_ids_of_account base account first last) base) ≡ fold (λ t c. cash_type_update c t) (sheets base) cs
 unfolding tables_of_base_in_schema tables_sorted_by_key
 cash_types_set base account first last cs books read =
     let us : List Trade = chosen_trades base (λ t. t.account == account) first last in
     let ids : List ℕ = selected_ids_of_account base account first last in
     let rows = own_rows base books.numbered in
-    let found = found_of settlement_text_row (settlement_text_row_in (sheets base)) (λ r. r.0) cs us _ (λ u. refl) (read ∙ ap (map (settlement_text_row_in (sheets base))) (account_rows base account first last books.numbered))
+    let found = found_of settlement_text_row_of_typed_row (settlement_text_row_in_tables (sheets base)) (λ r. r.0) cs us _ (λ u. refl) (read ∙ ap (map (settlement_text_row_in_tables (sheets base))) (account_rows base account first last books.numbered))
     (of_chosen _ base (λ t. t.account == account) first last rows) in
     cash_types_rows base ids
     ∙ sym (cash_types_along (sheets base) cs
     ∙ ap (λ settlements. record (sheets base) { settlements = settlements })
-    (all_set (λ (r : SettlementRow). r.trade) (λ w (r : SettlementRow). record r { cash_type = w }) (λ (c : SettlementText). c.trade) (λ (c : SettlementText). planner.other_cash_type_text c.is_cash (cash_type_text c.cash_type))
+    (all_set (λ (r : SettlementRow). r.trade) (λ w (r : SettlementRow). record r { cash_type = w }) (λ (c : SettlementText). c.trade) (λ (c : SettlementText). planner.toggled_cash_type_text c.is_cash (cash_type_text c.cash_type))
     (settlement_row base.accounts base.rule) updated_cash_type (λ w r. refl) (λ v w r. refl) (λ t. refl) settlement_key (λ w r. refl) cs (completed_trades base)
     (All-map (completed_trades base) (λ t own. All-map cs (λ c f same.
     let at : t.id ≡ f.0.id = eqb-true t.id c.trade same ∙ ap (λ (r : SettlementTextRow). r.0) f.1 in
     let one : trade_row f.0 ≡ trade_row t = same_row base t f.0 at own.0 f.2.0 in
     let word : cash_type_text c.cash_type ≡ t.cash_type =
     some_is _ _ (ap (λ (r : SettlementTextRow). r.2) f.1 ∙ ap (λ (n : ℕ). option_map (λ (s : SettlementRow). s.cash_type) (settlement_row_of_trade (sheets base) n)) (sym at) ∙ ap (option_map (λ (s : SettlementRow). s.cash_type)) own.1) in
-    λ i. planner.other_cash_type_text ((ap (λ (r : SettlementTextRow). r.1) f.1 ∙ ap (λ (r : TradeRow). r.is_cash) one) i) (word i)) found.0)
+    λ i. planner.toggled_cash_type_text ((ap (λ (r : SettlementTextRow). r.1) f.1 ∙ ap (λ (r : TradeRow). r.is_cash) one) i) (word i)) found.0)
     (All-both _ _ (completed_trades base) (All-filter _ is_completed base.trades rows) (own_settlements base books.numbered)))
     ∙ ap (rows_sorted_by_key settlement_key)
     (ap (λ is. map (λ t. cond (contains_number t.id is) (record (settlement_row base.accounts base.rule t) { cash_type = updated_cash_type t }) (settlement_row base.accounts base.rule t)) (completed_trades base)) found.1
@@ -248,7 +248,7 @@ and_last true false c e = absurd (cc)
 and_last false b c e = absurd (cc)
 
 pub cash_names_set : (base : Base) (symbol : Text) (first last : ℕ) (name : Text) (cs : List CashText) → BooksInvariant base → SecurityHasName (sheets base) symbol name
-    → CashTextsMatchTables (sheets base) (completed_cash_trades_of_symbol symbol first last (sheets base)) cs
+    → CashTextsMatchTables (sheets base) (first_twenty_completed_cash_trade_rows_of_symbol symbol first last (sheets base)) cs
     → sheets (base_with_updated_cash_names (selected_ids_of_symbol base symbol first last) base) ≡ fold (λ t c. cash_text_update name c t) (sheets base) cs
 unfolding tables_of_base_in_schema tables_sorted_by_key
 cash_names_set base symbol first last name cs books is_named read =
@@ -256,7 +256,7 @@ cash_names_set base symbol first last name cs books is_named read =
     let us : List Trade = chosen_trades base test first last in
     let ids : List ℕ = selected_ids_of_symbol base symbol first last in
     let rows = own_rows base books.numbered in
-    let found = found_of cash_text_row (cash_text_row_in (sheets base)) (λ r. r.0) cs us _ (λ u. refl) (read ∙ ap (map (cash_text_row_in (sheets base))) (symbol_rows base symbol first last books.numbered))
+    let found = found_of cash_text_row_of_typed_row (cash_text_row_in_tables (sheets base)) (λ r. r.0) cs us _ (λ u. refl) (read ∙ ap (map (cash_text_row_in_tables (sheets base))) (symbol_rows base symbol first last books.numbered))
     (of_chosen _ base test first last rows) in
     cash_names_rows base ids
     ∙ sym (cash_names_along name (sheets base) cs
@@ -313,7 +313,7 @@ lacking_is t (update.CashNames symbol span) (Some (corrected.CashTypes settled))
 lacking_is t (update.CashNames symbol span) (Some (corrected.CashNames name paid)) k = sym (has_name (security_row_with_symbol t symbol) name k.0)
 
 tested : (base : Base) (u : told.Update) (now : ℕ)
-    → first_refusal ((is_lacking u (sheets base), missing_record_refusal u) ∷ (nat_lt greatest_stamp (stamp_of_next_command base now), ClockEnd) ∷ []) ≡ refusal_of_command base now (text_update_command u)
+    → first_refusal ((is_lacking u (sheets base), missing_target_refusal u) ∷ (nat_lt greatest_stamp (stamp_of_next_command base now), ClockEnd) ∷ []) ≡ refusal_of_command base now (text_update_command u)
 unfolding is_lacking refusal_of_command checks_of_command
 tested base (update.Executors ids) now =
     ap (λ b. first_refusal ((b, NoTrade) ∷ (nat_lt greatest_stamp (stamp_of_next_command base now), ClockEnd) ∷ []))
@@ -326,7 +326,7 @@ tested base (update.CashNames symbol span) now =
 pub update_read : (base : Base) (u : told.Update) (found : Option TextUpdate) (last : Option ℕ) (now : ℕ) → PlanUpdatePrecondition base u found last now
     → first_refusal (update_checks u found ++ later_stamp_check last now ∷ []) ≡ refusal_of_command base now (text_update_command u)
 update_read base u found last now k =
-    (λ i. first_refusal ((lacking_is (sheets base) u found k.found_read i, missing_record_refusal u) ∷ (clock_read base last now k.books k.last_read k.moment i, ClockEnd) ∷ [])) ∙ tested base u now
+    (λ i. first_refusal ((lacking_is (sheets base) u found k.found_read i, missing_target_refusal u) ∷ (clock_read base last now k.books k.last_read k.moment i, ClockEnd) ∷ [])) ∙ tested base u now
 
 pub update_refused : (base : Base) (u : told.Update) (found : Option TextUpdate) (last : Option ℕ) (now : ℕ) (refusal : Refusal) → PlanUpdatePrecondition base u found last now
     → first_refusal (update_checks u found ++ later_stamp_check last now ∷ []) ≡ Some refusal → step base now (text_update_command u) ≡ Err refusal
@@ -335,7 +335,7 @@ update_refused base u found last now refusal k e = refused_step base now (text_u
 -- ---- what it does
 
 words_changed : (base : Base) (stamp : ℕ) (u : told.Update) (found : TextUpdate) → BooksInvariant base → SelectedTradesMatchTables (sheets base) u found
-    → sheets (base_after_command_unstamped base stamp (text_update_command u)) ≡ fold (λ t f. f t) (sheets base) (table_updates_of_texts found)
+    → sheets (base_after_command_unstamped base stamp (text_update_command u)) ≡ fold (λ t f. f t) (sheets base) (table_updates_of_text_update found)
 unfolding base_after_command_unstamped
 words_changed base stamp (update.Executors ids) (corrected.Executors trades) books k =
     executors_set base ids trades.items books k ∙ sym (fold-map executor_name_update trades.items (sheets base))
@@ -362,14 +362,14 @@ count_is base stamp (update.Executors ids) (corrected.CashTypes settled) books k
 count_is base stamp (update.Executors ids) (corrected.CashNames name paid) books k = absurd k
 count_is base stamp (update.CashTypes account span) (corrected.Executors trades) books k = absurd k
 count_is base stamp (update.CashTypes account span) (corrected.CashTypes settled) books k =
-    ap (Changed stamp) (sym (counted settlement_text_row (settlement_text_row_in (sheets base)) settled.items (chosen_trades base (λ t. t.account == account) span.first span.last)
-    (k.1 ∙ ap (map (settlement_text_row_in (sheets base))) (account_rows base account span.first span.last books.numbered))))
+    ap (Changed stamp) (sym (counted settlement_text_row_of_typed_row (settlement_text_row_in_tables (sheets base)) settled.items (chosen_trades base (λ t. t.account == account) span.first span.last)
+    (k.1 ∙ ap (map (settlement_text_row_in_tables (sheets base))) (account_rows base account span.first span.last books.numbered))))
 count_is base stamp (update.CashTypes account span) (corrected.CashNames name paid) books k = absurd k
 count_is base stamp (update.CashNames symbol span) (corrected.Executors trades) books k = absurd k
 count_is base stamp (update.CashNames symbol span) (corrected.CashTypes settled) books k = absurd k
 count_is base stamp (update.CashNames symbol span) (corrected.CashNames name paid) books k =
-    ap (Changed stamp) (sym (counted cash_text_row (cash_text_row_in (sheets base)) paid.items (chosen_trades base (λ t. t.is_cash && bytes_eq t.symbol symbol) span.first span.last)
-    (k.1 ∙ ap (map (cash_text_row_in (sheets base))) (symbol_rows base symbol span.first span.last books.numbered))))
+    ap (Changed stamp) (sym (counted cash_text_row_of_typed_row (cash_text_row_in_tables (sheets base)) paid.items (chosen_trades base (λ t. t.is_cash && bytes_eq t.symbol symbol) span.first span.last)
+    (k.1 ∙ ap (map (cash_text_row_in_tables (sheets base))) (symbol_rows base symbol span.first span.last books.numbered))))
 
 changes_are : (changes : List Change) (t : Tables) → tables_after_changes changes t ≡ fold (λ t f. f t) t (map tables_after_change changes)
 changes_are changes t = sym (fold-map tables_after_change changes t)
@@ -385,14 +385,14 @@ update_does base u found last now plan k p =
     let command : Command = text_update_command u in
     let stamp : ℕ = stamp_of_next_command base now in
     let accepted : refusal_of_command base now command ≡ None =
-    sym (update_read base u (Some found) last now k) ∙ ap (λ b. first_refusal ((false, missing_record_refusal u) ∷ (b, ClockEnd) ∷ [])) (some_left (stamp_after last now) p.stamp p.stamped) in
+    sym (update_read base u (Some found) last now k) ∙ ap (λ b. first_refusal ((false, missing_target_refusal u) ∷ (b, ClockEnd) ∷ [])) (some_left (stamp_after last now) p.stamp p.stamped) in
     let at : p.stamp ≡ stamp = stamp_read base last now p.stamp k.last_read p.stamped in
     let told : reply_to_command base stamp command ≡ abstract_reply plan.reply =
-    count_is base stamp u found k.books k.found_read ∙ ap (λ (s : ℕ). Changed s (count_of_updated_trades found)) (sym at) ∙ sym (ap abstract_reply p.told) in
+    count_is base stamp u found k.books k.found_read ∙ ap (λ (s : ℕ). Changed s (count_of_updated_trades found)) (sym at) ∙ sym (ap abstract_reply p.replied) in
     record {
       steps = ap (λ o. value_unless_refused o (reply_to_command base stamp command, base_after_command base now command)) accepted ∙ ap (λ reply. Ok (reply, base_after_command base now command)) told;
       rows = whole (base_after_command_unstamped base stamp command) stamp _ (words_changed base stamp u found k.books k.found_read)
-          ∙ ap (λ (s : ℕ). tables_with_last_stamp s (fold (λ t f. f t) (sheets base) (table_updates_of_texts found))) (sym at)
-          ∙ sym (changes_are plan.changes.items (sheets base) ∙ ap (fold (λ t f. f t) (sheets base)) p.changes ∙ fold-last (table_updates_of_texts found) (tables_with_last_stamp p.stamp) (sheets base));
-      kept = books_command base now command k.books accepted;
+          ∙ ap (λ (s : ℕ). tables_with_last_stamp s (fold (λ t f. f t) (sheets base) (table_updates_of_text_update found))) (sym at)
+          ∙ sym (changes_are plan.changes.items (sheets base) ∙ ap (fold (λ t f. f t) (sheets base)) p.changes ∙ fold-last (table_updates_of_text_update found) (tables_with_last_stamp p.stamp) (sheets base));
+      books_after = books_command base now command k.books accepted;
     }

@@ -8,7 +8,7 @@ use Rattle.brk_model.specs.Derived.{Posting, cash_trades, postings_sorted_by_sta
 use Rattle.brk_model.specs.Adopted.{is_posting_of_trade, posting_of_move_row}
 use Rattle.brk_model.specs.Joins.{trade_row_with_id}
 use Rattle.brk_model.specs.Lists.{sort_by}
-use Rattle.brk_model.specs.Names.{AreNumberedFrom}
+use Rattle.brk_model.specs.Names.{TradesAreNumberedFrom}
 use Rattle.brk_model.specs.Records.{Movement, Trade}
 use Rattle.brk_model.specs.Sheets.{sheets, tables_sorted_by_key}
 use Rattle.brk_model.specs.Tables.{MoveRow, settlement_row, tables_of_base_in_schema, trade_row}
@@ -27,7 +27,7 @@ abbrev pub Apart : List Trade → Type 0
 Apart [] = ⊤
 Apart (t ∷ ts) = NonePass (λ u. u.id == t.id) ts × Apart ts
 
-pub apart_numbered : (n : ℕ) (ts : List Trade) → AreNumberedFrom n ts → Apart ts
+pub apart_numbered : (n : ℕ) (ts : List Trade) → TradesAreNumberedFrom n ts → Apart ts
 apart_numbered n [] k = tt
 apart_numbered n (t ∷ ts) k = (numbered_after n [] t ts k, apart_numbered (n + 1) ts k.1)
 
@@ -47,10 +47,10 @@ each_found (t ∷ ts) h = (
       (All-both (λ u. (u.id == t.id) ≡ false) (λ u. find (λ v. v.id == u.id) ts ≡ Some u) ts h.0 (each_found ts h.1)),
 )
 
-pub own_rows : (base : Base) → AreNumberedFrom 1 base.trades → AllByRecursion (λ t. trade_row_with_id (sheets base) t.id ≡ Some (trade_row t)) base.trades
+pub own_rows : (base : Base) → TradesAreNumberedFrom 1 base.trades → AllByRecursion (λ t. trade_row_with_id (sheets base) t.id ≡ Some (trade_row t)) base.trades
 own_rows base n = All-map base.trades (λ t e. reads_trade base t.id ∙ ap (option_map trade_row) e) (each_found base.trades (apart_numbered 1 base.trades n))
 
-pub own_settlements : (base : Base) → AreNumberedFrom 1 base.trades
+pub own_settlements : (base : Base) → TradesAreNumberedFrom 1 base.trades
     → AllByRecursion (λ t. settlement_row_of_trade (sheets base) t.id ≡ Some (settlement_row base.accounts base.rule t)) (completed_trades base)
 unfolding tables_of_base_in_schema tables_sorted_by_key
 own_settlements base n =
@@ -107,7 +107,7 @@ own_name base t alone =
     ∙ found_first (is_posting_of_trade t.id) (postings_sorted_by_stamp (postings_of_base base))
     ∙ ap (find (λ p. true)) (turn_filter (is_posting_of_trade t.id) (postings_of_base base) ∙ ap postings_sorted_by_stamp posted ∙ turn_one (P t)))
 
-pub own_cash : (base : Base) → AreNumberedFrom 1 base.trades
+pub own_cash : (base : Base) → TradesAreNumberedFrom 1 base.trades
     → AllByRecursion (λ t. option_map (λ r. r.name) (cash_row_of_trade (sheets base) t.id) ≡ Some t.cash_name) (cash_trades (completed_trades base))
 own_cash base n =
     All-map (cash_trades (completed_trades base)) (λ t e. own_name base t e)

@@ -15,7 +15,7 @@ use Rattle.brk_model.specs.Updates.{selected_ids_of_account, selected_ids_of_sym
 use Rattle.brk_changes.specs.Changes.{tables_with_last_stamp}
 use Rattle.brk_book_theorems.proofs.Order.{by_key-map}
 use Rattle.brk_book_theorems.proofs.Trades.{whole}
-use Rattle.brk_update_theorems.specs.Corrections.{ChangesOnlyExecutorNames, ChangesOnlyCashTexts, ChangesOnlySettlementTexts, without_executor_name, without_cash_text, without_settlement_text, tables_after_command}
+use Rattle.brk_update_theorems.specs.Corrections.{ChangesOnlyExecutorNames, ChangesOnlyCashTexts, ChangesOnlySettlementTexts, trade_row_without_executor_name, cash_row_without_text, settlement_row_without_text, tables_after_command}
 use Rattle.brk_update_theorems.proofs.Correcting.{cash_names_rows, cash_types_rows, executors_rows, name_then, text_then, texts_with, word_then}
 use Rattle.brk_update_theorems.proofs.Rewording.{posted_nameless}
 use Rattle.brk_update_theorems.proofs.Texting.{rows_through}
@@ -37,8 +37,8 @@ names_alone base now ids =
     let e : tables_after_command base now (ChangeExecutors ids) ≡ tables_with_last_stamp stamp (record (sheets base) { trades = rows }) = whole (base_with_updated_executors ids base) stamp _ (executors_rows base ids) in
     record {
       others = e ∙ ap (λ (trades : List TradeRow). tables_with_last_stamp stamp (record (sheets base) { trades = trades })) (sym (ap (λ t. t.trades) e));
-      rows = ap (λ t. map without_executor_name t.trades) e
-          ∙ but_for trade_key without_executor_name (λ t. record (trade_row t) { executor = name_then (λ t. contains_number t.id ids) t }) trade_row base.trades (λ r. refl) (λ t. refl);
+      rows = ap (λ t. map trade_row_without_executor_name t.trades) e
+          ∙ but_for trade_key trade_row_without_executor_name (λ t. record (trade_row t) { executor = name_then (λ t. contains_number t.id ids) t }) trade_row base.trades (λ r. refl) (λ t. refl);
     }
 
 pub words_alone : (base : Base) (now account first last : ℕ) → ChangesOnlySettlementTexts base now (ChangeCashTypes account first last)
@@ -50,8 +50,8 @@ words_alone base now account first last =
     let e : tables_after_command base now (ChangeCashTypes account first last) ≡ tables_with_last_stamp stamp (record (sheets base) { settlements = rows }) = whole (base_with_updated_cash_types ids base) stamp _ (cash_types_rows base ids) in
     record {
       others = e ∙ ap (λ (settlements : List SettlementRow). tables_with_last_stamp stamp (record (sheets base) { settlements = settlements })) (sym (ap (λ t. t.settlements) e));
-      rows = ap (λ t. map without_settlement_text t.settlements) e
-          ∙ but_for settlement_key without_settlement_text (λ t. record (settlement_row base.accounts base.rule t) { cash_type = word_then (λ t. contains_number t.id ids) t }) (settlement_row base.accounts base.rule) (completed_trades base) (λ r. refl) (λ t. refl);
+      rows = ap (λ t. map settlement_row_without_text t.settlements) e
+          ∙ but_for settlement_key settlement_row_without_text (λ t. record (settlement_row base.accounts base.rule t) { cash_type = word_then (λ t. contains_number t.id ids) t }) (settlement_row base.accounts base.rule) (completed_trades base) (λ r. refl) (λ t. refl);
     }
 
 pub texts_alone : (base : Base) (now : ℕ) (symbol : Text) (first last : ℕ) → ChangesOnlyCashTexts base now (ChangeCashNames symbol first last)
@@ -64,7 +64,7 @@ texts_alone base now symbol first last =
     let e : tables_after_command base now (ChangeCashNames symbol first last) ≡ tables_with_last_stamp stamp (record (sheets base) { moves = rows }) = whole (base_with_updated_cash_names ids base) stamp _ (cash_names_rows base ids) in
     record {
       others = e ∙ ap (λ (moves : List MoveRow). tables_with_last_stamp stamp (record (sheets base) { moves = moves })) (sym (ap (λ t. t.moves) e));
-      rows = ap (λ t. map without_cash_text t.moves) e
+      rows = ap (λ t. map cash_row_without_text t.moves) e
           ∙ rows_through (λ trade name. []) texts
           ∙ ap (λ ps. rows_sorted_by_key move_key (numbered_move_rows 1 (postings_sorted_by_stamp ps)))
           (posted_nameless (λ t. t.executor) (λ t. t.cash_type) (text_then base (λ t. contains_number t.id ids)) base.accounts (completed_trades base) base.movements)

@@ -14,7 +14,7 @@ use Rattle.brk_model.specs.Tests.{stamp_of_next_command}
 use Rattle.brk_orders.specs.declared.update.Update as told
 use Rattle.brk_orders.specs.declared.update.Update.TheVariants as update
 use Rattle.brk_changes.specs.Changes.{tables_with_last_stamp}
-use Rattle.brk_changes.specs.Chosen.{completed_cash_trades_of_symbol, completed_trades_of_account}
+use Rattle.brk_changes.specs.Chosen.{first_twenty_completed_cash_trade_rows_of_symbol, first_twenty_completed_trade_rows_of_account}
 use Rattle.brk_changes.specs.Rows.{cash_type_text, abstract_trade_row}
 use Rattle.brk_changes.specs.declared.trade_row.TradeRow as row
 use Rattle.brk_plans.specs.declared.corrected.TextUpdate.{TextUpdate}
@@ -44,34 +44,34 @@ abbrev pub SettlementTextRow : Type 0
 SettlementTextRow = ℕ × Bool × Option Text
 
 -- The trade, its kind and its settlement text in a typed row that was read.
-abbrev pub settlement_text_row : SettlementText → SettlementTextRow
-settlement_text_row s = (s.trade, s.is_cash, Some (cash_type_text s.cash_type))
+abbrev pub settlement_text_row_of_typed_row : SettlementText → SettlementTextRow
+settlement_text_row_of_typed_row s = (s.trade, s.is_cash, Some (cash_type_text s.cash_type))
 
 -- The trade `r`, its kind and its settlement text in the tables, or `None` in place of the text if
 -- it has no settlement.
-abbrev pub settlement_text_row_in : Tables → TradeRow → SettlementTextRow
-settlement_text_row_in t r = (r.id, r.is_cash, option_map (λ s. s.cash_type) (settlement_row_of_trade t r.id))
+abbrev pub settlement_text_row_in_tables : Tables → TradeRow → SettlementTextRow
+settlement_text_row_in_tables t r = (r.id, r.is_cash, option_map (λ s. s.cash_type) (settlement_row_of_trade t r.id))
 
 -- The number of a trade, its type, its quantity, and its cash text if it has one.
 abbrev pub CashTextRow : Type 0
 CashTextRow = ℕ × TradeType × ℕ × Option Text
 
 -- The trade, its type, its quantity and its cash text in a typed row that was read.
-abbrev pub cash_text_row : CashText → CashTextRow
-cash_text_row p = (p.trade, p.kind, p.qty, Some (string_bytes p.name))
+abbrev pub cash_text_row_of_typed_row : CashText → CashTextRow
+cash_text_row_of_typed_row p = (p.trade, p.kind, p.qty, Some (string_bytes p.name))
 
 -- The trade `r`, its type, its quantity and its cash text in the tables, or `None` in place of the
 -- text if it has no cash row.
-abbrev pub cash_text_row_in : Tables → TradeRow → CashTextRow
-cash_text_row_in t r = (r.id, r.kind, r.qty, option_map (λ c. c.name) (cash_row_of_trade t r.id))
+abbrev pub cash_text_row_in_tables : Tables → TradeRow → CashTextRow
+cash_text_row_in_tables t r = (r.id, r.kind, r.qty, option_map (λ c. c.name) (cash_row_of_trade t r.id))
 
 -- The list `settled` has, for each of `trades` in order, its settlement text in the tables.
 abbrev pub SettlementTextsMatchTables : Tables → List TradeRow → List SettlementText → Type 0
-SettlementTextsMatchTables t trades settled = map settlement_text_row settled ≡ map (settlement_text_row_in t) trades
+SettlementTextsMatchTables t trades settled = map settlement_text_row_of_typed_row settled ≡ map (settlement_text_row_in_tables t) trades
 
 -- The list `paid` has, for each of `trades` in order, its cash text in the tables.
 abbrev pub CashTextsMatchTables : Tables → List TradeRow → List CashText → Type 0
-CashTextsMatchTables t trades paid = map cash_text_row paid ≡ map (cash_text_row_in t) trades
+CashTextsMatchTables t trades paid = map cash_text_row_of_typed_row paid ≡ map (cash_text_row_in_tables t) trades
 
 -- The security of the symbol exists in the tables and has the name `name`.
 abbrev pub SecurityHasName : Tables → Text → Text → Type 0
@@ -83,9 +83,9 @@ SecurityHasName t symbol name = option_map (λ s. s.name) (security_row_with_sym
 abbrev pub SelectedTradesMatchTables : Tables → told.Update → TextUpdate → Type 0
 SelectedTradesMatchTables t (update.Executors ids) (corrected.Executors trades) = AreTradesWithIds t ids trades.items
 SelectedTradesMatchTables t (update.CashTypes account span) (corrected.CashTypes settled) =
-    (is_none (account_row_with_id t account) ≡ false) × SettlementTextsMatchTables t (completed_trades_of_account account span.first span.last t) settled.items
+    (is_none (account_row_with_id t account) ≡ false) × SettlementTextsMatchTables t (first_twenty_completed_trade_rows_of_account account span.first span.last t) settled.items
 SelectedTradesMatchTables t (update.CashNames symbol span) (corrected.CashNames name paid) =
-    SecurityHasName t symbol name × CashTextsMatchTables t (completed_cash_trades_of_symbol symbol span.first span.last t) paid.items
+    SecurityHasName t symbol name × CashTextsMatchTables t (first_twenty_completed_cash_trade_rows_of_symbol symbol span.first span.last t) paid.items
 SelectedTradesMatchTables t _ _ = ⊥
 
 -- The update `u` refers to a trade, an account or a security that does not exist in the tables.
@@ -115,43 +115,43 @@ abbrev pub tables_after_command : Base → ℕ → Command → Tables
 tables_after_command base now command = sheets (base_after_command base now command)
 
 -- The row of TRADE with an empty executor name.
-abbrev pub without_executor_name : TradeRow → TradeRow
-without_executor_name r = record r { executor = [] }
+abbrev pub trade_row_without_executor_name : TradeRow → TradeRow
+trade_row_without_executor_name r = record r { executor = [] }
 
 -- The rows of TRADE with empty executor names.
-abbrev pub without_executor_names : List TradeRow → List TradeRow
-without_executor_names rows = map without_executor_name rows
+abbrev pub trade_rows_without_executor_names : List TradeRow → List TradeRow
+trade_rows_without_executor_names rows = map trade_row_without_executor_name rows
 
 -- The row of SETTLEMENT with an empty text.
-abbrev pub without_settlement_text : SettlementRow → SettlementRow
-without_settlement_text r = record r { cash_type = [] }
+abbrev pub settlement_row_without_text : SettlementRow → SettlementRow
+settlement_row_without_text r = record r { cash_type = [] }
 
 -- The rows of SETTLEMENT with empty texts.
-abbrev pub without_settlement_texts : List SettlementRow → List SettlementRow
-without_settlement_texts rows = map without_settlement_text rows
+abbrev pub settlement_rows_without_texts : List SettlementRow → List SettlementRow
+settlement_rows_without_texts rows = map settlement_row_without_text rows
 
 -- The row of CASH_MOVE with an empty text.
-abbrev pub without_cash_text : MoveRow → MoveRow
-without_cash_text r = record r { name = [] }
+abbrev pub cash_row_without_text : MoveRow → MoveRow
+cash_row_without_text r = record r { name = [] }
 
 -- The rows of CASH_MOVE with empty texts.
-abbrev pub without_cash_texts : List MoveRow → List MoveRow
-without_cash_texts rows = map without_cash_text rows
+abbrev pub cash_rows_without_texts : List MoveRow → List MoveRow
+cash_rows_without_texts rows = map cash_row_without_text rows
 
 -- The command, if it is accepted, changes only executor names in TRADE and the last stamp. All
 -- other rows and columns are unchanged.
 pub record ChangesOnlyExecutorNames (base : Base) (now : ℕ) (command : Command) : Type 0 where
   pub others : tables_after_command base now command ≡ tables_with_last_stamp (stamp_of_next_command base now) (record (sheets base) { trades = (tables_after_command base now command).trades })
-  pub rows : without_executor_names (tables_after_command base now command).trades ≡ without_executor_names (sheets base).trades
+  pub rows : trade_rows_without_executor_names (tables_after_command base now command).trades ≡ trade_rows_without_executor_names (sheets base).trades
 
 -- The command, if it is accepted, changes only texts in SETTLEMENT and the last stamp. All other
 -- rows and columns are unchanged.
 pub record ChangesOnlySettlementTexts (base : Base) (now : ℕ) (command : Command) : Type 0 where
   pub others : tables_after_command base now command ≡ tables_with_last_stamp (stamp_of_next_command base now) (record (sheets base) { settlements = (tables_after_command base now command).settlements })
-  pub rows : without_settlement_texts (tables_after_command base now command).settlements ≡ without_settlement_texts (sheets base).settlements
+  pub rows : settlement_rows_without_texts (tables_after_command base now command).settlements ≡ settlement_rows_without_texts (sheets base).settlements
 
 -- The command, if it is accepted, changes only texts in CASH_MOVE and the last stamp. All other
 -- rows and columns are unchanged.
 pub record ChangesOnlyCashTexts (base : Base) (now : ℕ) (command : Command) : Type 0 where
   pub others : tables_after_command base now command ≡ tables_with_last_stamp (stamp_of_next_command base now) (record (sheets base) { moves = (tables_after_command base now command).moves })
-  pub rows : without_cash_texts (tables_after_command base now command).moves ≡ without_cash_texts (sheets base).moves
+  pub rows : cash_rows_without_texts (tables_after_command base now command).moves ≡ cash_rows_without_texts (sheets base).moves

@@ -12,11 +12,11 @@ use Rattle.brk_changes.specs.declared.trade_row.TradeRow.{TradeRow}
 use Rattle.brk_model.specs.Joins.{history_rows_with_trade_id, trade_rows_oldest_first, trade_rows_recent_first, security_row_with_symbol, trade_rows_of_account}
 use Rattle.brk_model.specs.Lists.{is_pair_less, sort_by, is_text_less}
 use Rattle.brk_model.specs.LookupView as model
-use Rattle.brk_model.specs.PositionView.{is_before_by_assets, last_ten_trade_rows, customer_position_view, recent_trades_view}
+use Rattle.brk_model.specs.PositionView.{is_before_by_market_value, last_ten_trade_rows, customer_position_view, recent_trades_view}
 use Rattle.brk_model.specs.Queries.{View}
 use Rattle.brk_model.specs.Records.{Customer}
 use Rattle.brk_model.specs.Rows.{nonnegative_cents_text}
-use Rattle.brk_model.specs.StatusView.{account_names_record, record_of_trade_status, trade_status_view}
+use Rattle.brk_model.specs.StatusView.{account_name_records, record_of_trade_status, trade_status_view}
 use Rattle.brk_model.specs.Tables as tables
 use Rattle.brk_model.specs.Tables.{Tables, AccountRow, SecurityRow}
 use Rattle.brk_model.specs.VolumeView.{is_before_by_volume, sector_volume_of_broker, broker_volume_view}
@@ -54,8 +54,8 @@ pub position_shown : (t : Tables) (test : Customer → Bool) (accounts : List Ac
 unfolding customer_position_view
 position_shown t test accounts e =
     let rows : List AccountRow = filter (λ a. list_any (λ c. test c && (c.id == a.customer)) t.customers) t.accounts in
-    ap (λ worths. map account_worth_record (sort_by precedes_by_market_value worths)) e ∙ ap (map account_worth_record) (map_sorted (is_before_by_assets t) precedes_by_market_value (worth_of_account t) rows (λ a b. refl))
-    ∙ map_map account_worth_record (worth_of_account t) (sort_by (is_before_by_assets t) rows)
+    ap (λ worths. map account_worth_record (sort_by precedes_by_market_value worths)) e ∙ ap (map account_worth_record) (map_sorted (is_before_by_market_value t) precedes_by_market_value (worth_of_account t) rows (λ a b. refl))
+    ∙ map_map account_worth_record (worth_of_account t) (sort_by (is_before_by_market_value t) rows)
 
 -- ---- what an account did last
 
@@ -113,9 +113,9 @@ pub one_carried : (t : Tables) (trade : TradeRow) (settlement : Option Settlemen
     → rows_of_looked_up_trade (record { trade = trade; settlement = settlement; cash = cash; history = moments }) ≡ table_rows_of_trade t (abstract_trade_row trade)
 one_carried t trade settlement cash history moments e is = λ i. record {
   trade = abstract_trade_row trade;
-  settlements = is.settles i;
-  moves = is.moves i;
-  history = (e ∙ moments_carried history ∙ ap (λ rows. map status_of_history_row (sort_by (λ a b. nat_lt a.stamp b.stamp) rows)) is.comes) i;
+  settlements = is.settlement_rows i;
+  moves = is.cash_rows i;
+  history = (e ∙ moments_carried history ∙ ap (λ rows. map status_of_history_row (sort_by (λ a b. nat_lt a.stamp b.stamp) rows)) is.history_rows) i;
 }
 
 -- The records of the rows `r` of a trade: of the trade, its settlements, its cash rows and its
@@ -220,7 +220,7 @@ shown_status r =
 pub statuses_shown : (t : Tables) (trades : List TradeStatus) (rows : List tables.TradeRow) → map rows_of_trade_status trades ≡ map (trade_row_with_security t) rows → map trade_status_record trades ≡ map (record_of_trade_status t) rows
 statuses_shown t trades rows e = sym (map_map shown_status rows_of_trade_status trades) ∙ ap (map shown_status) e ∙ map_map shown_status (trade_row_with_security t) rows
 
-pub status_shown : (t : Tables) (id : ℕ) (account : AccountStatus) → flat_map (account_names_record t) (filter (λ a. a.id == id) t.accounts) ≡ party_names_record account ∷ []
+pub status_shown : (t : Tables) (id : ℕ) (account : AccountStatus) → flat_map (account_name_records t) (filter (λ a. a.id == id) t.accounts) ≡ party_names_record account ∷ []
     → map trade_status_record account.trades.items ≡ map (record_of_trade_status t) (take 50 (trade_rows_recent_first (trade_rows_of_account t id)))
     → party_names_record account ∷ map trade_status_record account.trades.items ≡ trade_status_view t id
 unfolding trade_status_view

@@ -16,8 +16,8 @@ use Rattle.brk_view.specs.declared.view.View.TheVariants as view
 
 -- The first twenty trades that pass `test`, the oldest first, each with its settlement, cash row
 -- and statuses in the tables `t`.
-abbrev pub first_twenty_lookups : Tables → (TradeRow → Bool) → List LookedUpRows
-first_twenty_lookups t test = map (table_rows_of_trade t) (take 20 (trade_rows_oldest_first (filter test t.trades)))
+abbrev pub first_twenty_trades_with_rows : Tables → (TradeRow → Bool) → List LookedUpRows
+first_twenty_trades_with_rows t test = map (table_rows_of_trade t) (take 20 (trade_rows_oldest_first (filter test t.trades)))
 
 -- The last fifty trades of `account`, the most recent first, each with its security in the tables
 -- `t`.
@@ -35,11 +35,11 @@ HasRowsOfQuery (StatusOf account) (view.Status status) t = map rows_of_trade_sta
 HasRowsOfQuery SubmittedTrades (view.Submitted trades) t = Unit {0}
 HasRowsOfQuery (EstimateOf order) (view.Estimate estimate) t = Unit {0}
 HasRowsOfQuery (TradesWith ids) (view.Lookup trades) t =
-    map rows_of_looked_up_trade trades.items ≡ first_twenty_lookups t (λ row. contains_number row.id ids)
+    map rows_of_looked_up_trade trades.items ≡ first_twenty_trades_with_rows t (λ row. contains_number row.id ids)
 HasRowsOfQuery (TradesOfAccount account first last) (view.Lookup trades) t =
-    map rows_of_looked_up_trade trades.items ≡ first_twenty_lookups t (λ row. (row.account == account) && row_stamp_is_between first last row)
+    map rows_of_looked_up_trade trades.items ≡ first_twenty_trades_with_rows t (λ row. (row.account == account) && row_stamp_is_between first last row)
 HasRowsOfQuery (TradesOfSymbol symbol first last) (view.Lookup trades) t =
-    map rows_of_looked_up_trade trades.items ≡ first_twenty_lookups t (λ row. bytes_eq row.symbol symbol && row_stamp_is_between first last row)
+    map rows_of_looked_up_trade trades.items ≡ first_twenty_trades_with_rows t (λ row. bytes_eq row.symbol symbol && row_stamp_is_between first last row)
 HasRowsOfQuery (LotsTouched account first) (view.Lots lots) t = AreTouchedLots t account first lots
 HasRowsOfQuery (VolumeOf sector names) (view.Volume brokers) t = Unit {0}
 HasRowsOfQuery _ _ _ = ⊥

@@ -95,6 +95,6 @@ table_rows_of_trade t row = record {
 -- `settlement` and `cash` are all rows of SETTLEMENT and of CASH_MOVE that the tables `t` have of
 -- `trade`, and `history` are its rows of TRADE_HISTORY.
 pub record AreRowsOfTrade (t : Tables) (trade : TradeRow) (settlement : Option SettlementRow) (cash : Option MoveRow) (history : List HistoryRow) : Type 0 where
-  pub settles : option_to_list (option_map abstract_settlement_row settlement) ≡ filter (λ s. s.trade == trade.id) t.settlements
-  pub moves : option_to_list (option_map abstract_move_row cash) ≡ filter (model.is_cash_row_of_trade trade.id) t.moves
-  pub comes : map abstract_history_row history ≡ history_rows_with_trade_id t trade.id
+  pub settlement_rows : option_to_list (option_map abstract_settlement_row settlement) ≡ filter (λ s. s.trade == trade.id) t.settlements
+  pub cash_rows : option_to_list (option_map abstract_move_row cash) ≡ filter (model.is_cash_row_of_trade trade.id) t.moves
+  pub history_rows : map abstract_history_row history ≡ history_rows_with_trade_id t trade.id

@@ -23,8 +23,8 @@ abbrev pub has_submitted_status : TradeRow → Bool
 has_submitted_status row = is_same_trade_status row.status Submitted
 
 -- The record of the TRADE row `row`: its id, type, symbol, quantity and bid price.
-abbrev pub submitted_row_record : TradeRow → List Text
-submitted_row_record row = decimal row.id ∷ trade_type_code row.kind ∷ row.symbol ∷ decimal row.qty ∷ nonnegative_cents_text row.bid ∷ []
+abbrev pub record_of_submitted_row : TradeRow → List Text
+record_of_submitted_row row = decimal row.id ∷ trade_type_code row.kind ∷ row.symbol ∷ decimal row.qty ∷ nonnegative_cents_text row.bid ∷ []
 
 -- The record of the submitted trade `trade`: its id, type, symbol, quantity and bid price.
 abbrev pub submitted_trade_record : SubmittedTrade → List Text

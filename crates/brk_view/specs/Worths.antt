@@ -1,14 +1,14 @@
 -- The balance and the market value of an account, and their record.
 use Rattle.std.specs.Prelude.{Bool, not, ◌&&◌, ◌||◌, nat_lt, int_lt, List, [], ◌∷◌, decimal}
 use Rattle.brk_money.specs.Spelling.{Text, cents_text}
-use Rattle.brk_model.specs.PositionView.{asset_total}
+use Rattle.brk_model.specs.PositionView.{market_value_of_account_row}
 use Rattle.brk_model.specs.Tables.{Tables, AccountRow}
 use Rattle.brk_view.specs.declared.worths.AccountWorth.{AccountWorth}
 
 -- The id and the balance of the account `a`, and the market value of its holdings in the tables
 -- `t`.
 abbrev pub worth_of_account : Tables → AccountRow → AccountWorth
-worth_of_account t a = record { account = a.id; balance = a.balance; assets = asset_total t a }
+worth_of_account t a = record { account = a.id; balance = a.balance; assets = market_value_of_account_row t a }
 
 -- True if the account `a` is before `b` when they are sorted by market value, then by id,
 -- ascending.

@@ -57,7 +57,7 @@ impl BrokerNames {
 }
 
 // Returns true if `name` is one of `names`.
-fn is_among(name: &Name, names: &[Name]) -> bool
+fn is_among_names(name: &Name, names: &[Name]) -> bool
     ensures { result ≡ contains_name names.now name.now }
 {
     names.iter().any(|other| name.as_str() == other.as_str())
@@ -65,11 +65,11 @@ fn is_among(name: &Name, names: &[Name]) -> bool
 
 // Appends `name` if it is not one of `names`. Fails with `Memory` only.
 #[tactic(auto, using(crate::proofs::Distinct::still_distinct))]
-fn push_if_absent(names: &mut Vec<Name>, name: Name) -> Result<(), Fault>
+fn push_name_if_absent(names: &mut Vec<Name>, name: Name) -> Result<(), Fault>
     ensures names { OnOk result (names.new.items ≡ names_with_new_name names.old.items name) }
     ensures fault { OnErr result (result ≡ Err Memory) }
 {
-    if !is_among(&name, names) {
+    if !is_among_names(&name, names) {
         names.push(name)?;
     }
     Ok(())
@@ -87,7 +87,7 @@ fn parse_distinct_names(alloc: Global, fields: &[&[u8]]) -> Planned<Vec<Name>>
         let Some(name) = Name::parse(alloc, field)? else {
             return Ok(Err(Refusal::BadText));
         };
-        push_if_absent(&mut names, name)?;
+        push_name_if_absent(&mut names, name)?;
     }
     Ok(Ok(names))
 }
@@ -96,7 +96,7 @@ fn parse_distinct_names(alloc: Global, fields: &[&[u8]]) -> Planned<Vec<Name>>
 ///
 /// Refuses with `BadText` (18) if a field is malformed or there are none, and otherwise with
 /// `TooMany` (20) if there are more than 20. All fields are checked before the number of names.
-pub fn check_names(alloc: Global, fields: &[&[u8]]) -> Planned<BrokerNames>
+pub fn parse_broker_names(alloc: Global, fields: &[&[u8]]) -> Planned<BrokerNames>
     ensures read { IfOk result (λ read. ParsesAs (λ names. names) read (read_broker_names (texts_of_fields fields.now))) }
     ensures fault { OnErr result (result ≡ Err Memory) }
 {

@@ -10,16 +10,16 @@ ghost use Rattle.brk_model.specs.Rows.{estimate_fields};
 ghost use Rattle.brk_model.specs.Sheets.{tables_sorted_by_key};
 ghost use Rattle.brk_model.specs.StatusView.{submitted_trades_view};
 ghost use Rattle.brk_model.specs.Tables.{Tables};
-ghost use Rattle.brk_view.specs.Views.{records_of_view, has_submitted_status, submitted_row_record};
+ghost use Rattle.brk_view.specs.Views.{records_of_view, has_submitted_status, record_of_submitted_row};
 ghost use Rattle.brk_view.specs.declared.view.View.TheVariants as views;
 
 /// Proves that the records of the submitted rows of TRADE are the view of the submitted trades, if
 /// the rows are sorted by id.
 pub fn submitted_rows_are_the_view()
     // If the rows are sorted by id, ascending.
-    ensures rising { (t : Tables) → is_sorted_by_unique_key trade_key t.trades ≡ true → map submitted_row_record (filter has_submitted_status t.trades) ≡ submitted_trades_view t }
+    ensures sorted { (t : Tables) → is_sorted_by_unique_key trade_key t.trades ≡ true → map record_of_submitted_row (filter has_submitted_status t.trades) ≡ submitted_trades_view t }
     // As a store reads the rows, sorted by id.
-    ensures read { (t : Tables) → map submitted_row_record (filter has_submitted_status (tables_sorted_by_key t).trades) ≡ submitted_trades_view t }
+    ensures stored { (t : Tables) → map record_of_submitted_row (filter has_submitted_status (tables_sorted_by_key t).trades) ≡ submitted_trades_view t }
 {}
 
 /// Proves that the view of a model's estimate is one record of its seven fields.

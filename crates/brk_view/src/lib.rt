@@ -18,18 +18,18 @@ pub mod view;
 pub mod volumes;
 pub mod worths;
 
-pub use broker_names::{BrokerNames, check_names};
+pub use broker_names::{BrokerNames, parse_broker_names};
 pub use lookups::{
     LookedUp, create_looked_up_trade, lookup_account, lookup_ids, lookup_symbol,
     sort_trades_oldest_first,
 };
-pub use lots::{LotTouch, MOST_CHANGES, TouchedLots, lookup_lots, merge_into_first_twenty};
-pub use named_trades::{NamedTrades, check_named};
+pub use lots::{LotTouch, MOST_CHANGES, TouchedLots, lookup_lots, merge_lot_changes_into_first_twenty};
+pub use named_trades::{NamedTrades, parse_named_trades};
 pub use parse::parse_query;
 pub use query::Query;
 pub use recents::{Activity, recent};
 pub use statuses::{AccountStatus, TradeStatus, status, trade_status};
 pub use submitted_rows::submitted;
 pub use view::{SubmittedTrade, View};
-pub use volumes::{BrokerVolume, broker_volume, total_value_of_requests};
+pub use volumes::{BrokerVolume, broker_volume, total_bid_value_of_requests};
 pub use worths::{AccountWorth, position};

@@ -11,7 +11,7 @@ ghost use Rattle.brk_view.specs.Lookup.{AreRowsOfTrade, records_of_looked_up_tra
 ghost use Rattle.brk_view.specs.Views.{records_of_view};
 ghost use Rattle.brk_view.specs.declared.view.View.TheVariants as views;
 
-use crate::ordering::{Ranked, sort_by_rank};
+use crate::ordering::{Ranked, sort_rows_by_rank};
 use crate::view::View;
 use brk_changes::{HistoryRow, MoveRow, SettlementRow, TradeRow};
 use brk_money::{Fault, Stamp, Status};
@@ -73,7 +73,7 @@ fn sorted_statuses_of_history(
             status: row.status,
         })?;
     }
-    sort_by_rank(alloc, moments)
+    sort_rows_by_rank(alloc, moments)
 }
 
 /// Returns a trade with its settlement, its cash row and its statuses, which are sorted, the oldest
@@ -110,14 +110,14 @@ pub fn sort_trades_oldest_first(
     ensures order { IfOk result (λ ordered. map abstract_trade_row ordered.items ≡ trade_rows_oldest_first (map abstract_trade_row trades.items)) }
     ensures fault { OnErr result (result ≡ Err Memory) }
 {
-    sort_by_rank(alloc, trades)
+    sort_rows_by_rank(alloc, trades)
 }
 
 /// Returns the view of trades selected by their ids (Trade-Lookup). The caller passes them with
 /// their settlement, cash row and history, the oldest first. Does not allocate.
 pub fn lookup_ids(trades: Vec<LookedUp>) -> View
-    ensures shown { records_of_view result ≡ flat_map records_of_looked_up_trade trades.items }
-    ensures carried { result ≡ views.Lookup trades }
+    ensures records { records_of_view result ≡ flat_map records_of_looked_up_trade trades.items }
+    ensures value { result ≡ views.Lookup trades }
     ensures view { (t : Tables) (ids : List ℕ)
         → map records_of_looked_up_trade trades.items ≡ map (trade_lookup_records t) (take 20 (trade_rows_oldest_first (filter (λ row. contains_number row.id ids) t.trades)))
         → records_of_view result ≡ trade_lookup_view t (λ row. contains_number row.id ids) }
@@ -128,8 +128,8 @@ pub fn lookup_ids(trades: Vec<LookedUp>) -> View
 /// Returns the view of an account's trades between two stamps (Trade-Lookup). The caller passes the
 /// first 20 with their settlement, cash row and history, the oldest first. Does not allocate.
 pub fn lookup_account(trades: Vec<LookedUp>) -> View
-    ensures shown { records_of_view result ≡ flat_map records_of_looked_up_trade trades.items }
-    ensures carried { result ≡ views.Lookup trades }
+    ensures records { records_of_view result ≡ flat_map records_of_looked_up_trade trades.items }
+    ensures value { result ≡ views.Lookup trades }
     ensures view { (t : Tables) (account first last : ℕ)
         → map records_of_looked_up_trade trades.items ≡ map (trade_lookup_records t) (take 20 (trade_rows_oldest_first (filter (λ row. (row.account == account) && row_stamp_is_between first last row) t.trades)))
         → records_of_view result ≡ trade_lookup_view t (λ row. (row.account == account) && row_stamp_is_between first last row) }
@@ -140,8 +140,8 @@ pub fn lookup_account(trades: Vec<LookedUp>) -> View
 /// Returns the view of a symbol's trades between two stamps (Trade-Lookup). The caller passes the
 /// first 20 with their settlement, cash row and history, the oldest first. Does not allocate.
 pub fn lookup_symbol(trades: Vec<LookedUp>) -> View
-    ensures shown { records_of_view result ≡ flat_map records_of_looked_up_trade trades.items }
-    ensures carried { result ≡ views.Lookup trades }
+    ensures records { records_of_view result ≡ flat_map records_of_looked_up_trade trades.items }
+    ensures value { result ≡ views.Lookup trades }
     ensures view { (t : Tables) (symbol : List ℕ) (first last : ℕ)
         → map records_of_looked_up_trade trades.items ≡ map (trade_lookup_records t) (take 20 (trade_rows_oldest_first (filter (λ row. bytes_eq row.symbol symbol && row_stamp_is_between first last row) t.trades)))
         → records_of_view result ≡ trade_lookup_view t (λ row. bytes_eq row.symbol symbol && row_stamp_is_between first last row) }

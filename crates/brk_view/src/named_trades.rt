@@ -5,7 +5,7 @@ ghost use Rattle.brk_money.specs.declared.fault.Fault.TheVariants.{Memory};
 ghost use Rattle.brk_ref.specs.Fields.{ParsesAs, texts_of_fields};
 
 use brk_money::{Id, Planned, Refusal};
-use brk_orders::{TradeIds, check_ids};
+use brk_orders::{TradeIds, parse_trade_ids};
 use std::alloc::Global;
 
 /// The 1 to 20 different ids of trades that a query names.
@@ -31,11 +31,11 @@ impl NamedTrades {
 
 /// Parses 1 to 20 different ids of trades, or returns the refusal of malformed fields. Fails with
 /// `Memory` only.
-pub fn check_named(alloc: Global, fields: &[&[u8]]) -> Planned<NamedTrades>
+pub fn parse_named_trades(alloc: Global, fields: &[&[u8]]) -> Planned<NamedTrades>
     ensures read { IfOk result (λ read. ParsesAs (λ named. named.trades) read (read_distinct_ids (texts_of_fields fields.now))) }
     ensures fault { OnErr result (result ≡ Err Memory) }
 {
-    match check_ids(alloc, fields)? {
+    match parse_trade_ids(alloc, fields)? {
         Ok(trades) => Ok(Ok(NamedTrades { trades })),
         Err(refusal) => Ok(Err(refusal)),
     }

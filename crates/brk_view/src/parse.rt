@@ -7,18 +7,18 @@ ghost use Rattle.brk_money.specs.declared.fault.Fault.TheVariants.{Memory};
 ghost use Rattle.brk_ref.specs.Fields.{ParsesAs, texts_of_fields};
 ghost use Rattle.brk_view.specs.Queries.{abstract_query};
 
-use crate::parse_accounts::{parse_position, parse_position_of_tax_id, parse_recent, parse_status};
+use crate::parse_accounts::{parse_position_query, parse_position_of_tax_id_query, parse_recent_trades_query, parse_account_status_query};
 use crate::parse_lookups::{
-    parse_account_trades, parse_lots, parse_symbol_trades, parse_trades, parse_volume,
+    parse_account_trades_query, parse_lots_query, parse_symbol_trades_query, parse_trades_query, parse_volume_query,
 };
 use crate::query::Query;
 use brk_money::{Planned, Refusal};
-use brk_orders::check_order;
+use brk_orders::parse_trade_order;
 use std::alloc::Global;
 
 // Parses the query of the submitted trades, which has no argument. Refuses any argument with
 // `BadText`.
-fn parse_submitted(arguments: &[&[u8]]) -> Result<Query, Refusal>
+fn parse_submitted_trades_query(arguments: &[&[u8]]) -> Result<Query, Refusal>
     ensures { ParsesAs abstract_query result (read_no_arguments SubmittedTrades (texts_of_fields arguments.now)) }
 {
     let [] = arguments else {
@@ -29,11 +29,11 @@ fn parse_submitted(arguments: &[&[u8]]) -> Result<Query, Refusal>
 
 // Parses the query of an order's estimate, whose arguments are the fields of the order, or returns
 // the refusal of these. Fails with `Memory` only.
-fn parse_estimate(alloc: Global, arguments: &[&[u8]]) -> Planned<Query>
+fn parse_estimate_query(alloc: Global, arguments: &[&[u8]]) -> Planned<Query>
     ensures read { IfOk result (λ read. ParsesAs abstract_query read (read_and_wrap EstimateOf read_order (texts_of_fields arguments.now))) }
     ensures fault { OnErr result (result ≡ Err Memory) }
 {
-    match check_order(alloc, arguments)? {
+    match parse_trade_order(alloc, arguments)? {
         Ok(order) => Ok(Ok(Query::Estimate(order))),
         Err(refusal) => Ok(Err(refusal)),
     }
@@ -46,11 +46,11 @@ fn parse_lookup_or_volume_query(alloc: Global, view: &str, arguments: &[&[u8]]) 
     ensures fault { OnErr result (result ≡ Err Memory) }
 {
     match view {
-        "trades" => parse_trades(alloc, arguments),
-        "accounttrades" => Ok(parse_account_trades(arguments)),
-        "symboltrades" => parse_symbol_trades(alloc, arguments),
-        "lots" => Ok(parse_lots(arguments)),
-        "volume" => parse_volume(alloc, arguments),
+        "trades" => parse_trades_query(alloc, arguments),
+        "accounttrades" => Ok(parse_account_trades_query(arguments)),
+        "symboltrades" => parse_symbol_trades_query(alloc, arguments),
+        "lots" => Ok(parse_lots_query(arguments)),
+        "volume" => parse_volume_query(alloc, arguments),
         _ => Ok(Err(Refusal::BadText)),
     }
 }
@@ -62,10 +62,10 @@ fn parse_account_or_later_query(alloc: Global, view: &str, arguments: &[&[u8]]) 
     ensures fault { OnErr result (result ≡ Err Memory) }
 {
     match view {
-        "customer" => Ok(parse_position(arguments)),
-        "taxid" => parse_position_of_tax_id(alloc, arguments),
-        "recent" => Ok(parse_recent(arguments)),
-        "status" => Ok(parse_status(arguments)),
+        "customer" => Ok(parse_position_query(arguments)),
+        "taxid" => parse_position_of_tax_id_query(alloc, arguments),
+        "recent" => Ok(parse_recent_trades_query(arguments)),
+        "status" => Ok(parse_account_status_query(arguments)),
         _ => parse_lookup_or_volume_query(alloc, view, arguments),
     }
 }
@@ -86,8 +86,8 @@ pub fn parse_query(alloc: Global, view: &str, arguments: &[&[u8]]) -> Planned<Qu
     ensures fault { OnErr result (result ≡ Err Memory) }
 {
     match view {
-        "submitted" => Ok(parse_submitted(arguments)),
-        "estimate" => parse_estimate(alloc, arguments),
+        "submitted" => Ok(parse_submitted_trades_query(arguments)),
+        "estimate" => parse_estimate_query(alloc, arguments),
         _ => parse_account_or_later_query(alloc, view, arguments),
     }
 }

@@ -13,7 +13,7 @@ use brk_ref::{TaxId, parse_id};
 use std::alloc::Global;
 
 // Parses the query of the accounts of a customer. Refuses malformed arguments with `BadText`.
-pub(crate) fn parse_position(arguments: &[&[u8]]) -> Result<Query, Refusal>
+pub(crate) fn parse_position_query(arguments: &[&[u8]]) -> Result<Query, Refusal>
     ensures { ParsesAs abstract_query result (read_single_argument (read_and_wrap PositionOf read_id) (texts_of_fields arguments.now)) }
 {
     let [customer] = arguments else {
@@ -27,7 +27,7 @@ pub(crate) fn parse_position(arguments: &[&[u8]]) -> Result<Query, Refusal>
 
 // Parses the query of the accounts of the customer with a tax id. Refuses malformed arguments with
 // `BadText`. Fails with `Memory` only.
-pub(crate) fn parse_position_of_tax_id(alloc: Global, arguments: &[&[u8]]) -> Planned<Query>
+pub(crate) fn parse_position_of_tax_id_query(alloc: Global, arguments: &[&[u8]]) -> Planned<Query>
     ensures read { IfOk result (λ read. ParsesAs abstract_query read (read_single_argument (read_and_wrap PositionOfTaxId read_tax_id) (texts_of_fields arguments.now))) }
     ensures fault { OnErr result (result ≡ Err Memory) }
 {
@@ -42,7 +42,7 @@ pub(crate) fn parse_position_of_tax_id(alloc: Global, arguments: &[&[u8]]) -> Pl
 
 // Parses the query of an account's last trades and their statuses. Refuses malformed arguments with
 // `BadText`.
-pub(crate) fn parse_recent(arguments: &[&[u8]]) -> Result<Query, Refusal>
+pub(crate) fn parse_recent_trades_query(arguments: &[&[u8]]) -> Result<Query, Refusal>
     ensures { ParsesAs abstract_query result (read_single_argument (read_and_wrap RecentOf read_id) (texts_of_fields arguments.now)) }
 {
     let [account] = arguments else {
@@ -56,7 +56,7 @@ pub(crate) fn parse_recent(arguments: &[&[u8]]) -> Result<Query, Refusal>
 
 // Parses the query of an account's parties and its last trades. Refuses malformed arguments with
 // `BadText`.
-pub(crate) fn parse_status(arguments: &[&[u8]]) -> Result<Query, Refusal>
+pub(crate) fn parse_account_status_query(arguments: &[&[u8]]) -> Result<Query, Refusal>
     ensures { ParsesAs abstract_query result (read_single_argument (read_and_wrap StatusOf read_id) (texts_of_fields arguments.now)) }
 {
     let [account] = arguments else {

@@ -7,8 +7,8 @@ ghost use Rattle.brk_money.specs.declared.fault.Fault.TheVariants.{Memory};
 ghost use Rattle.brk_ref.specs.Fields.{ParsesAs, texts_of_fields};
 ghost use Rattle.brk_view.specs.Queries.{abstract_query};
 
-use crate::broker_names::check_names;
-use crate::named_trades::check_named;
+use crate::broker_names::parse_broker_names;
+use crate::named_trades::parse_named_trades;
 use crate::query::Query;
 use brk_money::{Planned, Refusal};
 use brk_orders::{Span, parse_stamp};
@@ -17,11 +17,11 @@ use std::alloc::Global;
 
 // Parses the query of trades by their ids, or returns the refusal of malformed ids. Fails with
 // `Memory` only.
-pub(crate) fn parse_trades(alloc: Global, arguments: &[&[u8]]) -> Planned<Query>
+pub(crate) fn parse_trades_query(alloc: Global, arguments: &[&[u8]]) -> Planned<Query>
     ensures read { IfOk result (λ read. ParsesAs abstract_query read (read_and_wrap TradesWith read_distinct_ids (texts_of_fields arguments.now))) }
     ensures fault { OnErr result (result ≡ Err Memory) }
 {
-    match check_named(alloc, arguments)? {
+    match parse_named_trades(alloc, arguments)? {
         Ok(trades) => Ok(Ok(Query::Trades(trades))),
         Err(refusal) => Ok(Err(refusal)),
     }
@@ -29,7 +29,7 @@ pub(crate) fn parse_trades(alloc: Global, arguments: &[&[u8]]) -> Planned<Query>
 
 // Parses the query of an account's trades between two stamps. Refuses malformed arguments with
 // `BadText`.
-pub(crate) fn parse_account_trades(arguments: &[&[u8]]) -> Result<Query, Refusal>
+pub(crate) fn parse_account_trades_query(arguments: &[&[u8]]) -> Result<Query, Refusal>
     ensures { ParsesAs abstract_query result (read_value_and_stamps read_id (λ account first last. TradesOfAccount account first last) (texts_of_fields arguments.now)) }
 {
     let [account, first, last] = arguments else {
@@ -50,7 +50,7 @@ pub(crate) fn parse_account_trades(arguments: &[&[u8]]) -> Result<Query, Refusal
 
 // Parses the query of a symbol's trades between two stamps. Refuses malformed arguments with
 // `BadText`. Fails with `Memory` only.
-pub(crate) fn parse_symbol_trades(alloc: Global, arguments: &[&[u8]]) -> Planned<Query>
+pub(crate) fn parse_symbol_trades_query(alloc: Global, arguments: &[&[u8]]) -> Planned<Query>
     ensures read { IfOk result (λ read. ParsesAs abstract_query read (read_value_and_stamps read_symbol (λ symbol first last. TradesOfSymbol symbol first last) (texts_of_fields arguments.now))) }
     ensures fault { OnErr result (result ≡ Err Memory) }
 {
@@ -72,7 +72,7 @@ pub(crate) fn parse_symbol_trades(alloc: Global, arguments: &[&[u8]]) -> Planned
 
 // Parses the query of the lots that an account's first trade at or after a stamp touched. Refuses
 // malformed arguments with `BadText`.
-pub(crate) fn parse_lots(arguments: &[&[u8]]) -> Result<Query, Refusal>
+pub(crate) fn parse_lots_query(arguments: &[&[u8]]) -> Result<Query, Refusal>
     ensures { ParsesAs abstract_query result (read_lots_query (texts_of_fields arguments.now)) }
 {
     let [account, first] = arguments else {
@@ -90,7 +90,7 @@ pub(crate) fn parse_lots(arguments: &[&[u8]]) -> Result<Query, Refusal>
 // Parses the query of the brokers' volumes in a sector, or returns the refusal of malformed
 // arguments. All fields are checked before the number of names. Fails with `Memory` only.
 #[tactic(auto, using(brk_ref::proofs::Applied::text_left, brk_ref::proofs::Applied::text_right))]
-pub(crate) fn parse_volume(alloc: Global, arguments: &[&[u8]]) -> Planned<Query>
+pub(crate) fn parse_volume_query(alloc: Global, arguments: &[&[u8]]) -> Planned<Query>
     ensures read { IfOk result (λ read. ParsesAs abstract_query read (read_volume_query (texts_of_fields arguments.now))) }
     ensures fault { OnErr result (result ≡ Err Memory) }
 {
@@ -100,7 +100,7 @@ pub(crate) fn parse_volume(alloc: Global, arguments: &[&[u8]]) -> Planned<Query>
     let Some(sector) = Name::parse(alloc, sector)? else {
         return Ok(Err(Refusal::BadText));
     };
-    match check_names(alloc, names)? {
+    match parse_broker_names(alloc, names)? {
         Ok(names) => Ok(Ok(Query::Volume { sector, names })),
         Err(refusal) => Ok(Err(refusal)),
     }

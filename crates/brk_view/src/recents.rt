@@ -13,7 +13,7 @@ ghost use Rattle.brk_view.specs.Recent.{is_newer_status, recent_status_record, r
 ghost use Rattle.brk_view.specs.Views.{records_of_view};
 ghost use Rattle.brk_view.specs.declared.view.View.TheVariants as views;
 
-use crate::ordering::{Ranked, sort_by_rank};
+use crate::ordering::{Ranked, sort_rows_by_rank};
 use crate::view::View;
 use brk_changes::{HistoryRow, TradeRow};
 use brk_money::Fault;
@@ -45,8 +45,8 @@ impl Ranked for HistoryRow {
 /// the most recent first, and all rows of their history, which are sorted by stamp, then by trade,
 /// descending. Fails with `Memory` only.
 pub fn recent(alloc: Global, trades: Vec<TradeRow>, history: Vec<HistoryRow>) -> Result<View, Fault>
-    ensures shown { IfOk result (λ view. records_of_view view ≡ map recent_trade_record (map abstract_trade_row trades.items) ++ map recent_status_record (sort_by is_newer_status history.items)) }
-    ensures carried { IfOk result (λ view. (sorted : Vec HistoryRow)
+    ensures records { IfOk result (λ view. records_of_view view ≡ map recent_trade_record (map abstract_trade_row trades.items) ++ map recent_status_record (sort_by is_newer_status history.items)) }
+    ensures value { IfOk result (λ view. (sorted : Vec HistoryRow)
         × (view ≡ views.Recent (record { trades = trades; history = sorted })) × (sorted.items ≡ sort_by is_newer_status history.items)) }
     // If the trades are the last ten of an account, the view equals the specified view.
     ensures view { IfOk result (λ view. (t : Tables) (account : ℕ)
@@ -55,6 +55,6 @@ pub fn recent(alloc: Global, trades: Vec<TradeRow>, history: Vec<HistoryRow>) ->
         → records_of_view view ≡ recent_trades_view t account) }
     ensures fault { OnErr result (result ≡ Err Memory) }
 {
-    let history = sort_by_rank(alloc, history)?;
+    let history = sort_rows_by_rank(alloc, history)?;
     Ok(View::Recent(Activity { trades, history }))
 }

@@ -7,7 +7,7 @@ ghost use Rattle.brk_model.specs.StatusView.{submitted_trades_view};
 ghost use Rattle.brk_model.specs.Tables.{Tables};
 ghost use Rattle.brk_money.specs.declared.fault.Fault.TheVariants.{Memory};
 ghost use Rattle.brk_changes.specs.Rows.{abstract_trade_row};
-ghost use Rattle.brk_view.specs.Views.{records_of_view, has_submitted_status, submitted_row_record, submitted_trade_record};
+ghost use Rattle.brk_view.specs.Views.{records_of_view, has_submitted_status, record_of_submitted_row, submitted_trade_record};
 ghost use Rattle.brk_view.specs.declared.view.SubmittedTrade.{SubmittedTrade};
 ghost use Rattle.brk_view.specs.declared.view.View.TheVariants as views;
 
@@ -18,7 +18,7 @@ use std::alloc::Global;
 
 // Returns the values of a submitted trade that a view shows. Fails with `Memory` only.
 fn submitted_trade(row: &TradeRow) -> Result<SubmittedTrade, Fault>
-    ensures shown { IfOk result (λ trade. submitted_trade_record trade ≡ submitted_row_record (abstract_trade_row row.now)) }
+    ensures shown { IfOk result (λ trade. submitted_trade_record trade ≡ record_of_submitted_row (abstract_trade_row row.now)) }
     ensures fault { OnErr result (result ≡ Err Memory) }
 {
     let symbol = row.symbol.clone()?;
@@ -34,9 +34,9 @@ fn submitted_trade(row: &TradeRow) -> Result<SubmittedTrade, Fault>
 /// Returns the view of the submitted trades (Trade-Order). It shows every row, in the given order,
 /// so the caller passes exactly the submitted rows, sorted by id. Fails with `Memory` only.
 pub fn submitted(alloc: Global, rows: &[TradeRow]) -> Result<View, Fault>
-    ensures shown { IfOk result (λ view. records_of_view view ≡ map submitted_row_record (map abstract_trade_row rows.now)) }
-    ensures carried { IfOk result (λ view. (trades : Vec SubmittedTrade)
-        × (view ≡ views.Submitted trades) × (map submitted_trade_record trades.items ≡ map submitted_row_record (map abstract_trade_row rows.now))) }
+    ensures records { IfOk result (λ view. records_of_view view ≡ map record_of_submitted_row (map abstract_trade_row rows.now)) }
+    ensures value { IfOk result (λ view. (trades : Vec SubmittedTrade)
+        × (view ≡ views.Submitted trades) × (map submitted_trade_record trades.items ≡ map record_of_submitted_row (map abstract_trade_row rows.now))) }
     // If the rows are the submitted rows of a table, as a store reads them, the view equals the
     // specified view.
     ensures view { IfOk result (λ view. (t : Tables) → map abstract_trade_row rows.now ≡ filter has_submitted_status (tables_sorted_by_key t).trades → records_of_view view ≡ submitted_trades_view t) }

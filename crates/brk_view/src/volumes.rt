@@ -14,7 +14,7 @@ ghost use Rattle.brk_view.specs.Volume.{has_name_and_pending_request, precedes_b
 ghost use Rattle.brk_view.specs.declared.view.View.TheVariants as views;
 ghost use Rattle.brk_view.specs.declared.volumes.BrokerVolume.{BrokerVolume};
 
-use crate::ordering::{Ranked, sort_by_rank};
+use crate::ordering::{Ranked, sort_rows_by_rank};
 use crate::view::View;
 use brk_changes::RequestRow;
 use brk_money::{Fault, Id, Wide};
@@ -34,7 +34,7 @@ pub struct BrokerVolume {
 // Returns true if the broker `one` is before `other` when they are sorted by name, then by id,
 // ascending.
 #[tactic(auto, using(crate::proofs::Names::names_compared))]
-fn is_named_before(one: &BrokerVolume, other: &BrokerVolume) -> bool
+fn broker_precedes_by_name(one: &BrokerVolume, other: &BrokerVolume) -> bool
     ensures { result ≡ precedes_by_name one.now other.now }
 {
     match one.name.as_str().cmp(other.name.as_str()) {
@@ -51,7 +51,7 @@ impl Ranked for BrokerVolume {
     /// before it when they are sorted by name, then by id.
     fn ranks_before(&self, other: &BrokerVolume) -> bool {
         if self.volume.get() == other.volume.get() {
-            return is_named_before(self, other);
+            return broker_precedes_by_name(self, other);
         }
         self.volume.get() > other.volume.get()
     }
@@ -66,7 +66,7 @@ fn request_bid_value(request: &RequestRow) -> u128
 }
 
 /// Returns the sum of the values of requests at their bid prices, in cents.
-pub fn total_value_of_requests(requests: &[RequestRow]) -> Wide
+pub fn total_bid_value_of_requests(requests: &[RequestRow]) -> Wide
     ensures { result ≡ pos (sum_by request_value_at_bid (map abstract_request_row requests.now)) }
 {
     let mut cents: u128 = 0;
@@ -80,8 +80,8 @@ pub fn total_value_of_requests(requests: &[RequestRow]) -> Wide
 /// descending, then by name and id, ascending. The caller passes the brokers with one of the names
 /// and a pending request in the sector. Fails with `Memory` only.
 pub fn broker_volume(alloc: Global, brokers: Vec<BrokerVolume>) -> Result<View, Fault>
-    ensures shown { IfOk result (λ view. records_of_view view ≡ map broker_volume_record (sort_by precedes_by_volume brokers.items)) }
-    ensures carried { IfOk result (λ view. (sorted : Vec BrokerVolume)
+    ensures records { IfOk result (λ view. records_of_view view ≡ map broker_volume_record (sort_by precedes_by_volume brokers.items)) }
+    ensures value { IfOk result (λ view. (sorted : Vec BrokerVolume)
         × (view ≡ views.Volume sorted) × (sorted.items ≡ sort_by precedes_by_volume brokers.items)) }
     // If the brokers are those with these names and a request, in any sequence, the view equals the
     // specified view.
@@ -91,6 +91,6 @@ pub fn broker_volume(alloc: Global, brokers: Vec<BrokerVolume>) -> Result<View, 
         → records_of_view view ≡ broker_volume_view t sector names) }
     ensures fault { OnErr result (result ≡ Err Memory) }
 {
-    let ordered = sort_by_rank(alloc, brokers)?;
+    let ordered = sort_rows_by_rank(alloc, brokers)?;
     Ok(View::Volume(ordered))
 }

@@ -13,7 +13,7 @@ ghost use Rattle.brk_view.specs.Worths.{precedes_by_market_value, worth_of_accou
 ghost use Rattle.brk_view.specs.declared.view.View.TheVariants as views;
 ghost use Rattle.brk_view.specs.declared.worths.AccountWorth.{AccountWorth};
 
-use crate::ordering::{Ranked, sort_by_rank};
+use crate::ordering::{Ranked, sort_rows_by_rank};
 use crate::view::View;
 use brk_money::{Cents, Fault, Id, Wide};
 use std::alloc::Global;
@@ -44,8 +44,8 @@ impl Ranked for AccountWorth {
 /// Returns the view of a customer's accounts (Customer-Position), sorted by market value, then by
 /// id, ascending. Fails with `Memory` only.
 pub fn position(alloc: Global, accounts: Vec<AccountWorth>) -> Result<View, Fault>
-    ensures shown { IfOk result (λ view. records_of_view view ≡ map account_worth_record (sort_by precedes_by_market_value accounts.items)) }
-    ensures carried { IfOk result (λ view. (sorted : Vec AccountWorth)
+    ensures records { IfOk result (λ view. records_of_view view ≡ map account_worth_record (sort_by precedes_by_market_value accounts.items)) }
+    ensures value { IfOk result (λ view. (sorted : Vec AccountWorth)
         × (view ≡ views.Position sorted) × (sorted.items ≡ sort_by precedes_by_market_value accounts.items)) }
     // If the accounts are those of the customers that pass a test, the view equals the specified
     // view.
@@ -54,6 +54,6 @@ pub fn position(alloc: Global, accounts: Vec<AccountWorth>) -> Result<View, Faul
         → records_of_view view ≡ customer_position_view t test) }
     ensures fault { OnErr result (result ≡ Err Memory) }
 {
-    let ordered = sort_by_rank(alloc, accounts)?;
+    let ordered = sort_rows_by_rank(alloc, accounts)?;
     Ok(View::Position(ordered))
 }

@@ -30,7 +30,7 @@ fn account_worth_texts(alloc: Global, account: &AccountWorth) -> Result<Vec<Stri
 }
 
 // Returns a record for each account. Fails with `Memory` only.
-pub(crate) fn worth_records(
+pub(crate) fn account_worth_records(
     alloc: Global,
     accounts: &[AccountWorth],
 ) -> Result<Vec<Vec<String>>, Fault>
@@ -102,7 +102,7 @@ fn append_recent_status_records(
 
 // Returns the records of the last trades of an account, then those of their statuses. Fails with
 // `Memory` only.
-pub(crate) fn recent_records(alloc: Global, recent: &Activity) -> Result<Vec<Vec<String>>, Fault>
+pub(crate) fn activity_records(alloc: Global, recent: &Activity) -> Result<Vec<Vec<String>>, Fault>
     ensures records { IfOk result (λ records. texts_of_records records ≡ recents.records_of_activity recent.now) }
     ensures fault { OnErr result (result ≡ Err Memory) }
 {
@@ -184,7 +184,7 @@ fn append_trade_status_records(
 
 // Returns the record of the names of an account's parties, followed by those of its trades. Fails
 // with `Memory` only.
-pub(crate) fn status_records(
+pub(crate) fn account_status_records(
     alloc: Global,
     account: &AccountStatus,
 ) -> Result<Vec<Vec<String>>, Fault>

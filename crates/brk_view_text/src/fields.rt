@@ -9,11 +9,11 @@ ghost use Rattle.brk_money.specs.declared.fault.Fault.TheVariants.{Memory};
 ghost use Rattle.brk_view.specs.Views.{estimate_record, records_of_view, texts_of_record, texts_of_records, submitted_trade_record};
 ghost use Rattle.brk_view.specs.declared.view.View.TheVariants as views;
 
-use crate::account_fields::{recent_records, status_records, worth_records};
-use crate::lookup_fields::lookup_records;
-use crate::lot_fields::lot_records;
+use crate::account_fields::{activity_records, account_status_records, account_worth_records};
+use crate::lookup_fields::looked_up_trade_records;
+use crate::lot_fields::records_of_touched_lots;
 use crate::texts::{amount_text, number_text};
-use crate::volume_fields::volume_records;
+use crate::volume_fields::broker_volume_records;
 use brk_money::{Fault, Wide};
 use brk_plans::Estimate;
 use brk_view::view::{SubmittedTrade, View};
@@ -92,12 +92,12 @@ pub fn view_fields(alloc: Global, view: &View) -> Result<Vec<Vec<String>>, Fault
     ensures fault { OnErr result (result ≡ Err Memory) }
 {
     match view {
-        View::Position(accounts) => worth_records(alloc, accounts),
-        View::Recent(recent) => recent_records(alloc, recent),
-        View::Status(account) => status_records(alloc, account),
-        View::Lookup(trades) => lookup_records(alloc, trades),
-        View::Lots(lots) => lot_records(alloc, lots),
-        View::Volume(brokers) => volume_records(alloc, brokers),
+        View::Position(accounts) => account_worth_records(alloc, accounts),
+        View::Recent(recent) => activity_records(alloc, recent),
+        View::Status(account) => account_status_records(alloc, account),
+        View::Lookup(trades) => looked_up_trade_records(alloc, trades),
+        View::Lots(lots) => records_of_touched_lots(alloc, lots),
+        View::Volume(brokers) => broker_volume_records(alloc, brokers),
         View::Submitted(trades) => submitted_trade_records(alloc, trades),
         View::Estimate(estimate) => estimate_records(alloc, estimate),
     }

@@ -206,7 +206,7 @@ fn append_looked_up_records(
 
 // Returns the records of trades, each with its settlement, cash row and history. Fails with
 // `Memory` only.
-pub(crate) fn lookup_records(alloc: Global, trades: &[LookedUp]) -> Result<Vec<Vec<String>>, Fault>
+pub(crate) fn looked_up_trade_records(alloc: Global, trades: &[LookedUp]) -> Result<Vec<Vec<String>>, Fault>
     ensures records { IfOk result (λ records. texts_of_records records ≡ flat_map records_of_looked_up_trade trades.now) }
     ensures fault { OnErr result (result ≡ Err Memory) }
 {

@@ -13,7 +13,7 @@ use std::alloc::Global;
 
 // Returns the text of a number of shares, with a minus sign if they were sold short. Fails with
 // `Memory` only.
-fn shares_text(alloc: Global, shares: i64) -> Result<String, Fault>
+fn signed_shares_text(alloc: Global, shares: i64) -> Result<String, Fault>
     ensures text { IfOk result (λ text. string_bytes text ≡ signed_decimal shares) }
     ensures fault { OnErr result (result ≡ Err Memory) }
 {
@@ -29,8 +29,8 @@ fn lot_change_texts(alloc: Global, touch: LotTouch) -> Result<Vec<String>, Fault
     let mut texts = Vec::new(alloc);
     texts.push(number_text(alloc, change.lot.get())?)?;
     texts.push(number_text(alloc, change.trade.get())?)?;
-    texts.push(shares_text(alloc, change.before)?)?;
-    texts.push(shares_text(alloc, change.after)?)?;
+    texts.push(signed_shares_text(alloc, change.before)?)?;
+    texts.push(signed_shares_text(alloc, change.after)?)?;
     Ok(texts)
 }
 
@@ -63,7 +63,7 @@ fn touching_trade_texts(alloc: Global, lots: &TouchedLots) -> Result<Vec<String>
 
 // Returns the record of the trade that touched the lots, followed by those of the lot changes, or
 // no record if there is no trade. Fails with `Memory` only.
-pub(crate) fn lot_records(
+pub(crate) fn records_of_touched_lots(
     alloc: Global,
     lots: &Option<TouchedLots>,
 ) -> Result<Vec<Vec<String>>, Fault>

@@ -23,7 +23,7 @@ fn broker_volume_texts(alloc: Global, broker: &BrokerVolume) -> Result<Vec<Strin
 }
 
 // Returns a record for each broker. Fails with `Memory` only.
-pub(crate) fn volume_records(
+pub(crate) fn broker_volume_records(
     alloc: Global,
     brokers: &[BrokerVolume],
 ) -> Result<Vec<Vec<String>>, Fault>

@@ -18,7 +18,7 @@ use Rattle.brk_audit_theorems.proofs.Members.{All-flat_map}
 use Rattle.brk_audit_theorems.proofs.Parts.{key_parts}
 use Rattle.brk_invariant_theorems.specs.Sound.{AuditInvariant}
 use Rattle.brk_invariant_theorems.proofs.FormKeys.{All-history, keys_of}
-use Rattle.brk_book_theorems.specs.Books.{BooksInvariant, HasDistinctStatusStamps}
+use Rattle.brk_book_theorems.specs.Books.{BooksInvariant, HasDistinctLastStatusStamps}
 use Rattle.brk_book_theorems.proofs.LotReading.{IdsApart, numbered_rise, rise_apart}
 use Rattle.brk_book_theorems.proofs.Order.{Splits}
 use Rattle.brk_book_theorems.proofs.Reading.{find-map}
@@ -76,7 +76,7 @@ turned : (m n : ℕ) → (n == m) ≡ false → (m == n) ≡ false
 turned m n h = grind (arith, nat_tests)
 
 -- two of them came to their last status at two moments
-moments_differ : (ts : List Trade) (m n : ℕ) → HasDistinctStatusStamps ts → IsAmong ts m → IsAmong ts n → (m == n) ≡ false → (moment_in ts m == moment_in ts n) ≡ false
+moments_differ : (ts : List Trade) (m n : ℕ) → HasDistinctLastStatusStamps ts → IsAmong ts m → IsAmong ts n → (m == n) ≡ false → (moment_in ts m == moment_in ts n) ≡ false
 moments_differ [] m n d e f h = absurd (cc)
 moments_differ (t ∷ ts) m n d e f h = by_tests (moments_differ ts m n d.1) (t.id == m) (t.id == n) refl refl e f
   where

@@ -7,7 +7,7 @@ pub mod views;
 pub mod volumes;
 
 pub use lookups::{
-    changes_read_by_lot_are_complete, rows_with_a_key_are_unique,
+    lot_changes_read_by_lot_are_complete, rows_with_a_key_are_unique,
     sorting_tables_preserves_lookup_view, sorting_tables_preserves_lots_view,
     trades_read_by_ids_are_complete,
 };

@@ -54,7 +54,7 @@ pub fn trades_read_by_ids_are_complete()
 /// order of the lots, are all rows of these lots in the order of the table, if the base satisfies
 /// the books invariant and the audit invariant.
 #[tactic(auto, using(crate::proofs::TouchRows::touched_by_lot))]
-pub fn changes_read_by_lot_are_complete()
+pub fn lot_changes_read_by_lot_are_complete()
     ensures { (base : Base) (trade : ℕ) → BooksInvariant base → AuditInvariant base
         → flat_map (λ lot. filter (λ r. r.lot == lot) (sheets base).holding_history) (map (λ r. r.lot) (filter (λ r. r.trade == trade) (sheets base).holding_history))
         ≡ filter (λ r. trade_touches_lot (sheets base) trade r.lot) (sheets base).holding_history }

@@ -24,12 +24,12 @@ fn expect_batch_read_fault(
     let lines = first_lines_of_batch(alloc, settled)?;
     let mut told = Vec::new(alloc);
     let mut desk = desk_with_reference_data(alloc)?;
-    let reader = Failing::failing_after(batch.as_bytes(), len, kind);
+    let reader = Failing::reader_failing_once(batch.as_bytes(), len, kind);
     let ended = run_batch(
         alloc,
         reader,
         &mut told,
-        &mut Still::at_first_moment(),
+        &mut Still::at_first_timestamp(),
         &mut desk,
     );
     expect_completed_batch(alloc, desk, name.as_str(), batch, settled)?;

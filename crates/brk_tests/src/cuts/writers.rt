@@ -28,7 +28,7 @@ fn expect_batch_write_fault(
         alloc,
         batch.as_bytes(),
         &mut writer,
-        &mut Still::at_first_moment(),
+        &mut Still::at_first_timestamp(),
         &mut desk,
     );
     expect_completed_batch(alloc, desk, name.as_str(), batch, settled)?;

@@ -32,7 +32,7 @@ fn expect_batch_in_files(
 
 // Runs these trades on a desk in files, and then again on the desk that is opened from these files.
 // Checks the lines of both runs.
-fn expect_stored_and_repeated(
+fn expect_trades_stored_and_repeated(
     alloc: Global,
     name: &str,
     rows: &[&str],
@@ -60,9 +60,9 @@ fn desks_in_files_can_be_reopened(rt: HostRuntime) -> Result<(), Fail> {
         ("a cover", 10),
         ("all is sold", 12),
     ] {
-        expect_stored_and_repeated(rt.alloc(), name, &ROWS[..count], &LINES[..count])?;
+        expect_trades_stored_and_repeated(rt.alloc(), name, &ROWS[..count], &LINES[..count])?;
     }
-    expect_stored_and_repeated(
+    expect_trades_stored_and_repeated(
         rt.alloc(),
         "a sale of the last",
         &LAST_FIRST_ROWS,

@@ -49,7 +49,7 @@ pub struct Held {
 
 impl Held {
     /// Returns empty files.
-    pub fn nothing(alloc: Global) -> Held {
+    pub fn empty_files(alloc: Global) -> Held {
         Held {
             log: Vec::new(alloc),
             db: Vec::new(alloc),
@@ -69,7 +69,7 @@ pub struct Seen {
 
 impl Seen {
     /// Returns the empty observation, before a batch is executed.
-    pub fn nothing(alloc: Global) -> Seen {
+    pub fn before_batch(alloc: Global) -> Seen {
         Seen {
             before: String::new(alloc),
             lines: Vec::new(alloc),
@@ -81,7 +81,7 @@ impl Seen {
 
 // Creates a desk in the database of a connection, or opens the desk that the database has, if it
 // passes its audit. Returns the connection if both fail.
-fn create_or_adopt<S: Alter + Drop>(
+fn create_or_adopt_desk<S: Alter + Drop>(
     alloc: Global,
     conn: Connection<S>,
 ) -> Result<Desk<S>, Connection<S>> {
@@ -108,7 +108,7 @@ pub fn open_desk_in_files(
     let Ok(conn) = Connection::open_files(alloc, files, options) else {
         return None;
     };
-    create_or_adopt(alloc, conn).ok()
+    create_or_adopt_desk(alloc, conn).ok()
 }
 
 /// Runs a batch on the desk of a connection, as far as possible, and records its observation in
@@ -122,13 +122,13 @@ pub fn run_batch_on_connection<S: Alter + Drop>(
     if let Ok(tables) = read_all_tables(alloc, &mut conn) {
         seen.before = tables;
     }
-    match create_or_adopt(alloc, conn) {
+    match create_or_adopt_desk(alloc, conn) {
         Ok(mut desk) => {
             drop(run_batch(
                 alloc,
                 batch,
                 &mut seen.lines,
-                &mut Still::at_first_moment(),
+                &mut Still::at_first_timestamp(),
                 &mut desk,
             ));
             seen.is_sound = desk.audit(alloc).is_ok();
@@ -187,7 +187,7 @@ pub fn failing_files_with_bytes(
 
 // Appends the bytes that a file has after the restart. Returns true if the file had failed, or
 // would fail at its next call.
-fn take_bytes_after_crash(
+fn append_bytes_after_crash(
     file: &mut Fuse<Memory>,
     loses: bool,
     bytes: &mut Vec<u8>,
@@ -207,9 +207,9 @@ fn files_after_crash(
     loses: bool,
 ) -> Result<(Held, bool), AllocError> {
     let Files { mut log, mut db } = files;
-    let mut left = Held::nothing(alloc);
-    let is_log = take_bytes_after_crash(&mut log, loses, &mut left.log)?;
-    let is_db = take_bytes_after_crash(&mut db, loses, &mut left.db)?;
+    let mut left = Held::empty_files(alloc);
+    let is_log = append_bytes_after_crash(&mut log, loses, &mut left.log)?;
+    let is_db = append_bytes_after_crash(&mut db, loses, &mut left.db)?;
     Ok((left, is_log || is_db))
 }
 
@@ -234,7 +234,7 @@ pub fn run_batch_until_crash(
         File::Database => (u64::MAX, stop.calls),
     };
     let files = failing_files_with_bytes(alloc, held, log_calls, db_calls)?;
-    let mut seen = Seen::nothing(alloc);
+    let mut seen = Seen::before_batch(alloc);
     let files = run_batch_in_files(alloc, files, batch, &mut seen);
     let (held, was_stopped) = files_after_crash(alloc, files, stop.loses)?;
     Ok(Sent {
@@ -246,7 +246,7 @@ pub fn run_batch_until_crash(
 
 /// Returns the files of a desk after the batch `SET`.
 pub fn files_with_reference_data(alloc: Global) -> Result<Held, Fail> {
-    let Sent { held, .. } = run_batch_until_crash(alloc, &Held::nothing(alloc), Stop::NEVER, SET)?;
+    let Sent { held, .. } = run_batch_until_crash(alloc, &Held::empty_files(alloc), Stop::NEVER, SET)?;
     Ok(held)
 }
 

@@ -5,7 +5,7 @@ use crate::files::machine::{
     Held, Sent, Stop, failing_files_with_bytes, open_desk_in_files, run_batch_until_crash,
 };
 use brk_money::{Fault, Id, parse_day};
-use brk_report::{ReportFault, statement};
+use brk_report::{ReportFault, write_statement};
 use sqlite::Options;
 use std::alloc::Global;
 use std::test::Fail;
@@ -59,11 +59,11 @@ fn write_statement_over_failing_disk(
     let Some(mut desk) = open_desk_in_files(alloc, files, options) else {
         return Ok(None);
     };
-    Ok(Some(statement(alloc, &mut desk, account, from, to, text)))
+    Ok(Some(write_statement(alloc, &mut desk, account, from, to, text)))
 }
 
 // Returns true if a text consists of whole first lines of the statement, without the last one.
-fn is_proper_prefix_of_lines(text: &[u8]) -> bool {
+fn is_proper_prefix_of_statement(text: &[u8]) -> bool {
     let is_whole = text.is_empty() || text.ends_with(b"\n");
     is_whole && text.len() < WANTED.len() && WANTED.starts_with(text)
 }
@@ -74,7 +74,7 @@ fn statements_over_a_failing_disk(rt: HostRuntime) -> Result<(), Fail> {
     let alloc = rt.alloc();
     let Sent { held, .. } = run_batch_until_crash(
         alloc,
-        &Held::nothing(alloc),
+        &Held::empty_files(alloc),
         Stop::NEVER,
         BATCH,
     )?;
@@ -93,7 +93,7 @@ fn statements_over_a_failing_disk(rt: HostRuntime) -> Result<(), Fail> {
                     matches!(&ended, ReportFault::Desk(Fault::Store)),
                     "after {calls} calls"
                 );
-                assert!(rt; is_proper_prefix_of_lines(&text), "after {calls} calls");
+                assert!(rt; is_proper_prefix_of_statement(&text), "after {calls} calls");
                 faults = faults.saturating_add(1);
                 parts = parts.saturating_add(u64::from(!text.is_empty()));
             }

@@ -70,7 +70,7 @@ fn fail_unless(is_so: bool, stop: Stop, what: &str) -> Result<(), Fail> {
 fn tables_after_rows(alloc: Global, rows: usize) -> Result<String, Fail> {
     let batch = format_batch(alloc, &ROWS[..rows.min(6)])?;
     let conn = desk_with_reference_data(alloc)?.into_store().into_conn();
-    let mut seen = Seen::nothing(alloc);
+    let mut seen = Seen::before_batch(alloc);
     drop(run_batch_on_connection(alloc, conn, batch.as_bytes(), &mut seen));
     let Seen { after, .. } = seen;
     if after.is_empty() {
@@ -87,12 +87,12 @@ fn has_lines_audit_and_tables(seen: &Seen, lines: &str, tables: &str) -> bool {
 
 // Creates a desk until a crash, and then runs the batch `SET` on the desk that is opened or
 // created. Returns two flags: its tables are these, and there was a crash.
-fn crash_creation_and_set_up(
+fn set_up_desk_after_creation_crash(
     alloc: Global,
     stop: Stop,
     tables: &str,
 ) -> Result<(bool, bool), Fail> {
-    let first = run_batch_until_crash(alloc, &Held::nothing(alloc), stop, NO_ROWS)?;
+    let first = run_batch_until_crash(alloc, &Held::empty_files(alloc), stop, NO_ROWS)?;
     let again = run_batch_until_crash(alloc, &first.held, Stop::NEVER, SET)?;
     Ok((
         has_lines_audit_and_tables(&again.seen, SET_LINES, tables),
@@ -103,7 +103,7 @@ fn crash_creation_and_set_up(
 // Creates a desk until a crash, and checks that it can then be set up. Returns true if there was a
 // crash.
 fn expect_creation_crash_recovered(alloc: Global, stop: Stop, tables: &str) -> Result<bool, Fail> {
-    let (is_set, was_stopped) = crash_creation_and_set_up(alloc, stop, tables)?;
+    let (is_set, was_stopped) = set_up_desk_after_creation_crash(alloc, stop, tables)?;
     fail_unless(is_set, stop, "it is not set up")?;
     Ok(was_stopped)
 }
@@ -319,7 +319,7 @@ fn expect_upgrade_crash_recovered(
 
 // Upgrades an older desk with a crash at each call of each file. Returns true if for each file a
 // run without a crash was reached.
-fn crash_upgrade_at_each_call(alloc: Global, change: &str) -> Result<bool, Fail> {
+fn upgrade_with_crash_at_each_call(alloc: Global, change: &str) -> Result<bool, Fail> {
     let (start, tables) = files_of_older_schema(alloc, change)?;
     let mut is_always = false;
     for stop in STOPS {
@@ -340,7 +340,7 @@ fn crash_upgrade_at_each_call(alloc: Global, change: &str) -> Result<bool, Fail>
 // database file, and that a retry completes it.
 #[test]
 fn crashes_while_schema_1_is_upgraded(rt: HostRuntime) -> Result<(), Fail> {
-    let is_ended = crash_upgrade_at_each_call(rt.alloc(), FIRST)?;
+    let is_ended = upgrade_with_crash_at_each_call(rt.alloc(), FIRST)?;
     assert!(rt; is_ended, "always stopped");
     Ok(())
 }
@@ -349,7 +349,7 @@ fn crashes_while_schema_1_is_upgraded(rt: HostRuntime) -> Result<(), Fail> {
 // database file, and that a retry completes it.
 #[test]
 fn crashes_while_schema_2_is_upgraded(rt: HostRuntime) -> Result<(), Fail> {
-    let is_ended = crash_upgrade_at_each_call(rt.alloc(), SECOND)?;
+    let is_ended = upgrade_with_crash_at_each_call(rt.alloc(), SECOND)?;
     assert!(rt; is_ended, "always stopped");
     Ok(())
 }

@@ -3,7 +3,7 @@
 
 use crate::desks::{Still, desk_with_reference_data};
 use crate::faulty::{Failing, Narrow};
-use crate::http::streams::{Told, format_post_request, format_wanted_reply, serve_in_pieces};
+use crate::http::streams::{Told, format_post_request, format_wanted_reply, serve_stream_in_pieces};
 use crate::tables::expect_all_tables;
 use brk_http::{FaultKind, ServeFault, serve_stream};
 use brk_import::brk_desk::Desk;
@@ -96,7 +96,7 @@ fn streams_cut_at_each_byte(rt: HostRuntime) -> Result<(), Fail> {
             done = done.saturating_add(1);
         }
         let mut desk = desk_with_reference_data(alloc)?;
-        let (out, ended) = serve_in_pieces(alloc, &mut desk, &all.input.as_bytes()[..len], 64);
+        let (out, ended) = serve_stream_in_pieces(alloc, &mut desk, &all.input.as_bytes()[..len], 64);
         assert!(rt; out.as_slice() == wanted.as_bytes(), "cut at {len}");
         assert!(rt; ended == Ok(done), "cut at {len}");
     }
@@ -122,7 +122,7 @@ fn expect_completed_stream(
     executed: bool,
 ) -> Result<(), Fail> {
     let wanted = all_replies_of_retry(alloc, all, executed)?;
-    let (out, ended) = serve_in_pieces(alloc, &mut desk, all.input.as_bytes(), 64);
+    let (out, ended) = serve_stream_in_pieces(alloc, &mut desk, all.input.as_bytes(), 64);
     if out.as_slice() != wanted.as_bytes() || ended != Ok(3) {
         return Err(Fail::new(format_args!("{name}: the stream that is sent again")));
     }
@@ -141,12 +141,12 @@ fn expect_stream_read_fault(
     let (wanted, done, _) = replies_within_length(alloc, all, len)?;
     let mut desk = desk_with_reference_data(alloc)?;
     let mut out = Vec::new(alloc);
-    let reader = Failing::failing_after(all.input.as_bytes(), len, kind);
+    let reader = Failing::reader_failing_once(all.input.as_bytes(), len, kind);
     let ended = serve_stream(
         alloc,
         reader,
         &mut out,
-        &mut Still::at_first_moment(),
+        &mut Still::at_first_timestamp(),
         &mut desk,
     );
     let kind = FaultKind::Read;
@@ -186,7 +186,7 @@ fn expect_stream_write_fault(
         alloc,
         all.input.as_bytes(),
         &mut writer,
-        &mut Still::at_first_moment(),
+        &mut Still::at_first_timestamp(),
         &mut desk,
     );
     let kind = FaultKind::Write;

@@ -1,7 +1,7 @@
 //! Test of a desk whose disk fails: the reply that reports it is the last of its stream.
 
 use crate::files::machine::open_desk_in_files;
-use crate::http::streams::{Told, format_post_request, format_wanted_reply, serve_in_pieces};
+use crate::http::streams::{Told, format_post_request, format_wanted_reply, serve_stream_in_pieces};
 use brk_import::brk_desk::Desk;
 use sqlite::{FileStore, Files, Options};
 use sqlite_disk::{Fuse, Memory};
@@ -39,7 +39,7 @@ fn a_store_fault_is_the_last_reply(rt: HostRuntime) -> Result<(), Fail> {
         let Some(mut desk) = open_desk_with_failing_log(alloc, calls) else {
             continue;
         };
-        let (out, ended) = serve_in_pieces(alloc, &mut desk, input.as_bytes(), 4096);
+        let (out, ended) = serve_stream_in_pieces(alloc, &mut desk, input.as_bytes(), 4096);
         if ended == Ok(2) {
             booked = out.as_slice() == whole.as_bytes();
             break;

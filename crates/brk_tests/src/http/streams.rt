@@ -37,7 +37,7 @@ pub enum Told {
 
 /// Serves a stream whose bytes arrive in pieces of `size` bytes. Returns the written bytes and the
 /// result.
-pub fn serve_in_pieces<S: Alter>(
+pub fn serve_stream_in_pieces<S: Alter>(
     alloc: Global,
     desk: &mut Desk<S>,
     bytes: &[u8],
@@ -48,7 +48,7 @@ pub fn serve_in_pieces<S: Alter>(
         alloc,
         Pieces { bytes, size },
         &mut out,
-        &mut Still::at_first_moment(),
+        &mut Still::at_first_timestamp(),
         desk,
     );
     (out, ended)
@@ -100,7 +100,7 @@ pub fn has_wanted_replies_in_all_pieces(
 ) -> Result<bool, Fail> {
     for size in [4096usize, 7, 1] {
         let mut desk = desk_with_reference_data(alloc)?;
-        let (out, ended) = serve_in_pieces(alloc, &mut desk, bytes, size);
+        let (out, ended) = serve_stream_in_pieces(alloc, &mut desk, bytes, size);
         if !has_wanted_replies(alloc, &out, ended, wanted)? {
             return Ok(false);
         }

@@ -160,7 +160,7 @@ fn walks_cash_rows_in_order_of_stamps(rt: HostRuntime) -> Result<(), Fail> {
             rows: String::new(alloc),
             left,
         };
-        let ended = desk.walk_cash(
+        let ended = desk.walk_cash_rows(
             account,
             Stamp::nearest(from),
             Stamp::nearest(to),

@@ -5,7 +5,7 @@ use crate::desks::{Step, desk_with_reference_data, expect_batch_result};
 use crate::faulty::Narrow;
 use crate::statements::asking::account_and_days;
 use brk_import::brk_desk::Desk;
-use brk_report::{ReportFault, statement};
+use brk_report::{ReportFault, write_statement};
 use sqlite::MemStore;
 use std::alloc::Global;
 use std::io::ErrorKind;
@@ -56,7 +56,7 @@ fn write_error_for_room(room: usize) -> Option<ErrorKind> {
 
 // Writes the statement with a writer that has room for `room` bytes. Checks the result and the
 // written bytes.
-fn expect_cut_statement(
+fn expect_statement_write_fault(
     rt: &impl Abort,
     alloc: Global,
     desk: &mut Desk<MemStore>,
@@ -64,7 +64,7 @@ fn expect_cut_statement(
 ) -> Result<(), Fail> {
     let asked = account_and_days(100, "2024-03-01", "2024-03-31")?;
     let mut writer = Narrow::new(alloc, room, write_error_for_room(room));
-    let ended = statement(
+    let ended = write_statement(
         alloc,
         desk,
         asked.account,
@@ -96,7 +96,7 @@ fn statement_writers_failing_at_each_byte(rt: HostRuntime) -> Result<(), Fail> {
     let mut desk = desk_with_reference_data(alloc)?;
     expect_batch_result(alloc, &mut desk, "trades", BOUGHT)?;
     for room in 0..=WANTED.len() {
-        expect_cut_statement(&rt, alloc, &mut desk, room)?;
+        expect_statement_write_fault(&rt, alloc, &mut desk, room)?;
     }
     Ok(())
 }

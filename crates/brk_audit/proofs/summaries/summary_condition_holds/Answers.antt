@@ -3,7 +3,7 @@ use Rattle.std.specs.BTreeMap.{BTreeMap}
 use Rattle.std.specs.List.{AllByRecursion, filter_map}
 use Rattle.brk_model.specs.Lists.{is_zero}
 use Rattle.brk_changes.specs.Rows.{abstract_summary_row, abstract_trade_row}
-use Rattle.brk_changes.specs.Sheets.{tables_in_sheets}
+use Rattle.brk_changes.specs.Sheets.{abstract_sheets}
 use Rattle.brk_changes.specs.declared.sheets.Sheets.{Sheets}
 use Rattle.brk_model.specs.Tables.{Tables}
 use Rattle.brk_audit.specs.PositionSums.{position_cmp, share_posting_of_trade, share_posting_of_summary}
@@ -17,10 +17,10 @@ use Rattle.brk_audit.proofs.summaries.summary_condition_holds.Goals as goal
 abbrev Tells : SummaryRow → Type 0
 Tells r = is_zero r.qty ≡ false
 
-pub returns-clause-told : goal.returns-clause-told
-returns-clause-told c = λ schema.
+pub returns-clause-value : goal.returns-clause-value
+returns-clause-value c = λ schema.
     let s : Sheets = c.args.sheets.now in
-    let t : Tables = tables_in_sheets s in
+    let t : Tables = abstract_sheets s in
     let ps : List (Posting Place) = c.in_ok-postings.postings.items in
     let cs : List (Posting Place) = c.in_ok-claims.claims.items in
     let sums : BTreeMap Place ℤ = c.in_ok-sums.sums in
@@ -36,12 +36,12 @@ returns-clause-told c = λ schema.
     let rows : c.deref-7.result.now ≡ s.summaries.items = c.deref-7.ensures.value in
     let law = summaries_by_rows schema t c.requires.form c.requires.status in (
       (λ b. let h = c.all_three_true.ensures.0 b in
-          law.1 (they_hold s sums told ps cs w (subst (AllByRecursion (Agree sums told)) each_trade (c.tallies_agree-each_trade.ensures.0 h.0))
-          (subst (AllByRecursion (Agree sums told)) each_row (c.tallies_agree-each_row.ensures.0 h.1)) (subst (AllByRecursion Tells) rows (c.all_summaries_nonzero-shares.ensures.0 h.2)))),
+          law.1 (they_hold s sums told ps cs w (subst (AllByRecursion (Agree sums told)) each_trade (c.sums_agree_at_postings-each_trade.ensures.0 h.0))
+          (subst (AllByRecursion (Agree sums told)) each_row (c.sums_agree_at_postings-each_row.ensures.0 h.1)) (subst (AllByRecursion Tells) rows (c.all_summaries_nonzero-shares.ensures.0 h.2)))),
       (λ h. let k = they_agree s sums told ps cs w c.requires.form (law.0 h) in
           c.all_three_true.ensures.1 (
-            c.tallies_agree-each_trade.ensures.1 (subst (AllByRecursion (Agree sums told)) (sym each_trade) k.0),
-            c.tallies_agree-each_row.ensures.1 (subst (AllByRecursion (Agree sums told)) (sym each_row) k.1),
+            c.sums_agree_at_postings-each_trade.ensures.1 (subst (AllByRecursion (Agree sums told)) (sym each_trade) k.0),
+            c.sums_agree_at_postings-each_row.ensures.1 (subst (AllByRecursion (Agree sums told)) (sym each_row) k.1),
             c.all_summaries_nonzero-shares.ensures.1 (subst (AllByRecursion Tells) (sym rows) k.2),
           )),
     )

@@ -4,13 +4,13 @@ use Rattle.brk_money.specs.Kinds.{trade_type_name}
 use Rattle.brk_model.specs.Adopted.{base_of_tables, trade_of_row}
 use Rattle.brk_model.specs.Results.{cash_row_name}
 use Rattle.brk_changes.specs.Rows.{abstract_trade_row}
-use Rattle.brk_changes.specs.Sheets.{tables_in_sheets}
+use Rattle.brk_changes.specs.Sheets.{abstract_sheets}
 use Rattle.brk_audit_form.proofs.CashNames.{text_same}
 use Rattle.brk_audit_form.proofs.cash_names.is_cash_text_of_trade.Goals as goal
 
-pub returns-then-eq-clause-told : goal.returns-then-eq-clause-told
-returns-then-eq-clause-told c =
-    let t = tables_in_sheets c.args.sheets.now in
+pub returns-then-eq-clause-value : goal.returns-then-eq-clause-value
+returns-then-eq-clause-value c =
+    let t = abstract_sheets c.args.sheets.now in
     let row = abstract_trade_row c.args.trade.now in
     let name = c.args.name.now in
     let other = cash_row_name (codes " Shares of ") (base_of_tables t) (trade_of_row t row) in
@@ -18,9 +18,9 @@ returns-then-eq-clause-told c =
     ∙ text_same t (codes " shares of ") row in
     sym (ap (λ b. b || bytes_eq name other) (sym (c.eq.ensures ∙ ap (bytes_eq name) text) ∙ c.if-eq.true))
 
-pub returns-clause-told : goal.returns-clause-told
-returns-clause-told c =
-    let t = tables_in_sheets c.args.sheets.now in
+pub returns-clause-value : goal.returns-clause-value
+returns-clause-value c =
+    let t = abstract_sheets c.args.sheets.now in
     let row = abstract_trade_row c.args.trade.now in
     let name = c.args.name.now in
     let other = cash_row_name (codes " Shares of ") (base_of_tables t) (trade_of_row t row) in

@@ -4,15 +4,15 @@ use Rattle.brk_model.specs.Keys.{band_key}
 use Rattle.brk_model.specs.Form.{is_sorted_by_unique_key, is_well_formed_band_row}
 use Rattle.brk_ref.specs.Records.{abstract_band}
 use Rattle.brk_changes.specs.Schemas.{abstract_schema}
-use Rattle.brk_changes.specs.Sheets.{tables_in_sheets}
+use Rattle.brk_changes.specs.Sheets.{abstract_sheets}
 use Rattle.brk_audit_form.proofs.FormGroups.{bands_rise, reference_forms_parts}
 use Rattle.brk_audit_form.proofs.form.passes_checks_without_allocation.Goals as goal
 
-pub have_no_overlap-requires-clause-keys : goal.have_no_overlap-requires-clause-keys
-have_no_overlap-requires-clause-keys c =
-    ap (λ l. is_sorted_by_unique_key band_key (map abstract_band l)) c.deref.ensures.value ∙ bands_rise (tables_in_sheets c.args.sheets.now) (sym c.all_tables_have_sorted_keys.ensures ∙ c.if-not-all_tables_have_sorted_keys.false)
+pub are_bands_disjoint-requires-clause-keys : goal.are_bands_disjoint-requires-clause-keys
+are_bands_disjoint-requires-clause-keys c =
+    ap (λ l. is_sorted_by_unique_key band_key (map abstract_band l)) c.deref.ensures.value ∙ bands_rise (abstract_sheets c.args.sheets.now) (sym c.all_tables_have_sorted_keys.ensures ∙ c.if-not-all_tables_have_sorted_keys.false)
 
-pub have_no_overlap-requires-clause-bounds : goal.have_no_overlap-requires-clause-bounds
-have_no_overlap-requires-clause-bounds c =
+pub are_bands_disjoint-requires-clause-bounds : goal.are_bands_disjoint-requires-clause-bounds
+are_bands_disjoint-requires-clause-bounds c =
     ap (λ l. list_all (is_well_formed_band_row (abstract_schema c.args.schema)) (map abstract_band l)) c.deref.ensures.value
     ∙ (reference_forms_parts (abstract_schema c.args.schema) c.args.sheets.now (sym c.has_well_formed_reference_rows.ensures ∙ c.if-not-has_well_formed_reference_rows.false)).bands

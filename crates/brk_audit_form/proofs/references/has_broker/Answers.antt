@@ -2,7 +2,7 @@ use Rattle.std.proofs.Common.{◌==◌, rules, ◌∙◌, ap, map}
 use Rattle.std.specs.List.{list_any}
 use Rattle.std.proofs.lemmas.List.Sorted.{answers_always}
 use Rattle.brk_ref.specs.Records.{abstract_broker_row}
-use Rattle.brk_changes.specs.Sheets.{tables_in_sheets}
+use Rattle.brk_changes.specs.Sheets.{abstract_sheets}
 use Rattle.brk_audit_theorems.proofs.Parts.{key_parts}
 use Rattle.brk_audit_form.proofs.Searches.{number_found, any_found}
 use Rattle.brk_audit_form.proofs.references.has_broker.Goals as goal
@@ -13,6 +13,6 @@ returns c =
     let found = c.binary_search_by_key.ensures in
     let place = found.position (λ r. r.broker.id) (answers_always _ _ _ (λ f a r g called. search rules)) in
     number_found abstract_broker_row (λ r. r.id) s.brokers.items c.deref.result.now c.get-number.result c.binary_search_by_key.result c.is_ok.result
-    c.deref.ensures.value (key_parts (tables_in_sheets s) c.requires).brokers found.bound place c.is_ok.ensures.value
+    c.deref.ensures.value (key_parts (abstract_sheets s) c.requires).brokers found.bound place c.is_ok.ensures.value
     ∙ ap (λ n. list_any (λ r. r.id == n) (map abstract_broker_row s.brokers.items)) c.get-number.ensures.value
     ∙ any_found (λ r. r.id == c.args.id) (map abstract_broker_row s.brokers.items)

@@ -3,7 +3,7 @@ use Rattle.std.specs.Prelude.{bytes_eq}
 use Rattle.std.specs.Cmp.Lexicographic.{slice_cmp}
 use Rattle.std.proofs.lemmas.Fn.{always_returns_same}
 use Rattle.brk_ref.specs.Records.{abstract_security_row}
-use Rattle.brk_changes.specs.Sheets.{tables_in_sheets}
+use Rattle.brk_changes.specs.Sheets.{abstract_sheets}
 use Rattle.brk_audit_theorems.proofs.Parts.{key_parts}
 use Rattle.brk_audit_form.proofs.Searches.{word_found, any_found}
 use Rattle.brk_audit_form.proofs.references.has_security.Goals as goal
@@ -14,5 +14,5 @@ returns c =
     let found = c.binary_search_by.ensures in
     let place = found.position (λ r. slice_cmp nat_cmp r.symbol c.args.symbol.now) (always_returns_same _ _ _ (λ a r g called. (search rules, search rules))) in
     word_found abstract_security_row (λ r. r.symbol) s.securities.items c.deref.result.now c.args.symbol.now c.binary_search_by.result c.is_ok.result
-    c.deref.ensures.value (key_parts (tables_in_sheets s) c.requires).securities found.bound place c.is_ok.ensures.value
+    c.deref.ensures.value (key_parts (abstract_sheets s) c.requires).securities found.bound place c.is_ok.ensures.value
     ∙ any_found (λ r. bytes_eq r.symbol c.args.symbol.now) (map abstract_security_row s.securities.items)

@@ -4,5 +4,5 @@ use Rattle.brk_book_theorems.proofs.reads.triggered_requests_match_trades.Goals 
 pub returns-clause-trades : goal.returns-clause-trades
 returns-clause-trades c = triggered_found
 
-pub returns-clause-rising : goal.returns-clause-rising
-returns-clause-rising c = triggered_rise
+pub returns-clause-ascending : goal.returns-clause-ascending
+returns-clause-ascending c = triggered_rise

@@ -6,7 +6,7 @@ pub returns : goal.returns
 returns c = record {
   taxed = result_taxed;
   called = taxed_by_call;
-  stays = run_taxes;
+  preserved = run_taxes;
   row = taxed_row;
   run = λ base after calls outcomes. taxes_stand base calls outcomes after;
 }

@@ -7,7 +7,7 @@ use Rattle.brk_commands.proofs.line.ticked_reply_text.Goals as goal
 pub loop-trade-preserved : goal.loop-trade-preserved
 loop-trade-preserved c =
     next_text (λ trade. 44 ∷ decimal trade) (decimal c.args.stamp) _ _ c.args.triggered.now c.loop-trade.trade-index c.trade-item.result
-    c.loop-trade-test.true c.trade-item.is c.loop-trade.invariant c.in_ok-append_trade_after_comma.ensures
+    c.loop-trade-test.true c.trade-item.is c.loop-trade.invariant c.in_ok-append_trade_id_after_comma.ensures
 
 pub returns : goal.returns
 returns c =

@@ -6,17 +6,17 @@ use Rattle.brk_commands.proofs.parse_movement.parse_movement_or_settlement_day.G
 pub returns-then-eq : goal.returns-then-eq
 returns-then-eq c =
     rw (same_text c.args.kind.now c.as_slice.result.now (codes "deposit") c.eq.result c.eq.ensures c.as_slice.ensures c.if-eq.true)
-    c.parse_deposit_or_withdrawal.ensures
+    c.parse_movement_command.ensures
 
 pub returns-then-eq-2 : goal.returns-then-eq-2
 returns-then-eq-2 c =
     rw (same_text c.args.kind.now c.as_slice-2.result.now (codes "withdraw") c.eq-2.result c.eq-2.ensures c.as_slice-2.ensures c.if-eq-2.true)
-    c.parse_deposit_or_withdrawal-then-eq-2.ensures
+    c.parse_movement_command-then-eq-2.ensures
 
 pub returns-then-eq-3 : goal.returns-then-eq-3
 returns-then-eq-3 c =
     rw (same_text c.args.kind.now c.as_slice-3.result.now (codes "oneday") c.eq-3.result c.eq-3.ensures c.as_slice-3.ensures c.if-eq-3.true)
-    c.parse_settlement_day.ensures
+    c.parse_settlement_day_command.ensures
 
 pub returns : goal.returns
 returns c =

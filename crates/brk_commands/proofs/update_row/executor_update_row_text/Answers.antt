@@ -7,7 +7,7 @@ use Rattle.brk_commands.proofs.update_row.executor_update_row_text.Goals as goal
 pub loop-trade-preserved : goal.loop-trade-preserved
 loop-trade-preserved c =
     next_text (λ trade. 31 ∷ decimal trade) (codes "upname") _ _ c.args.trades.now c.loop-trade.trade-index c.trade-item.result
-    c.loop-trade-test.true c.trade-item.is c.loop-trade.invariant c.in_ok-append_trade_after_separator.ensures
+    c.loop-trade-test.true c.trade-item.is c.loop-trade.invariant c.in_ok-append_trade_id_after_separator.ensures
 
 pub returns : goal.returns
 returns c =

@@ -1,7 +1,7 @@
 use Rattle.std.proofs.Common.{◌≡◌, ◌==◌, Some, find, option_map, sym}
 use Rattle.brk_model.specs.Tables.{AccountRow, Tables}
 use Rattle.brk_ref.specs.Records.{abstract_account_row}
-use Rattle.brk_decisions.specs.ResultFinds.{IsAccountWithId}
+use Rattle.brk_decisions.specs.ResultFactReads.{IsAccountWithId}
 use Rattle.brk_store.proofs.Retelling.{retold}
 use Rattle.brk_decisions.proofs.known.require_account.Goals as goal
 

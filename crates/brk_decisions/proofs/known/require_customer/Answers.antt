@@ -2,7 +2,7 @@ use Rattle.std.proofs.Common.{◌≡◌, ◌==◌, Some, find, option_map, sym}
 use Rattle.brk_model.specs.Records.{Customer}
 use Rattle.brk_model.specs.Tables.{Tables}
 use Rattle.brk_ref.specs.Records.{abstract_customer}
-use Rattle.brk_decisions.specs.Finds.{IsCustomerWithId}
+use Rattle.brk_decisions.specs.OrderFactReads.{IsCustomerWithId}
 use Rattle.brk_store.proofs.Retelling.{retold}
 use Rattle.brk_decisions.proofs.known.require_customer.Goals as goal
 

@@ -2,7 +2,7 @@ use Rattle.std.proofs.Common.{◌≡◌, Some, find, option_map, sym}
 use Rattle.std.specs.Prelude.{bytes_eq}
 use Rattle.brk_model.specs.Tables.{SecurityRow, Tables}
 use Rattle.brk_ref.specs.Records.{abstract_security_row}
-use Rattle.brk_decisions.specs.ResultFinds.{IsSecurityWithSymbol}
+use Rattle.brk_decisions.specs.ResultFactReads.{IsSecurityWithSymbol}
 use Rattle.brk_store.proofs.Retelling.{retold}
 use Rattle.brk_decisions.proofs.known.require_security.Goals as goal
 

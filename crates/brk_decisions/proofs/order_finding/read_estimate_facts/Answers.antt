@@ -5,7 +5,7 @@ use Rattle.brk_model.specs.Tables.{Tables}
 use Rattle.brk_ref.specs.declared.account.AccountRow.{AccountRow}
 use Rattle.brk_ref.specs.Records.{abstract_account_row}
 use Rattle.brk_trade_theorems.specs.OrderPlans.{EstimateFactsMatchTables}
-use Rattle.brk_decisions.specs.Finds.{AreEstimateFactsOf}
+use Rattle.brk_decisions.specs.OrderFactReads.{EstimateFactsMatchIfAccountOfOrder}
 use Rattle.brk_store.proofs.Retelling.{retold}
 use Rattle.brk_decisions.proofs.Looking.{read_both}
 use Rattle.brk_decisions.proofs.OrderFinds.{no_account}
@@ -18,7 +18,7 @@ returns-in_ok-found-in-Some-clause-read g c =
     let found = c.in_ok-found-in-Some.found in
     read_both g.S.Store c.args.store.now c.account.new.self c.read_order_account_facts.new.store {H = Fault} (Some account) found found
     (λ o (t : Tables). option_map abstract_account_row o ≡ find (λ (r : tables.AccountRow). r.id == order.account) t.accounts)
-    (λ found (t : Tables). AreEstimateFactsOf t order account found)
+    (λ found (t : Tables). EstimateFactsMatchIfAccountOfOrder t order account found)
     (λ found (t : Tables). EstimateFactsMatchTables t order found)
     (λ t e f. f e)
     (rw c.in-Some.is at c.in_ok-account.ensures.read) c.in_ok-found-in-Some.ensures.read

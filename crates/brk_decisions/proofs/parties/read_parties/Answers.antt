@@ -4,7 +4,7 @@ use Rattle.brk_money.specs.declared.fault.Fault.{Fault}
 use Rattle.brk_model.specs.Joins.{account_row_with_id}
 use Rattle.brk_model.specs.Tables.{AccountRow, Tables}
 use Rattle.brk_ref.specs.Records.{abstract_account_row}
-use Rattle.brk_decisions.specs.ResultFinds.{ArePartiesOfAccount, IsAccountWithId}
+use Rattle.brk_decisions.specs.ResultFactReads.{PartyFactsMatchTables, IsAccountWithId}
 use Rattle.brk_decisions.proofs.Looking.{read_both}
 use Rattle.brk_decisions.proofs.parties.read_parties.Goals as goal
 
@@ -13,7 +13,7 @@ returns-clause-read g c =
     let row = c.in_ok-row.row in
     let parties = c.in_ok-parties.parties in
     read_both g.S.Store c.args.store.now c.require_account.new.store c.read_parties_of_account.new.store {H = Fault} row parties parties
-    (λ row (t : Tables). IsAccountWithId t c.args.account row) (λ parties (t : Tables). ArePartiesOfAccount t (abstract_account_row row) parties)
-    (λ parties (t : Tables). IfSome (account_row_with_id t c.args.account) (λ a. ArePartiesOfAccount t a parties))
-    (λ t e k. subst (λ x. IfSome x (λ (a : AccountRow). ArePartiesOfAccount t a parties)) (sym e) k)
+    (λ row (t : Tables). IsAccountWithId t c.args.account row) (λ parties (t : Tables). PartyFactsMatchTables t (abstract_account_row row) parties)
+    (λ parties (t : Tables). IfSome (account_row_with_id t c.args.account) (λ a. PartyFactsMatchTables t a parties))
+    (λ t e k. subst (λ x. IfSome x (λ (a : AccountRow). PartyFactsMatchTables t a parties)) (sym e) k)
     c.in_ok-row.ensures.read c.in_ok-parties.ensures.read

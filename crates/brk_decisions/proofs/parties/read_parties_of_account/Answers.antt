@@ -2,11 +2,11 @@ use Rattle.std.proofs.Common.{◌≡◌}
 use Rattle.brk_money.specs.declared.fault.Fault.{Fault}
 use Rattle.brk_model.specs.Tables.{Tables}
 use Rattle.brk_ref.specs.Records.{abstract_account_row}
-use Rattle.brk_book_theorems.specs.Reads.{rate_sum_of_customer}
-use Rattle.brk_decisions.specs.Finds.{IsCustomerWithId}
-use Rattle.brk_decisions.specs.ResultFinds.{AreTotalsOfBroker, ArePartiesOfAccount}
+use Rattle.brk_book_theorems.specs.Reads.{customer_tax_rate_sum}
+use Rattle.brk_decisions.specs.OrderFactReads.{IsCustomerWithId}
+use Rattle.brk_decisions.specs.ResultFactReads.{AreTotalsOfBroker, PartyFactsMatchTables}
 use Rattle.brk_decisions.proofs.Looking.{read_both}
-use Rattle.brk_decisions.proofs.ResultReading.{parties_known, parties_with}
+use Rattle.brk_decisions.proofs.ResultReading.{parties_known, parties_of_rows}
 use Rattle.brk_decisions.proofs.parties.read_parties_of_account.Goals as goal
 
 pub returns-clause-read : goal.returns-clause-read
@@ -16,13 +16,13 @@ returns-clause-read g c =
     let customer = c.in_ok-customer.customer in
     let rates = c.in_ok-rates.rates in
     let broker = c.in_ok-broker.broker in
-    read_both g.S.Store old c.read_tax_rate_sum.new.store c.require_broker_totals.new.store {H = Fault} rates broker (parties_with row customer rates broker)
-    (λ rates (t : Tables). IsCustomerWithId t row.account.customer customer × (rates ≡ rate_sum_of_customer t row.account.customer))
+    read_both g.S.Store old c.read_tax_rate_sum.new.store c.require_broker_totals.new.store {H = Fault} rates broker (parties_of_rows row customer rates broker)
+    (λ rates (t : Tables). IsCustomerWithId t row.account.customer customer × (rates ≡ customer_tax_rate_sum t row.account.customer))
     (λ broker (t : Tables). AreTotalsOfBroker t row.account.broker broker)
-    (λ parties (t : Tables). ArePartiesOfAccount t (abstract_account_row row) parties)
+    (λ parties (t : Tables). PartyFactsMatchTables t (abstract_account_row row) parties)
     (λ t k n. parties_known t row customer rates broker k.0 k.1 n)
     (read_both g.S.Store old c.require_customer.new.store c.read_tax_rate_sum.new.store {H = Fault} customer rates rates
-    (λ customer (t : Tables). IsCustomerWithId t row.account.customer customer) (λ rates (t : Tables). rates ≡ rate_sum_of_customer t row.account.customer)
-    (λ rates (t : Tables). IsCustomerWithId t row.account.customer customer × (rates ≡ rate_sum_of_customer t row.account.customer))
+    (λ customer (t : Tables). IsCustomerWithId t row.account.customer customer) (λ rates (t : Tables). rates ≡ customer_tax_rate_sum t row.account.customer)
+    (λ rates (t : Tables). IsCustomerWithId t row.account.customer customer × (rates ≡ customer_tax_rate_sum t row.account.customer))
     (λ t k e. (k, e)) c.in_ok-customer.ensures.read c.in_ok-rates.ensures.read)
     c.in_ok-broker.ensures.read

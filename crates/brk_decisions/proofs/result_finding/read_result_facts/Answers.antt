@@ -3,9 +3,9 @@ use Rattle.brk_money.specs.declared.fault.Fault.{Fault}
 use Rattle.brk_model.specs.Tables as tables
 use Rattle.brk_model.specs.Tables.{Tables}
 use Rattle.brk_changes.specs.Rows.{abstract_trade_row}
-use Rattle.brk_trade.specs.declared.result_found.ResultFound.{ResultFound}
+use Rattle.brk_trade.specs.declared.result_found.ResultPlanFacts.{ResultPlanFacts}
 use Rattle.brk_changes.specs.declared.trade_row.TradeRow.{TradeRow}
-use Rattle.brk_decisions.specs.ResultFinds.{AreResultFactsForId, AreResultFactsOf}
+use Rattle.brk_decisions.specs.ResultFactReads.{AreResultFactsOfTradeWithId, AreResultFactsOfTrade}
 use Rattle.brk_store.proofs.Retelling.{retold}
 use Rattle.brk_decisions.proofs.Looking.{read_both}
 use Rattle.brk_decisions.proofs.ResultReading.{there}
@@ -15,17 +15,17 @@ pub returns-in_ok-found-in-Some-clause-read : goal.returns-in_ok-found-in-Some-c
 returns-in_ok-found-in-Some-clause-read g c =
     let row : TradeRow = c.in-Some.row in
     let found = c.in_ok-found-in-Some.found in
-    read_both g.S.Store c.args.store.now c.trade.new.self c.read_facts_of_trade.new.store {H = Fault} (Some row) found (Some found)
+    read_both g.S.Store c.args.store.now c.trade.new.self c.read_result_facts_of_trade.new.store {H = Fault} (Some row) found (Some found)
     (λ o (t : Tables). option_map abstract_trade_row o ≡ find (λ (r : tables.TradeRow). r.id == c.args.trade) t.trades)
-    (λ found (t : Tables). AreResultFactsOf t row found)
-    (λ o (t : Tables). AreResultFactsForId t c.args.trade o)
+    (λ found (t : Tables). AreResultFactsOfTrade t row found)
+    (λ o (t : Tables). AreResultFactsOfTradeWithId t c.args.trade o)
     (λ t e k. there t c.args.trade row found e k)
     (rw c.in-Some.is at c.in_ok-row.ensures.read) c.in_ok-found-in-Some.ensures.read
 
 pub returns-in-None-clause-read : goal.returns-in-None-clause-read
 returns-in-None-clause-read g c =
-    retold g.S.Store c.args.store.now c.trade.new.self {V = Option TradeRow} {X = Option ResultFound} None None
+    retold g.S.Store c.args.store.now c.trade.new.self {V = Option TradeRow} {X = Option ResultPlanFacts} None None
     (λ o (t : Tables). option_map abstract_trade_row o ≡ find (λ (r : tables.TradeRow). r.id == c.args.trade) t.trades)
-    (λ o (t : Tables). AreResultFactsForId t c.args.trade o)
+    (λ o (t : Tables). AreResultFactsOfTradeWithId t c.args.trade o)
     (λ t e. record { trade = sym e; read = tt })
     (rw c.in-None.is at c.in_ok-row.ensures.read)

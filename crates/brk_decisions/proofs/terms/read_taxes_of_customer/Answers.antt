@@ -29,7 +29,7 @@ twice f g (x ∷ xs) = ap (λ zs. g (f x) ∷ zs) (twice f g xs)
 
 pub loop-row-init : goal.loop-row-init
 loop-row-init g c =
-    retold g.S.Store c.args.store.now c.customer_taxes_of.new.self c.in_ok-rows.rows tt
+    retold g.S.Store c.args.store.now c.taxes_of_customer.new.self c.in_ok-rows.rows tt
     (λ all (t : Tables). map abstract_customer_tax all.items ≡ filter (λ (r : CustomerTax). r.customer == c.args.customer) t.customer_taxes)
     (λ _. FirstTaxes c.args.customer c.deref-row-items.result.now c.new-taxes.result.items 0)
     (λ t e. (ap (map abstract_customer_tax) c.deref-row-items.ensures.value ∙ e, ap (map (λ tax. Some (abstract_tax_rate tax))) c.new-taxes.ensures.items))
@@ -40,7 +40,7 @@ loop-row-preserved g c =
     let rows = c.deref-row-items.result.now in
     let i = c.loop-row.row-index in
     let tax = c.in-Some.tax in
-    read_both g.S.Store c.args.store.now c.loop-row.store c.tax_rate.new.self {H = Fault} tt (Some tax) tt
+    read_both g.S.Store c.args.store.now c.loop-row.store c.tax_with_id.new.self {H = Fault} tt (Some tax) tt
     (λ _. FirstTaxes c.args.customer rows c.loop-row.taxes.items i)
     (λ o (t : Tables). option_map abstract_tax_rate o ≡ find (λ (r : TaxRate). r.id == c.row-item.result.tax) t.tax_rates)
     (λ _. FirstTaxes c.args.customer rows c.push.new.self.items (i + 1))

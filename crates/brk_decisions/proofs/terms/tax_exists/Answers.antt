@@ -8,9 +8,9 @@ use Rattle.brk_decisions.proofs.terms.tax_exists.Goals as goal
 
 pub returns : goal.returns
 returns g c = record {
-  read = retold g.S.Store c.args.store.now c.tax_rate.new.self c.in_ok-tax_rate.field-0 c.is_some.result
+  read = retold g.S.Store c.args.store.now c.tax_with_id.new.self c.in_ok-tax_with_id.field-0 c.is_some.result
       (λ o (t : Tables). option_map abstract_tax_rate o ≡ find (λ r. r.id == c.args.id) t.tax_rates) (λ there (t : Tables). there ≡ contains_tax_rate t c.args.id)
-      (λ t e. c.is_some.ensures ∙ is_there abstract_tax_rate c.in_ok-tax_rate.field-0 (find (λ r. r.id == c.args.id) t.tax_rates) e)
-      c.in_ok-tax_rate.ensures.read;
+      (λ t e. c.is_some.ensures ∙ is_there abstract_tax_rate c.in_ok-tax_with_id.field-0 (find (λ r. r.id == c.args.id) t.tax_rates) e)
+      c.in_ok-tax_with_id.ensures.read;
   fault = tt;
 }

@@ -27,7 +27,7 @@ IsTradeOf id o t = option_map abstract_trade_row o ≡ find (λ (r : TradeRow). 
 
 pub loop-id-init : goal.loop-id-init
 loop-id-init g c =
-    retold g.S.Store c.args.store.now c.last.new.self c.in_ok-_last._last tt (λ last (t : Tables). last ≡ t.last) (λ _. FirstTrades c.args.ids.now c.new-trades.result.items 0)
+    retold g.S.Store c.args.store.now c.last_stamp.new.self c.in_ok-_last._last tt (λ last (t : Tables). last ≡ t.last) (λ _. FirstTrades c.args.ids.now c.new-trades.result.items 0)
     (λ t e. ap (map (λ r. Some (abstract_trade_row r))) c.new-trades.ensures.items)
     c.in_ok-_last.ensures.read
 

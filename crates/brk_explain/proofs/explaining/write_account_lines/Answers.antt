@@ -1,5 +1,5 @@
 use Rattle.std.proofs.Common.{◌≡◌, ℕ, ◌++◌, Err, Ok, length, map, subst}
-use Rattle.brk_model.specs.Statement.{lot_rows_of_account}
+use Rattle.brk_model.specs.Statement.{holding_rows_of_account}
 use Rattle.brk_ref.specs.Records.{abstract_account_row}
 use Rattle.brk_explain_model.specs.AccountLines.{holding_and_total_lines, account_header_lines, balance_header_lines, account_cash_rows_by_stamp}
 use Rattle.brk_explain_rows.specs.Stories.{abstract_priced_holding}
@@ -15,7 +15,7 @@ use Rattle.brk_explain.proofs.explaining.write_account_lines.Goals as goal
 pub returns-in_err-write_lines-clause-written : goal.returns-in_err-write_lines-clause-written
 returns-in_err-write_lines-clause-written g c = λ clean t holds.
     let a = abstract_account_row c.args.story.now.account in
-    let bottom = holding_and_total_lines a (map abstract_priced_holding c.args.story.now.held.items) (length (account_cash_rows_by_stamp t c.args.account)) (length (lot_rows_of_account t c.args.account)) in
+    let bottom = holding_and_total_lines a (map abstract_priced_holding c.args.story.now.held.items) (length (account_cash_rows_by_stamp t c.args.account)) (length (holding_rows_of_account t c.args.account)) in
     let wrote = text_written {R = Unit {0}} (account_header_lines a) c.account_header_text.result (g.W.Write.contents c.args.writer.now) (g.W.Write.contents c.write_lines.new.writer) (Err c.in_err-write_lines.field-0.0) (top_first a) c.in_err-write_lines.ensures.written c.account_header_text.ensures.text (wants _ c.account_header_text.ensures.fault) in
     breaks_as _ _ _ _ _ c.from_residual.ensures.1
     (breaks_before (account_header_lines a) (account_cash_lines t c.args.account a.opening ++ (balance_header_lines a ++ (account_lot_lines t c.args.account ++ bottom))) _ _ _ wrote)
@@ -23,7 +23,7 @@ returns-in_err-write_lines-clause-written g c = λ clean t holds.
 pub returns-in_err-cash-clause-written : goal.returns-in_err-cash-clause-written
 returns-in_err-cash-clause-written g c = λ clean t holds.
     let a = abstract_account_row c.args.story.now.account in
-    let bottom = holding_and_total_lines a (map abstract_priced_holding c.args.story.now.held.items) (length (account_cash_rows_by_stamp t c.args.account)) (length (lot_rows_of_account t c.args.account)) in
+    let bottom = holding_and_total_lines a (map abstract_priced_holding c.args.story.now.held.items) (length (account_cash_rows_by_stamp t c.args.account)) (length (holding_rows_of_account t c.args.account)) in
     let top = text_written {R = Unit {0}} (account_header_lines a) c.account_header_text.result (g.W.Write.contents c.args.writer.now) (g.W.Write.contents c.write_lines.new.writer) (Ok c.in_ok-write_lines.field-0) (top_first a) c.in_ok-write_lines.ensures.written c.account_header_text.ensures.text (wants _ c.account_header_text.ensures.fault) in
     let cash = account_cash_lines t c.args.account a.opening in
     let rest = balance_header_lines a ++ (account_lot_lines t c.args.account ++ bottom) in
@@ -34,7 +34,7 @@ returns-in_err-cash-clause-written g c = λ clean t holds.
 pub returns-in_err-write_lines-2-clause-written : goal.returns-in_err-write_lines-2-clause-written
 returns-in_err-write_lines-2-clause-written g c = λ clean t holds.
     let a = abstract_account_row c.args.story.now.account in
-    let bottom = holding_and_total_lines a (map abstract_priced_holding c.args.story.now.held.items) (length (account_cash_rows_by_stamp t c.args.account)) (length (lot_rows_of_account t c.args.account)) in
+    let bottom = holding_and_total_lines a (map abstract_priced_holding c.args.story.now.held.items) (length (account_cash_rows_by_stamp t c.args.account)) (length (holding_rows_of_account t c.args.account)) in
     let top = text_written {R = Unit {0}} (account_header_lines a) c.account_header_text.result (g.W.Write.contents c.args.writer.now) (g.W.Write.contents c.write_lines.new.writer) (Ok c.in_ok-write_lines.field-0) (top_first a) c.in_ok-write_lines.ensures.written c.account_header_text.ensures.text (wants _ c.account_header_text.ensures.fault) in
     let balance = text_written {R = Unit {0}} (balance_header_lines a) c.balance_header_text.result (g.W.Write.contents c.write_cash_posting_lines.new.writer) (g.W.Write.contents c.write_lines-2.new.writer) (Err c.in_err-write_lines-2.field-0.0) (balance_first a) c.in_err-write_lines-2.ensures.written c.balance_header_text.ensures.text (wants _ c.balance_header_text.ensures.fault) in
     let cash = account_cash_lines t c.args.account a.opening in
@@ -47,9 +47,9 @@ pub returns-in_err-lots-clause-written : goal.returns-in_err-lots-clause-written
 returns-in_err-lots-clause-written g c = λ clean t holds.
     let a = abstract_account_row c.args.story.now.account in
     let held = map abstract_priced_holding c.args.story.now.held.items in
-    let bottom = holding_and_total_lines a held (length (account_cash_rows_by_stamp t c.args.account)) (length (lot_rows_of_account t c.args.account)) in
+    let bottom = holding_and_total_lines a held (length (account_cash_rows_by_stamp t c.args.account)) (length (holding_rows_of_account t c.args.account)) in
     let mid = clean_then g.S.Store c.write_cash_posting_lines.new.desk c.write_open_lot_lines.new.desk c.write_open_lot_lines.ensures.keeps clean in
-    let still = c.write_cash_posting_lines.ensures.keeps.kept t holds in
+    let still = c.write_cash_posting_lines.ensures.keeps.same_rows t holds in
     let top = text_written {R = Unit {0}} (account_header_lines a) c.account_header_text.result (g.W.Write.contents c.args.writer.now) (g.W.Write.contents c.write_lines.new.writer) (Ok c.in_ok-write_lines.field-0) (top_first a) c.in_ok-write_lines.ensures.written c.account_header_text.ensures.text (wants _ c.account_header_text.ensures.fault) in
     let balance = text_written {R = Unit {0}} (balance_header_lines a) c.balance_header_text.result (g.W.Write.contents c.write_cash_posting_lines.new.writer) (g.W.Write.contents c.write_lines-2.new.writer) (Ok c.in_ok-write_lines-2.field-0) (balance_first a) c.in_ok-write_lines-2.ensures.written c.balance_header_text.ensures.text (wants _ c.balance_header_text.ensures.fault) in
     let cash = account_cash_lines t c.args.account a.opening in
@@ -58,15 +58,15 @@ returns-in_err-lots-clause-written g c = λ clean t holds.
     (breaks_behind (account_header_lines a) (cash ++ (balance_header_lines a ++ (lots ++ bottom))) _ _ _ _ top
     (breaks_behind cash (balance_header_lines a ++ (lots ++ bottom)) _ _ _ _ (c.in_ok-cash.ensures.written mid t holds).0
     (breaks_behind (balance_header_lines a) (lots ++ bottom) _ _ _ _ balance
-    (breaks_off_before lots bottom _ _ _ (bottom_first a held (length (account_cash_rows_by_stamp t c.args.account)) (length (lot_rows_of_account t c.args.account))) (c.in_err-lots.ensures.written clean t still)))))
+    (breaks_off_before lots bottom _ _ _ (bottom_first a held (length (account_cash_rows_by_stamp t c.args.account)) (length (holding_rows_of_account t c.args.account))) (c.in_err-lots.ensures.written clean t still)))))
 
 pub returns-clause-written : goal.returns-clause-written
 returns-clause-written g c = λ clean t holds.
     let a = abstract_account_row c.args.story.now.account in
     let held = map abstract_priced_holding c.args.story.now.held.items in
-    let bottom = holding_and_total_lines a held (length (account_cash_rows_by_stamp t c.args.account)) (length (lot_rows_of_account t c.args.account)) in
+    let bottom = holding_and_total_lines a held (length (account_cash_rows_by_stamp t c.args.account)) (length (holding_rows_of_account t c.args.account)) in
     let mid = clean_then g.S.Store c.write_cash_posting_lines.new.desk c.write_open_lot_lines.new.desk c.write_open_lot_lines.ensures.keeps clean in
-    let still = c.write_cash_posting_lines.ensures.keeps.kept t holds in
+    let still = c.write_cash_posting_lines.ensures.keeps.same_rows t holds in
     let top = text_written {R = Unit {0}} (account_header_lines a) c.account_header_text.result (g.W.Write.contents c.args.writer.now) (g.W.Write.contents c.write_lines.new.writer) (Ok c.in_ok-write_lines.field-0) (top_first a) c.in_ok-write_lines.ensures.written c.account_header_text.ensures.text (wants _ c.account_header_text.ensures.fault) in
     let balance = text_written {R = Unit {0}} (balance_header_lines a) c.balance_header_text.result (g.W.Write.contents c.write_cash_posting_lines.new.writer) (g.W.Write.contents c.write_lines-2.new.writer) (Ok c.in_ok-write_lines-2.field-0) (balance_first a) c.in_ok-write_lines-2.ensures.written c.balance_header_text.ensures.text (wants _ c.balance_header_text.ensures.fault) in
     let posted = c.in_ok-cash.ensures.written mid t holds in
@@ -80,5 +80,5 @@ returns-clause-written g c = λ clean t holds.
     (behind cash (balance_header_lines a ++ (lots ++ bottom)) _ _ _ _ posted.0
     (behind (balance_header_lines a) (lots ++ bottom) _ _ _ _ balance
     (behind lots bottom _ _ _ _ kept.0
-    (subst (λ (n : ℕ). WritesLines (holding_and_total_lines a held n (length (lot_rows_of_account t c.args.account))) (g.W.Write.contents c.write_open_lot_lines.new.writer) (g.W.Write.contents c.write_lines-3.new.writer) c.write_lines-3.result) posted.1
+    (subst (λ (n : ℕ). WritesLines (holding_and_total_lines a held n (length (holding_rows_of_account t c.args.account))) (g.W.Write.contents c.write_open_lot_lines.new.writer) (g.W.Write.contents c.write_lines-3.new.writer) c.write_lines-3.result) posted.1
     (subst (λ (n : ℕ). WritesLines (holding_and_total_lines a held c.in_ok-cash.cash n) (g.W.Write.contents c.write_open_lot_lines.new.writer) (g.W.Write.contents c.write_lines-3.new.writer) c.write_lines-3.result) kept.1 end)))))

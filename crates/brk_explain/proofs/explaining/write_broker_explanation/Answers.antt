@@ -9,7 +9,7 @@ use Rattle.brk_explain.proofs.explaining.write_broker_explanation.Goals as goal
 pub returns-in-Ok-None : goal.returns-in-Ok-None
 returns-in-Ok-None g c = record {
   told = record {
-    written = λ clean t holds. no_broker t c.args.broker ((rw (c.in-Ok-None.is, c.in-Ok-None.field-0-is) at (c.broker_story.ensures.read.told clean)) t holds);
+    written = λ clean t holds. no_broker t c.args.broker ((rw (c.in-Ok-None.is, c.in-Ok-None.field-0-is) at (c.broker_story.ensures.read.answered clean)) t holds);
     keeps = keeps_read g.S.Store _ _ c.broker_story.result (IsStoryOfBroker c.args.broker) c.broker_story.ensures.read;
     unwritten = λ refusal is. refl;
   };
@@ -22,8 +22,8 @@ returns-in-Ok g c =
       told = record {
         written = λ clean t holds.
             let mid = clean_then g.S.Store c.broker_story.new.self c.write_broker_lines.new.desk c.write_broker_lines.ensures.keeps clean in
-            let is_story = (rw (c.in-Ok-Some.is, c.in-Ok-Some.field-0-is) at (c.broker_story.ensures.read.told mid)) t holds in
-            tells_all (explanation t (BrokerOf c.args.broker)) (all_broker_lines t c.args.broker c.in-Ok-Some.story) (broker_told t c.args.broker c.in-Ok-Some.story is_story) _ _ (rw c.in-Ok.is at (c.write_broker_lines.ensures.written clean t (first.kept t holds)));
+            let is_story = (rw (c.in-Ok-Some.is, c.in-Ok-Some.field-0-is) at (c.broker_story.ensures.read.answered mid)) t holds in
+            tells_all (explanation t (BrokerOf c.args.broker)) (all_broker_lines t c.args.broker c.in-Ok-Some.story) (broker_told t c.args.broker c.in-Ok-Some.story is_story) _ _ (rw c.in-Ok.is at (c.write_broker_lines.ensures.written clean t (first.same_rows t holds)));
         keeps = keeps_then g.S.Store c.args.desk.now c.broker_story.new.self c.write_broker_lines.new.desk first c.write_broker_lines.ensures.keeps;
         unwritten = λ refusal is. absurd (let same = is in cc);
       };
@@ -36,9 +36,9 @@ returns-in-Err-Desk g c =
       told = record {
         written = λ clean t holds.
             let mid = clean_then g.S.Store c.broker_story.new.self c.write_broker_lines.new.desk c.write_broker_lines.ensures.keeps clean in
-            let is_story = (rw (c.in-Ok-Some.is, c.in-Ok-Some.field-0-is) at (c.broker_story.ensures.read.told mid)) t holds in
+            let is_story = (rw (c.in-Ok-Some.is, c.in-Ok-Some.field-0-is) at (c.broker_story.ensures.read.answered mid)) t holds in
             tells_fault (explanation t (BrokerOf c.args.broker)) (all_broker_lines t c.args.broker c.in-Ok-Some.story) (broker_told t c.args.broker c.in-Ok-Some.story is_story) _ _ c.in-Err-Desk.fault
-            (rw (c.in-Err-Desk.is, c.in-Err-Desk.field-0-is) at (c.write_broker_lines.ensures.written clean t (first.kept t holds)));
+            (rw (c.in-Err-Desk.is, c.in-Err-Desk.field-0-is) at (c.write_broker_lines.ensures.written clean t (first.same_rows t holds)));
         keeps = keeps_then g.S.Store c.args.desk.now c.broker_story.new.self c.write_broker_lines.new.desk first c.write_broker_lines.ensures.keeps;
         unwritten = λ refusal is. absurd (let same = is in cc);
       };
@@ -51,9 +51,9 @@ returns g c =
       told = record {
         written = λ clean t holds.
             let mid = clean_then g.S.Store c.broker_story.new.self c.write_broker_lines.new.desk c.write_broker_lines.ensures.keeps clean in
-            let is_story = (rw (c.in-Ok-Some.is, c.in-Ok-Some.field-0-is) at (c.broker_story.ensures.read.told mid)) t holds in
+            let is_story = (rw (c.in-Ok-Some.is, c.in-Ok-Some.field-0-is) at (c.broker_story.ensures.read.answered mid)) t holds in
             tells_write (explanation t (BrokerOf c.args.broker)) (all_broker_lines t c.args.broker c.in-Ok-Some.story) (broker_told t c.args.broker c.in-Ok-Some.story is_story) _ _
-            (rw (c.in-Err-Write.is, c.in-Err-Write.field-0-is) at (c.write_broker_lines.ensures.written clean t (first.kept t holds)));
+            (rw (c.in-Err-Write.is, c.in-Err-Write.field-0-is) at (c.write_broker_lines.ensures.written clean t (first.same_rows t holds)));
         keeps = keeps_then g.S.Store c.args.desk.now c.broker_story.new.self c.write_broker_lines.new.desk first c.write_broker_lines.ensures.keeps;
         unwritten = λ refusal is. absurd (let same = is in cc);
       };

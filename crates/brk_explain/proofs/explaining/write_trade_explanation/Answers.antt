@@ -10,8 +10,8 @@ use Rattle.brk_explain.proofs.explaining.write_trade_explanation.Goals as goal
 pub returns-in-Ok-None : goal.returns-in-Ok-None
 returns-in-Ok-None g c = record {
   told = record {
-    written = λ clean t holds. no_trade t c.args.trade ((rw (c.in-Ok-None.is, c.in-Ok-None.field-0-is) at (c.trade_story.ensures.read.told clean)) t holds);
-    keeps = keeps_read g.S.Store _ _ c.trade_story.result (IsStoryOfTrade c.args.trade) c.trade_story.ensures.read;
+    written = λ clean t holds. no_trade t c.args.trade ((rw (c.in-Ok-None.is, c.in-Ok-None.field-0-is) at (c.trade_explanation_rows.ensures.read.answered clean)) t holds);
+    keeps = keeps_read g.S.Store _ _ c.trade_explanation_rows.result (IsStoryOfTrade c.args.trade) c.trade_explanation_rows.ensures.read;
     unwritten = λ refusal is. refl;
   };
 }
@@ -24,9 +24,9 @@ returns-in-Ok g c =
     record {
       told = record {
         written = λ clean t holds.
-            let is_story = (rw (c.in-Ok-Some.is, c.in-Ok-Some.field-0-is) at (c.trade_story.ensures.read.told clean)) t holds in
+            let is_story = (rw (c.in-Ok-Some.is, c.in-Ok-Some.field-0-is) at (c.trade_explanation_rows.ensures.read.answered clean)) t holds in
             tells_all (explanation t (TradeOf c.args.trade)) lines (trade_told t c.args.trade story is_story) _ _ (rw c.in-Ok.is at wrote);
-        keeps = keeps_read g.S.Store _ _ c.trade_story.result (IsStoryOfTrade c.args.trade) c.trade_story.ensures.read;
+        keeps = keeps_read g.S.Store _ _ c.trade_explanation_rows.result (IsStoryOfTrade c.args.trade) c.trade_explanation_rows.ensures.read;
         unwritten = λ refusal is. absurd (let same = is in cc);
       };
     }
@@ -39,9 +39,9 @@ returns-in-Err-Desk g c =
     record {
       told = record {
         written = λ clean t holds.
-            let is_story = (rw (c.in-Ok-Some.is, c.in-Ok-Some.field-0-is) at (c.trade_story.ensures.read.told clean)) t holds in
+            let is_story = (rw (c.in-Ok-Some.is, c.in-Ok-Some.field-0-is) at (c.trade_explanation_rows.ensures.read.answered clean)) t holds in
             tells_fault (explanation t (TradeOf c.args.trade)) lines (trade_told t c.args.trade story is_story) _ _ c.in-Err-Desk.fault (rw (c.in-Err-Desk.is, c.in-Err-Desk.field-0-is) at wrote);
-        keeps = keeps_read g.S.Store _ _ c.trade_story.result (IsStoryOfTrade c.args.trade) c.trade_story.ensures.read;
+        keeps = keeps_read g.S.Store _ _ c.trade_explanation_rows.result (IsStoryOfTrade c.args.trade) c.trade_explanation_rows.ensures.read;
         unwritten = λ refusal is. absurd (let same = is in cc);
       };
     }
@@ -54,9 +54,9 @@ returns g c =
     record {
       told = record {
         written = λ clean t holds.
-            let is_story = (rw (c.in-Ok-Some.is, c.in-Ok-Some.field-0-is) at (c.trade_story.ensures.read.told clean)) t holds in
+            let is_story = (rw (c.in-Ok-Some.is, c.in-Ok-Some.field-0-is) at (c.trade_explanation_rows.ensures.read.answered clean)) t holds in
             tells_write (explanation t (TradeOf c.args.trade)) lines (trade_told t c.args.trade story is_story) _ _ (rw (c.in-Err-Write.is, c.in-Err-Write.field-0-is) at wrote);
-        keeps = keeps_read g.S.Store _ _ c.trade_story.result (IsStoryOfTrade c.args.trade) c.trade_story.ensures.read;
+        keeps = keeps_read g.S.Store _ _ c.trade_explanation_rows.result (IsStoryOfTrade c.args.trade) c.trade_explanation_rows.ensures.read;
         unwritten = λ refusal is. absurd (let same = is in cc);
       };
     }

@@ -15,7 +15,7 @@ returns-clause-read g c =
     let account = c.args.account in
     let symbol = c.args.symbol.now in
     let made = c.quantity_and_price.ensures in
-    read_both g.S.Store c.args.store.now c.summary_of.new.self c.read_last_price.new.store {H = Fault} c.in_ok-summary.summary c.in_ok-price.price c.quantity_and_price.result
+    read_both g.S.Store c.args.store.now c.summary_of_position.new.self c.read_last_price.new.store {H = Fault} c.in_ok-summary.summary c.in_ok-price.price c.quantity_and_price.result
     (λ o (t : Tables). option_map abstract_summary_row o ≡ find (λ (r : SummaryRow). (r.account == account) && bytes_eq r.symbol symbol) t.summaries)
     (λ price (t : Tables). price ≡ last_price_in_tables t symbol)
     (λ held (t : Tables). AreQuantityAndPrice t account symbol held)

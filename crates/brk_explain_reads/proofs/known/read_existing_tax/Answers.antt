@@ -7,7 +7,7 @@ use Rattle.brk_explain_reads.proofs.known.read_existing_tax.Goals as goal
 
 pub returns-in-Some-clause-read : goal.returns-in-Some-clause-read
 returns-in-Some-clause-read g c =
-    retold g.S.Store c.args.store.now c.tax_rate.new.self (Some c.in-Some.tax) c.in-Some.tax
+    retold g.S.Store c.args.store.now c.tax_with_id.new.self (Some c.in-Some.tax) c.in-Some.tax
     (λ o (t : Tables). option_map abstract_tax_rate o ≡ find (λ (r : TaxRate). r.id == c.args.id) t.tax_rates)
     (λ tax (t : Tables). find (λ (r : TaxRate). r.id == c.args.id) t.tax_rates ≡ Some (abstract_tax_rate tax))
     (λ t e. sym e)

@@ -15,7 +15,7 @@ returns-clause-read g c =
     let order = c.args.order.now in
     let u = abstract_trade_row order.trade in
     let bands = c.in_ok-bands.bands in
-    retold g.S.Store c.args.store.now c.bands_for.new.self bands c.first_band_with_quantity.result
+    retold g.S.Store c.args.store.now c.commission_bands.new.self bands c.first_band_with_quantity.result
     (λ all (t : Tables). map abstract_band all.items ≡ filter (λ (r : Band). (r.tier == c.args.tier) && is_same_trade_type r.kind u.kind && bytes_eq r.exchange order.security.exchange) t.bands)
     (λ band (t : Tables). option_map abstract_band band ≡ band_for_tier_and_exchange t u c.args.tier order.security.exchange)
     (λ t e. band_known t u c.args.tier order.security.exchange (option_map abstract_band c.first_band_with_quantity.result) (map abstract_band bands.items) e c.first_band_with_quantity.ensures)

@@ -25,7 +25,7 @@ FirstRates customer rows rates i t =
 
 pub loop-row-init : goal.loop-row-init
 loop-row-init g c =
-    retold g.S.Store c.args.store.now c.customer_taxes_of.new.self c.in_ok-rows.rows tt
+    retold g.S.Store c.args.store.now c.taxes_of_customer.new.self c.in_ok-rows.rows tt
     (λ all (t : Tables). map abstract_customer_tax all.items ≡ filter (λ (r : CustomerTax). r.customer == c.args.customer) t.customer_taxes)
     (λ _. FirstRates c.args.customer c.deref-row-items.result.now c.new-rates.result.items 0)
     (λ t e. (ap (map abstract_customer_tax) c.deref-row-items.ensures.value ∙ e, ap (map (λ rate. Some (abstract_tax_rate rate))) c.new-rates.ensures.items))

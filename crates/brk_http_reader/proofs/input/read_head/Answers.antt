@@ -8,15 +8,15 @@ unfolding head_end
 returns-in-Some-clause-value g c =
     let len : vec_len c.filling.buffer ≡ length c.filling.buffer.items = sym c.deref.ensures.len ∙ ap length c.deref.ensures.value in
     let e : head_length (take (min (length c.filling.buffer.items) most_head_bytes) c.filling.buffer.items) ≡ Some c.in-Some.n =
-    sym (rw (c.min-seen.ensures, c.len-len.ensures, c.deref.ensures.value, len) at (sym c.in-Some.is ∙ c.head_len.ensures.value)) in
+    sym (rw (c.min-seen.ensures, c.len-len.ensures, c.deref.ensures.value, len) at (sym c.in-Some.is ∙ c.head_length_in_bytes.ensures.value)) in
     head_at most_head_bytes _ _ _ _ c.in-Some.n c.filling.invariant e
 
-pub returns-then-len-ge-HEAD_LIMIT-clause-value : goal.returns-then-len-ge-HEAD_LIMIT-clause-value
+pub returns-then-len-ge-MAXIMUM_HEAD_BYTES-clause-value : goal.returns-then-len-ge-MAXIMUM_HEAD_BYTES-clause-value
 unfolding head_end
-returns-then-len-ge-HEAD_LIMIT-clause-value g c =
+returns-then-len-ge-MAXIMUM_HEAD_BYTES-clause-value g c =
     let len : vec_len c.filling.buffer ≡ length c.filling.buffer.items = sym c.deref.ensures.len ∙ ap length c.deref.ensures.value in
     let e : head_length (take (min (length c.filling.buffer.items) most_head_bytes) c.filling.buffer.items) ≡ None =
-    sym (rw (c.min-seen.ensures, c.len-len.ensures, c.deref.ensures.value, len) at (sym c.in-None.is ∙ c.head_len.ensures.value)) in
+    sym (rw (c.min-seen.ensures, c.len-len.ensures, c.deref.ensures.value, len) at (sym c.in-None.is ∙ c.head_length_in_bytes.ensures.value)) in
     head_long most_head_bytes _ _ _ _ (omega arith) c.filling.invariant e (omega arith)
 
 pub returns-then-not-branch-clause-value : goal.returns-then-not-branch-clause-value
@@ -24,7 +24,7 @@ unfolding head_end
 returns-then-not-branch-clause-value g c =
     let len : vec_len c.filling.buffer ≡ length c.filling.buffer.items = sym c.deref.ensures.len ∙ ap length c.deref.ensures.value in
     let e : head_length (take (min (length c.filling.buffer.items) most_head_bytes) c.filling.buffer.items) ≡ None =
-    sym (rw (c.min-seen.ensures, c.len-len.ensures, c.deref.ensures.value, len) at (sym c.in-None.is ∙ c.head_len.ensures.value)) in
+    sym (rw (c.min-seen.ensures, c.len-len.ensures, c.deref.ensures.value, len) at (sym c.in-None.is ∙ c.head_length_in_bytes.ensures.value)) in
     let end = c.in_ok-read_into_buffer.ensures.end (ap (λ b. Ok b) c.if-not-branch.true) in
     let f : head_length (take (min (length c.read_into_buffer.new.buffer.items) most_head_bytes) c.read_into_buffer.new.buffer.items) ≡ None = rw end.1 e in
     let same : length c.read_into_buffer.new.buffer.items ≡ vec_len c.filling.buffer = ap length end.1 ∙ sym len in

@@ -24,6 +24,6 @@ returns-clause-found g c =
     let within = rw c.in-At.is at c.in_ok-read_head.ensures.within in
     let head = rw c.deref.ensures.value at c.in-Some.ensures.head in
     let spans = rw c.deref.ensures.value at c.in-Some.ensures.within in
-    let there = c.in_ok-there.ensures.there (ap (λ b. Ok b) c.if-not-there.false) in
+    let there = c.in_ok-there.ensures.whole (ap (λ b. Ok b) c.if-not-there.false) in
     whole_body _ _ _ _ c.in-At.end c.in_ok-read_head.ensures.moves value within c.in-Some.facts head.0 head.1 c.in-Ok.len _ _ head.2 c.in-Ok.is
     c.in_ok-there.ensures.moves there spans.0 spans.1

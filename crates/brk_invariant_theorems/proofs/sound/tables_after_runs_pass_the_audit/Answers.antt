@@ -4,7 +4,7 @@ use Rattle.brk_invariant_theorems.proofs.sound.tables_after_runs_pass_the_audit.
 
 pub returns : goal.returns
 returns c = record {
-  sound = run_sound;
+  preserved = run_sound;
   first = first_passes;
   adopted = adopted_passes;
   formed = λ calls outcomes after f r. first_passes calls outcomes after (formed_calls calls f) r;

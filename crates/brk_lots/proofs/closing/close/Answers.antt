@@ -25,12 +25,12 @@ returns-clause-closing g c ls lifo given fresh =
     (c.from.ensures ∙ ap (λ (v : Values). pos v.buy_value) values)
     (c.from-2.ensures ∙ ap (λ (v : Values). pos v.sell_value) values)
 
-pub returns-in_err-taken-clause-most : goal.returns-in_err-taken-clause-most
-returns-in_err-taken-clause-most g c ls lifo given fresh =
+pub returns-in_err-taken-clause-requests_at_most_touched : goal.returns-in_err-taken-clause-requests_at_most_touched
+returns-in_err-taken-clause-requests_at_most_touched g c ls lifo given fresh =
     let d : Deal = record { trade = c.args.trade; side = c.args.side; qty = c.args.qty; price = c.args.price; stamp = c.args.stamp; is_lifo = lifo } in
-    omega (arith, c.close_source_lots.ensures.most (list_in_closing_order lifo ls) given.0 (walk_end lifo ls given.1), touched_are d ls given.1 fresh)
+    omega (arith, c.close_lots_with_values.ensures.requests_at_most_touched (list_in_closing_order lifo ls) given.0 (walk_end lifo ls given.1), touched_are d ls given.1 fresh)
 
-pub returns-clause-most : goal.returns-clause-most
-returns-clause-most g c ls lifo given fresh =
+pub returns-clause-requests_at_most_touched : goal.returns-clause-requests_at_most_touched
+returns-clause-requests_at_most_touched g c ls lifo given fresh =
     let d : Deal = record { trade = c.args.trade; side = c.args.side; qty = c.args.qty; price = c.args.price; stamp = c.args.stamp; is_lifo = lifo } in
-    omega (arith, c.close_source_lots.ensures.most (list_in_closing_order lifo ls) given.0 (walk_end lifo ls given.1), touched_are d ls given.1 fresh)
+    omega (arith, c.close_lots_with_values.ensures.requests_at_most_touched (list_in_closing_order lifo ls) given.0 (walk_end lifo ls given.1), touched_are d ls given.1 fresh)

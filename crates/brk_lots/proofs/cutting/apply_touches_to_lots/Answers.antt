@@ -5,7 +5,7 @@ use Rattle.std.proofs.lemmas.List.{drop-append-le, drop-drop, drop-take, get_or-
 use Rattle.brk_lots.specs.declared.lot.Lot.{Lot}
 use Rattle.brk_lots.specs.declared.lot.Touch.{Touch}
 use Rattle.brk_lots.specs.Lots.{list_in_closing_order}
-use Rattle.brk_lots.specs.Walks.{touches_of_first_shares, lot_with_quantity}
+use Rattle.brk_lots.specs.Walks.{touches_of_first_shares, lot_with_nonzero_quantity}
 use Rattle.brk_lots.proofs.Cuts.{rows_fit_end, left_front, left_back, left_whole}
 use Rattle.brk_lots.proofs.cutting.apply_touches_to_lots.Goals as goal
 
@@ -59,9 +59,9 @@ returns-then-eq-clause-left c =
     let fit : FitsSigned w64 c.index-touched-count.result.after = search rules in
     let q = passed rows (length rows - 1) c.index-touched-count.result fit c.index-touched-count.is in
     c.remove_front_lots.ensures.left l (place all (first + length rows - 1) f at)
-    ∙ ap (λ z. lot_with_quantity z l ++ drop (first + length rows - 1 + 1) all) q
-    ∙ ap (λ (n : ℕ). lot_with_quantity c.index-touched-count.result.after l ++ drop n all) next
-    ∙ ap (λ (ls : List Lot). lot_with_quantity c.index-touched-count.result.after l ++ ls) (sym (drop-drop (length rows) first all))
+    ∙ ap (λ z. lot_with_nonzero_quantity z l ++ drop (first + length rows - 1 + 1) all) q
+    ∙ ap (λ (n : ℕ). lot_with_nonzero_quantity c.index-touched-count.result.after l ++ drop n all) next
+    ∙ ap (λ (ls : List Lot). lot_with_nonzero_quantity c.index-touched-count.result.after l ++ ls) (sym (drop-drop (length rows) first all))
     ∙ sym (left_front r.0 r.1 (drop first all) c.requires.walk rows r.2 some c.index-touched-0.result f c.index-touched-0.is f0 same c.index-touched-count.result l c.index-touched-count.is (inside all first (first + length rows - 1) (length rows - 1) f at (omega (arith, some))))
 
 pub overflow_sub-last : goal.overflow_sub-last
@@ -89,8 +89,8 @@ returns-clause-left c =
     let back : first + m ≡ i = omega (arith, h, n, length-drop first all) in
     let fit : FitsSigned w64 c.index-touched-count.result.after = search rules in
     let q = passed rows (length rows - 1) c.index-touched-count.result fit c.index-touched-count.is in
-    ap (drop first) (c.remove_back_lots.ensures.left l (place all i f at) ∙ ap (λ z. take i all ++ lot_with_quantity z l) q)
-    ∙ front_kept all (lot_with_quantity c.index-touched-count.result.after l) first i m back (omega (arith, at))
+    ap (drop first) (c.remove_back_lots.ensures.left l (place all i f at) ∙ ap (λ z. take i all ++ lot_with_nonzero_quantity z l) q)
+    ∙ front_kept all (lot_with_nonzero_quantity c.index-touched-count.result.after l) first i m back (omega (arith, at))
     ∙ sym (left_back r.0 r.1 (drop first all) c.requires.walk rows r.2 some c.index-touched-0.result f c.index-touched-0.is f0 other c.index-touched-count.result l c.index-touched-count.is (inside all first i m f at back))
 
 pub returns-clause-begins : goal.returns-clause-begins

@@ -4,12 +4,12 @@ use Rattle.std.proofs.Math.Seq.{take-set-lt}
 use Rattle.std.proofs.lemmas.Int.{to_z-of_z}
 use Rattle.std.proofs.lemmas.List.{get_or-take, get_or_default, take_more_set}
 use Rattle.brk_lots.specs.declared.lot.Lot.{Lot}
-use Rattle.brk_lots.specs.Walks.{lot_with_quantity}
+use Rattle.brk_lots.specs.Walks.{lot_with_nonzero_quantity}
 use Rattle.brk_lots.proofs.Left.{int_differ}
 use Rattle.brk_lots.proofs.cutting.remove_back_lots.Goals as goal
 
 -- a lot is left with another quantity
-with_qty : (q z : ℤ) (r l : Lot) → q ≢ pos 0 → z ≡ q → r ≡ l → record { trade = r.trade; price = r.price; qty = z; stamp = r.stamp } ∷ [] ≡ lot_with_quantity q l
+with_qty : (q z : ℤ) (r l : Lot) → q ≢ pos 0 → z ≡ q → r ≡ l → record { trade = r.trade; price = r.price; qty = z; stamp = r.stamp } ∷ [] ≡ lot_with_nonzero_quantity q l
 with_qty q z r l n e s =
     ap (λ (m : Lot). record { trade = m.trade; price = m.price; qty = z; stamp = m.stamp } ∷ []) s
     ∙ ap (λ y. record { trade = l.trade; price = l.price; qty = y; stamp = l.stamp } ∷ []) e ∙ rw (int_differ q (pos 0) n) refl

@@ -7,6 +7,6 @@ use Rattle.brk_lots.proofs.laws.lot_histories_are_chains.Goals as goal
 
 pub returns : goal.returns
 returns c = record {
-  life = lots_live;
+  history = lots_live;
   opened = λ d ls p fresh. opened_qty d (shares_of_lots ls) (all_shares (λ v. v.trade ≢ d.trade) ls fresh);
 }

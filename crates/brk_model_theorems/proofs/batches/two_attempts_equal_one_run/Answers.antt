@@ -4,5 +4,5 @@ use Rattle.brk_model_theorems.proofs.batches.two_attempts_equal_one_run.Goals as
 pub returns-clause-run : goal.returns-clause-run
 returns-clause-run c = one-run
 
-pub returns-clause-kept : goal.returns-clause-kept
-returns-clause-kept c = done-kept
+pub returns-clause-stored : goal.returns-clause-stored
+returns-clause-stored c = done-kept

@@ -4,5 +4,5 @@ use Rattle.brk_model_theorems.proofs.names.runs_preserve_references.Goals as goa
 pub returns-clause-run : goal.returns-clause-run
 returns-clause-run c = still-named
 
-pub returns-clause-first : goal.returns-clause-first
-returns-clause-first c = is_named
+pub returns-clause-from_empty_base : goal.returns-clause-from_empty_base
+returns-clause-from_empty_base c = is_named

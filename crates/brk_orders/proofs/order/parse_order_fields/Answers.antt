@@ -14,11 +14,11 @@ returns-in_default-clause-read c = account_refused c.args.told (sym c.in_default
 pub returns-in_default-2-clause-read : goal.returns-in_default-2-clause-read
 returns-in_default-2-clause-read c = symbol_refused c.args.told (sym c.in_ok-symbol.ensures.read ∙ ap (λ o. ok_or o BadText) c.in_default-2.is)
 
-pub returns-in_default-parse_either_word-clause-read : goal.returns-in_default-parse_either_word-clause-read
-returns-in_default-parse_either_word-clause-read c = cash_refused c.args.told (sym c.in_default-parse_either_word.ensures)
+pub returns-in_default-parse_word_as_boolean-clause-read : goal.returns-in_default-parse_word_as_boolean-clause-read
+returns-in_default-parse_word_as_boolean-clause-read c = cash_refused c.args.told (sym c.in_default-parse_word_as_boolean.ensures)
 
-pub returns-in_default-parse_either_word-2-clause-read : goal.returns-in_default-parse_either_word-2-clause-read
-returns-in_default-parse_either_word-2-clause-read c = end_refused c.args.told (sym c.in_default-parse_either_word-2.ensures)
+pub returns-in_default-parse_word_as_boolean-2-clause-read : goal.returns-in_default-parse_word_as_boolean-2-clause-read
+returns-in_default-parse_word_as_boolean-2-clause-read c = end_refused c.args.told (sym c.in_default-parse_word_as_boolean-2.ensures)
 
 pub returns-in_default-3-clause-read : goal.returns-in_default-3-clause-read
 returns-in_default-3-clause-read c =
@@ -26,22 +26,22 @@ returns-in_default-3-clause-read c =
 
 pub returns-in_default-parse_qty-clause-read : goal.returns-in_default-parse_qty-clause-read
 returns-in_default-parse_qty-clause-read c =
-    qty_refused c.args.told c.in-Some.account c.in-Some-2.symbol c.in-Some-parse_either_word.is_cash c.in-Some-parse_either_word-2.is_lifo (abstract_executor c.in-Some-3.executor)
-    (sym c.in-Some.ensures) (sym c.in_ok-symbol.ensures.read ∙ ap (λ o. ok_or o BadText) c.in-Some-2.is) (sym c.in-Some-parse_either_word.ensures) (sym c.in-Some-parse_either_word-2.ensures)
+    qty_refused c.args.told c.in-Some.account c.in-Some-2.symbol c.in-Some-parse_word_as_boolean.is_cash c.in-Some-parse_word_as_boolean-2.is_lifo (abstract_executor c.in-Some-3.executor)
+    (sym c.in-Some.ensures) (sym c.in_ok-symbol.ensures.read ∙ ap (λ o. ok_or o BadText) c.in-Some-2.is) (sym c.in-Some-parse_word_as_boolean.ensures) (sym c.in-Some-parse_word_as_boolean-2.ensures)
     (sym c.in_ok-executor.ensures.read ∙ ap (λ o. ok_or (option_map abstract_executor o) BadText) c.in-Some-3.is) (sym c.in_default-parse_qty.ensures)
 
 pub returns-in-Err-clause-read : goal.returns-in-Err-clause-read
 returns-in-Err-clause-read c =
-    type_refused c.args.told c.in-Some.account c.in-Some-2.symbol c.in-Some-parse_either_word.is_cash c.in-Some-parse_either_word-2.is_lifo (abstract_executor c.in-Some-3.executor) c.in-Some-parse_qty.qty
+    type_refused c.args.told c.in-Some.account c.in-Some-2.symbol c.in-Some-parse_word_as_boolean.is_cash c.in-Some-parse_word_as_boolean-2.is_lifo (abstract_executor c.in-Some-3.executor) c.in-Some-parse_qty.qty
     c.in-Err.refusal
-    (sym c.in-Some.ensures) (sym c.in_ok-symbol.ensures.read ∙ ap (λ o. ok_or o BadText) c.in-Some-2.is) (sym c.in-Some-parse_either_word.ensures) (sym c.in-Some-parse_either_word-2.ensures)
+    (sym c.in-Some.ensures) (sym c.in_ok-symbol.ensures.read ∙ ap (λ o. ok_or o BadText) c.in-Some-2.is) (sym c.in-Some-parse_word_as_boolean.ensures) (sym c.in-Some-parse_word_as_boolean-2.ensures)
     (sym c.in_ok-executor.ensures.read ∙ ap (λ o. ok_or (option_map abstract_executor o) BadText) c.in-Some-3.is) (sym c.in-Some-parse_qty.ensures)
     (ap (λ k. order_type_with_price k c.args.told.price.now) (sym (type_found _ (trade_type_with_code c.args.told.kind.now) c.parse_trade_type.ensures)) ∙ sym c.in-Err.ensures)
 
 pub returns-clause-read : goal.returns-clause-read
 returns-clause-read c =
-    all_read c.args.told c.in-Some.account c.in-Some-2.symbol c.in-Some-parse_either_word.is_cash c.in-Some-parse_either_word-2.is_lifo (abstract_executor c.in-Some-3.executor) c.in-Some-parse_qty.qty
+    all_read c.args.told c.in-Some.account c.in-Some-2.symbol c.in-Some-parse_word_as_boolean.is_cash c.in-Some-parse_word_as_boolean-2.is_lifo (abstract_executor c.in-Some-3.executor) c.in-Some-parse_qty.qty
     c.in-Ok.order_type
-    (sym c.in-Some.ensures) (sym c.in_ok-symbol.ensures.read ∙ ap (λ o. ok_or o BadText) c.in-Some-2.is) (sym c.in-Some-parse_either_word.ensures) (sym c.in-Some-parse_either_word-2.ensures)
+    (sym c.in-Some.ensures) (sym c.in_ok-symbol.ensures.read ∙ ap (λ o. ok_or o BadText) c.in-Some-2.is) (sym c.in-Some-parse_word_as_boolean.ensures) (sym c.in-Some-parse_word_as_boolean-2.ensures)
     (sym c.in_ok-executor.ensures.read ∙ ap (λ o. ok_or (option_map abstract_executor o) BadText) c.in-Some-3.is) (sym c.in-Some-parse_qty.ensures)
     (ap (λ k. order_type_with_price k c.args.told.price.now) (sym (type_found _ (trade_type_with_code c.args.told.kind.now) c.parse_trade_type.ensures)) ∙ sym c.in-Ok.ensures)

@@ -1,10 +1,10 @@
 use Rattle.brk_queries.proofs.looking.view_of_query.Goals as goal
 
 pub returns-in-Position-clause-read : goal.returns-in-Position-clause-read
-returns-in-Position-clause-read g c = rw c.in-Position.is c.view_of_position.ensures.read
+returns-in-Position-clause-read g c = rw c.in-Position.is c.view_of_account_values.ensures.read
 
 pub returns-in-PositionOfTaxId-clause-read : goal.returns-in-PositionOfTaxId-clause-read
-returns-in-PositionOfTaxId-clause-read g c = rw c.in-PositionOfTaxId.is c.view_of_position_by_tax_id.ensures.read
+returns-in-PositionOfTaxId-clause-read g c = rw c.in-PositionOfTaxId.is c.view_of_account_values_by_tax_id.ensures.read
 
 pub returns-in-Recent-clause-read : goal.returns-in-Recent-clause-read
 returns-in-Recent-clause-read g c = rw c.in-Recent.is c.view_of_recent_trades.ensures.read
@@ -19,7 +19,7 @@ pub returns-in-Estimate-clause-read : goal.returns-in-Estimate-clause-read
 returns-in-Estimate-clause-read g c = rw c.in-Estimate.is c.view_of_estimate.ensures.read
 
 pub returns-in-Trades-clause-read : goal.returns-in-Trades-clause-read
-returns-in-Trades-clause-read g c = rw c.in-Trades.is c.view_of_trades.ensures.read
+returns-in-Trades-clause-read g c = rw c.in-Trades.is c.view_of_trades_by_ids.ensures.read
 
 pub returns-in-AccountTrades-clause-read : goal.returns-in-AccountTrades-clause-read
 returns-in-AccountTrades-clause-read g c = rw c.in-AccountTrades.is c.view_of_account_trades.ensures.read

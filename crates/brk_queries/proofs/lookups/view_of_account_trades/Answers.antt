@@ -12,9 +12,9 @@ use Rattle.brk_ref.specs.declared.account.AccountRow.{AccountRow}
 use Rattle.brk_store.proofs.Retelling.{retold}
 use Rattle.brk_decisions.proofs.Looking.{read_both}
 use Rattle.brk_view.specs.declared.view.View.{View}
-use Rattle.brk_queries.specs.LookedUp.{AreLookupsOfTrades}
-use Rattle.brk_queries.specs.Shows.{ShowsQueryResult}
-use Rattle.brk_queries.proofs.LookupViews.{OfAccount, account_trades_seen, no_account_trades}
+use Rattle.brk_queries.specs.LookedUp.{HaveAllRowsOfTrades}
+use Rattle.brk_queries.specs.QueryResults.{AnswersQueryAsModel}
+use Rattle.brk_queries.proofs.LookupViews.{is_trade_of_account_in_span, account_trades_seen, no_account_trades}
 use Rattle.brk_queries.proofs.lookups.view_of_account_trades.Goals as goal
 
 -- the account with an id
@@ -26,7 +26,7 @@ returns-in_default-clause-read g c =
     let id = c.args.account in
     let span = c.args.span in
     retold g.S.Store c.args.store.now c.account.new.self {V = Option AccountRow} {X = Result View Refusal} None (Err NoAccount)
-    (IsRowOf id) (ShowsQueryResult (TradesOfAccount id span.first span.last)) (no_account_trades id span.first span.last)
+    (IsRowOf id) (AnswersQueryAsModel (TradesOfAccount id span.first span.last)) (no_account_trades id span.first span.last)
     (rw c.in_default.is at c.in_ok-_row.ensures.read)
 
 pub returns-clause-read : goal.returns-clause-read
@@ -39,13 +39,13 @@ returns-clause-read g c =
     let found = c.in_ok-found.found in
     let view = c.lookup_account.result in
     let rows = map abstract_trade_row trades.items in
-    read_both g.S.Store old c.twenty_trades_of_account.new.self c.look_up_trades.new.store {X = Result View Refusal} {H = Fault} (Some row) found (Ok view)
-    (λ o (t : Tables). IsRowOf id o t × (rows ≡ take 20 (trade_rows_oldest_first (filter (OfAccount id span.first span.last) t.trades))))
-    (λ found. AreLookupsOfTrades rows found.items)
-    (ShowsQueryResult (TradesOfAccount id span.first span.last))
-    (λ t k p. account_trades_seen id span.first span.last (abstract_account_row row) rows found view c.lookup_account.ensures.carried c.lookup_account.ensures.view t k.0 k.1 p)
-    (read_both g.S.Store old c.account.new.self c.twenty_trades_of_account.new.self {X = Option AccountRow} {H = Fault} (Some row) trades (Some row)
-    (IsRowOf id) (λ all (t : Tables). map abstract_trade_row all.items ≡ take 20 (trade_rows_oldest_first (filter (OfAccount id span.first span.last) t.trades)))
-    (λ o (t : Tables). IsRowOf id o t × (rows ≡ take 20 (trade_rows_oldest_first (filter (OfAccount id span.first span.last) t.trades))))
+    read_both g.S.Store old c.first_twenty_trades_of_account.new.self c.read_all_rows_of_trades.new.store {X = Result View Refusal} {H = Fault} (Some row) found (Ok view)
+    (λ o (t : Tables). IsRowOf id o t × (rows ≡ take 20 (trade_rows_oldest_first (filter (is_trade_of_account_in_span id span.first span.last) t.trades))))
+    (λ found. HaveAllRowsOfTrades rows found.items)
+    (AnswersQueryAsModel (TradesOfAccount id span.first span.last))
+    (λ t k p. account_trades_seen id span.first span.last (abstract_account_row row) rows found view c.lookup_account.ensures.value c.lookup_account.ensures.view t k.0 k.1 p)
+    (read_both g.S.Store old c.account.new.self c.first_twenty_trades_of_account.new.self {X = Option AccountRow} {H = Fault} (Some row) trades (Some row)
+    (IsRowOf id) (λ all (t : Tables). map abstract_trade_row all.items ≡ take 20 (trade_rows_oldest_first (filter (is_trade_of_account_in_span id span.first span.last) t.trades)))
+    (λ o (t : Tables). IsRowOf id o t × (rows ≡ take 20 (trade_rows_oldest_first (filter (is_trade_of_account_in_span id span.first span.last) t.trades))))
     (λ t e w. (e, w)) (rw c.in-Some.is at c.in_ok-_row.ensures.read) c.in_ok-trades.ensures.read)
     c.in_ok-found.ensures.read

@@ -13,9 +13,9 @@ use Rattle.brk_ref.specs.declared.security.Security.{Security}
 use Rattle.brk_store.proofs.Retelling.{retold}
 use Rattle.brk_decisions.proofs.Looking.{read_both}
 use Rattle.brk_view.specs.declared.view.View.{View}
-use Rattle.brk_queries.specs.LookedUp.{AreLookupsOfTrades}
-use Rattle.brk_queries.specs.Shows.{ShowsQueryResult}
-use Rattle.brk_queries.proofs.LookupViews.{OfSymbol, no_symbol_trades, symbol_trades_seen}
+use Rattle.brk_queries.specs.LookedUp.{HaveAllRowsOfTrades}
+use Rattle.brk_queries.specs.QueryResults.{AnswersQueryAsModel}
+use Rattle.brk_queries.proofs.LookupViews.{is_trade_of_symbol_in_span, no_symbol_trades, symbol_trades_seen}
 use Rattle.brk_queries.proofs.lookups.view_of_symbol_trades.Goals as goal
 
 -- the security with a symbol
@@ -27,7 +27,7 @@ returns-in_default-clause-read g c =
     let symbol = c.args.symbol.now in
     let span = c.args.span in
     retold g.S.Store c.args.store.now c.security.new.self {V = Option Security} {X = Result View Refusal} None (Err NoSecurity)
-    (IsRowOf symbol) (ShowsQueryResult (TradesOfSymbol symbol span.first span.last)) (no_symbol_trades symbol span.first span.last)
+    (IsRowOf symbol) (AnswersQueryAsModel (TradesOfSymbol symbol span.first span.last)) (no_symbol_trades symbol span.first span.last)
     (rw c.in_default.is at c.in_ok-_row.ensures.read)
 
 pub returns-clause-read : goal.returns-clause-read
@@ -40,13 +40,13 @@ returns-clause-read g c =
     let found = c.in_ok-found.found in
     let view = c.lookup_symbol.result in
     let rows = map abstract_trade_row trades.items in
-    read_both g.S.Store old c.twenty_trades_of_symbol.new.self c.look_up_trades.new.store {X = Result View Refusal} {H = Fault} (Some row) found (Ok view)
-    (λ o (t : Tables). IsRowOf symbol o t × (rows ≡ take 20 (trade_rows_oldest_first (filter (OfSymbol symbol span.first span.last) t.trades))))
-    (λ found. AreLookupsOfTrades rows found.items)
-    (ShowsQueryResult (TradesOfSymbol symbol span.first span.last))
-    (λ t k p. symbol_trades_seen symbol span.first span.last (abstract_security_row row) rows found view c.lookup_symbol.ensures.carried c.lookup_symbol.ensures.view t k.0 k.1 p)
-    (read_both g.S.Store old c.security.new.self c.twenty_trades_of_symbol.new.self {X = Option Security} {H = Fault} (Some row) trades (Some row)
-    (IsRowOf symbol) (λ all (t : Tables). map abstract_trade_row all.items ≡ take 20 (trade_rows_oldest_first (filter (OfSymbol symbol span.first span.last) t.trades)))
-    (λ o (t : Tables). IsRowOf symbol o t × (rows ≡ take 20 (trade_rows_oldest_first (filter (OfSymbol symbol span.first span.last) t.trades))))
+    read_both g.S.Store old c.first_twenty_trades_of_symbol.new.self c.read_all_rows_of_trades.new.store {X = Result View Refusal} {H = Fault} (Some row) found (Ok view)
+    (λ o (t : Tables). IsRowOf symbol o t × (rows ≡ take 20 (trade_rows_oldest_first (filter (is_trade_of_symbol_in_span symbol span.first span.last) t.trades))))
+    (λ found. HaveAllRowsOfTrades rows found.items)
+    (AnswersQueryAsModel (TradesOfSymbol symbol span.first span.last))
+    (λ t k p. symbol_trades_seen symbol span.first span.last (abstract_security_row row) rows found view c.lookup_symbol.ensures.value c.lookup_symbol.ensures.view t k.0 k.1 p)
+    (read_both g.S.Store old c.security.new.self c.first_twenty_trades_of_symbol.new.self {X = Option Security} {H = Fault} (Some row) trades (Some row)
+    (IsRowOf symbol) (λ all (t : Tables). map abstract_trade_row all.items ≡ take 20 (trade_rows_oldest_first (filter (is_trade_of_symbol_in_span symbol span.first span.last) t.trades)))
+    (λ o (t : Tables). IsRowOf symbol o t × (rows ≡ take 20 (trade_rows_oldest_first (filter (is_trade_of_symbol_in_span symbol span.first span.last) t.trades))))
     (λ t e w. (e, w)) (rw c.in-Some.is at c.in_ok-_row.ensures.read) c.in_ok-trades.ensures.read)
     c.in_ok-found.ensures.read

@@ -11,9 +11,9 @@ use Rattle.brk_ref.specs.declared.account.AccountRow.{AccountRow}
 use Rattle.brk_store.proofs.Retelling.{retold}
 use Rattle.brk_decisions.proofs.Looking.{read_both}
 use Rattle.brk_view.specs.declared.view.View.{View}
-use Rattle.brk_queries.specs.Shows.{ShowsQueryResult}
-use Rattle.brk_queries.specs.Touched.{AreTouchedLotsOf}
-use Rattle.brk_queries.proofs.LotViews.{IsSince, lots_seen, no_lots, none_seen}
+use Rattle.brk_queries.specs.QueryResults.{AnswersQueryAsModel}
+use Rattle.brk_queries.specs.Touched.{AreTouchedLotsOfTrade}
+use Rattle.brk_queries.proofs.LotViews.{IsFirstTradeSince, lots_seen, no_lots, none_seen}
 use Rattle.brk_queries.proofs.lots.view_of_touched_lots.Goals as goal
 
 -- the account with an id
@@ -25,7 +25,7 @@ returns-in_default-clause-read g c =
     let id = c.args.account in
     let first = c.args.first in
     retold g.S.Store c.args.store.now c.account.new.self {V = Option AccountRow} {X = Result View Refusal} None (Err NoAccount)
-    (IsRowOf id) (ShowsQueryResult (LotsTouched id first)) (no_lots id first)
+    (IsRowOf id) (AnswersQueryAsModel (LotsTouched id first)) (no_lots id first)
     (rw c.in_default.is at c.in_ok-_row.ensures.read)
 
 pub returns-in_default-2-clause-read : goal.returns-in_default-2-clause-read
@@ -35,8 +35,8 @@ returns-in_default-2-clause-read g c =
     let row = c.in-Some._row in
     let view = c.lookup_lots.result in
     read_both g.S.Store c.args.store.now c.account.new.self c.first_trade_since.new.self {W = Option TradeRow} {X = Result View Refusal} {H = Fault} (Some row) None (Ok view)
-    (IsRowOf id) (IsSince id first) (ShowsQueryResult (LotsTouched id first))
-    (λ t e s. none_seen id first (abstract_account_row row) view c.lookup_lots.ensures.carried c.lookup_lots.ensures.view t e s)
+    (IsRowOf id) (IsFirstTradeSince id first) (AnswersQueryAsModel (LotsTouched id first))
+    (λ t e s. none_seen id first (abstract_account_row row) view c.lookup_lots.ensures.value c.lookup_lots.ensures.view t e s)
     (rw c.in-Some.is at c.in_ok-_row.ensures.read) (rw c.in_default-2.is at c.in_ok-trade.ensures.read)
 
 pub returns-clause-read : goal.returns-clause-read
@@ -48,12 +48,12 @@ returns-clause-read g c =
     let trade = c.in-Some-2.trade in
     let lots = c.in_ok-lots.lots in
     let view = c.lookup_lots-2.result in
-    read_both g.S.Store old c.first_trade_since.new.self c.read_touched_lots.new.store {X = Result View Refusal} {H = Fault} (Some trade) lots (Ok view)
-    (λ o (t : Tables). (Some (abstract_account_row row) ≡ find (λ r. r.id == id) t.accounts) × IsSince id first o t)
-    (AreTouchedLotsOf trade.id)
-    (ShowsQueryResult (LotsTouched id first))
-    (λ t k p. lots_seen id first (abstract_account_row row) trade lots view c.lookup_lots-2.ensures.carried c.lookup_lots-2.ensures.view t k.0 k.1 p)
+    read_both g.S.Store old c.first_trade_since.new.self c.read_changes_of_touched_lots.new.store {X = Result View Refusal} {H = Fault} (Some trade) lots (Ok view)
+    (λ o (t : Tables). (Some (abstract_account_row row) ≡ find (λ r. r.id == id) t.accounts) × IsFirstTradeSince id first o t)
+    (AreTouchedLotsOfTrade trade.id)
+    (AnswersQueryAsModel (LotsTouched id first))
+    (λ t k p. lots_seen id first (abstract_account_row row) trade lots view c.lookup_lots-2.ensures.value c.lookup_lots-2.ensures.view t k.0 k.1 p)
     (read_both g.S.Store old c.account.new.self c.first_trade_since.new.self {X = Option TradeRow} {H = Fault} (Some row) (Some trade) (Some trade)
-    (IsRowOf id) (IsSince id first) (λ o (t : Tables). (Some (abstract_account_row row) ≡ find (λ r. r.id == id) t.accounts) × IsSince id first o t)
+    (IsRowOf id) (IsFirstTradeSince id first) (λ o (t : Tables). (Some (abstract_account_row row) ≡ find (λ r. r.id == id) t.accounts) × IsFirstTradeSince id first o t)
     (λ t e s. (e, s)) (rw c.in-Some.is at c.in_ok-_row.ensures.read) (rw c.in-Some-2.is at c.in_ok-trade.ensures.read))
     c.in_ok-lots.ensures.read

@@ -4,18 +4,18 @@ use Rattle.brk_orders.specs.Records.{abstract_order}
 use Rattle.brk_view.specs.declared.view.View.TheVariants as views
 use Rattle.brk_store.proofs.Retelling.{retold}
 use Rattle.brk_decisions.specs.Decisions.{IsEstimateOfModel}
-use Rattle.brk_queries.specs.Shows.{ShowsQueryResult}
+use Rattle.brk_queries.specs.QueryResults.{AnswersQueryAsModel}
 use Rattle.brk_queries.proofs.OrderViews.{estimate_refused, estimate_shown}
 use Rattle.brk_queries.proofs.orders.view_of_estimate.Goals as goal
 
 pub returns-in-Ok-clause-read : goal.returns-in-Ok-clause-read
 returns-in-Ok-clause-read g c =
     let order = abstract_order c.args.order.now in
-    retold g.S.Store c.args.store.now c.decide_estimate.new.store (Ok c.in-Ok.estimate) (Ok (views.Estimate c.in-Ok.estimate)) (IsEstimateOfModel order) (ShowsQueryResult (EstimateOf order))
+    retold g.S.Store c.args.store.now c.decide_estimate.new.store (Ok c.in-Ok.estimate) (Ok (views.Estimate c.in-Ok.estimate)) (IsEstimateOfModel order) (AnswersQueryAsModel (EstimateOf order))
     (estimate_shown order c.in-Ok.estimate) (rw c.in-Ok.is at c.in_ok-estimate.ensures.read)
 
 pub returns-in-Err-clause-read : goal.returns-in-Err-clause-read
 returns-in-Err-clause-read g c =
     let order = abstract_order c.args.order.now in
-    retold g.S.Store c.args.store.now c.decide_estimate.new.store (Err c.in-Err.refusal) (Err c.in-Err.refusal) (IsEstimateOfModel order) (ShowsQueryResult (EstimateOf order))
+    retold g.S.Store c.args.store.now c.decide_estimate.new.store (Err c.in-Err.refusal) (Err c.in-Err.refusal) (IsEstimateOfModel order) (AnswersQueryAsModel (EstimateOf order))
     (estimate_refused order c.in-Err.refusal) (rw c.in-Err.is at c.in_ok-estimate.ensures.read)

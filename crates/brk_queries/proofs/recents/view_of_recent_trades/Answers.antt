@@ -10,15 +10,15 @@ use Rattle.brk_ref.specs.declared.account.AccountRow.{AccountRow}
 use Rattle.brk_store.proofs.Retelling.{retold}
 use Rattle.brk_decisions.proofs.Looking.{read_both}
 use Rattle.brk_view.specs.declared.view.View.{View}
-use Rattle.brk_queries.specs.Shows.{ShowsQueryResult}
-use Rattle.brk_queries.proofs.RecentViews.{AreRecent, no_account, recent_seen}
+use Rattle.brk_queries.specs.QueryResults.{AnswersQueryAsModel}
+use Rattle.brk_queries.proofs.RecentViews.{AreRecentTradesWithHistory, no_account, recent_seen}
 use Rattle.brk_queries.proofs.recents.view_of_recent_trades.Goals as goal
 
 pub returns-in_default-clause-read : goal.returns-in_default-clause-read
 returns-in_default-clause-read g c =
     let id = c.args.account in
     retold g.S.Store c.args.store.now c.account.new.self {V = Option AccountRow} {X = Result View Refusal} None (Err NoAccount)
-    (λ o (t : Tables). option_map abstract_account_row o ≡ find (λ r. r.id == id) t.accounts) (ShowsQueryResult (RecentOf id)) (no_account id)
+    (λ o (t : Tables). option_map abstract_account_row o ≡ find (λ r. r.id == id) t.accounts) (AnswersQueryAsModel (RecentOf id)) (no_account id)
     (rw c.in_default.is at c.in_ok-found.ensures.read)
 
 pub returns-clause-read : goal.returns-clause-read
@@ -28,9 +28,9 @@ returns-clause-read g c =
     let trades = c.in_ok-trades.trades in
     let history = c.in_ok-trades.history in
     let view = c.in_ok-view.view in
-    read_both g.S.Store c.args.store.now c.account.new.self c.read_recent_trades.new.store {X = Result View Refusal} {H = Fault} (Some a) (trades, history) (Ok view)
+    read_both g.S.Store c.args.store.now c.account.new.self c.read_recent_trades_with_history.new.store {X = Result View Refusal} {H = Fault} (Some a) (trades, history) (Ok view)
     (λ o (t : Tables). option_map abstract_account_row o ≡ find (λ r. r.id == id) t.accounts)
-    (λ found (t : Tables). AreRecent id found.0.items found.1.items t)
-    (ShowsQueryResult (RecentOf id))
-    (λ t e w. recent_seen id (abstract_account_row a) trades history c.in_ok-view.ensures.carried.0 view c.in_ok-view.ensures.view c.in_ok-view.ensures.carried.1 t e w)
+    (λ found (t : Tables). AreRecentTradesWithHistory id found.0.items found.1.items t)
+    (AnswersQueryAsModel (RecentOf id))
+    (λ t e w. recent_seen id (abstract_account_row a) trades history c.in_ok-view.ensures.value.0 view c.in_ok-view.ensures.view c.in_ok-view.ensures.value.1 t e w)
     (rw c.in-Some.is at c.in_ok-found.ensures.read) c.in_ok-trades.ensures.read

@@ -10,9 +10,9 @@ use Rattle.brk_ref.specs.declared.account.AccountRow.{AccountRow}
 use Rattle.brk_store.proofs.Retelling.{retold}
 use Rattle.brk_decisions.proofs.Looking.{read_both}
 use Rattle.brk_view.specs.declared.view.View.{View}
-use Rattle.brk_queries.specs.Parties.{IsStatusWithParties}
-use Rattle.brk_queries.specs.Shows.{ShowsQueryResult}
-use Rattle.brk_queries.proofs.StatusViews.{AreStatuses, no_status, status_seen}
+use Rattle.brk_queries.specs.Parties.{IsAccountStatusWithTrades}
+use Rattle.brk_queries.specs.QueryResults.{AnswersQueryAsModel}
+use Rattle.brk_queries.proofs.StatusViews.{AreRecentTradesWithSecurities, no_status, status_seen}
 use Rattle.brk_queries.proofs.statuses.view_of_account_status.Goals as goal
 
 -- the account with an id
@@ -23,7 +23,7 @@ pub returns-in_default-clause-read : goal.returns-in_default-clause-read
 returns-in_default-clause-read g c =
     let id = c.args.account in
     retold g.S.Store c.args.store.now c.account.new.self {V = Option AccountRow} {X = Result View Refusal} None (Err NoAccount)
-    (IsRowOf id) (ShowsQueryResult (StatusOf id)) (no_status id)
+    (IsRowOf id) (AnswersQueryAsModel (StatusOf id)) (no_status id)
     (rw c.in_default.is at c.in_ok-row.ensures.read)
 
 pub returns-clause-read : goal.returns-clause-read
@@ -34,12 +34,12 @@ returns-clause-read g c =
     let trades = c.in_ok-trades.trades in
     let found = c.in_ok-found.found in
     let view = c.status.result in
-    read_both g.S.Store old c.read_trade_statuses.new.store c.read_status_with_parties.new.store {X = Result View Refusal} {H = Fault} (Some row) found (Ok view)
-    (λ o (t : Tables). IsRowOf id o t × AreStatuses id trades.items t)
-    (λ found. IsStatusWithParties (abstract_account_row row) trades found)
-    (ShowsQueryResult (StatusOf id))
-    (λ t k p. status_seen id (abstract_account_row row) trades found view c.status.ensures.carried t k.0 k.1 p)
-    (read_both g.S.Store old c.account.new.self c.read_trade_statuses.new.store {X = Option AccountRow} {H = Fault} (Some row) trades (Some row)
-    (IsRowOf id) (λ trades (t : Tables). AreStatuses id trades.items t) (λ o (t : Tables). IsRowOf id o t × AreStatuses id trades.items t)
+    read_both g.S.Store old c.read_recent_trades_with_securities.new.store c.read_account_status.new.store {X = Result View Refusal} {H = Fault} (Some row) found (Ok view)
+    (λ o (t : Tables). IsRowOf id o t × AreRecentTradesWithSecurities id trades.items t)
+    (λ found. IsAccountStatusWithTrades (abstract_account_row row) trades found)
+    (AnswersQueryAsModel (StatusOf id))
+    (λ t k p. status_seen id (abstract_account_row row) trades found view c.status.ensures.value t k.0 k.1 p)
+    (read_both g.S.Store old c.account.new.self c.read_recent_trades_with_securities.new.store {X = Option AccountRow} {H = Fault} (Some row) trades (Some row)
+    (IsRowOf id) (λ trades (t : Tables). AreRecentTradesWithSecurities id trades.items t) (λ o (t : Tables). IsRowOf id o t × AreRecentTradesWithSecurities id trades.items t)
     (λ t e w. (e, w)) (rw c.in-Some.is at c.in_ok-row.ensures.read) c.in_ok-trades.ensures.read)
     c.in_ok-found.ensures.read

@@ -4,8 +4,8 @@ use Rattle.brk_model.specs.Queries.{VolumeOf}
 use Rattle.brk_model.specs.Tables.{Tables}
 use Rattle.brk_store.proofs.Retelling.{retold}
 use Rattle.brk_view.specs.Volume as volume
-use Rattle.brk_queries.specs.Shows.{ShowsQueryResult}
-use Rattle.brk_queries.specs.Volumes.{named_brokers_in_sector}
+use Rattle.brk_queries.specs.QueryResults.{AnswersQueryAsModel}
+use Rattle.brk_queries.specs.Volumes.{brokers_of_name_in_sector}
 use Rattle.brk_queries.proofs.VolumeViews.{volume_seen}
 use Rattle.brk_queries.proofs.volumes.view_of_broker_volumes.Goals as goal
 
@@ -15,8 +15,8 @@ returns-clause-read g c =
     let names = c.args.names.now in
     let found = c.in_ok-found.found in
     let view = c.in_ok-view.view in
-    retold g.S.Store c.args.store.now c.read_broker_volumes.new.store found (Ok view)
-    (λ found (t : Tables). found.items ≡ map (volume.volume_of_broker_in_sector t sector) (flat_map (named_brokers_in_sector t sector) names))
-    (ShowsQueryResult (VolumeOf sector names))
-    (λ t e. volume_seen sector names found.items c.in_ok-view.ensures.carried.0 view (rw c.names-names.ensures.names at c.names-names.ensures.distinct) c.in_ok-view.ensures.carried.1 c.in_ok-view.ensures.view t e)
+    retold g.S.Store c.args.store.now c.read_volumes_of_brokers_named.new.store found (Ok view)
+    (λ found (t : Tables). found.items ≡ map (volume.volume_of_broker_in_sector t sector) (flat_map (brokers_of_name_in_sector t sector) names))
+    (AnswersQueryAsModel (VolumeOf sector names))
+    (λ t e. volume_seen sector names found.items c.in_ok-view.ensures.value.0 view (rw c.names-names.ensures.names at c.names-names.ensures.distinct) c.in_ok-view.ensures.value.1 c.in_ok-view.ensures.view t e)
     (rw c.names-names.ensures.names at c.in_ok-found.ensures.read)

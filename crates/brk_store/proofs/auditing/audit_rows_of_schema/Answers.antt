@@ -12,4 +12,4 @@ pub returns-in-Some-clause-step : goal.returns-in-Some-clause-step
 returns-in-Some-clause-step g c =
     let before = state g.S.Store c.args.tx.now.conn.now in
     let after = state g.S.Store c.read_sheets.new.tx.conn.now in
-    rows_told c.args.schema before after c.in-Some.sheets c.audit_rows.result (rw c.in-Some.is at c.in_ok-read_sheets.ensures.step) c.audit_rows.ensures.told
+    rows_told c.args.schema before after c.in-Some.sheets c.audit_rows.result (rw c.in-Some.is at c.in_ok-read_sheets.ensures.step) c.audit_rows.ensures.condition

@@ -37,10 +37,10 @@ pub returns-in-AddTrade-clause-step : goal.returns-in-AddTrade-clause-step
 returns-in-AddTrade-clause-step g c = made _ _ _ _ _ c.in-AddTrade.is c.add_trade.ensures.step
 
 pub returns-in-SetStatus-clause-step : goal.returns-in-SetStatus-clause-step
-returns-in-SetStatus-clause-step g c = made _ _ _ _ _ c.in-SetStatus.is c.set_status.ensures.step
+returns-in-SetStatus-clause-step g c = made _ _ _ _ _ c.in-SetStatus.is c.set_trade_status.ensures.step
 
 pub returns-in-AddHistory-clause-step : goal.returns-in-AddHistory-clause-step
-returns-in-AddHistory-clause-step g c = made _ _ _ _ _ c.in-AddHistory.is c.add_trade_history.ensures.step
+returns-in-AddHistory-clause-step g c = made _ _ _ _ _ c.in-AddHistory.is c.add_trade_history_row.ensures.step
 
 pub returns-in-AddRequest-clause-step : goal.returns-in-AddRequest-clause-step
 returns-in-AddRequest-clause-step g c = made _ _ _ _ _ c.in-AddRequest.is c.add_request.ensures.step
@@ -69,13 +69,13 @@ pub returns-in-AddLotChange-clause-step : goal.returns-in-AddLotChange-clause-st
 returns-in-AddLotChange-clause-step g c = made _ _ _ _ _ c.in-AddLotChange.is c.add_lot_change.ensures.step
 
 pub returns-in-AddSummary-clause-step : goal.returns-in-AddSummary-clause-step
-returns-in-AddSummary-clause-step g c = made _ _ _ _ _ c.in-AddSummary.is c.add_summary.ensures.step
+returns-in-AddSummary-clause-step g c = made _ _ _ _ _ c.in-AddSummary.is c.add_holding_summary.ensures.step
 
 pub returns-in-SetSummary-clause-step : goal.returns-in-SetSummary-clause-step
-returns-in-SetSummary-clause-step g c = made _ _ _ _ _ c.in-SetSummary.is c.set_summary.ensures.step
+returns-in-SetSummary-clause-step g c = made _ _ _ _ _ c.in-SetSummary.is c.set_holding_summary_quantity.ensures.step
 
 pub returns-in-RemoveSummary-clause-step : goal.returns-in-RemoveSummary-clause-step
-returns-in-RemoveSummary-clause-step g c = made _ _ _ _ _ c.in-RemoveSummary.is c.remove_summary.ensures.step
+returns-in-RemoveSummary-clause-step g c = made _ _ _ _ _ c.in-RemoveSummary.is c.remove_holding_summary.ensures.step
 
 pub returns-in-AddSettlement-clause-step : goal.returns-in-AddSettlement-clause-step
 returns-in-AddSettlement-clause-step g c = made _ _ _ _ _ c.in-AddSettlement.is c.add_settlement.ensures.step
@@ -83,22 +83,22 @@ returns-in-AddSettlement-clause-step g c = made _ _ _ _ _ c.in-AddSettlement.is 
 pub returns-in-AddMove-clause-step : goal.returns-in-AddMove-clause-step
 returns-in-AddMove-clause-step g c = made _ _ _ _ _ c.in-AddMove.is c.add_cash_row.ensures.step
 
-pub returns-in-SetRule-clause-step : goal.returns-in-SetRule-clause-step
-returns-in-SetRule-clause-step g c = made _ _ _ _ _ c.in-SetRule.is c.set_settlement_day.ensures.step
+pub returns-in-SetSettlementDay-clause-step : goal.returns-in-SetSettlementDay-clause-step
+returns-in-SetSettlementDay-clause-step g c = made _ _ _ _ _ c.in-SetSettlementDay.is c.set_settlement_day.ensures.step
 
 pub returns-in-SetBalance-clause-step : goal.returns-in-SetBalance-clause-step
-returns-in-SetBalance-clause-step g c = made _ _ _ _ _ c.in-SetBalance.is c.set_balance.ensures.step
+returns-in-SetBalance-clause-step g c = made _ _ _ _ _ c.in-SetBalance.is c.set_account_balance.ensures.step
 
-pub returns-in-SetBrokerNumbers-clause-step : goal.returns-in-SetBrokerNumbers-clause-step
-returns-in-SetBrokerNumbers-clause-step g c =
-    let fits : FitsSigned w64 c.in-SetBrokerNumbers.trades = search rules in
-    made _ _ _ _ _ c.in-SetBrokerNumbers.is (rw (to_z-of_z w64 c.in-SetBrokerNumbers.trades fits) at c.set_broker_numbers.ensures.step)
+pub returns-in-SetBrokerTotals-clause-step : goal.returns-in-SetBrokerTotals-clause-step
+returns-in-SetBrokerTotals-clause-step g c =
+    let fits : FitsSigned w64 c.in-SetBrokerTotals.trades = search rules in
+    made _ _ _ _ _ c.in-SetBrokerTotals.is (rw (to_z-of_z w64 c.in-SetBrokerTotals.trades fits) at c.set_broker_totals.ensures.step)
 
-pub returns-in-Keep-clause-step : goal.returns-in-Keep-clause-step
-returns-in-Keep-clause-step g c = made _ _ _ _ _ c.in-Keep.is c.add_kept_row.ensures.step
+pub returns-in-AddStoredReply-clause-step : goal.returns-in-AddStoredReply-clause-step
+returns-in-AddStoredReply-clause-step g c = made _ _ _ _ _ c.in-AddStoredReply.is c.add_kept_row.ensures.step
 
-pub returns-in-SetLast-clause-step : goal.returns-in-SetLast-clause-step
-returns-in-SetLast-clause-step g c = made _ _ _ _ _ c.in-SetLast.is c.set_last_stamp.ensures.step
+pub returns-in-SetLastStamp-clause-step : goal.returns-in-SetLastStamp-clause-step
+returns-in-SetLastStamp-clause-step g c = made _ _ _ _ _ c.in-SetLastStamp.is c.set_last_stamp.ensures.step
 
 pub returns-in-SetExecutor-clause-step : goal.returns-in-SetExecutor-clause-step
 returns-in-SetExecutor-clause-step g c = made _ _ _ _ _ c.in-SetExecutor.is (rw c.as_str.ensures.value at c.set_executor.ensures.step)
@@ -107,4 +107,4 @@ pub returns-in-SetCashType-clause-step : goal.returns-in-SetCashType-clause-step
 returns-in-SetCashType-clause-step g c = made _ _ _ _ _ c.in-SetCashType.is c.set_cash_type.ensures.step
 
 pub returns-in-SetCashName-clause-step : goal.returns-in-SetCashName-clause-step
-returns-in-SetCashName-clause-step g c = made _ _ _ _ _ c.in-SetCashName.is (rw c.as_str-in-SetCashName.ensures.value at c.set_cash_name.ensures.step)
+returns-in-SetCashName-clause-step g c = made _ _ _ _ _ c.in-SetCashName.is (rw c.as_str-in-SetCashName.ensures.value at c.set_cash_row_name.ensures.step)

@@ -8,7 +8,7 @@ use Rattle.brk_sql.proofs.Inside.{step_then}
 use Rattle.brk_sql.proofs.Strangers.{spares_then}
 use Rattle.brk_sql.specs.Desk.{HasTables, ChangesTablesBy}
 use Rattle.brk_sql.specs.Model.{IsTransactionStep}
-use Rattle.brk_tables_schema.specs.Desk.{desk}
+use Rattle.brk_tables_schema.specs.Desk.{desk_tables}
 use Rattle.brk_changes.specs.Changes.{tables_after_change, tables_after_changes}
 use Rattle.brk_changes.specs.declared.change.Change.{Change}
 use Rattle.brk_store.proofs.Making.{none_made}
@@ -26,13 +26,13 @@ loop-change-preserved g c =
     let d = state g.S.Store c.apply_change.new.tx.conn.now in
     record {
       same = c.apply_change.ensures.same_reference ∙ c.loop-change.invariant.same;
-      step = step_then a b d tt (Ok tt) (λ _ x y. ChangesTablesBy desk (tables_after_changes (take i xs)) x.now y.now) (λ _ x y. ChangesTablesBy desk (tables_after_change c.change-item.result) x.now y.now) (λ _ x y. ChangesTablesBy desk (tables_after_changes (take (i + 1) xs)) x.now y.now)
+      step = step_then a b d tt (Ok tt) (λ _ x y. ChangesTablesBy desk_tables (tables_after_changes (take i xs)) x.now y.now) (λ _ x y. ChangesTablesBy desk_tables (tables_after_change c.change-item.result) x.now y.now) (λ _ x y. ChangesTablesBy desk_tables (tables_after_changes (take (i + 1) xs)) x.now y.now)
           (λ v p q t tree h.
           let e : tables_after_changes (take (i + 1) xs) t ≡ tables_after_change c.change-item.result (tables_after_changes (take i xs) t) =
           fold_more (λ (u : Tables) (k : Change). tables_after_change k u) t xs i c.change-item.result c.loop-change-test.true ∙ ap (λ (k : Change). tables_after_change k (tables_after_changes (take i xs) t)) (sym c.change-item.is) in
           let before = p t tree h in
           let turned = q (tables_after_changes (take i xs) t) tree before.0 in
-          (subst (λ u. HasTables desk u tree d.now) (sym e) turned.0, spares_then tree a.now b.now d.now before.1 turned.1))
+          (subst (λ u. HasTables desk_tables u tree d.now) (sym e) turned.0, spares_then tree a.now b.now d.now before.1 turned.1))
           c.loop-change.invariant.step c.in_ok-apply_change.ensures.step;
     }
 
@@ -41,4 +41,4 @@ returns-clause-step g c =
     let a = state g.S.Store c.args.tx.now.conn.now in
     let b = state g.S.Store c.loop-change.tx.conn.now in
     let whole : take c.loop-change.change-index c.args.changes.now ≡ c.args.changes.now = take_all c.loop-change.change-index c.args.changes.now c.loop-change-test.false in
-    subst (λ (l : List Change). IsTransactionStep {V = Unit {0}} {E = Fault} a b (Ok tt) (λ _ x y. ChangesTablesBy desk (tables_after_changes l) x.now y.now)) whole c.loop-change.invariant.step
+    subst (λ (l : List Change). IsTransactionStep {V = Unit {0}} {E = Fault} a b (Ok tt) (λ _ x y. ChangesTablesBy desk_tables (tables_after_changes l) x.now y.now)) whole c.loop-change.invariant.step

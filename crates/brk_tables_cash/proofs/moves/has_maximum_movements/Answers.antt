@@ -7,14 +7,14 @@ use Rattle.brk_model.specs.Tables.{MoveRow}
 use Rattle.brk_sql.specs.Model.{IsUnchangedAndSatisfies, SelectsRows}
 use Rattle.brk_sql.proofs.Inside.{step_read}
 use Rattle.brk_tables_schema.specs.Cells.{natural_as_value, move_cells}
-use Rattle.brk_tables_schema.specs.Desk.{desk}
+use Rattle.brk_tables_schema.specs.Desk.{desk_tables}
 use Rattle.brk_tables_cash.proofs.MovementBehind
 use Rattle.brk_tables_cash.proofs.MovementBehind.{plain}
 use Rattle.brk_tables_cash.proofs.CashReads.{tells_movement}
 use Rattle.brk_tables_cash.proofs.moves.has_maximum_movements.Goals as goal
 
 pub select_rows-requires : goal.select_rows-requires
-select_rows-requires g c = record { plain = plain }
+select_rows-requires g c = record { no_returning_clause = plain }
 
 -- there is one behind so many just where there are more
 one_behind : {X : Type 0} (n : ℕ) (xs : List X) → not (length (take 1 (drop n xs)) == 0) ≡ nat_le (n + 1) (length xs)
@@ -29,7 +29,7 @@ returns-clause-step g c =
     let old = state g.S.Store c.args.tx.now.conn.now in
     let new = state g.S.Store c.select_rows.new.tx.conn.now in
     let rows = c.in_ok-rows.rows in
-    step_read old new rows (Ok (not c.is_empty.result)) (λ shown. SelectsRows MovementBehind.statement (natural_as_value 999999999999 ∷ []) shown.items) (λ all. IsUnchangedAndSatisfies desk (λ t. all ≡ nat_le greatest_id (length (filter (λ (r : MoveRow). is_none r.trade) t.moves))))
+    step_read old new rows (Ok (not c.is_empty.result)) (λ shown. SelectsRows MovementBehind.statement (natural_as_value 999999999999 ∷ []) shown.items) (λ all. IsUnchangedAndSatisfies desk_tables (λ t. all ≡ nat_le greatest_id (length (filter (λ (r : MoveRow). is_none r.trade) t.moves))))
     (λ all is s.
     let told : not c.is_empty.result ≡ all = cc in (
       s.2,
@@ -40,4 +40,4 @@ returns-clause-step g c =
           let none : c.is_empty.result ≡ (length rows.items == 0) = search rules in
           sym told ∙ ap not (none ∙ ap (λ n. n == 0) many) ∙ one_behind 999999999999 movements,
     ))
-    (rw c.number_value.ensures at c.in_ok-rows.ensures.step)
+    (rw c.integer_as_parameter.ensures at c.in_ok-rows.ensures.step)

@@ -5,7 +5,7 @@ use Rattle.brk_tables_scan.proofs.Shown.{holding_shown}
 use Rattle.brk_tables_scan.proofs.rows.holding_rows.Goals as goal
 
 pub select_rows-requires : goal.select_rows-requires
-select_rows-requires g c = record { plain = plain }
+select_rows-requires g c = record { no_returning_clause = plain }
 
 pub returns-clause-step : goal.returns-clause-step
 returns-clause-step g c =

@@ -7,7 +7,7 @@ use Rattle.brk_model.specs.Tables.{Tables, TradeRow}
 use Rattle.brk_sql.proofs.Answer.{look_first}
 use Rattle.brk_sql.proofs.Inside.{step_weaker}
 use Rattle.brk_tables_schema.specs.Cells.{natural_as_value}
-use Rattle.brk_tables_schema.specs.Desk.{desk}
+use Rattle.brk_tables_schema.specs.Desk.{desk_tables}
 use Rattle.brk_tables_schema.proofs.Back.{number_in}
 use Rattle.brk_tables_upgrade.proofs.AccountOfTrade
 use Rattle.brk_tables_upgrade.proofs.AccountOfTrade.{plain}
@@ -15,7 +15,7 @@ use Rattle.brk_tables_upgrade.proofs.Telling.{account_cells, tells_account}
 use Rattle.brk_tables_upgrade.proofs.reading.account_of_trade.Goals as goal
 
 pub select_rows-requires : goal.select_rows-requires
-select_rows-requires g c = record { plain = plain }
+select_rows-requires g c = record { no_returning_clause = plain }
 
 abbrev id_cells : ℕ → Row
 id_cells n = natural_as_value n ∷ []
@@ -42,6 +42,6 @@ returns-clause-step g c =
     let new = state g.S.Store c.select_rows.new.tx.conn.now in
     let trade = c.args.trade in
     step_weaker old new c.decode_first_row.result _ _ (λ o looks. (looks.0, looks.1, λ t tree h. rw (as_it_is o) at (looks.2 t tree h)))
-    (look_first desk id_cells id_back (λ n. refl) (λ (n : ℕ). n) AccountOfTrade.statement (natural_as_value trade ∷ []) old new c.in_ok-rows.rows (λ rows. rows.items) _ c.deref.ensures.value (rw (c.id_value.ensures) at c.in_ok-rows.ensures.step)
+    (look_first desk_tables id_cells id_back (λ n. refl) (λ (n : ℕ). n) AccountOfTrade.statement (natural_as_value trade ∷ []) old new c.in_ok-rows.rows (λ rows. rows.items) _ c.deref.ensures.value (rw (c.id_as_parameter.ensures) at c.in_ok-rows.ensures.step)
     c.decode_first_row.result c.decode_first_row.ensures.value (λ (t : Tables). map (λ (r : TradeRow). r.account) (filter (λ (r : TradeRow). r.id == trade) t.trades)) (λ (t : Tables). option_map (λ (r : TradeRow). r.account) (trade_row_with_id t trade)) (λ t. first_of trade t.trades)
     (λ shown t tree h. tells_account old new trade _ shown t tree h ∙ twice (filter (λ (r : TradeRow). r.id == trade) t.trades)))

@@ -35,7 +35,7 @@ loop-field-preserved c =
     let fields : List (Bor Text) = c.args.fields.now in
     let i = c.loop-field.field-index in
     let none : Bor Text = record { ref_ptr = (0, 0); now = [] } in
-    let e = c.in_ok-push_if_absent.ensures.names in
+    let e = c.in_ok-push_name_if_absent.ensures.names in
     record {
       read = c.loop-field.invariant.read
           ∙ at_drop_more (λ (fs : List (Bor Text)). names_then_new_names names (read_each_text read_name (texts_of_fields fs))) fields i none c.loop-field-test.true

@@ -9,5 +9,5 @@ returns-clause-view c = λ t account e f.
     ap (λ rows. map recent_trade_record (map abstract_trade_row c.args.trades.items) ++ map recent_status_record rows) c.in_ok-history.ensures.order
     ∙ recent_shown t account c.args.trades.items c.args.history.items e f
 
-pub returns-clause-carried : goal.returns-clause-carried
-returns-clause-carried c = (c.in_ok-history.history, refl, c.in_ok-history.ensures.order)
+pub returns-clause-value : goal.returns-clause-value
+returns-clause-value c = (c.in_ok-history.history, refl, c.in_ok-history.ensures.order)

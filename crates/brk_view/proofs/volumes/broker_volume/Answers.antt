@@ -7,5 +7,5 @@ pub returns-clause-view : goal.returns-clause-view
 returns-clause-view c = λ t sector names rows e f.
     ap (map broker_volume_record) c.in_ok-ordered.ensures.order ∙ volumes_shown t sector names rows c.args.brokers.items e f
 
-pub returns-clause-carried : goal.returns-clause-carried
-returns-clause-carried c = (c.in_ok-ordered.ordered, refl, c.in_ok-ordered.ensures.order)
+pub returns-clause-value : goal.returns-clause-value
+returns-clause-value c = (c.in_ok-ordered.ordered, refl, c.in_ok-ordered.ensures.order)

@@ -6,5 +6,5 @@ use Rattle.brk_view.proofs.worths.position.Goals as goal
 pub returns-clause-view : goal.returns-clause-view
 returns-clause-view c = λ t test e. ap (map account_worth_record) c.in_ok-ordered.ensures.order ∙ position_shown t test c.args.accounts.items e
 
-pub returns-clause-carried : goal.returns-clause-carried
-returns-clause-carried c = (c.in_ok-ordered.ordered, refl, c.in_ok-ordered.ensures.order)
+pub returns-clause-value : goal.returns-clause-value
+returns-clause-value c = (c.in_ok-ordered.ordered, refl, c.in_ok-ordered.ensures.order)

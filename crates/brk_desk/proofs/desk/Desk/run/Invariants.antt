@@ -1,7 +1,7 @@
 use Rattle.std.proofs.Common.{◌≡◌, ◌++◌, ◌+◌, ◌≤◌, List, length, take, vec_len}
 use Rattle.std.specs.Vec.{vec_capacity}
 use Rattle.brk_io.specs.Calls.{IsCallSequence}
-use Rattle.brk_desk.specs.Keeping.{OutcomePost}
+use Rattle.brk_desk.specs.CallPosts.{OutcomePost}
 use Rattle.brk_desk.specs.declared.call.Outcome.{Outcome}
 use Rattle.brk_desk.proofs.desk.Desk.run.Given as goal
 

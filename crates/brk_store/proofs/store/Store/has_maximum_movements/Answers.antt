@@ -2,23 +2,23 @@ use Rattle.std.proofs.Common.{◌≡◌, ◌+◌, ◌<◌, ℕ, Bool, false, fil
 use Rattle.sqlite.specs.Held.{state}
 use Rattle.brk_model.specs.Limits.{greatest_id}
 use Rattle.brk_model.specs.Tables.{MoveRow, Tables}
-use Rattle.brk_book_theorems.specs.TradeReads.{last_cash_row_number}
+use Rattle.brk_book_theorems.specs.TradeReads.{last_cash_row_number_or_zero}
 use Rattle.brk_store.proofs.Counting.{too_few}
 use Rattle.brk_store.proofs.Retelling.{read_after, retold_of}
 use Rattle.brk_store.proofs.store.Store.has_maximum_movements.Goals as goal
 
 abbrev IsNext : ℕ → Tables → Type 0
-IsNext next t = next ≡ last_cash_row_number t + 1
+IsNext next t = next ≡ last_cash_row_number_or_zero t + 1
 
 abbrev AreAll : Bool → Tables → Type 0
 AreAll all t = all ≡ nat_le greatest_id (length (filter (λ (r : MoveRow). is_none r.trade) t.moves))
 
-pub returns-then-get-lt-ALL_MOVEMENTS-clause-read : goal.returns-then-get-lt-ALL_MOVEMENTS-clause-read
-returns-then-get-lt-ALL_MOVEMENTS-clause-read g c =
+pub returns-then-get-lt-GREATEST_MOVEMENT_COUNT-clause-read : goal.returns-then-get-lt-GREATEST_MOVEMENT_COUNT-clause-read
+returns-then-get-lt-GREATEST_MOVEMENT_COUNT-clause-read g c =
     let next = c.in_ok-next.next in
-    let low : next < greatest_id = rw c.get.ensures.value at c.if-get-lt-ALL_MOVEMENTS.true in
+    let low : next < greatest_id = rw c.get.ensures.value at c.if-get-lt-GREATEST_MOVEMENT_COUNT.true in
     retold_of g.S.Store c.args.self.now c.next_cash_row_number.new.self next false IsNext AreAll (λ t has is. too_few t (state g.S.Store c.args.self.now).now next has is low) c.in_ok-next.ensures.read
 
 pub returns-clause-read : goal.returns-clause-read
 returns-clause-read g c =
-    read_after g.S.Store c.args.self.now c.next_cash_row_number.new.self c.movement_count_is_maximum.new.self c.in_ok-next.next c.movement_count_is_maximum.result IsNext AreAll c.in_ok-next.ensures.read c.movement_count_is_maximum.ensures.read
+    read_after g.S.Store c.args.self.now c.next_cash_row_number.new.self c.has_maximum_movements_by_count.new.self c.in_ok-next.next c.has_maximum_movements_by_count.result IsNext AreAll c.in_ok-next.ensures.read c.has_maximum_movements_by_count.ensures.read

@@ -1,6 +1,6 @@
 use Rattle.std.proofs.Common.{◌≡◌, ◌∙◌, ◌+◌, ℕ, Option, ap, option_map, refl, reverse, rules, slice_get, unwrap_or}
 use Rattle.brk_model.specs.Tables.{MoveRow, Tables}
-use Rattle.brk_book_theorems.specs.TradeReads.{last_cash_row_number}
+use Rattle.brk_book_theorems.specs.TradeReads.{last_cash_row_number_or_zero}
 use Rattle.brk_changes.specs.Rows.{abstract_move_row}
 use Rattle.brk_store.proofs.Retelling.{retold}
 use Rattle.brk_store.proofs.store.Store.next_cash_row_number.Goals as goal
@@ -11,7 +11,7 @@ abbrev number_of : Option MoveRow → ℕ
 number_of o = unwrap_or (option_map (λ r. r.id) o) 0
 
 -- that of the row that was read is the last
-last_of : (o : Option MoveRow) (t : Tables) → o ≡ slice_get (reverse t.moves) 0 → number_of o ≡ last_cash_row_number t
+last_of : (o : Option MoveRow) (t : Tables) → o ≡ slice_get (reverse t.moves) 0 → number_of o ≡ last_cash_row_number_or_zero t
 last_of o t e = ap number_of e
 
 pub returns-in-Some-new-clause-read : goal.returns-in-Some-new-clause-read
@@ -22,5 +22,5 @@ returns-in-Some-new-clause-read g c =
       | in-None w ↦ (let known : 1 ≡ number_of (option_map abstract_move_row row) + 1 = rw w.in-None.is refl in (let counted : c.match-branch-2.number ≡ 1 = search rules in counted ∙ known))
     ] in
     let next : c.in-Some-new.next ≡ c.match-branch-2.number = search rules in
-    retold g.S.Store c.args.self.now c.last_cash_row.new.self row c.in-Some-new.next (λ o (t : Tables). option_map abstract_move_row o ≡ slice_get (reverse t.moves) 0) (λ next (t : Tables). next ≡ last_cash_row_number t + 1)
+    retold g.S.Store c.args.self.now c.last_cash_row.new.self row c.in-Some-new.next (λ o (t : Tables). option_map abstract_move_row o ≡ slice_get (reverse t.moves) 0) (λ next (t : Tables). next ≡ last_cash_row_number_or_zero t + 1)
     (λ t e. next ∙ number ∙ ap (λ n. n + 1) (last_of (option_map abstract_move_row row) t e)) c.in_ok-row.ensures.read

@@ -10,5 +10,5 @@ six_columns _ h = absurd (omega (arith, h))
 
 pub returns-clause-value : goal.returns-clause-value
 returns-clause-value c =
-    rw (sym c.in_ok-id_in.ensures.value, sym c.in_ok-id_in-2.ensures.value, sym c.in_ok-formed_text_in.ensures.value, sym c.in_ok-stamp_in.ensures.value, sym c.in_ok-price_in.ensures.value, to_z-of_z w64 c.in_ok-number_in.field-0 (search rules), sym c.in_ok-number_in.ensures.value)
+    rw (sym c.in_ok-id_in_column.ensures.value, sym c.in_ok-id_in_column-2.ensures.value, sym c.in_ok-formatted_text_in_column.ensures.value, sym c.in_ok-stamp_in_column.ensures.value, sym c.in_ok-price_in_column.ensures.value, to_z-of_z w64 c.in_ok-integer_in_column.field-0 (search rules), sym c.in_ok-integer_in_column.ensures.value)
     (six_columns c.args.row.now c.in_ok-check_column_count.ensures.columns)

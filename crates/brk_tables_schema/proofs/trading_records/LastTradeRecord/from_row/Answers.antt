@@ -9,5 +9,5 @@ four_columns _ h = absurd (omega (arith, h))
 
 pub returns-clause-value : goal.returns-clause-value
 returns-clause-value c =
-    rw (sym c.in_ok-formed_text_in.ensures.value, sym c.in_ok-stamp_in.ensures.value, sym c.in_ok-price_in.ensures.value, sym c.in_ok-volume_in.ensures.value)
+    rw (sym c.in_ok-formatted_text_in_column.ensures.value, sym c.in_ok-stamp_in_column.ensures.value, sym c.in_ok-price_in_column.ensures.value, sym c.in_ok-volume_in_column.ensures.value)
     (four_columns c.args.row.now c.in_ok-check_column_count.ensures.columns)

@@ -9,5 +9,5 @@ six_columns _ h = absurd (omega (arith, h))
 
 pub returns-clause-value : goal.returns-clause-value
 returns-clause-value c =
-    rw (sym c.in_ok-move_id_in.ensures.value, sym c.in_ok-id_in.ensures.value, sym c.in_ok-maybe_id_in.ensures.value, sym c.in_ok-stamp_in.ensures.value, sym c.in_ok-cents_in.ensures.value, sym c.in_ok-text_in.ensures.value)
+    rw (sym c.in_ok-cash_row_id_in_column.ensures.value, sym c.in_ok-id_in_column.ensures.value, sym c.in_ok-optional_id_in_column.ensures.value, sym c.in_ok-stamp_in_column.ensures.value, sym c.in_ok-cents_in_column.ensures.value, sym c.in_ok-text_in_column.ensures.value)
     (six_columns c.args.row.now c.in_ok-check_column_count.ensures.columns)

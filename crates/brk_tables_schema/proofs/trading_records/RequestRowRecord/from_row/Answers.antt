@@ -11,7 +11,7 @@ six_columns _ h = absurd (omega (arith, h))
 
 pub returns-clause-value : goal.returns-clause-value
 returns-clause-value c =
-    rw (sym c.in_ok-id_in.ensures.value, sym c.in_ok-type_in.ensures.value, sym c.in_ok-formed_text_in.ensures.value, sym c.in_ok-qty_in.ensures.value, sym c.in_ok-price_in.ensures.value, sym c.in_ok-id_in-2.ensures.value)
+    rw (sym c.in_ok-id_in_column.ensures.value, sym c.in_ok-trade_type_in_column.ensures.value, sym c.in_ok-formatted_text_in_column.ensures.value, sym c.in_ok-quantity_in_column.ensures.value, sym c.in_ok-price_in_column.ensures.value, sym c.in_ok-id_in_column-2.ensures.value)
     (six_columns c.args.row.now c.in_ok-check_column_count.ensures.columns)
 
 pub returns-in_err-check_column_count-clause-form : goal.returns-in_err-check_column_count-clause-form

@@ -1,0 +1,17 @@
+use Rattle.std.proofs.Common.{◌==◌, rules, ◌∙◌, ap, map}
+use Rattle.std.specs.List.{list_any}
+use Rattle.std.proofs.lemmas.List.Sorted.{answers_always}
+use Rattle.brk_ref.specs.Records.{abstract_tax_rate}
+use Rattle.brk_changes.specs.Sheets.{abstract_sheets}
+use Rattle.brk_audit_theorems.proofs.Parts.{key_parts}
+use Rattle.brk_audit_form.proofs.Searches.{number_found}
+use Rattle.brk_audit_form.proofs.references.has_tax_rate.Goals as goal
+
+pub returns : goal.returns
+returns c =
+    let s = c.args.sheets.now in
+    let found = c.binary_search_by_key.ensures in
+    let place = found.position (λ r. r.id) (answers_always _ _ _ (λ f a r g called. search rules)) in
+    number_found abstract_tax_rate (λ r. r.id) s.tax_rates.items c.deref.result.now c.get-number.result c.binary_search_by_key.result c.is_ok.result
+    c.deref.ensures.value (key_parts (abstract_sheets s) c.requires).tax_rates found.bound place c.is_ok.ensures.value
+    ∙ ap (λ n. list_any (λ r. r.id == n) (map abstract_tax_rate s.tax_rates.items)) c.get-number.ensures.value

@@ -1,0 +1,16 @@
+use Rattle.brk_plans.specs.Commands.{command_adding_record}
+use Rattle.brk_decisions.specs.Decisions.{DecidesCommand}
+use Rattle.brk_decisions.proofs.Deciding.{decided}
+use Rattle.brk_decisions.proofs.References.{ReferenceFactsAndLastStampMatch, last_and_found, reference_decided}
+use Rattle.brk_decisions.proofs.reference.decide_reference_record.Goals as goal
+
+pub returns-clause-read : goal.returns-clause-read
+returns-clause-read g c =
+    let old = c.args.store.now in
+    let mid = c.read_reference_facts.new.store in
+    let r = c.args.reference.now in
+    let last = c.in_ok-last_stamp.last in
+    let found = c.in_ok-found.found in
+    decided g.S.Store old mid found (λ f. ReferenceFactsAndLastStampMatch r f last) (DecidesCommand c.args.now (command_adding_record r)) c.plan_reference.result
+    (last_and_found g.S.Store old c.last_stamp.new.self mid r found last c.in_ok-last_stamp.ensures.read c.in_ok-found.ensures.read)
+    (reference_decided r found last c.args.now c.get-moment.ensures.high c.plan_reference.result c.plan_reference.ensures.planned)

@@ -1,0 +1,161 @@
+-- The postconditions of a desk's calls: a query, a run and an audit. The postcondition of a command
+-- is `CallPost` of brk_commit. `brk_store/specs/Holds.antt` explains the terms of their clauses:
+-- `state`, `HasCleanDisk`, `is_open`, `Survives` and disk contents (`Trees`). A clause with the
+-- premise `HasCleanDisk` for the new state, and the promise on crashes in `survives`, are vacuous
+-- if the disk assumption fails after the call.
+use Rattle.brk_model.specs.Form.{has_utf8_texts}
+use Rattle.std.specs.Prelude.{◌≡◌, ℕ, List, None, map, length, Result, IfOk, IfErr, IsTrue}
+use Rattle.std.specs.List.{AllByRecursion}
+use Rattle.sqlite_trees.specs.declared.store.Store.{Ghosts}
+use Rattle.sqlite_trees.specs.Tree.{Trees}
+use Rattle.sqlite.specs.Held.{Held, state}
+use Rattle.sqlite.specs.State.{HasCleanDisk, Survives}
+use Rattle.brk_money.specs.declared.fault.Fault.{Fault}
+use Rattle.brk_money.specs.declared.refusal.Refusal.{Refusal}
+use Rattle.brk_model.specs.Adopted.{base_of_tables}
+use Rattle.brk_model.specs.Ask.{ask}
+use Rattle.brk_model.specs.Base.{Base, empty_base}
+use Rattle.brk_model.specs.Upgraded.{tables_upgraded_from_schema}
+use Rattle.brk_model.specs.Schemas.{third_schema}
+use Rattle.brk_model.specs.Sheets.{sheets}
+use Rattle.brk_model.specs.Queries.{Query}
+use Rattle.brk_model.specs.Run.{IsCallFault, Run}
+use Rattle.brk_model.specs.Tables.{Tables, tables_without_rows}
+use Rattle.brk_changes.specs.Schemas.{abstract_schema}
+use Rattle.brk_changes.specs.declared.schema.Schema as known
+use Rattle.brk_book_theorems.specs.Runs.{IsRunWithSumsAndTaxes}
+use Rattle.brk_audit_theorems.specs.Passing.{PassesAudit}
+use Rattle.brk_invariant_theorems.specs.Runs.{CallMeetsAuditFormats}
+use Rattle.brk_store.specs.Audited.{AuditPost, AuditAnswerSatisfies, Represents}
+use Rattle.brk_store.specs.Holds.{IsDiskContentOfRows, HoldsRows, WasOpenAndIsUnchanged, CrashStatesSatisfy}
+use Rattle.brk_queries.specs.QueryResults.{model_query_result}
+use Rattle.brk_view.specs.Carried.{HasRowsOfQuery}
+use Rattle.brk_view.specs.Queries.{abstract_query}
+use Rattle.brk_view.specs.declared.view.View.{View}
+use Rattle.brk_commit.specs.Booked.{CallPost, PreservesRepresentation}
+use Rattle.brk_desk.specs.Answers.{outcome_of_command, model_outcome, outcome_of_query}
+use Rattle.brk_commands.specs.Commands.{abstract_command}
+use Rattle.brk_commit.specs.Keys.{optional_model_key}
+use Rattle.brk_desk.specs.Commands.{model_call}
+use Rattle.brk_desk.specs.CrashBases.{AcknowledgesNothing, CrashMayExposeBase}
+use Rattle.brk_commit.specs.declared.answer.Answer as desk
+use Rattle.brk_desk.specs.declared.call.Call.{Call}
+use Rattle.brk_desk.specs.declared.call.Call.TheVariants as call
+use Rattle.brk_desk.specs.declared.call.Outcome.{Outcome}
+use Rattle.brk_desk.specs.declared.call.Outcome.TheVariants as came
+
+-- The postcondition of a query, which writes nothing: the result is that of the model for every
+-- base that the store represented, or a fault.
+pub record AskPost {S : Type 0} (g : Ghosts S) (old new : Held S) (query : Query) (result : Result (Result View Refusal) Fault) : Type 0 where
+  -- At `Ok` the result, a view or a refusal, equals that of the model for each base that the store
+  -- represented. Vacuous if the disk assumption fails.
+  pub answered : HasCleanDisk (state g new) → IfOk result (λ seen. (base : Base) → Represents g old base → ask base query ≡ model_query_result seen)
+  -- A returned view has the variant of the query, and carries the rows that the query selects from
+  -- the tables of the base. Vacuous if the disk assumption fails.
+  pub carried : HasCleanDisk (state g new) → IfOk result (λ seen. IfOk seen (λ view. (base : Base) → Represents g old base → HasRowsOfQuery query view (sheets base)))
+  -- The store represents every base that it represented, whatever the result.
+  pub same_bases : PreservesRepresentation g old new
+  -- A fault is `Memory` or `Store`, whether or not the disk assumption holds. A refusal is no
+  -- fault.
+  pub fault : IfErr result IsCallFault
+  -- A crash exposes only states that a crash before the call could expose.
+  pub survives : Survives (state g old) (state g new) (λ _. ⊥)
+  -- If the database is open after the call, it was open before the call, and the call did not
+  -- change it.
+  pub same : HasCleanDisk (state g new) → IsTrue (state g new).is_open → WasOpenAndIsUnchanged (state g old) (state g new)
+  -- If the disk assumption holds after the call, it held before.
+  pub clean : HasCleanDisk (state g new) → HasCleanDisk (state g old)
+
+-- The call was executed at the clock reading `now` and changed the state `old` to the state `new`.
+-- It satisfies the postcondition of its kind, `CallPost` for a command and `AskPost` for a query,
+-- with a result whose outcome is `execute_call`.
+abbrev pub OutcomePost : {S : Type 0} → Ghosts S → Held S → Held S → ℕ → Call → Outcome → Type 0
+OutcomePost g old new now (call.Do command key) outcome =
+    (result : Result desk.Answer Fault) × (outcome ≡ outcome_of_command result) × CallPost g old new now (abstract_command command) (optional_model_key key) result
+OutcomePost g old new now (call.Ask query) outcome =
+    (result : Result (Result View Refusal) Fault) × (outcome ≡ outcome_of_query result) × AskPost g old new (abstract_query query) result
+
+-- No outcome is `Did` with the answer `Done`: each outcome is a view, a refusal, a stored reply or
+-- a fault.
+abbrev pub OutcomesAcknowledgeNothing : List Outcome → Type 0
+OutcomesAcknowledgeNothing outcomes = AllByRecursion AcknowledgesNothing (map model_outcome outcomes)
+
+-- If the outcome is a fault, it is `Memory` or `Store`. Vacuous otherwise.
+abbrev pub FailsOnlyWithMemoryOrStore : Outcome → Type 0
+FailsOnlyWithMemoryOrStore (came.Failed fault) = IsCallFault fault
+FailsOnlyWithMemoryOrStore _ = Unit {0}
+
+-- A database with the disk contents `trees` contains the tables of some base that a crash may
+-- expose after the calls from `base` (`CrashMayExposeBase`), and the texts of these tables are UTF-8.
+-- That base has the change of every acknowledged command, and of at most one command more, which
+-- returned a fault and after which no change was acknowledged.
+abbrev pub IsRecoverableDiskContent : Base → List (ℕ × Call) → List Outcome → Trees → Type 0
+IsRecoverableDiskContent base calls outcomes trees =
+    (after : Base) × CrashMayExposeBase base (map model_call calls) (map model_outcome outcomes) after × IsDiskContentOfRows (sheets after) trees × IsTrue (has_utf8_texts (sheets after))
+
+-- The store was open before the calls, and for each base that it represented, `trees` are disk
+-- contents that a crash may expose after the calls from this base (`IsRecoverableDiskContent`).
+abbrev pub CrashMayExposeDiskContent : {S : Type 0} → Ghosts S → Held S → List (ℕ × Call) → List Outcome → Trees → Type 0
+CrashMayExposeDiskContent g old calls outcomes trees = IsTrue (state g old).is_open × ((base : Base) → Represents g old base → IsRecoverableDiskContent base calls outcomes trees)
+
+-- The postcondition of a sequence of calls that were executed in order, from the state `old` to the
+-- state `new`. For every base that the store represented, the calls with their outcomes are a run
+-- of the model (`Run`), and the store represents the base after this run.
+pub record RunPost {S : Type 0} (g : Ghosts S) (old new : Held S) (calls : List (ℕ × Call)) (outcomes : List Outcome) : Type 0 where
+  -- There is one outcome for each call.
+  pub count : length outcomes ≡ length calls
+  -- The calls refine a run of the model. Vacuous if the disk assumption fails after the calls.
+  pub refines_model : HasCleanDisk (state g new) → (base : Base) → Represents g old base
+      → (after : Base) × Represents g new after × Run base (map model_call calls) (map model_outcome outcomes) after
+  -- Each fault is `Memory` or `Store`.
+  pub fault : AllByRecursion FailsOnlyWithMemoryOrStore outcomes
+  -- If no outcome is `Done` and the database is open after the calls, it was open before and is
+  -- unchanged.
+  pub same : HasCleanDisk (state g new) → IsTrue (state g new).is_open → OutcomesAcknowledgeNothing outcomes → WasOpenAndIsUnchanged (state g old) (state g new)
+  -- The store is open after the calls only if it was open before.
+  pub opened : HasCleanDisk (state g new) → IsTrue (state g new).is_open → IsTrue (state g old).is_open
+  -- Crash safety: a crash exposes a state that a crash before the calls could expose or, only if
+  -- the store was open, the tables of a recoverable base (`IsRecoverableDiskContent`).
+  pub survives : Survives (state g old) (state g new) (CrashMayExposeDiskContent g old calls outcomes)
+  -- If some outcome is `Done`, a crash exposes only the tables of recoverable bases
+  -- (`IsRecoverableDiskContent`).
+  pub durable : HasCleanDisk (state g new) → (base : Base) → Represents g old base → ¬ OutcomesAcknowledgeNothing outcomes
+      → CrashStatesSatisfy g new (IsRecoverableDiskContent base calls outcomes)
+  -- If a crash before the calls exposes only the tables of `base`, a crash after them exposes only
+  -- the tables of recoverable bases (`IsRecoverableDiskContent`).
+  pub stays_durable : HasCleanDisk (state g new) → (base : Base) → Represents g old base → CrashStatesSatisfy g old (IsDiskContentOfRows (sheets base))
+      → CrashStatesSatisfy g new (IsRecoverableDiskContent base calls outcomes)
+  -- If the disk assumption holds after the calls, it held before.
+  pub clean : HasCleanDisk (state g new) → HasCleanDisk (state g old)
+  -- The commands and their keys are well-formed.
+  pub in_form : AllByRecursion CallMeetsAuditFormats (map model_call calls)
+
+-- After the calls from `base` the store represents some base `after` whose tables pass the audit of
+-- schema 3. The calls with their outcomes are a run of the model from `base` to `after`; the broker
+-- totals, balances and summaries of `after` equal the sums of their rows; and the row of each trade
+-- that an accepted `CompleteTrade` completed has the tax of its completion, on exactly the shares
+-- that it closed (`IsRunWithSumsAndTaxes`).
+abbrev pub ReachesAuditedState : {S : Type 0} → Ghosts S → Held S → Base → List (ℕ × Call) → List Outcome → Type 0
+ReachesAuditedState g new base calls outcomes = (after : Base) × Represents g new after × PassesAudit third_schema (sheets after) × IsRunWithSumsAndTaxes base (map model_call calls) (map model_outcome outcomes) after
+
+-- The guarantee of a run: under the disk assumption the calls reach an audited state
+-- (`ReachesAuditedState`), from any base that the store represented, from tables without rows, and
+-- from rows of any schema that pass their audit and were upgraded to schema 3.
+pub record RunGuarantee {S : Type 0} (g : Ghosts S) (old new : Held S) (calls : List (ℕ × Call)) (outcomes : List Outcome) : Type 0 where
+  -- From any base that the store represented before the calls.
+  pub from_represented_base : HasCleanDisk (state g new) → (base : Base) → Represents g old base → ReachesAuditedState g new base calls outcomes
+  -- From the empty base, if the tables had no rows before the calls.
+  pub from_empty_tables : HasCleanDisk (state g new) → HoldsRows g old tables_without_rows → ReachesAuditedState g new empty_base calls outcomes
+  -- From the base that the rows `rows` of any schema determine, if the store held these rows
+  -- upgraded to schema 3, and the rows before the upgrade pass the audit of their schema and have
+  -- texts in UTF-8.
+  pub from_audited_rows : HasCleanDisk (state g new) → (schema : known.Schema) (rows : Tables) → HoldsRows g old (tables_upgraded_from_schema (abstract_schema schema) rows) → IsTrue (has_utf8_texts rows) → PassesAudit (abstract_schema schema) rows
+      → ReachesAuditedState g new (base_of_tables rows) calls outcomes
+
+-- The postcondition of an audit of the desk's store, which writes nothing: it satisfies
+-- `AuditPost`; under the disk assumption it does not return `Damaged` if the store represents a
+-- base; and the store represents every base that it represented before.
+pub record DeskAuditPost {S : Type 0} (g : Ghosts S) (old new : Held S) (result : Result (Unit {0}) Fault) : Type 0 where
+  pub audited : AuditPost g old new result
+  pub passes : HasCleanDisk (state g new) → (base : Base) → Represents g old base → AuditAnswerSatisfies result (λ failing. failing ≡ None)
+  pub same_bases : PreservesRepresentation g old new

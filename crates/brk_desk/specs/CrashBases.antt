@@ -1,0 +1,45 @@
+-- The bases that a crash may expose after a run of calls.
+use Rattle.std.specs.Prelude.{◌≡◌, ◌⊎◌, ℕ, List, ◌∷◌, ◌++◌}
+use Rattle.std.specs.List.{AllByRecursion}
+use Rattle.brk_money.specs.declared.fault.Fault.{Fault}
+use Rattle.brk_model.specs.Base.{Base}
+use Rattle.brk_model.specs.Commands.{Command, Done}
+use Rattle.brk_model.specs.Keyed.{keyed_step}
+use Rattle.brk_model.specs.Records.{Key}
+use Rattle.brk_model.specs.Run.{Call, Do, Outcome, Did, Failed, Run}
+
+-- The outcome acknowledges no change: it is any outcome but `Did` with the answer `Done`.
+abbrev pub AcknowledgesNothing : Outcome → Type 0
+AcknowledgesNothing (Did (Done reply)) = ⊥
+AcknowledgesNothing _ = Unit {0}
+
+-- One of the calls is a command that returned a fault, and no outcome after it is `Done`. The calls
+-- before this command run from `base` to a base `before`, with their outcomes. `after` is the base
+-- that the command reaches from `before`, as if it had not failed. So `after` has the changes of
+-- the calls before the command, of the command, and of no call after it.
+pub record HasUnacknowledgedCommand (base : Base) (calls : List (ℕ × Call)) (outcomes : List Outcome) (after : Base) : Type 0 where
+  -- The calls before the command, the command with its clock reading and its key, and the calls
+  -- after it.
+  pub earlier : List (ℕ × Call)
+  pub now : ℕ
+  pub command : Command
+  pub key : Rattle.std.specs.Prelude.Option Key
+  pub later : List (ℕ × Call)
+  pub calls_are : calls ≡ earlier ++ (now, Do command key) ∷ later
+  -- The outcomes of the calls before the command, the fault of the command, and the outcomes of the
+  -- calls after it.
+  pub earlier_outcomes : List Outcome
+  pub fault : Fault
+  pub later_outcomes : List Outcome
+  pub outcomes_are : outcomes ≡ earlier_outcomes ++ Failed fault ∷ later_outcomes
+  -- The base before the command: the calls before it run from `base` to this base.
+  pub before : Base
+  pub earlier_run : Run base earlier earlier_outcomes before
+  pub none_later_is_done : AllByRecursion AcknowledgesNothing later_outcomes
+  pub after_is : after ≡ (keyed_step before now command key).1
+
+-- A crash after the calls from `base` may expose the tables of `after`: either a run of the calls
+-- with these outcomes ends at `after`, or `after` has the change of one more command, which
+-- returned a fault and after which no change was acknowledged (`HasUnacknowledgedCommand`).
+abbrev pub CrashMayExposeBase : Base → List (ℕ × Call) → List Outcome → Base → Type 0
+CrashMayExposeBase base calls outcomes after = Run base calls outcomes after ⊎ HasUnacknowledgedCommand base calls outcomes after

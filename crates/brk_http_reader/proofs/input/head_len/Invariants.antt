@@ -1,7 +1,0 @@
-use Rattle.std.proofs.Common.{◌≡◌, drop}
-use Rattle.brk_http_model.specs.Heads.{head_length}
-use Rattle.brk_http_reader.proofs.FrontLemmas.{raise}
-use Rattle.brk_http_reader.proofs.input.head_len.Given as goal
-
-abbrev pub invariant-loop-i : goal.invariant-loop-i
-invariant-loop-i l = raise l.i (head_length (drop l.i l.bytes)) ≡ head_length l.bytes

@@ -1,0 +1,25 @@
+-- The facts of the fields that were read so far.
+use Rattle.std.specs.Prelude.{List, codes, ◌&&◌, ◌||◌, if◌then◌else◌, Err}
+use Rattle.brk_http_model.specs.Fields.{HeadField, equals_ignoring_case, has_field_named, asks_to_close_stream, body_length_of_values, values_of_field, body_length_of_value}
+use Rattle.brk_http_model.specs.declared.problem.Problem.TheVariants.{BadRequest}
+use Rattle.brk_http_reader.specs.declared.fields.FieldFactsSoFar.{FieldFactsSoFar}
+
+-- The facts `s` of the fields that were read so far, updated for one more field `p`, a name and a
+-- value.
+abbrev pub facts_with_field : FieldFactsSoFar → HeadField → FieldFactsSoFar
+facts_with_field s p = record {
+  chunked = s.chunked || equals_ignoring_case p.0 (codes "transfer-encoding");
+  closes = s.closes || (equals_ignoring_case p.0 (codes "connection") && equals_ignoring_case p.1 (codes "close"));
+  any_length = s.any_length || equals_ignoring_case p.0 (codes "content-length");
+  len = if equals_ignoring_case p.0 (codes "content-length") then (if s.any_length then Err BadRequest else body_length_of_value p.1) else s.len;
+}
+
+-- The facts of the fields `ps` of a head: whether the body is chunked, whether the request asks to
+-- close the stream, whether a length is given, and the body length or the problem with it.
+abbrev pub facts_of_fields : List HeadField → FieldFactsSoFar
+facts_of_fields ps = record {
+  chunked = has_field_named (codes "transfer-encoding") ps;
+  closes = asks_to_close_stream ps;
+  any_length = has_field_named (codes "content-length") ps;
+  len = body_length_of_values (values_of_field (codes "content-length") ps);
+}

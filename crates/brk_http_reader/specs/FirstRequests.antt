@@ -1,0 +1,27 @@
+-- The relation between the positions in the buffer and the first request in it.
+use Rattle.std.specs.Prelude.{◌≡◌, ℕ, List, drop, Option, Some, ⊤}
+use Rattle.std.specs.Io.KnownBytes.{prepend_known}
+use Rattle.httparse.specs.Spans.{span_bytes, IsWithin}
+use Rattle.brk_http_model.specs.Found.{Request, RequestReading, NoBytesLeft, Unreadable, CompleteRequest}
+use Rattle.brk_http_reader.specs.declared.next.RequestPositions.{RequestPositions}
+use Rattle.brk_http_reader.specs.declared.next.NextRequest.{NextRequest}
+use Rattle.brk_http_reader.specs.declared.next.NextRequest.TheVariants.{Ended, Broken, Whole}
+
+-- The method, the target and the body of a whole request are within the first `len` bytes. Vacuous
+-- if there is no whole request.
+abbrev pub IsRequestWithin : NextRequest → ℕ → Type 0
+IsRequestWithin Ended len = ⊤
+IsRequestWithin (Broken b) len = ⊤
+IsRequestWithin (Whole r) len = IsWithin len r.method × IsWithin len r.target × IsWithin len r.body
+
+-- The request whose method, target and body are at the positions `r` of the buffer.
+abbrev pub request_at : List ℕ → RequestPositions → Request
+request_at buffer r = record { method = span_bytes buffer r.method; target = span_bytes buffer r.target; closes = r.closes; body = span_bytes buffer r.body }
+
+-- The result of reading is the next request as specified, `found`: no more input, an unreadable
+-- request with this problem, or a whole request. After a whole request, the bytes of the buffer
+-- after its body and the bytes `left` in the reader are together the rest of the input.
+abbrev pub MatchesNextRequest : NextRequest → List ℕ → Option (List ℕ) → RequestReading → Type 0
+MatchesNextRequest Ended buffer left found = found ≡ NoBytesLeft
+MatchesNextRequest (Broken b) buffer left found = found ≡ Unreadable b
+MatchesNextRequest (Whole r) buffer left found = (rest : List ℕ) × (prepend_known (drop r.body.end buffer) left ≡ Some rest) × (found ≡ CompleteRequest (request_at buffer r) rest)

@@ -1,8 +1,0 @@
-use Rattle.brk_model_theorems.proofs.FormParts.{keys_rise, keys_whole}
-use Rattle.brk_model_theorems.proofs.forms.keys_hold_iff_all_tables_are_sorted.Goals as goal
-
-pub returns-clause-parts : goal.returns-clause-parts
-returns-clause-parts c = keys_rise
-
-pub returns-clause-whole : goal.returns-clause-whole
-returns-clause-whole c = keys_whole

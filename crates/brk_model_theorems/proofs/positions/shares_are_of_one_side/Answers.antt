@@ -1,5 +1,0 @@
-use Rattle.brk_model_theorems.proofs.Sides.{one_sided}
-use Rattle.brk_model_theorems.proofs.positions.shares_are_of_one_side.Goals as goal
-
-pub returns : goal.returns
-returns c = one_sided

@@ -1,0 +1,46 @@
+use Rattle.std.proofs.Common.{◌≡◌, List, ℕ, Err, None, Ok, Option, Some, map, true}
+use Rattle.std.specs.Global.{Vec}
+use Rattle.std.specs.List.{list_any}
+use Rattle.std.specs.Prelude.{MatchOption, Result, is_none}
+use Rattle.brk_money.specs.declared.fault.Fault.{Fault}
+use Rattle.brk_money.specs.declared.refusal.Refusal.{Refusal}
+use Rattle.brk_money.specs.declared.refusal.Refusal.TheVariants.{NoTrade}
+use Rattle.brk_changes.specs.Rows.{abstract_trade_row}
+use Rattle.brk_changes.specs.declared.trade_row.TradeRow.{TradeRow}
+use Rattle.brk_model.specs.Joins.{trade_row_with_id}
+use Rattle.brk_model.specs.Queries.{TradesWith}
+use Rattle.brk_model.specs.Tables.{Tables}
+use Rattle.brk_store.proofs.Retelling.{retold}
+use Rattle.brk_update_theorems.specs.Corrections.{AreTradesWithIds}
+use Rattle.brk_decisions.proofs.Looking.{read_both}
+use Rattle.brk_view.specs.declared.view.View.{View}
+use Rattle.brk_queries.specs.LookedUp.{HaveAllRowsOfTrades}
+use Rattle.brk_queries.specs.QueryResults.{AnswersQueryAsModel}
+use Rattle.brk_queries.proofs.LookupViews.{no_trades, trades_seen}
+use Rattle.brk_queries.proofs.lookups.view_of_trades_by_ids.Goals as goal
+
+-- what is found of the trades with some ids
+abbrev AreFound : List ℕ → Option (Vec TradeRow) → Tables → Type 0
+AreFound ids found t = MatchOption found (list_any (λ id. is_none (trade_row_with_id t id)) ids ≡ true) (λ trades. AreTradesWithIds t ids trades.items)
+
+pub returns-in_default-clause-read : goal.returns-in_default-clause-read
+returns-in_default-clause-read g c =
+    let ids = c.args.trades.now.trades in
+    retold g.S.Store c.args.store.now c.read_trades_by_ids.new.store {V = Option (Vec TradeRow)} {X = Result View Refusal} None (Err NoTrade)
+    (AreFound ids) (AnswersQueryAsModel (TradesWith ids)) (no_trades ids)
+    (rw (c.in_default.is, c.ids.ensures) at c.in_ok-named.ensures.read)
+
+pub returns-clause-read : goal.returns-clause-read
+returns-clause-read g c =
+    let old = c.args.store.now in
+    let ids = c.args.trades.now.trades in
+    let named = c.in-Some.named in
+    let ordered = c.in_ok-ordered.ordered in
+    let found = c.in_ok-found.found in
+    let view = c.lookup_ids.result in
+    read_both g.S.Store old c.read_trades_by_ids.new.store c.read_all_rows_of_trades.new.store {X = Result View Refusal} {H = Fault} (Some named) found (Ok view)
+    (AreFound ids)
+    (λ found. HaveAllRowsOfTrades (map abstract_trade_row ordered.items) found.items)
+    (AnswersQueryAsModel (TradesWith ids))
+    (λ t e p. trades_seen ids named.items ordered.items found view c.args.trades.now.distinct c.args.trades.now.few c.in_ok-ordered.ensures.order c.lookup_ids.ensures.value c.lookup_ids.ensures.view t e p)
+    (rw (c.in-Some.is, c.ids.ensures) at c.in_ok-named.ensures.read) c.in_ok-found.ensures.read

@@ -1,0 +1,49 @@
+use Rattle.std.proofs.Common.{◌≡◌, ◌∙◌, ◌+◌, ◌++◌, ℕ, List, ap, filter, map, take}
+use Rattle.std.proofs.lemmas.List.{take_all}
+use Rattle.std.specs.Prelude.{bytes_eq, flat_map}
+use Rattle.brk_money.specs.Spelling.{Text}
+use Rattle.brk_money.specs.declared.fault.Fault.{Fault}
+use Rattle.brk_model.specs.Tables.{BrokerRow, Tables}
+use Rattle.brk_store.proofs.Retelling.{retold}
+use Rattle.brk_decisions.proofs.Looking.{read_both}
+use Rattle.brk_view.specs.Volume as volume
+use Rattle.brk_view.specs.declared.volumes.BrokerVolume.{BrokerVolume}
+use Rattle.brk_queries.specs.Volumes.{brokers_of_name_in_sector, volumes_of_brokers_in_sector}
+use Rattle.brk_queries.proofs.VolumeViews.{name_more}
+use Rattle.brk_queries.proofs.volumes.read_volumes_of_brokers_named.Goals as goal
+
+-- what the brokers with the first names have to trade
+abbrev FirstNamed : Text → List Text → List BrokerVolume → ℕ → Tables → Type 0
+FirstNamed sector names found i t = found ≡ map (volume.volume_of_broker_in_sector t sector) (flat_map (brokers_of_name_in_sector t sector) (take i names))
+
+pub loop-name-init : goal.loop-name-init
+loop-name-init g c =
+    retold g.S.Store c.args.store.now c.last_stamp.new.self c.in_ok-_last._last tt (λ last (t : Tables). last ≡ t.last)
+    (λ _. FirstNamed c.args.sector.now c.args.names.now c.new-found.result.items 0)
+    (λ t e. c.new-found.ensures.items)
+    c.in_ok-_last.ensures.read
+
+pub loop-name-preserved : goal.loop-name-preserved
+loop-name-preserved g c =
+    let sector = c.args.sector.now in
+    let names = c.args.names.now in
+    let i = c.loop-name.name-index in
+    let name = c.name-item.result in
+    let old = c.loop-name.found.items in
+    let new = c.append_volumes_of_brokers_named.new.found.items in
+    read_both g.S.Store c.args.store.now c.loop-name.store c.append_volumes_of_brokers_named.new.store {H = Fault} tt tt tt
+    (λ _. FirstNamed sector names old i)
+    (λ _ (t : Tables). new ≡ old ++ volumes_of_brokers_in_sector t sector (filter (λ (b : BrokerRow). bytes_eq b.name name) t.brokers))
+    (λ _. FirstNamed sector names new (i + 1))
+    (λ t p e. name_more t sector names i name old new c.loop-name-test.true c.name-item.is p e)
+    c.loop-name.invariant c.in_ok-append_volumes_of_brokers_named.ensures.read
+
+pub returns-clause-read : goal.returns-clause-read
+returns-clause-read g c =
+    let sector = c.args.sector.now in
+    let names = c.args.names.now in
+    retold g.S.Store c.args.store.now c.loop-name.store tt c.loop-name.found
+    (λ _. FirstNamed sector names c.loop-name.found.items c.loop-name.name-index)
+    (λ found (t : Tables). found.items ≡ map (volume.volume_of_broker_in_sector t sector) (flat_map (brokers_of_name_in_sector t sector) names))
+    (λ t p. p ∙ ap (λ ns. map (volume.volume_of_broker_in_sector t sector) (flat_map (brokers_of_name_in_sector t sector) ns)) (take_all c.loop-name.name-index names c.loop-name-test.false))
+    c.loop-name.invariant

@@ -1,0 +1,38 @@
+-- The specification of the result of a query.
+use Rattle.std.specs.Prelude.{◌≡◌, IfOk, Result, Ok, Err}
+use Rattle.brk_money.specs.declared.refusal.Refusal.{Refusal}
+use Rattle.brk_model.specs.Ask.{ask}
+use Rattle.brk_model.specs.Base.{Base}
+use Rattle.brk_model.specs.Queries as model
+use Rattle.brk_model.specs.Queries.{Query}
+use Rattle.brk_model.specs.Sheets.{sheets}
+use Rattle.brk_model.specs.Tables.{Tables}
+use Rattle.brk_invariant_theorems.specs.Sound.{AuditInvariant}
+use Rattle.brk_book_theorems.specs.Books.{BooksInvariant}
+use Rattle.brk_view.specs.Carried.{HasRowsOfQuery}
+use Rattle.brk_view.specs.Views.{records_of_view}
+use Rattle.brk_view.specs.declared.view.View.{View}
+
+-- The result of the model that a query's result represents: for a view its records of texts, or the
+-- refusal.
+abbrev pub model_query_result : Result View Refusal → Result model.View Refusal
+model_query_result (Ok view) = Ok (records_of_view view)
+model_query_result (Err refusal) = Err refusal
+
+-- The result of the query equals that of the model: the view as records of texts, or the refusal.
+-- Vacuous if `t` are not the tables of a base that satisfies the books invariant and the audit
+-- invariant.
+abbrev pub EqualsModelQueryResult : Query → Result View Refusal → Tables → Type 0
+EqualsModelQueryResult query seen t = (base : Base) → BooksInvariant base → AuditInvariant base → t ≡ sheets base → ask base query ≡ model_query_result seen
+
+-- The view has the variant of the query and carries the rows that the query selects from the tables
+-- `t` (`HasRowsOfQuery`). Vacuous at a refusal, and if `t` are not the tables of a base that
+-- satisfies the books invariant and the audit invariant.
+abbrev pub ViewHasSelectedRows : Query → Result View Refusal → Tables → Type 0
+ViewHasSelectedRows query seen t = IfOk seen (λ view. (base : Base) → BooksInvariant base → AuditInvariant base → t ≡ sheets base → HasRowsOfQuery query view t)
+
+-- The result of the query equals that of the model, as texts, and a returned view carries the rows
+-- that the query selects. Vacuous if `t` are not the tables of a base that satisfies the books
+-- invariant and the audit invariant.
+abbrev pub AnswersQueryAsModel : Query → Result View Refusal → Tables → Type 0
+AnswersQueryAsModel query seen t = EqualsModelQueryResult query seen t × ViewHasSelectedRows query seen t

@@ -1,0 +1,46 @@
+-- Sequences of reads.
+use Rattle.std.proofs.Common.{IsTrue, ◌∙◌, refl, inl}
+use Rattle.std.proofs.Math.Nat.{le_refl}
+use Rattle.sqlite_trees.specs.declared.store.Store.{Ghosts}
+use Rattle.sqlite.specs.Held.{Held, state}
+use Rattle.sqlite.specs.State.{HasCleanDisk, Survives}
+use Rattle.sqlite.proofs.StateLemmas.{survives_then}
+use Rattle.brk_model.specs.Tables.{Tables}
+use Rattle.brk_sql.proofs.Inside.{clean_before}
+use Rattle.brk_store.specs.Holds.{HoldsRows, ReadPost, WasOpenAndIsUnchanged}
+
+-- The postcondition of any number of reads: the store holds the rows that it held before them; if
+-- the database is open after them, it was open before and is unchanged; a crash exposes only states
+-- that a crash before the reads could expose.
+pub record IsUnchangedByReads {S : Type 0} (g : Ghosts S) (old new : Held S) : Type 0 where
+  pub same_rows : (t : Tables) → HoldsRows g old t → HoldsRows g new t
+  pub same : HasCleanDisk (state g new) → IsTrue (state g new).is_open → WasOpenAndIsUnchanged (state g old) (state g new)
+  pub survives : Survives (state g old) (state g new) (λ _. ⊥)
+
+module _ {S : Type 0} {g : Ghosts S} where
+  -- If the disk assumption holds after reads, it held before them.
+  pub disk_was_clean_before_reads : (old new : Held S) → IsUnchangedByReads g old new → HasCleanDisk (state g new) → HasCleanDisk (state g old)
+  disk_was_clean_before_reads old new k = clean_before (state g old) (state g new) (λ _. ⊥) k.survives
+
+  -- Reads that follow other reads satisfy `IsUnchangedByReads` together with them.
+  pub joined_reads_change_nothing : (p q r : Held S) → IsUnchangedByReads g p q → IsUnchangedByReads g q r → IsUnchangedByReads g p r
+  joined_reads_change_nothing p q r a b = record {
+    same_rows = λ t h. b.same_rows t (a.same_rows t h);
+    same = λ clean o.
+        let late = b.same clean o in
+        let early = a.same (disk_was_clean_before_reads q r b clean) late.was_open in
+        record { was_open = early.was_open; now = late.now ∙ early.now; committed = late.committed ∙ early.committed };
+    survives = survives_then (state g p) (state g q) (state g r) (λ _. ⊥) (λ _. ⊥) (λ _. ⊥) (λ _ db none. none) (λ _ db none. none) a.survives b.survives;
+  }
+
+  -- A call that satisfies `ReadPost` satisfies `IsUnchangedByReads`.
+  pub single_read_changes_nothing : {V E : Type 0} (old new : Held S) (result : _) (Told : _) → ReadPost {V = V} {E = E} g old new result Told → IsUnchangedByReads g old new
+  single_read_changes_nothing old new result Told r = record { same_rows = r.same_rows; same = r.same; survives = r.survives }
+
+-- No read at all satisfies `IsUnchangedByReads`.
+pub no_reads_change_nothing : {S : Type 0} {g : Ghosts S} (old : Held S) → IsUnchangedByReads g old old
+no_reads_change_nothing {S} {g} old = record {
+  same_rows = λ t h. h;
+  same = λ clean o. record { was_open = o; now = refl; committed = refl };
+  survives = record { clean = le_refl _; shield = λ s. s; counts = le_refl _; limit = refl; closes = λ clean o. inl o; crash = λ clean db h. inl h };
+}

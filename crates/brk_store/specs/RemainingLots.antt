@@ -1,0 +1,25 @@
+-- The lots that a source of pages still has to return.
+use Rattle.std.specs.Borrow.{MutBor}
+use Rattle.std.specs.Prelude.{◌≡◌, ℕ, List, drop}
+use Rattle.sqlite_trees.specs.declared.store.Store.{Ghosts}
+use Rattle.sqlite.specs.Held.{Held}
+use Rattle.brk_lots.specs.declared.lot.Lot.{Lot}
+use Rattle.brk_model.specs.Tables.{Tables}
+use Rattle.brk_store.specs.Holds.{HoldsRows}
+use Rattle.brk_store.specs.Pages.{remaining_page_lots, lot_rows_in_closing_order}
+use Rattle.brk_store.specs.declared.pages.Page.{Page}
+use Rattle.brk_store.specs.declared.pages.Pages.{Pages}
+
+-- The store that the source of pages borrows.
+abbrev pub borrowed_store : {S P : Type 0} → Pages S P → MutBor (Held S)
+borrowed_store p = p.store
+
+-- The number of rows that the source of pages has read.
+abbrev pub number_of_rows_read : {S P : Type 0} → Pages S P → ℕ
+number_of_rows_read p = p.read
+
+-- For some rows `t` that the store of the source holds, `ls` are exactly the lots that the source
+-- still has to return. The store holds any rows `t` in this sense if the disk assumption fails, or
+-- once it is closed.
+abbrev pub AreRemainingLots : {S : Type 0} → Ghosts S → Pages S Page → List Lot → Type 0
+AreRemainingLots g p ls = (t : Tables) × HoldsRows g p.store.now t × (ls ≡ remaining_page_lots (drop p.page.returned p.page.rows.items) p.ended p.read (lot_rows_in_closing_order p.lifo p.account p.symbol.now t))
